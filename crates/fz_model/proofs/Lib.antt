@@ -1,0 +1,10 @@
+pub mod Maps
+pub mod Tables
+pub mod Lists
+pub mod Sound
+pub mod Stepwise
+pub mod Joints
+pub mod Runs
+pub mod EveryRun
+pub mod SeenKept
+pub mod Marks

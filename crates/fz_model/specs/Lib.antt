@@ -1,0 +1,13 @@
+pub mod State
+pub mod Memory
+pub mod Reachability
+pub mod Pass
+pub mod Allocation
+pub mod Causes
+pub mod Events
+pub mod Steps
+pub mod Joint
+pub mod Headline
+pub mod Codes
+pub mod Seen
+pub mod Refusals

@@ -1,0 +1,44 @@
+-- Objects, their words, and what a word points to: the object in whose extent its value lies, interior words included (conservative pointers;
+-- Boehm, Demers and Shenker, "Mostly parallel garbage collection", PLDI 1991).
+use Rattle.std.specs.Prelude.{replicate, ℕ, ◌+◌, ◌-◌, Bool, ◌&&◌, if◌then◌else◌, List, [], ◌∷◌, map, length, Option, nat_le, nat_lt, slice_index, slice_index_or, slice_set, unwrap_or, option_map, option_and_then}
+use Rattle.std.specs.List.{find}
+use Rattle.std.specs.FinMap.{get, entries, from_sorted}
+use Rattle.fz_model.specs.declared.kinds.ObjKind.{ObjKind}
+use Rattle.fz_model.specs.State.{Map, Object, Core}
+
+-- all words of a new object are zero
+abbrev pub new_object : ObjKind → ℕ → ℕ → Object
+new_object kind birth size = record { kind = kind; birth = birth; words = replicate size 0 }
+
+-- what a map has, with each value changed
+abbrev pub mapped : {X : Type 0} → (ℕ → X → X) → Map X → Map X
+mapped f m = from_sorted (map (λ e. (e.0, f e.0 e.1)) (entries m))
+
+-- the address stands in the object
+abbrev pub covers : ℕ × Object → ℕ → Bool
+covers (start, object) address = nat_le start address && nat_lt address (start + length object.words)
+
+-- the object whose extent has the word, if there is one
+abbrev pub points : Map Object → ℕ → Option ℕ
+points objects word = option_map (λ e. e.0) (find (λ e. covers e word) (entries objects))
+
+-- these words, the first of them at the address, with the value at each address that passes
+abbrev pub fill : (ℕ → Bool) → ℕ → ℕ → List ℕ → List ℕ
+fill test value address [] = []
+fill test value address (w ∷ ws) = (if test address then value else w) ∷ fill test value (address + 1) ws
+
+-- the objects, with the value at each address that passes
+abbrev pub filled : (ℕ → Bool) → ℕ → Map Object → Map Object
+filled test value objects = mapped (λ start o. record o { words = fill test value start o.words }) objects
+
+-- the word at an address
+abbrev pub word_at : Map Object → ℕ → ℕ
+word_at objects address =
+    unwrap_or (option_and_then (λ start. option_map (λ (o : Object). slice_index o.words (address - start)) (get objects start)) (points objects address)) 0
+
+-- the word of a slot, and the frames after a write to it
+abbrev pub slot_word : Core → ℕ → ℕ → ℕ
+slot_word c frame slot = slice_index (slice_index_or c.frames frame []) slot
+
+abbrev pub with_slot : Core → ℕ → ℕ → ℕ → List (List ℕ)
+with_slot c frame slot word = slice_set c.frames frame (slice_set (slice_index_or c.frames frame []) slot word)
