@@ -1,0 +1,14 @@
+pub mod Sets
+pub mod Tabulating
+pub mod Bits
+pub mod Finding
+pub mod Ranges
+pub mod Claimed
+pub mod Places
+pub mod Words
+pub mod Changes
+pub mod Facts
+pub mod Claiming
+pub mod Releasing
+pub mod Opening
+pub mod Starting

@@ -1,0 +1,212 @@
+-- The starts of claimed cells, by rising address.
+use Rattle.std.proofs.Common.{◌≡◌, ◌≢◌, ℕ, zero, suc, ◌+◌, ◌-◌, ◌*◌, ◌/◌, ◌%◌, ◌^◌, ◌<◌, ◌≤◌, Bool, true, false, cond, ◌==◌, List, [], ◌∷◌, ◌++◌, map, filter, length, Option, Some, None, is_some, option_and_then, slice_get, nat_lt, nat_eq, nat_cmp, Greater, refl, sym, ap, ◌∙◌, subst, ⊎_elim, arith, w64}
+use Rattle.std.proofs.Math.Nat.{div-lt_iff_lt-mul, lt-div-mul-add, mul-mod_left, mul-div_cancel, div-add-mod, mul_comm, mul-le-mul_right}
+use Rattle.std.proofs.lemmas.Nat.{shr-shr, shr_le}
+use Rattle.std.proofs.lemmas.Nat.Bits.{bit_at-zero, bit_at-trailing_zeros}
+use Rattle.std.proofs.lemmas.Bool.{cond-true, cond-false, cases_lt, cases_Bool, and_parts, and_from, eq-eqb, eqb-true, lt-ltb, le-ltb, both_ways}
+use Rattle.std.proofs.lemmas.Option.{none-some, slice_get_within}
+use Rattle.std.proofs.lemmas.List.{map_push, append-nil, nil_from_length}
+use Rattle.std.proofs.lemmas.List.Elements.{filter-append}
+use Rattle.std.specs.Int.{bit_at, trailing_zeros}
+use Rattle.std.specs.List.{range_with_len}
+use Rattle.std.specs.Cmp.{nat_cmp_is, nat_cmp_total}
+use Rattle.std.specs.Option.{option_map_or}
+use Rattle.std.specs.FinMap as maps
+use Rattle.std.specs.FinMap.{keys, entries, entries-insert, len-entries, len-empty}
+use Rattle.std.specs.FinMap.Entries.{put, by_order}
+use Rattle.fz_model.specs.State.{Map}
+use Rattle.fz_blocks.specs.declared.block.Block.{Block}
+use Rattle.fz_blocks.specs.Tabulated.{tabulated}
+use Rattle.fz_blocks.specs.BlockSets.{has_bit}
+use Rattle.fz_blocks.specs.Blocks.{holds, IsBlock}
+use Rattle.fz_blocks.specs.Cells.{Cell}
+use Rattle.fz_blocks.specs.Layout.{cell_in, cell_at, claimed_in}
+use Rattle.fz_blocks.specs.Starts.{starts_at, IsFirstStart, starts_from}
+use Rattle.fz_blocks.proofs.Bits.{holds_within, claimed_fits}
+use Rattle.fz_blocks.proofs.Finding.{get_at}
+use Rattle.fz_blocks.proofs.Tabulating.{get-tabulated}
+use Rattle.fz_blocks.proofs.Claimed.{cell_fits}
+
+-- ---- within a block
+
+bit_at_shifted : (n k j : ℕ) → bit_at (n / 2 ^ k) j ≡ bit_at n (k + j)
+bit_at_shifted n k j = ap (λ x. x % 2) (shr-shr n k j)
+
+module _ (block : Block) (is : IsBlock block) (place index rest : ℕ) (small : place < 64) (index_is : index ≡ (place + block.size - 1) / block.size) (rest_is : rest ≡ block.claimed / 2 ^ index) where
+  -- a start from the place on is a cell from the index on
+  start_index : (p : ℕ) → place ≤ p → starts_at block p ≡ true → (index ≤ p / block.size) × (holds block (p / block.size) ≡ true) × (p ≡ p / block.size * block.size)
+  start_index p low on =
+      let parts = and_parts (p % block.size == 0) (holds block (p / block.size)) on in
+      let none_left = eqb-true (p % block.size) 0 parts.0 in
+      let whole : block.size * (p / block.size) + p % block.size ≡ p = div-add-mod p block.size in
+      let sized = is.sized in
+      let at : p ≡ p / block.size * block.size = omega (arith, none_left, whole, mul_comm (p / block.size) block.size) in
+      let more : place + block.size - 1 < (p / block.size + 1) * block.size = omega (arith, at, low, sized) in
+      let lt = (div-lt_iff_lt-mul {x = place + block.size - 1} {y = p / block.size + 1} sized).1 more in
+      (omega (arith, index_is, lt), parts.1, at)
+
+  held_bit : (i : ℕ) → index ≤ i → holds block i ≡ has_bit rest (i - index)
+  held_bit i low =
+      let at : index + (i - index) ≡ i = omega arith in
+      ap (λ n. nat_eq n 1) (ap (bit_at block.claimed) (sym at) ∙ sym (bit_at_shifted block.claimed index (i - index)) ∙ ap (λ n. bit_at n (i - index)) (sym rest_is))
+
+  pub no_start : rest ≡ 0 → (p : ℕ) → place ≤ p → p < 64 → starts_at block p ≡ false
+  no_start none p low lt =
+      ⊎_elim
+      (λ on. let found = start_index p low on in
+      absurd (both_ways _ (held_bit (p / block.size) found.0 ∙ ap (λ n. has_bit n (p / block.size - index)) none ∙ ap (λ n. nat_eq n 1) (bit_at-zero (p / block.size - index))) found.1))
+      (λ off. off)
+      (cases_Bool (starts_at block p))
+
+  pub first_start : (first : ℕ) → rest ≢ 0 → first ≡ (index + trailing_zeros w64 rest) * block.size → IsFirstStart block place first
+  first_start first some first_is = record {
+    after = omega (arith, first_is, index_low, sum, index_is);
+    within = omega (arith, first_is, fits, is.sized);
+    start = ap (starts_at block) first_is ∙ and_from (i * block.size % block.size == 0) _ (eq-eqb _ 0 (mul-mod_left i block.size)) (ap (holds block) (mul-div_cancel i is.sized) ∙ held);
+    before = λ p low lt. ⊎_elim
+        (λ on. let found = start_index p low on in
+        let below : p / block.size < i = smaller (p / block.size) (subst (λ n. n < i * block.size) found.2 (subst (λ n. p < n) first_is lt)) in
+        let in_rest : p / block.size - index < t = omega (arith, below, found.0) in
+        absurd (both_ways _ (held_bit (p / block.size) found.0 ∙ ap (λ n. nat_eq n 1) (lowest.2 (p / block.size - index) in_rest)) found.1))
+        (λ off. off)
+        (cases_Bool (starts_at block p));
+  }
+    where
+      t : ℕ
+      t = trailing_zeros w64 rest
+
+      i : ℕ
+      i = index + t
+
+      lowest : (t < 64) × (bit_at rest t ≡ 1) × ((j : ℕ) → j < t → bit_at rest j ≡ 0)
+      lowest = bit_at-trailing_zeros w64 rest (omega (arith, some)) (let limit = claimed_fits block is in omega (arith, limit, rest_is, shr_le block.claimed index))
+
+      held : holds block i ≡ true
+      held = let low : index ≤ i = omega arith in let at : i - index ≡ t = omega arith in held_bit i low ∙ ap (has_bit rest) at ∙ eq-eqb _ 1 lowest.1
+
+      fits : i * block.size + block.size ≤ 64
+      fits = cell_fits block.size i (holds_within block is i held)
+
+      index_low : place + block.size - 1 < (place + block.size - 1) / block.size * block.size + block.size
+      index_low = lt-div-mul-add is.sized
+
+      sum : (place + block.size - 1) / block.size * block.size ≤ i * block.size
+      sum = mul-le-mul_right block.size (omega (arith, index_is))
+
+      smaller : (q : ℕ) → q * block.size < i * block.size → q < i
+      smaller q lt =
+          ⊎_elim (λ less. less)
+          (λ (more : i ≤ q). let rows : i * block.size ≤ q * block.size = mul-le-mul_right block.size more in absurd (omega (arith, rows, lt)))
+          (cases_lt q i)
+
+-- ---- within all blocks
+
+claimed_then : (t : Bool) (cell : Cell) → is_some (cond t (Some cell) None) ≡ t
+claimed_then true cell = refl
+claimed_then false cell = refl
+
+module _ (blocks : List Block) where
+  abbrev starts : ℕ → Bool
+  starts a = is_some (cell_at blocks a)
+
+  starts_in : (a b : ℕ) (block : Block) → 65536 ≤ a → (a - 65536) / 64 ≡ b → slice_get blocks b ≡ Some block → starts a ≡ starts_at block ((a - 65536) % 64)
+  starts_in a b block high at here =
+      ap is_some (cond-false (nat_lt a 65536) None (option_and_then (cell_in ((a - 65536) % 64)) (slice_get blocks ((a - 65536) / 64))) (le-ltb a 65536 high) ∙ ap (option_and_then (cell_in ((a - 65536) % 64))) (ap (slice_get blocks) at ∙ here))
+      ∙ claimed_then (starts_at block ((a - 65536) % 64)) (record { size = block.size; kind = block.kind })
+
+  skip : (d n k : ℕ) → ((a : ℕ) → n ≤ a → a < n + d → starts a ≡ false) → filter starts (range_with_len n (d + k)) ≡ filter starts (range_with_len (n + d) k)
+  skip zero n k off = let at : n ≡ n + 0 = omega arith in let len : 0 + k ≡ k = omega arith in ap (λ m. filter starts (range_with_len n m)) len ∙ ap (λ m. filter starts (range_with_len m k)) at
+  skip (suc d) n k off =
+      let len : suc d + k ≡ suc (d + k) = omega arith in
+      let at : (n + 1) + d ≡ n + suc d = omega arith in
+      ap (λ m. filter starts (range_with_len n m)) len
+      ∙ cond-false (starts n) (n ∷ filter starts (range_with_len (n + 1) (d + k))) (filter starts (range_with_len (n + 1) (d + k))) (off n (omega arith) (omega arith))
+      ∙ skip d (n + 1) k (λ a low lt. off a (omega arith) (omega arith))
+      ∙ ap (λ m. filter starts (range_with_len m k)) at
+
+  pub skip_to : (n m : ℕ) → n ≤ m → m ≤ 65536 + 64 * length blocks → ((a : ℕ) → n ≤ a → a < m → starts a ≡ false) → starts_from blocks n ≡ starts_from blocks m
+  skip_to n m low high off =
+      let len : 65536 + 64 * length blocks - n ≡ (m - n) + (65536 + 64 * length blocks - m) = omega arith in
+      let at : n + (m - n) ≡ m = omega arith in
+      ap (λ k. filter starts (range_with_len n k)) len
+      ∙ skip (m - n) n (65536 + 64 * length blocks - m) (λ a l h. off a l (omega arith))
+      ∙ ap (λ k. filter starts (range_with_len k (65536 + 64 * length blocks - m))) at
+
+  pub one_start : (n : ℕ) → n < 65536 + 64 * length blocks → starts n ≡ true → starts_from blocks n ≡ n ∷ starts_from blocks (n + 1)
+  one_start n lt on =
+      let len : 65536 + 64 * length blocks - n ≡ suc (65536 + 64 * length blocks - (n + 1)) = omega arith in
+      ap (λ k. filter starts (range_with_len n k)) len
+      ∙ cond-true (starts n) (n ∷ starts_from blocks (n + 1)) (starts_from blocks (n + 1)) on
+
+  module _ (next : ℕ) (block : Block) (high : 65536 ≤ next) (here : slice_get blocks ((next - 65536) / 64) ≡ Some block) where
+    in_list : (next - 65536) / 64 < length blocks
+    in_list = slice_get_within blocks ((next - 65536) / 64) block here
+
+    same_block : (a : ℕ) → next ≤ a → a < next + (64 - (next - 65536) % 64) → starts a ≡ starts_at block ((a - 65536) % 64)
+    same_block a low lt = starts_in a ((next - 65536) / 64) block (omega arith) (omega arith) here
+
+    pub step_over : ((p : ℕ) → (next - 65536) % 64 ≤ p → p < 64 → starts_at block p ≡ false) → starts_from blocks next ≡ starts_from blocks (next + (64 - (next - 65536) % 64))
+    step_over off =
+        skip_to next (next + (64 - (next - 65536) % 64)) (omega arith) (omega (arith, in_list)) (λ a low lt. same_block a low lt ∙ off ((a - 65536) % 64) (omega arith) (omega arith))
+
+    pub step_to : (start : ℕ) → IsFirstStart block ((next - 65536) % 64) start → starts_from blocks next ≡ (next - (next - 65536) % 64 + start) ∷ starts_from blocks (next - (next - 65536) % 64 + start + 1)
+    step_to start is =
+        let after = is.after in
+        let within = is.within in
+        let a = next - (next - 65536) % 64 + start in
+        let place : (a - 65536) % 64 ≡ start = omega (arith, high, after, within) in
+        skip_to next a (omega (arith, high, after)) (omega (arith, high, within, in_list))
+        (λ x low lt. same_block x low (omega (arith, lt, after, within)) ∙ is.before ((x - 65536) % 64) (omega (arith, low, lt, high, after, within)) (omega (arith, low, lt, high, after, within)))
+        ∙ one_start a (omega (arith, high, within, in_list)) (same_block a (omega (arith, high, after)) (omega (arith, high, within, after)) ∙ ap (starts_at block) place ∙ is.start)
+
+    pub step_within : (start : ℕ) → IsFirstStart block ((next - 65536) % 64) start → next - (next - 65536) % 64 + start + 1 ≤ 65536 + 64 * length blocks
+    step_within start is = let within = is.within in omega (arith, high, within, in_list)
+
+-- ---- the keys
+
+put_last : {X : Type 0} (k : ℕ) (v : X) (es : List (ℕ × X)) → ((i : ℕ) (e : ℕ × X) → slice_get es i ≡ Some e → e.0 < k) → put nat_cmp k v es ≡ es ++ (k, v) ∷ []
+put_last k v [] below = refl
+put_last k v (e ∷ es) below =
+    ap (λ r. by_order r ((k, v) ∷ e ∷ es) ((e.0, v) ∷ es) (e ∷ put nat_cmp k v es)) (sym (nat_cmp_is k e.0 Greater (below 0 e refl)))
+    ∙ ap (λ rest. e ∷ rest) (put_last k v es (λ i f here. below (suc i) f here))
+
+range_push : (a n : ℕ) → range_with_len a (suc n) ≡ range_with_len a n ++ (a + n) ∷ []
+range_push a zero = let e : a ≡ a + 0 = omega arith in ap (λ k. k ∷ []) e
+range_push a (suc n) = let e : (a + 1) + n ≡ a + suc n = omega arith in ap (λ ks. a ∷ ks) (range_push (a + 1) n ∙ ap (λ k. range_with_len (a + 1) n ++ k ∷ []) e)
+
+module _ {X : Type 0} (f : ℕ → Option X) where
+  abbrev some_at : ℕ → Bool
+  some_at q = is_some (f q)
+
+  key_below : (n i : ℕ) (e : ℕ × X) → slice_get (entries (tabulated f n)) i ≡ Some e → e.0 < n
+  key_below n i e here =
+      ⊎_elim (λ lt. lt)
+      (λ (past : n ≤ e.0). absurd (none-some e.1 (sym (get-tabulated f n e.0 ∙ cond-false (nat_lt e.0 n) (f e.0) None (le-ltb e.0 n past)) ∙ get_at (tabulated f n) i e here)))
+      (cases_lt e.0 n)
+
+  abbrev with_one : (n : ℕ) → Option X → Map X
+  with_one n o = option_map_or (λ x. maps.insert (tabulated f n) n x) o (tabulated f n)
+
+  key_more : (n : ℕ) (o : Option X) → f n ≡ o → keys (with_one n o) ≡ keys (tabulated f n) ++ filter some_at (n ∷ [])
+  key_more n None is = sym (ap (λ o. keys (tabulated f n) ++ cond (is_some o) (n ∷ []) []) is ∙ append-nil (keys (tabulated f n)))
+  key_more n (Some x) is =
+      ap (map (λ (e : ℕ × X). e.0)) (entries-insert nat_cmp_total (tabulated f n) n x ∙ put_last n x (entries (tabulated f n)) (key_below n))
+      ∙ map_push (λ (e : ℕ × X). e.0) (entries (tabulated f n)) (n, x)
+      ∙ ap (λ ks. keys (tabulated f n) ++ ks) (sym (ap (λ o. cond (is_some o) (n ∷ []) []) is))
+
+  pub keys-tabulated : (n : ℕ) → keys (tabulated f n) ≡ filter some_at (range_with_len 0 n)
+  unfolding tabulated
+  keys-tabulated zero = ap (map (λ (e : ℕ × X). e.0)) (nil_from_length (entries (maps.empty {K = ℕ} {X = X} {R = nat_cmp})) (sym (len-entries (maps.empty {K = ℕ} {X = X} {R = nat_cmp})) ∙ len-empty nat_cmp X))
+  keys-tabulated (suc n) =
+      key_more n (f n) refl ∙ ap (λ ks. ks ++ filter some_at (n ∷ [])) (keys-tabulated n)
+      ∙ sym (ap (filter some_at) (range_push 0 n) ∙ filter-append some_at (range_with_len 0 n) ((0 + n) ∷ []) ∙ ap (λ m. filter some_at (range_with_len 0 n) ++ filter some_at (m ∷ [])) (zero_more n))
+    where
+      zero_more : (n : ℕ) → 0 + n ≡ n
+      zero_more n = omega arith
+
+pub keys-claimed_in : (blocks : List Block) → keys (claimed_in blocks) ≡ starts_from blocks 65536
+keys-claimed_in blocks =
+    let all : 65536 + 64 * length blocks ≡ 65536 + 64 * length blocks - 0 = omega arith in
+    keys-tabulated (cell_at blocks) (65536 + 64 * length blocks)
+    ∙ ap (λ n. filter (λ a. is_some (cell_at blocks a)) (range_with_len 0 n)) all
+    ∙ skip_to blocks 0 65536 (omega arith) (omega arith) (λ a low lt. ap is_some (cond-true (nat_lt a 65536) None (option_and_then (cell_in ((a - 65536) % 64)) (slice_get blocks ((a - 65536) / 64))) (lt-ltb a 65536 lt)))

@@ -1,0 +1,6 @@
+pub mod Tabulated
+pub mod BlockSets
+pub mod Blocks
+pub mod Cells
+pub mod Layout
+pub mod Starts

@@ -1,0 +1,21 @@
+//! The classes of cells: a size and a kind each.
+
+ghost use Rattle.std.specs.Prelude.{◌≡◌, ◌≤◌};
+ghost use Rattle.fz_blocks.specs.Layout.{class_of};
+
+use fz_model::ObjKind;
+
+/// The number of classes.
+pub(crate) const CLASSES: usize = 128;
+
+/// The place of a size and kind among the classes.
+pub(crate) fn class_of(size: u64, kind: ObjKind) -> usize
+    requires sized { 1 ≤ size }
+    requires small { size ≤ 64 }
+    ensures { result ≡ class_of size kind }
+{
+    match kind {
+        ObjKind::Scanned => size as usize - 1,
+        ObjKind::Atomic => size as usize + 63,
+    }
+}

@@ -1,0 +1,13 @@
+//! Cells in blocks: where a new object goes, and which cell a word lies in.
+#![tactic(auto)]
+
+mod block;
+mod block_map;
+mod block_set;
+mod class;
+mod starts;
+#[cfg(test)]
+mod tests;
+
+pub use block_map::BlockMap;
+pub use starts::Starts;

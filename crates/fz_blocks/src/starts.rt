@@ -1,0 +1,70 @@
+//! The starts of a map's cells, in order.
+
+ghost use Rattle.std.specs.Prelude.{◌≡◌};
+ghost use Rattle.std.specs.Iterator.{YieldsFirst, item_count};
+
+use crate::block::{BLOCK_WORDS, Block};
+use crate::block_map::HEAP_START;
+use fz_model::Addr;
+use std::marker::Model;
+
+/// An iterator of the starts of all claimed cells, by rising address. A contract sees it as the list of those that are still to come.
+#[derive(Drop)]
+pub struct Starts<'a> {
+    blocks: &'a [Block],
+    /// The address to look at next.
+    next: Addr,
+}
+
+impl<'a> Model for Starts<'a> {
+    ghost use Rattle.std.specs.Prelude.{List, ℕ, ◌+◌, ◌*◌, ◌≤◌, ◌<◌, length, IsTrue};
+
+    ghost Value = { List ℕ };
+
+    ghost use Rattle.fz_blocks.specs.Starts.{starts_from, AllSound};
+
+    ghost view = { λ s. starts_from s.blocks.now s.next };
+
+    ghost invariant = { λ s. AllSound s.blocks.now × (65536 ≤ s.next) × (s.next ≤ 65536 + 64 * length s.blocks.now) × (length s.blocks.now ≤ 4096) };
+}
+
+impl<'a> Starts<'a> {
+    ghost use Rattle.std.specs.Prelude.{◌≡◌, ◌≤◌, length};
+    ghost use Rattle.fz_blocks.specs.Starts.{starts_from, AllSound};
+
+    /// The starts of the cells claimed in these blocks.
+    pub(crate) fn of(blocks: &'a [Block]) -> Starts<'a>
+        requires sound { AllSound blocks.now }
+        requires few { length blocks.now ≤ 4096 }
+        ensures { result ≡ starts_from blocks.now 65536 }
+    {
+        Starts {
+            blocks,
+            next: HEAP_START,
+        }
+    }
+}
+
+impl Iterator for Starts<'_> {
+    type Item = Addr;
+
+    ghost next_gives = { YieldsFirst (λ s. s) };
+
+    ghost remaining = { item_count (λ s. s) };
+
+    fn next(&mut self) -> Option<Addr> {
+        while let Some(block) = self
+            .blocks
+            .get(((self.next - HEAP_START) / BLOCK_WORDS) as usize)
+        {
+            let place = (self.next - HEAP_START) % BLOCK_WORDS;
+            if let Some(start) = block.first_start(place) {
+                let address = self.next - place + start;
+                self.next = address + 1;
+                return Some(address);
+            }
+            self.next += BLOCK_WORDS - place;
+        }
+        None
+    }
+}
