@@ -1,0 +1,5 @@
+pub mod Finding
+pub mod Laying
+pub mod Placing
+pub mod Remade
+pub mod Flat

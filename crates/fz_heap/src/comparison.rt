@@ -1,0 +1,150 @@
+//! The heap against the plain list of its objects, over random calls.
+
+ghost use Rattle.std.specs.Prelude.{◌<◌, ◌≤◌};
+
+use crate::Heap;
+use crate::plain::PlainHeap;
+use crate::tests::free;
+use fz_model::ObjKind::{Atomic, Scanned};
+use fz_model::{Addr, ObjKind, Word};
+use std::alloc::Global;
+use std::process::Abort;
+use std::test::Fail;
+
+/// Random numbers by a xorshift of 64 bits, the same ones each time.
+#[derive(Drop)]
+struct Random {
+    state: u64,
+}
+
+impl Random {
+    fn next(&mut self) -> u64 {
+        self.state ^= self.state << 13;
+        self.state ^= self.state >> 7;
+        self.state ^= self.state << 17;
+        self.state
+    }
+
+    fn below(&mut self, bound: u64) -> u64
+        requires { 0 < bound }
+        ensures { result < bound }
+    {
+        self.next() % bound
+    }
+
+    /// Mostly a few words, at times up to 66, so that bad sizes come too.
+    fn size(&mut self) -> u64 {
+        if self.below(4) == 0 {
+            self.below(67)
+        } else {
+            1 + self.below(8)
+        }
+    }
+
+    fn kind(&mut self) -> ObjKind {
+        if self.below(2) == 0 { Scanned } else { Atomic }
+    }
+
+    /// Mostly an address in a heap of so many blocks or close to it, at times any word.
+    fn word(&mut self, blocks: u64) -> Word
+        requires { blocks ≤ 4096 }
+    {
+        if self.below(16) == 0 {
+            self.next()
+        } else {
+            65_530 + self.below(64 * blocks + 12)
+        }
+    }
+
+    /// Mostly one inside an object, at times any.
+    fn offset(&mut self) -> u64 {
+        if self.below(16) == 0 {
+            self.next()
+        } else {
+            self.below(8)
+        }
+    }
+}
+
+/// One random call of both, whose answers have to be the same.
+fn call_both(
+    rt: &impl Abort,
+    heap: &mut Heap,
+    plain: &mut PlainHeap,
+    random: &mut Random,
+) -> Result<(), Fail> {
+    let blocks = heap.blocks();
+    let word = random.word(blocks);
+    let offset = random.offset();
+    match random.below(8) {
+        0..=2 => {
+            let size = random.size();
+            let kind = random.kind();
+            assert_eq!(rt;
+                heap.alloc(size, kind),
+                plain.alloc(size, kind),
+                "{size} words"
+            );
+        }
+        3 => {
+            let value = random.next();
+            assert_eq!(rt;
+                heap.write(word, offset, value),
+                plain.write(word, offset, value),
+                "at {word} + {offset}"
+            );
+        }
+        4 => assert_eq!(rt;
+            heap.read(word, offset),
+            plain.read(word, offset),
+            "at {word} + {offset}"
+        ),
+        5 => assert_eq!(rt; heap.resolve(word), plain.resolve(word), "at {word}"),
+        6 => assert_eq!(rt; heap.facts(word), plain.facts(word), "at {word}"),
+        _ => {
+            if let Some(start) = plain.resolve(word) {
+                plain.reclaim(start);
+                assert!(rt; free(heap, start), "at {start}");
+            }
+        }
+    }
+    Ok(())
+}
+
+/// The objects, their facts and their words are the same.
+fn compare_all(rt: &impl Abort, alloc: Global, heap: &Heap, plain: &PlainHeap) -> Result<(), Fail> {
+    let starts: Vec<Addr> = heap.objects().collect(alloc)?;
+    let expected = plain.starts()?;
+    assert_eq!(rt; starts.as_slice(), expected.as_slice());
+    for start in starts.iter() {
+        let facts = heap.facts(*start);
+        assert_eq!(rt; facts, plain.facts(*start), "at {start}");
+        let size = facts.map_or(0, |(size, _, _)| size);
+        for offset in 0..size {
+            assert_eq!(rt;
+                heap.read(*start, offset),
+                plain.read(*start, offset),
+                "at {start} + {offset}"
+            );
+        }
+    }
+    Ok(())
+}
+
+#[test]
+fn both_answer_alike(rt: HostRuntime) -> Result<(), Fail> {
+    let mut random = Random {
+        state: 0x9E37_79B9_7F4A_7C15,
+    };
+    for blocks in [1, 3, 40] {
+        let mut heap = Heap::new(rt.alloc(), blocks)?;
+        let mut plain = PlainHeap::new(rt.alloc(), blocks)?;
+        for _ in 0..8 {
+            for _ in 0..150 {
+                call_both(&rt, &mut heap, &mut plain, &mut random)?;
+            }
+            compare_all(&rt, rt.alloc(), &heap, &plain)?;
+        }
+    }
+    Ok(())
+}

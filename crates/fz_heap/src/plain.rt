@@ -1,0 +1,194 @@
+//! The heap as a plain list of its objects: slow, and each call reads as its rule. Tests hold the real heap against it.
+//! It is proved to be safe and to end, no more: nothing but a test rests on it.
+
+ghost use Rattle.std.specs.Prelude.{◌≡◌, ◌<◌, ◌+◌, ◌*◌};
+
+use fz_model::{Addr, ObjKind, Refusal, Word};
+use std::alloc::{AllocError, Global};
+
+/// The first address of the heap.
+const HEAP_START: Addr = 65_536;
+
+/// The words of a block.
+const BLOCK_WORDS: u64 = 64;
+
+/// Births stay below this.
+const MAX_BIRTHS: u64 = 1 << 48;
+
+/// An object: the words from a start on.
+#[derive(Drop)]
+struct Object {
+    start: Addr,
+    kind: ObjKind,
+    birth: u64,
+    words: Vec<Word>,
+}
+
+/// The objects by rising start, in so many blocks.
+#[derive(Drop)]
+pub(crate) struct PlainHeap {
+    alloc: Global,
+    blocks: u16,
+    objects: Vec<Object>,
+    next_birth: u64,
+}
+
+/// The first address of a block.
+fn block_start(block: u16) -> Addr
+    ensures { result ≡ 65536 + 64 * block }
+{
+    HEAP_START + BLOCK_WORDS * u64::from(block)
+}
+
+impl Object {
+    fn size(&self) -> u64 {
+        self.words.len() as u64
+    }
+
+    fn covers(&self, address: u64) -> bool {
+        self.start <= address && address - self.start < self.size()
+    }
+
+    fn is_in(&self, block: u16) -> bool {
+        let first = block_start(block);
+        first <= self.start && self.start - first < BLOCK_WORDS
+    }
+
+    /// The place, among its words, of the word at an offset from a word that points into it.
+    fn place(&self, word: Word, offset: u64) -> Option<usize> {
+        let place = word.checked_sub(self.start)?.checked_add(offset)?;
+        Some(place as usize)
+    }
+}
+
+impl PlainHeap {
+    pub(crate) fn new(alloc: Global, blocks: u64) -> Result<PlainHeap, Refusal> {
+        if blocks == 0 || blocks > 4096 {
+            return Err(Refusal::BadCount);
+        }
+        Ok(PlainHeap {
+            alloc,
+            blocks: blocks as u16,
+            objects: Vec::new(alloc),
+            next_birth: 0,
+        })
+    }
+
+    /// The least free cell of a block with cells of this size.
+    fn free_cell(&self, block: u16, size: u64) -> Option<Addr>
+        requires { 0 < size }
+    {
+        for index in 0..BLOCK_WORDS / size {
+            let start = block_start(block) + index * size;
+            if !self.objects.iter().any(|object| object.start == start) {
+                return Some(start);
+            }
+        }
+        None
+    }
+
+    /// The least free cell of the blocks with objects of this size and kind.
+    fn place_in_class(&self, size: u64, kind: ObjKind) -> Option<Addr>
+        requires { 0 < size }
+    {
+        for block in 0..self.blocks {
+            let of_class = self.objects.iter().any(|object| object.is_in(block)
+                && object.size() == size
+                && object.kind == kind);
+            if of_class {
+                let found = self.free_cell(block, size);
+                if found.is_some() {
+                    return found;
+                }
+            }
+        }
+        None
+    }
+
+    /// The first cell of the least block without objects.
+    fn place_in_bare(&self) -> Option<Addr> {
+        for block in 0..self.blocks {
+            if !self.objects.iter().any(|object| object.is_in(block)) {
+                return Some(block_start(block));
+            }
+        }
+        None
+    }
+
+    pub(crate) fn alloc(&mut self, size: u64, kind: ObjKind) -> Result<(Addr, u64), Refusal> {
+        if size == 0 || size > BLOCK_WORDS {
+            return Err(Refusal::BadSize);
+        }
+        if self.next_birth >= MAX_BIRTHS {
+            return Err(Refusal::Exhausted);
+        }
+        let start = match self.place_in_class(size, kind) {
+            Some(start) => start,
+            None => self.place_in_bare().ok_or(Refusal::NoSpace)?,
+        };
+        let birth = self.next_birth;
+        let words = vec![in self.alloc; 0; size as usize].map_err(|_| Refusal::NoMemory)?;
+        let object = Object {
+            start,
+            kind,
+            birth,
+            words,
+        };
+        let end = self.objects.len();
+        let index = self
+            .objects
+            .iter()
+            .position(|object| start < object.start)
+            .unwrap_or(end);
+        self.objects
+            .insert(index, object)
+            .map_err(|_| Refusal::NoMemory)?;
+        self.next_birth += 1;
+        Ok((start, birth))
+    }
+
+    pub(crate) fn resolve(&self, word: Word) -> Option<Addr> {
+        let object = self.objects.iter().find(|object| object.covers(word))?;
+        Some(object.start)
+    }
+
+    pub(crate) fn read(&self, word: Word, offset: u64) -> Result<Word, Refusal> {
+        let object = self
+            .objects
+            .iter()
+            .find(|object| object.covers(word))
+            .ok_or(Refusal::NotPointer)?;
+        let place = object.place(word, offset).ok_or(Refusal::OutsideObject)?;
+        let found = object.words.get(place).ok_or(Refusal::OutsideObject)?;
+        Ok(*found)
+    }
+
+    pub(crate) fn write(&mut self, word: Word, offset: u64, value: Word) -> Result<(), Refusal> {
+        for object in self.objects.iter_mut() {
+            if object.covers(word) {
+                let place = object.place(word, offset).ok_or(Refusal::OutsideObject)?;
+                let found = object.words.get_mut(place).ok_or(Refusal::OutsideObject)?;
+                *found = value;
+                return Ok(());
+            }
+        }
+        Err(Refusal::NotPointer)
+    }
+
+    pub(crate) fn reclaim(&mut self, start: Addr) {
+        self.objects.retain(|object| object.start != start);
+    }
+
+    pub(crate) fn facts(&self, start: Addr) -> Option<(u64, ObjKind, u64)> {
+        let object = self.objects.iter().find(|object| object.start == start)?;
+        Some((object.size(), object.kind, object.birth))
+    }
+
+    /// The starts of all objects, by rising address.
+    pub(crate) fn starts(&self) -> Result<Vec<Addr>, AllocError> {
+        self.objects
+            .iter()
+            .map(|object| object.start)
+            .collect(self.alloc)
+    }
+}
