@@ -1,0 +1,14 @@
+use Rattle.std.proofs.Common.{◌≤◌, ◌∙◌, ap, sym, subst}
+use Rattle.std.specs.FinMap.{len}
+use Rattle.fz_model.specs.Causes.{table_limit}
+use Rattle.fz_table.specs.Registered.{Registered}
+use Rattle.fz_table.proofs.Entries.{len_made}
+use Rattle.fz_table.proofs.table.Table.len.Goals as goal
+
+pub returns-clause-count : goal.returns-clause-count
+returns-clause-count c =
+    c.len.ensures.len ∙ sym (len_made c.self.inside.entries.entries c.len.ensures.unique) ∙ ap (λ (t : Registered). len t.registrations) c.self.view_is
+
+pub returns-clause-limit : goal.returns-clause-limit
+returns-clause-limit c =
+    subst (λ n. n ≤ table_limit) (len_made c.self.inside.entries.entries c.len.ensures.unique ∙ sym c.len.ensures.len) c.self.invariant

@@ -1,0 +1,166 @@
+//! The table and its calls.
+
+ghost use Rattle.std.specs.Prelude.{◌≡◌, ◌+◌, ◌≤◌, ◌↔◌, true, nat_eq, length, IsTrue, IsSome, None, IfOk, IfErr, OnOk, OnErr};
+ghost use Rattle.std.specs.FinMap.{get, insert, remove, len, empty, from_entries};
+ghost use Rattle.std.specs.List.{IsDistinct};
+ghost use Rattle.std.specs.Map.{keys_of};
+ghost use Rattle.fz_model.specs.Causes.{IsRefusedFor, first_cause, full, register_causes, table_limit};
+ghost use Rattle.fz_model.specs.Steps.{old_of};
+ghost use Rattle.fz_model.specs.declared.refusal.Refusal.TheVariants.{Exhausted};
+
+use crate::registrations::Registrations;
+use fz_model::{Addr, Old, Refusal, RegKind, Registration, Word};
+use indexmap::IndexMap;
+use std::alloc::Global;
+use std::marker::Model;
+
+/// Registration numbers stay below this.
+const NUMBER_LIMIT: u64 = 1 << 48;
+
+/// How many objects may be registered at one time.
+const TABLE_LIMIT: usize = 65_536;
+
+/// The registrations by the starts of their objects, at most 65,536 at one time. Each gets a number, counted from 0.
+#[derive(Drop)]
+pub struct Table {
+    entries: IndexMap<Addr, Registration>,
+    next_number: u64,
+}
+
+impl Model for Table {
+    ghost use Rattle.std.specs.Prelude.{◌≤◌};
+    ghost use Rattle.std.specs.Ordering.{nat_cmp};
+    ghost use Rattle.std.specs.FinMap.{len, from_entries};
+    ghost use Rattle.fz_model.specs.Causes.{table_limit};
+    ghost use Rattle.fz_table.specs.Registered.{Registered, registered_code};
+
+    ghost Value = { Registered };
+
+    ghost coded = { registered_code };
+
+    ghost view = { λ t. record { registrations = from_entries t.entries.entries; next_number = t.next_number } };
+
+    ghost invariant = { λ t. len (from_entries {R = nat_cmp} t.entries.entries) ≤ table_limit };
+}
+
+impl Table {
+    /// An empty table.
+    pub fn new(alloc: Global) -> Table
+        ensures { result ≡ record { registrations = empty; next_number = 0 } }
+    {
+        Table {
+            entries: IndexMap::new(alloc),
+            next_number: 0,
+        }
+    }
+
+    /// Registers the object, with a new number, and answers the number and the pair that was replaced.
+    ///
+    /// The refusals, in this order: `Exhausted` once 2^48 numbers are given out, `TableFull` when 65,536 other objects are registered,
+    /// and `NoMemory` when the table has to grow for a new object and can't. A replacement takes no memory.
+    pub fn register(
+        &mut self,
+        object: Addr,
+        kind: RegKind,
+        proc: u64,
+        cd: Word,
+    ) -> Result<(u64, Option<Old>), Refusal>
+        // The first cause that stands is answered; only a new object can want memory.
+        ensures refused { IfErr result
+            (λ r. IsRefusedFor (register_causes self.old.registrations self.old.next_number object) true r) }
+        ensures replacement { IsSome (get self.old.registrations object) → IfErr result (λ r. r ≡ Exhausted) }
+        ensures unchanged { OnErr result (self.new ≡ self.old) }
+
+        ensures accepted { OnOk result
+            (first_cause (register_causes self.old.registrations self.old.next_number object) ≡ None) }
+        ensures answer { IfOk result
+            (λ answer. answer ≡ (self.old.next_number, old_of self.old.registrations object)) }
+        ensures registered { OnOk result (self.new ≡ record {
+          registrations = insert self.old.registrations object (record { number = self.old.next_number; kind = kind; proc = proc; cd = cd });
+          next_number = self.old.next_number + 1;
+        }) }
+    {
+        let number = self.next_number;
+        if number >= NUMBER_LIMIT {
+            return Err(Refusal::Exhausted);
+        }
+        if self.is_full_for(object) {
+            return Err(Refusal::TableFull);
+        }
+        let registration = Registration {
+            number,
+            kind,
+            proc,
+            cd,
+        };
+        // A refused insertion leaves the entries as they were.
+        let Ok(replaced) = self.entries.insert(object, registration) else {
+            return Err(Refusal::NoMemory);
+        };
+        self.next_number = number + 1;
+        Ok((number, replaced.map(pair_of)))
+    }
+
+    /// Takes the object's registration away, and answers its pair.
+    pub fn remove(&mut self, object: Addr) -> Option<Old>
+        ensures answer { result ≡ old_of self.old.registrations object }
+        ensures removed { self.new ≡ record self.old { registrations = remove self.old.registrations object } }
+    {
+        self.entries.swap_remove(&object).map(pair_of)
+    }
+
+    /// The object's registration.
+    pub fn get(&self, object: Addr) -> Option<Registration>
+        ensures { result ≡ get self.now.registrations object }
+    {
+        self.entries.get(&object).copied()
+    }
+
+    /// How many objects are registered.
+    pub fn len(&self) -> usize
+        ensures count { result ≡ len self.now.registrations }
+        ensures limit { result ≤ table_limit }
+    {
+        self.entries.len()
+    }
+
+    /// Whether no object is registered.
+    pub fn is_empty(&self) -> bool
+        ensures { IsTrue result ↔ (self.now.registrations ≡ empty) }
+    {
+        self.entries.is_empty()
+    }
+
+    /// All registrations with their objects, each once, in no order that callers may count on.
+    ///
+    /// A contract sees the iterator as the list of what is left. So `for (object, registration) in table.iter()` keeps the invariant
+    /// `from_entries (l.yielded ++ l.object-iterator) ≡ l.table.registrations`, with no answer, and at its end nothing is left.
+    /// In `proofs/Entries.antt`, `got`, `listed` and `All-got` go between such a list and what `get` answers.
+    pub fn iter(&self) -> Registrations<'_>
+        ensures all { from_entries result ≡ self.now.registrations }
+        ensures once { IsDistinct nat_eq (keys_of result) }
+        ensures count { length result ≡ len self.now.registrations }
+        ensures limit { length result ≤ table_limit }
+    {
+        Registrations {
+            entries: self.entries.iter(),
+        }
+    }
+
+    /// Whether the table has no room for the object: it is full, and the object isn't registered.
+    fn is_full_for(&self, object: Addr) -> bool
+        ensures { result ≡ (full self.now.registrations object).0 }
+    {
+        self.len() >= TABLE_LIMIT && self.get(object).is_none()
+    }
+}
+
+/// What a registration leaves when it goes.
+fn pair_of(registration: Registration) -> Old
+    ensures { result ≡ record { proc = registration.proc; cd = registration.cd } }
+{
+    Old {
+        proc: registration.proc,
+        cd: registration.cd,
+    }
+}
