@@ -1,0 +1,11 @@
+pub mod Carried
+pub mod Cleared
+pub mod Collected
+pub mod Growth
+pub mod Members
+pub mod Planned
+pub mod Reached
+pub mod Removed
+pub mod Sorted
+pub mod Tracing
+pub mod Words

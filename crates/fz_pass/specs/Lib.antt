@@ -1,0 +1,4 @@
+pub mod Decides
+pub mod Plans
+pub mod Sets
+pub mod Traces

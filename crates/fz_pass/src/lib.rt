@@ -1,0 +1,11 @@
+//! The finalization pass, and the tracing that it stands on.
+#![tactic(auto)]
+
+mod pass;
+mod plan;
+mod set;
+mod trace;
+
+pub use pass::decide;
+pub use set::ObjectSet;
+pub use trace::Tracer;

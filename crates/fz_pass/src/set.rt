@@ -1,0 +1,63 @@
+//! Sets of objects.
+
+ghost use Rattle.std.specs.Prelude.{◌≡◌, ◌≤◌, ◌<◌, ◌+◌, ◌*◌, ◌==◌, ◌||◌, if◌then◌else◌, ℕ, false, not, length, IfOk};
+ghost use Rattle.fz_pass.specs.Sets.{has, vacant};
+
+use fz_model::Addr;
+use std::alloc::{AllocError, Global};
+use std::marker::Model;
+
+/// The address of a heap's first word.
+const FIRST: Addr = 65_536;
+
+/// A set of objects of a heap, by their starts. A contract sees one flag for each word of the heap's blocks.
+#[derive(Drop)]
+pub struct ObjectSet {
+    flags: Vec<bool>,
+}
+
+impl Model for ObjectSet {
+    ghost use Rattle.std.specs.Prelude.{List, Bool};
+
+    ghost Value = { List Bool };
+
+    ghost view = { λ s. s.flags.items };
+}
+
+impl ObjectSet {
+    /// An empty set of objects of a heap of so many blocks.
+    pub fn new(alloc: Global, blocks: u64) -> Result<ObjectSet, AllocError>
+        requires { blocks ≤ 4096 }
+        ensures size { IfOk result (λ set. length set ≡ 64 * blocks) }
+        ensures empty { IfOk result (λ set. (a : ℕ) → has set a ≡ false) }
+    {
+        let flags = vec![in alloc; false; (64 * blocks) as usize]?;
+        Ok(ObjectSet { flags })
+    }
+
+    /// Whether the set has the object at the start.
+    pub fn contains(&self, start: Addr) -> bool
+        ensures { result ≡ has self.now start }
+    {
+        start >= FIRST
+            && self
+                .flags
+                .get((start - FIRST) as usize)
+                .copied()
+                .unwrap_or(false)
+    }
+
+    /// Adds the object at the start, and says whether it is new.
+    pub(crate) fn insert(&mut self, start: Addr) -> bool
+        requires in_heap { (65536 ≤ start) × (start < 65536 + length self.old) }
+        ensures fresh { result ≡ not (has self.old start) }
+        ensures size { length self.new ≡ length self.old }
+        ensures inserted { (a : ℕ) → has self.new a ≡ (has self.old a || a == start) }
+        ensures vacant { vacant self.new + (if result then 1 else 0) ≡ vacant self.old }
+    {
+        let flag = &mut self.flags[(start - FIRST) as usize];
+        let fresh = !*flag;
+        *flag = true;
+        fresh
+    }
+}
