@@ -1,0 +1,25 @@
+-- A world stands for a state of the model, and each of its calls is a step of the model from that state.
+use Rattle.std.specs.Prelude.{◌≡◌, ℕ, [], ◌∷◌, Result}
+use Rattle.fz_model.specs.declared.refusal.Refusal.{Refusal}
+use Rattle.fz_model.specs.State.{Map, Object, Core, State}
+use Rattle.fz_model.specs.Seen.{SeenIsClosed}
+use Rattle.fz_model.specs.Causes.{Causes, bad_count, no_object, no_start}
+use Rattle.fz_model.specs.Events.{Event, Answer}
+use Rattle.fz_model.specs.Steps.{Step}
+
+-- all that the world keeps is as in the state; and what the state's open cycle has seen is closed under children, and has what is reachable
+pub record StandsFor (world : Core) (s : State) : Type 0 where
+  pub core : world ≡ s.core
+  pub seen : SeenIsClosed s
+
+-- from each state that the old world stands for there is a step with this reply, to a state that the new world stands for
+abbrev pub Does : Core → (e : Event) → Result (Answer e) Refusal → Core → Type 0
+Does old e reply new = (s : State) → StandsFor old s → (t : State) × Step s e reply t × StandsFor new t
+
+-- the causes of refusal of an opening
+abbrev pub open_causes : ℕ → ℕ → Causes
+open_causes blocks frames = bad_count 4096 blocks ∷ bad_count 8 frames ∷ []
+
+-- a word that has to be the start of an object
+abbrev pub start_causes : Map Object → ℕ → Causes
+start_causes objects word = no_object objects word ∷ no_start objects word ∷ []

@@ -1,0 +1,156 @@
+//! The queue of finalizers that are ready, and those of its entries that are held.
+
+ghost use Rattle.std.specs.Prelude.{◌≡◌, ◌≤◌, ◌<◌, ◌+◌, ◌++◌, [], ◌∷◌, true, false, not, filter, length, MatchOption, OnOk, IfOk};
+ghost use Rattle.std.specs.List.{list_any};
+ghost use Rattle.fz_model.specs.Events.{same_entry};
+ghost use Rattle.fz_model.specs.Pass.{entries_of};
+
+use fz_model::{Entry, Pick};
+use std::alloc::{AllocError, Global};
+use std::marker::Model;
+
+/// Every entry ever queued, in order, and which of them aren't finished.
+#[derive(Drop)]
+pub(crate) struct Ready {
+    queue: Vec<Entry>,
+    is_held: Vec<bool>,
+    outstanding: u64,
+}
+
+impl Model for Ready {
+    ghost use Rattle.std.specs.Prelude.{◌≡◌, ◌-◌, min, length, vec_len, vec_capacity};
+    ghost use Rattle.fz_world.specs.Ready.{Ready, ready_code, flagged, AreNumbered};
+
+    ghost Value = { Ready };
+
+    ghost coded = { ready_code };
+
+    ghost view = { λ r. record {
+      queue = r.queue.items;
+      held = flagged r.queue.items r.is_held.items;
+      room = min (vec_capacity r.queue - vec_len r.queue) (vec_capacity r.is_held - vec_len r.is_held);
+    } };
+
+    ghost invariant = { λ r. (length r.is_held.items ≡ length r.queue.items) × AreNumbered 0 r.queue.items × (r.outstanding ≡ length (flagged r.queue.items r.is_held.items)) };
+}
+
+fn is_same(one: &Entry, other: &Entry) -> bool
+    ensures { result ≡ same_entry one.now other.now }
+{
+    one.seq == other.seq
+        && one.pass == other.pass
+        && one.reg == other.reg
+        && one.obj == other.obj
+        && one.birth == other.birth
+        && one.proc == other.proc
+        && one.cd == other.cd
+}
+
+impl Ready {
+    pub(crate) fn new(alloc: Global) -> Ready
+        ensures { (result.queue ≡ []) × (result.held ≡ []) }
+    {
+        Ready {
+            queue: Vec::new(alloc),
+            is_held: Vec::new(alloc),
+            outstanding: 0,
+        }
+    }
+
+    /// Every entry ever queued.
+    pub(crate) fn queue(&self) -> &[Entry]
+        ensures { result.now ≡ self.now.queue }
+    {
+        self.queue.as_slice()
+    }
+
+    /// How many entries aren't finished.
+    pub(crate) fn outstanding(&self) -> u64
+        ensures { result ≡ length self.now.held }
+    {
+        self.outstanding
+    }
+
+    /// A copy of the entries that aren't finished, in their order.
+    pub(crate) fn held(&self, alloc: Global) -> Result<Vec<Entry>, AllocError>
+        ensures { IfOk result (λ held. held.items ≡ self.now.held) }
+    {
+        let mut held = Vec::new(alloc);
+        for place in 0..self.queue.len() {
+            if self.is_held[place] {
+                held.push(self.queue[place])?;
+            }
+        }
+        Ok(held)
+    }
+
+    /// Makes room for so many more entries.
+    pub(crate) fn reserve(&mut self, more: usize) -> Result<(), AllocError>
+        ensures same { (self.new.queue ≡ self.old.queue) × (self.new.held ≡ self.old.held) }
+        ensures room { OnOk result (more ≤ self.new.room) }
+    {
+        self.queue.reserve(more)?;
+        self.is_held.reserve(more)
+    }
+
+    /// Puts an entry with the next number at the end, for which there has to be room.
+    fn push(&mut self, entry: Entry)
+        requires room { 0 < self.old.room }
+        requires number { entry.seq ≡ length self.old.queue }
+        ensures queue { self.new.queue ≡ self.old.queue ++ entry ∷ [] }
+        ensures held { self.new.held ≡ self.old.held ++ entry ∷ [] }
+        ensures room { self.old.room ≤ self.new.room + 1 }
+    {
+        let _ = self.queue.push(entry);
+        let _ = self.is_held.push(true);
+        self.outstanding += 1;
+    }
+
+    /// Puts the picks of a pass at the end, for which there has to be room.
+    pub(crate) fn enqueue(&mut self, pass: u64, picks: &[Pick])
+        requires { length picks.now ≤ self.old.room }
+        ensures queue { self.new.queue ≡ self.old.queue ++ entries_of pass (length self.old.queue) picks.now }
+        ensures held { self.new.held ≡ self.old.held ++ entries_of pass (length self.old.queue) picks.now }
+    {
+        for pick in picks {
+            let seq = self.queue().len() as u64;
+            self.push(Entry {
+                seq,
+                pass,
+                reg: pick.reg,
+                obj: pick.obj,
+                birth: pick.birth,
+                proc: pick.proc,
+                cd: pick.cd,
+            });
+        }
+    }
+
+    /// The place of an entry that is held.
+    fn place_of(&self, entry: &Entry) -> Option<usize>
+        ensures { MatchOption result (list_any (same_entry entry.now) self.now.held ≡ false) (λ place. (place ≡ entry.now.seq) × (list_any (same_entry entry.now) self.now.held ≡ true)) }
+    {
+        let place = entry.seq as usize;
+        if place < self.queue.len() && self.is_held[place] && is_same(entry, &self.queue[place]) {
+            Some(place)
+        } else {
+            None
+        }
+    }
+
+    /// Ends the holding of an entry, if it is held.
+    pub(crate) fn finish(&mut self, entry: &Entry) -> bool
+        ensures answer { result ≡ list_any (same_entry entry.now) self.old.held }
+        ensures queue { self.new.queue ≡ self.old.queue }
+        ensures held { self.new.held ≡ filter (λ h. not (same_entry entry.now h)) self.old.held }
+    {
+        match self.place_of(entry) {
+            Some(place) => {
+                self.is_held[place] = false;
+                self.outstanding -= 1;
+                true
+            }
+            None => false,
+        }
+    }
+}
