@@ -1,0 +1,6 @@
+pub mod Writing
+pub mod Words
+pub mod Machines
+pub mod Scripts
+pub mod Balance
+pub mod Runs

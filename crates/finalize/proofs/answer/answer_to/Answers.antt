@@ -1,0 +1,29 @@
+use Rattle.std.proofs.Common.{refl, sym, ◌∙◌, subst}
+use Rattle.fz_script.specs.declared.step.Step.{Step}
+use Rattle.finalize.specs.Report.{AsksFor}
+use Rattle.finalize.proofs.answer.answer_to.Goals as goal
+
+pub returns-in-Ok : goal.returns-in-Ok
+returns-in-Ok c = (
+  c.in-None.is,
+  c.in-Ok.opened,
+  refl,
+  c.in-Open.blocks,
+  c.in-Open.frames,
+  c.in-Open.workers,
+  subst (λ (s : Step). AsksFor c.args.line.now s) c.in-Open.is (sym c.is_kept.ensures ∙ c.if-not-is_kept.false, c.in-Some.ensures.found.0, c.in-Some.ensures.found.1),
+  c.in-Ok.ensures.opened.0,
+  c.in-Ok.ensures.opened.1,
+)
+
+pub returns-then-has_come : goal.returns-then-has_come
+returns-then-has_come c = (
+  c.in-Some-machine.machine,
+  c.in-Some-machine.is,
+  c.carry_out.new.self,
+  refl,
+  c.in-Some.step,
+  (sym c.is_kept.ensures ∙ c.if-not-is_kept.false, c.in-Some.ensures.found.0, c.in-Some.ensures.found.1),
+  sym c.has_come.ensures ∙ c.if-has_come.true,
+  c.carry_out.ensures,
+)

@@ -1,0 +1,19 @@
+use Rattle.std.proofs.Common.{◌≡◌, ◌<◌, ◌≤◌, ◌^◌, ℕ, ◌+◌, ◌-◌, List, take, drop}
+use Rattle.finalize.specs.Devices.{Took, Wrote, ahead}
+use Rattle.finalize.proofs.Runs.{Position}
+use Rattle.finalize.proofs.run.drive.Given as goal
+
+abbrev pub invariant-lines : goal.invariant-lines
+invariant-lines g l = record {
+  position : (seen : List ℕ) × (text : List ℕ) × Took (g.R.Source.remaining l.fn.reader) seen (ahead (drop l.chunk.at (take l.chunk.len l.chunk.bytes)) (g.R.Source.remaining l.reader)) × Wrote (g.W.Sink.written l.fn.writer) text (g.W.Sink.written l.writer) × Position seen l.number text l.machine l.counts;
+  in_time : l.number ≤ 2 ^ 32 + 1;
+  steps : l.counts.steps < l.number;
+  refused : l.counts.refused < l.number;
+  finished : l.counts.finished < l.number;
+  forfeited : l.counts.forfeited < l.number;
+  reads : g.R.Source.failures l.reader ≡ g.R.Source.failures l.fn.reader;
+  writes : g.W.Sink.failures l.writer ≡ g.W.Sink.failures l.fn.writer;
+}
+
+abbrev pub decreases-lines : goal.decreases-lines
+decreases-lines g l = 2 ^ 32 + 2 - l.number

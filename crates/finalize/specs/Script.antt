@@ -1,0 +1,97 @@
+-- A script: the lines of its bytes, and the steps that they ask for.
+use Rattle.std.specs.Prelude.{◌≡◌, ◌≢◌, ℕ, ◌≤◌, ◌<◌, ◌^◌, Bool, true, false, not, ◌==◌, if◌then◌else◌, ◌⊎◌, List, [], ◌∷◌, ◌++◌, length, map, filter, flat_map, Option, Some, None, IsTrue, IsFalse}
+use Rattle.std.specs.List.{All}
+use Rattle.fz_model.specs.Events as events
+use Rattle.fz_model.specs.Joint.{JointEvent, Call, HoldOwn, FinishOwn}
+use Rattle.fz_model.specs.Joint as joint
+use Rattle.fz_script.specs.declared.step.Step.{Step}
+use Rattle.fz_script.specs.declared.step.Step.TheVariants.{Open, New, Set, Copy, Load, Store, Register, Unregister, Link, Unlink, Move, Begin, Mark, Pause, Collect, Take, Hold, Finish, Forfeit, Close, Outstanding}
+use Rattle.fz_script.specs.Spelling.{spelling, Fits}
+
+-- a line with its LF (byte 10)
+abbrev pub with_lf : List ℕ → List ℕ
+with_lf line = line ++ 10 ∷ []
+
+abbrev pub IsOneLine : List ℕ → Type 0
+IsOneLine bytes = All (λ b. b ≢ 10) bytes
+
+-- the bytes are these lines, each with its LF, and then `last`, in which no LF stands
+pub record Lines (bytes : List ℕ) (lines : List (List ℕ)) (last : List ℕ) : Type 0 where
+  pub is : bytes ≡ flat_map with_lf lines ++ last
+  pub each : All IsOneLine lines
+  pub one : IsOneLine last
+
+-- what follows the last LF is a line if it has a byte
+abbrev pub all_lines : List (List ℕ) → List ℕ → List (List ℕ)
+all_lines lines [] = lines
+all_lines lines (b ∷ bs) = lines ++ (b ∷ bs) ∷ []
+
+-- an empty line and one whose first byte is # (35) ask for nothing
+abbrev pub is_kept : List ℕ → Bool
+is_kept [] = false
+is_kept (b ∷ bs) = not (b == 35)
+
+-- a line has at most so many bytes, its LF not counted, and a script so many lines
+abbrev pub max_line : ℕ
+max_line = 200
+
+abbrev pub max_lines : ℕ
+max_lines = 2 ^ 32
+
+-- these lines ask for these steps, one after another
+pub record IsScript (lines : List (List ℕ)) (steps : List Step) : Type 0 where
+  pub spelled : filter is_kept lines ≡ map spelling steps
+  pub fit : All Fits steps
+  pub short : All (λ line. length line ≤ max_line) lines
+  pub few : length lines ≤ max_lines
+
+-- the steps that the driver carries out once the world is open
+abbrev pub has_come : Step → Bool
+has_come (New frame slot size kind) = true
+has_come (Set frame slot word) = true
+has_come (Copy frame slot to_frame to_slot) = true
+has_come (Load frame slot offset to_frame to_slot) = true
+has_come (Store frame slot offset from_frame from_slot) = true
+has_come (Register frame slot kind procedure client_data) = true
+has_come (Unregister frame slot) = true
+has_come Collect = true
+has_come (Take worker) = true
+has_come (Finish worker) = true
+has_come _ = false
+
+abbrev pub is_open : Step → Bool
+is_open (Open blocks frames workers) = true
+is_open _ = false
+
+-- the first step is the opening, and no later one is
+abbrev pub may_come : Bool → Step → Bool
+may_come opened step = if opened then has_come step else is_open step
+
+-- the line breaks the rules: it is too long, one too many, or asks for no step that may come now
+abbrev pub IsMalformed : Bool → ℕ → List ℕ → Type 0
+IsMalformed opened number line =
+    (max_line < length line) ⊎ ((max_lines < number) ⊎ (IsTrue (is_kept line) × ((step : Step) → Fits step → line ≡ spelling step → IsFalse (may_come opened step))))
+
+-- the event of a joint run for which a step asks; the opening is none
+abbrev pub event_of : Step → Option JointEvent
+event_of (Open blocks frames workers) = None
+event_of (New frame slot size kind) = Some (Call (events.Alloc frame slot size kind))
+event_of (Set frame slot word) = Some (Call (events.Set frame slot word))
+event_of (Copy frame slot to_frame to_slot) = Some (Call (events.Copy frame slot to_frame to_slot))
+event_of (Load frame slot offset to_frame to_slot) = Some (Call (events.Load frame slot offset to_frame to_slot))
+event_of (Store frame slot offset from_frame from_slot) = Some (Call (events.Store frame slot offset from_frame from_slot))
+event_of (Register frame slot kind procedure client_data) = Some (Call (events.Register frame slot kind procedure client_data))
+event_of (Unregister frame slot) = Some (Call (events.Unregister frame slot))
+event_of (Link which frame slot offset target_frame target_slot) = Some (Call (events.Link which frame slot offset target_frame target_slot))
+event_of (Unlink which frame slot offset) = Some (Call (events.Unlink which frame slot offset))
+event_of (Move which frame slot offset to_frame to_slot to_offset) = Some (Call (events.MoveLink which frame slot offset to_frame to_slot to_offset))
+event_of Begin = Some (Call events.Begin)
+event_of (Mark budget) = Some (Call (events.Mark budget))
+event_of Pause = Some (Call events.Pause)
+event_of Collect = Some (Call events.Collect)
+event_of (Take worker) = Some (joint.Take worker)
+event_of (Hold worker frame slot) = Some (HoldOwn worker frame slot)
+event_of (Finish worker) = Some (FinishOwn worker)
+event_of (Forfeit worker) = Some (joint.Forfeit worker)
+event_of Close = Some (Call events.Close)
+event_of Outstanding = Some (Call events.Outstanding)

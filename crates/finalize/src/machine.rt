@@ -1,0 +1,215 @@
+//! A world with its workers: what a script's steps are carried out by.
+
+ghost use Rattle.std.specs.Prelude.{◌≡◌, ◌-◌, true, None, Some, IfOk, IfErr, OnOk, ◌<◌, slice_get, is_some, count_by, length, replicate, ◌≤◌};
+ghost use Rattle.fz_model.specs.Causes.{first_cause, IsRefusedFor};
+ghost use Rattle.fz_model.specs.Joint.{Take, FinishOwn, Forfeit, joint_opening};
+ghost use Rattle.finalize.specs.Script.{has_come};
+ghost use Rattle.finalize.specs.Report.{opening_causes};
+ghost use Rattle.finalize.specs.Machines.{StandsForJoint, JointDoes, StepDoes};
+
+use crate::plain_line::PlainLine;
+use crate::reply::Reply;
+use arrayvec::ArrayVec;
+use fz_model::{Entry, Refusal};
+use fz_script::Step;
+use fz_world::{Config, World};
+use std::alloc::Global;
+
+const MAX_WORKERS: usize = 8;
+
+/// A world, the line of its queue, and the entry in each worker's hand.
+#[derive(Drop)]
+pub(crate) struct Machine {
+    world: World,
+    line: PlainLine,
+    hands: ArrayVec<Option<Entry>, MAX_WORKERS>,
+}
+
+impl Machine {
+    /// Opens a world, whose workers have nothing in hand.
+    pub(crate) fn open(
+        alloc: Global,
+        blocks: u64,
+        frames: u64,
+        workers: u64,
+    ) -> Result<Machine, Refusal>
+        ensures refused { IfErr result (λ refusal. IsRefusedFor (opening_causes blocks frames workers) true refusal) }
+        ensures opened { IfOk result (λ machine. (first_cause (opening_causes blocks frames workers) ≡ None) × StandsForJoint machine (joint_opening blocks frames workers)) }
+    {
+        if workers < 1 || workers > MAX_WORKERS as u64 {
+            return Err(Refusal::BadCount);
+        }
+        let world = World::open(alloc, Config { blocks, frames })?;
+        Ok(Machine {
+            world,
+            line: PlainLine::new(),
+            hands: empty_hands(workers as usize),
+        })
+    }
+
+    /// The entry in the worker's hand, if there is one.
+    fn hand(&self, worker: u64) -> Result<Option<Entry>, Refusal>
+        ensures found { IfOk result (λ hand. slice_get self.now.hands.items worker ≡ Some hand) }
+        ensures within { OnOk result (worker < length self.now.hands.items) }
+        ensures missing { IfErr result (λ refusal. (length self.now.hands.items ≤ worker) × (refusal ≡ Refusal.SeatsMissing)) }
+    {
+        if worker < self.hands.len() as u64 {
+            Ok(self.hands[worker as usize])
+        } else {
+            Err(Refusal::SeatsMissing)
+        }
+    }
+
+    /// The worker takes the next entry of the line, if there is one.
+    fn take(&mut self, worker: u64) -> Result<Option<Entry>, Refusal>
+        ensures { JointDoes self.old (Take worker) result self.new }
+    {
+        let hand = self.hand(worker)?;
+        if hand.is_some() {
+            return Err(Refusal::SeatsMissing);
+        }
+        let entry = self.line.take(self.world.queue());
+        self.hands[worker as usize] = entry;
+        Ok(entry)
+    }
+
+    /// The worker has finished the entry in its hand. It keeps the entry where that is refused.
+    fn finish(&mut self, worker: u64) -> Result<(), Refusal>
+        ensures { JointDoes self.old (FinishOwn worker) result self.new }
+    {
+        let Some(entry) = self.hand(worker)? else {
+            return Err(Refusal::NotHeld);
+        };
+        self.world.finish(&entry)?;
+        self.hands[worker as usize] = None;
+        Ok(())
+    }
+
+    /// The worker gives up the entry in its hand.
+    fn forfeit(&mut self, worker: u64) -> Result<(), Refusal>
+        ensures { JointDoes self.old (Forfeit worker) result self.new }
+    {
+        let Some(_) = self.hand(worker)? else {
+            return Err(Refusal::NotHeld);
+        };
+        self.hands[worker as usize] = None;
+        Ok(())
+    }
+
+    /// Carries out a step.
+    pub(crate) fn carry_out(&mut self, step: Step) -> Result<Reply, Refusal>
+        requires { has_come step ≡ true }
+        ensures { StepDoes self.old step result self.new }
+    {
+        match step {
+            Step::New {
+                frame,
+                slot,
+                size,
+                kind,
+            } => {
+                let (address, birth) = self.world.alloc(frame, slot, size, kind)?;
+                Ok(Reply::Allocated { address, birth })
+            }
+            Step::Set { frame, slot, word } => {
+                self.world.set(frame, slot, word)?;
+                Ok(Reply::Done)
+            }
+            Step::Copy {
+                frame,
+                slot,
+                to_frame,
+                to_slot,
+            } => {
+                self.world.copy(frame, slot, to_frame, to_slot)?;
+                Ok(Reply::Done)
+            }
+            Step::Load {
+                frame,
+                slot,
+                offset,
+                to_frame,
+                to_slot,
+            } => {
+                let word = self.world.load(frame, slot, offset, to_frame, to_slot)?;
+                Ok(Reply::Word(word))
+            }
+            Step::Store {
+                frame,
+                slot,
+                offset,
+                from_frame,
+                from_slot,
+            } => {
+                self.world
+                    .store(frame, slot, offset, from_frame, from_slot)?;
+                Ok(Reply::Done)
+            }
+            Step::Register {
+                frame,
+                slot,
+                kind,
+                procedure,
+                client_data,
+            } => {
+                let answer = self
+                    .world
+                    .register(frame, slot, kind, procedure, client_data)?;
+                Ok(Reply::Registered(answer))
+            }
+            Step::Unregister { frame, slot } => {
+                let old = self.world.unregister(frame, slot)?;
+                Ok(Reply::Unregistered(old))
+            }
+            Step::Collect => {
+                let passed = self.world.collect()?;
+                Ok(Reply::Passed(passed))
+            }
+            Step::Take { worker } => {
+                let entry = self.take(worker)?;
+                Ok(Reply::Taken(entry))
+            }
+            Step::Finish { worker } => {
+                self.finish(worker)?;
+                Ok(Reply::Finished)
+            }
+            Step::Forfeit { worker } => {
+                self.forfeit(worker)?;
+                Ok(Reply::Forfeited)
+            }
+            _ => unreachable!(),
+        }
+    }
+
+    /// The number of entries in the queue.
+    pub(crate) fn enqueued(&self) -> u64
+        ensures { result ≡ length self.now.world.queue }
+    {
+        self.world.queue().len() as u64
+    }
+
+    /// The number of entries that the line hasn't given.
+    pub(crate) fn left(&self) -> u64
+        ensures { result ≡ length self.now.world.queue - self.now.line }
+    {
+        self.world.queue().len().saturating_sub(self.line.taken()) as u64
+    }
+
+    /// The number of entries in workers' hands.
+    pub(crate) fn in_hand(&self) -> u64
+        ensures { result ≡ count_by is_some self.now.hands.items }
+    {
+        self.hands.iter().filter(|hand| hand.is_some()).count() as u64
+    }
+}
+
+fn empty_hands(workers: usize) -> ArrayVec<Option<Entry>, MAX_WORKERS>
+    requires { workers ≤ 8 }
+    ensures { result.items ≡ replicate workers None }
+{
+    let mut hands = ArrayVec::new();
+    while hands.len() < workers {
+        hands.push(None);
+    }
+    hands
+}

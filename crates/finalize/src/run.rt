@@ -1,0 +1,215 @@
+//! A script from its first byte to its last.
+
+ghost use Rattle.std.specs.Prelude.{◌≡◌, ◌<◌, ◌^◌, ◌+◌, ◌++◌, List, ℕ, IfOk, IfErr};
+ghost use Rattle.finalize.specs.Devices.{Took, Wrote, IsAtEnd};
+ghost use Rattle.finalize.specs.Report.{IsReport, Explains, failures_of};
+ghost use Rattle.finalize.specs.Machines.{counts_after, summary_at, TellsAnswer, Finishes};
+
+use crate::answer::{Answer, answer_at};
+use crate::device::{Sink, Source};
+use crate::input::{Chunk, Ending, next_line};
+use crate::machine::Machine;
+use crate::reply::{Reply, write_done, write_end, write_malformed, write_refused, write_reply};
+use arrayvec::ArrayVec;
+use fz_model::Refusal;
+use std::alloc::Global;
+use thiserror::Error;
+
+/// Why a run ended early, and at which line.
+///
+/// `BadLine`: the line is malformed, or the input has ended without an opening, one past its last
+/// line. `BadCount` and `NoMemory`: the opening was refused. `Output`: what this line gets wasn't
+/// written whole; one past the last line, the report's end wasn't. `Input`: the reader failed in this
+/// line.
+#[derive(Clone, Copy, Debug, PartialEq, Eq, Error)]
+#[error("line {line}: {refusal:?}")]
+pub(crate) struct DriveFault {
+    pub(crate) refusal: Refusal,
+    /// Lines are counted from 1.
+    pub(crate) line: u64,
+}
+
+/// The numbers of a run.
+#[derive(Clone, Copy, Debug, PartialEq, Eq)]
+pub(crate) struct Summary {
+    /// The steps, with the opening.
+    pub(crate) steps: u64,
+    /// The steps that were refused.
+    pub(crate) refused: u64,
+    /// The entries that passes put into the queue.
+    pub(crate) enqueued: u64,
+    /// The entries that workers finished.
+    pub(crate) finished: u64,
+    /// The entries that workers gave up.
+    pub(crate) forfeited: u64,
+    /// The entries in workers' hands.
+    pub(crate) in_hand: u64,
+    /// The entries that no worker took.
+    pub(crate) left: u64,
+}
+
+/// Counts of the steps so far.
+#[derive(Clone, Copy)]
+pub(crate) struct Counts {
+    steps: u64,
+    refused: u64,
+    finished: u64,
+    forfeited: u64,
+}
+
+impl Counts {
+    /// The counts after a line that gave this answer.
+    fn after(self, answer: Answer) -> Counts
+        requires steps { self.steps < 2 ^ 32 }
+        requires refused { self.refused < 2 ^ 32 }
+        requires finished { self.finished < 2 ^ 32 }
+        requires forfeited { self.forfeited < 2 ^ 32 }
+        ensures { result ≡ counts_after self answer }
+    {
+        let mut counts = self;
+        match answer {
+            Answer::Opened => counts.steps += 1,
+            Answer::Replied(Ok(Reply::Finished)) => {
+                counts.steps += 1;
+                counts.finished += 1;
+            }
+            Answer::Replied(Ok(Reply::Forfeited)) => {
+                counts.steps += 1;
+                counts.forfeited += 1;
+            }
+            Answer::Replied(Ok(_)) => counts.steps += 1,
+            Answer::Replied(Err(_)) => {
+                counts.steps += 1;
+                counts.refused += 1;
+            }
+            _ => {}
+        }
+        counts
+    }
+
+    /// The numbers of the run that led to this machine.
+    fn summary(self, machine: &Machine) -> Summary
+        ensures { result ≡ summary_at machine.now self }
+    {
+        Summary {
+            steps: self.steps,
+            refused: self.refused,
+            enqueued: machine.enqueued(),
+            finished: self.finished,
+            forfeited: self.forfeited,
+            in_hand: machine.in_hand(),
+            left: machine.left(),
+        }
+    }
+}
+
+fn fault(refusal: Refusal, line: u64) -> DriveFault
+    ensures { result ≡ record { refusal = refusal; line = line } }
+{
+    DriveFault { refusal, line }
+}
+
+/// Runs the script that the reader hands over, and writes its report.
+///
+/// A step that the world refuses is answered, and the run goes on.
+pub(crate) fn drive<R: Source, W: Sink>(
+    alloc: Global,
+    reader: &mut R,
+    writer: &mut W,
+) -> Result<Summary, DriveFault>
+    // The whole input was read, and the text is the report of a joint run over its script.
+    ensures ok { IfOk result (λ summary. (bytes : List ℕ) × (text : List ℕ)
+        × Took (R.remaining reader.old) bytes (R.remaining reader.new) × IsAtEnd (R.remaining reader.new)
+        × Wrote (W.written writer.old) text (W.written writer.new) × IsReport bytes text summary) }
+    // Each entry is finished, given up, in a hand or left.
+    ensures balanced { IfOk result (λ summary. summary.enqueued ≡ summary.finished + summary.forfeited + summary.in_hand + summary.left) }
+    // A fault comes where its cause stands, and nothing else was written.
+    ensures fault { IfErr result (λ fault. (bytes : List ℕ) × (unread : List ℕ) × (text : List ℕ)
+        × Took (R.remaining reader.old) (bytes ++ unread) (R.remaining reader.new)
+        × Wrote (W.written writer.old) text (W.written writer.new)
+        × Explains fault.refusal fault.line bytes unread (R.remaining reader.new) text) }
+    // In this call a read failed just where it says so, and so for writes.
+    ensures reads { R.failures reader.new ≡ R.failures reader.old + failures_of Refusal.Input result }
+    ensures writes { W.failures writer.new ≡ W.failures writer.old + failures_of Refusal.Output result }
+{
+    let mut chunk = Chunk::new();
+    let mut line = ArrayVec::new();
+    let mut machine = None;
+    let mut counts = Counts {
+        steps: 0,
+        refused: 0,
+        finished: 0,
+        forfeited: 0,
+    };
+    let mut number = 1;
+    'lines: loop {
+        let ending = match next_line(reader, &mut chunk, &mut line) {
+            Ok(ending) => ending,
+            Err(_) => return Err(fault(Refusal::Input, number)),
+        };
+        match ending {
+            Ending::Nothing => return finish(writer, number, &machine, counts),
+            _ => {}
+        }
+        let answer = answer_at(alloc, &mut machine, number, ending, line.as_slice());
+        match tell(writer, number, answer) {
+            Ok(()) => {}
+            Err(fault) => return Err(fault),
+        }
+        counts = counts.after(answer);
+        number += 1;
+        match ending {
+            Ending::Last => return finish(writer, number, &machine, counts),
+            _ => {}
+        }
+    }
+}
+
+/// Writes what a line gives. The run goes on after `Ok`.
+fn tell<W: Sink>(writer: &mut W, number: u64, answer: Answer) -> Result<(), DriveFault>
+    ensures { TellsAnswer number answer (W.written writer.old) (W.failures writer.old) result (W.written writer.new) (W.failures writer.new) }
+{
+    match answer {
+        Answer::Skipped => Ok(()),
+        Answer::Opened => match write_done(writer) {
+            Ok(()) => Ok(()),
+            Err(_) => Err(fault(Refusal::Output, number)),
+        },
+        Answer::Replied(reply) => match write_reply(writer, reply) {
+            Ok(()) => Ok(()),
+            Err(_) => Err(fault(Refusal::Output, number)),
+        },
+        Answer::Ended(refusal) => match write_refused(writer, refusal) {
+            Ok(()) => Err(fault(refusal, number)),
+            Err(_) => Err(fault(Refusal::Output, number)),
+        },
+        Answer::Malformed => match write_malformed(writer, number) {
+            Ok(()) => Err(fault(Refusal::BadLine, number)),
+            Err(_) => Err(fault(Refusal::Output, number)),
+        },
+    }
+}
+
+/// Ends the report, whose next line would have this number.
+fn finish<W: Sink>(
+    writer: &mut W,
+    number: u64,
+    machine: &Option<Machine>,
+    counts: Counts,
+) -> Result<Summary, DriveFault>
+    ensures { Finishes number machine.now counts (W.written writer.old) (W.failures writer.old) result (W.written writer.new) (W.failures writer.new) }
+{
+    match machine {
+        None => match write_malformed(writer, number) {
+            Ok(()) => Err(fault(Refusal::BadLine, number)),
+            Err(_) => Err(fault(Refusal::Output, number)),
+        },
+        Some(machine) => {
+            let summary = counts.summary(machine);
+            match write_end(writer, summary) {
+                Ok(()) => Ok(summary),
+                Err(_) => Err(fault(Refusal::Output, number)),
+            }
+        }
+    }
+}

@@ -1,0 +1,56 @@
+//! Streams as readers and writers. What a stream hands over or takes, no contract can tell.
+
+ghost use Rattle.std.specs.Prelude.{◌≡◌, None};
+
+use crate::device::{Sink, Source};
+use crate::failures::Failures;
+use std::io;
+use std::sync::ledger::Ledger;
+
+/// A stream, whose failed calls are counted.
+#[derive(Drop)]
+pub struct Stream<S, L: Ledger> {
+    inner: S,
+    failures: Failures<L>,
+}
+
+impl<S, L: Ledger> Stream<S, L> {
+    pub fn new(inner: S, failures: Failures<L>) -> Stream<S, L> {
+        Stream { inner, failures }
+    }
+}
+
+impl<S: io::Read, L: Ledger> Source for Stream<S, L> {
+    ghost remaining = { λ _. None };
+
+    ghost failures = { λ s. s.failures };
+
+    fn read(&mut self, buf: &mut [u8]) -> Option<usize> {
+        match self.inner.read(buf) {
+            Ok(count) => Some(count),
+            Err(_) => {
+                self.failures.count();
+                None
+            }
+        }
+    }
+}
+
+impl<S: io::Write, L: Ledger> Sink for Stream<S, L> {
+    ghost written = { λ _. None };
+
+    ghost failures = { λ s. s.failures };
+
+    fn write(&mut self, bytes: &[u8]) -> Option<usize> {
+        if bytes.is_empty() {
+            return Some(0);
+        }
+        match self.inner.write(bytes) {
+            Ok(0) | Err(_) => {
+                self.failures.count();
+                None
+            }
+            Ok(count) => Some(count),
+        }
+    }
+}

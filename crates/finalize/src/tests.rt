@@ -1,0 +1,472 @@
+//! Runs of whole scripts.
+
+ghost use Rattle.std.specs.Prelude.{◌≡◌, ◌≤◌, length};
+
+use crate::failures::Failures;
+use crate::memory::{Page, Pieces, Script};
+use crate::program::execute;
+use crate::rows::{
+    CHAIN_IN_ORDER, CLIENT_DATA_IS_A_ROOT, CYCLE_NEVER_PICKED, EMPTY_FILE, EMPTY_HEAP,
+    INTERIOR_POINTER, LEADING_ZERO, NO_BLOCKS, NO_ORDER_CYCLE_BY_ADDRESS, NO_ORDER_LEADS_BACK,
+    NORMAL_LEADS_TO_NO_ORDER, ONE_OBJECT_LIFE, REPLACED_AND_REMOVED_REGISTRATION, Row,
+    SELF_REFERENCE_BY_KIND, SIZES_AND_FULL_HEAP,
+};
+use crate::run::{DriveFault, Summary, drive};
+use arrayvec::ArrayVec;
+use fz_model::Refusal;
+use std::alloc::Global;
+use std::marker::Brand;
+use std::sync::ledger::{Blank, Ledger};
+use std::test::Fail;
+
+const ROWS: [Row; 15] = [
+    EMPTY_HEAP,
+    ONE_OBJECT_LIFE,
+    CHAIN_IN_ORDER,
+    CYCLE_NEVER_PICKED,
+    LEADING_ZERO,
+    NO_BLOCKS,
+    EMPTY_FILE,
+    INTERIOR_POINTER,
+    SIZES_AND_FULL_HEAP,
+    SELF_REFERENCE_BY_KIND,
+    CLIENT_DATA_IS_A_ROOT,
+    NO_ORDER_CYCLE_BY_ADDRESS,
+    NORMAL_LEADS_TO_NO_ORDER,
+    NO_ORDER_LEADS_BACK,
+    REPLACED_AND_REMOVED_REGISTRATION,
+];
+
+/// How much the devices hand over and take in a call, and after how many calls they fail.
+#[derive(Clone, Copy)]
+struct Limits {
+    pieces: Pieces,
+    reads: u64,
+    writes: u64,
+}
+
+const WHOLE: Limits = Limits {
+    pieces: Pieces::Whole,
+    reads: u64::MAX,
+    writes: u64::MAX,
+};
+
+const BYTEWISE: Limits = Limits {
+    pieces: Pieces::Single,
+    reads: u64::MAX,
+    writes: u64::MAX,
+};
+
+#[derive(Drop)]
+struct Outcome {
+    result: Result<Summary, DriveFault>,
+    text: ArrayVec<u8, 4096>,
+}
+
+/// Runs the script over devices in memory.
+fn run(alloc: Global, script: &[u8], limits: Limits) -> Outcome {
+    run_counted::<Brand, Brand>(alloc, script, limits, Blank::new(1), Blank::new(1))
+}
+
+fn run_counted<I: Ledger, O: Ledger>(
+    alloc: Global,
+    script: &[u8],
+    limits: Limits,
+    input: Blank,
+    output: Blank,
+) -> Outcome
+    requires input_name { input.name ≡ I.name }
+    requires input_parts { (input.parts ≡ I.parts) × (I.parts ≡ 1) }
+    requires output_name { output.name ≡ O.name }
+    requires output_parts { (output.parts ≡ O.parts) × (O.parts ≡ 1) }
+{
+    let mut reader = Script::new(
+        script,
+        limits.pieces,
+        limits.reads,
+        Failures::<I>::none(input),
+    );
+    let mut writer = Page::new(limits.pieces, limits.writes, Failures::<O>::none(output));
+    let result = drive(alloc, &mut reader, &mut writer);
+    Outcome {
+        result,
+        text: writer.into_bytes(),
+    }
+}
+
+fn fault(refusal: Refusal, line: u64) -> Result<Summary, DriveFault> {
+    Err(DriveFault { refusal, line })
+}
+
+/// The number of lines that end in these bytes.
+fn lines_in(bytes: &[u8]) -> usize
+    ensures { result ≤ length bytes.now }
+{
+    bytes.iter().filter(|byte| **byte == b'\n').count()
+}
+
+/// The first so many lines.
+fn first_lines(bytes: &[u8], count: usize) -> &[u8] {
+    if count == 0 {
+        return &[];
+    }
+    let mut left = count;
+    for (place, byte) in bytes.iter().enumerate() {
+        if *byte == b'\n' {
+            left = left.saturating_sub(1);
+        }
+        if left == 0 {
+            return &bytes[..place + 1];
+        }
+    }
+    bytes
+}
+
+#[test]
+fn rows_are_reported(rt: HostRuntime) {
+    for row in ROWS {
+        for limits in [WHOLE, BYTEWISE] {
+            let outcome = run(rt.alloc(), row.script, limits);
+            assert_eq!(rt; outcome.text.as_slice(), row.report);
+            assert_eq!(rt; outcome.result.err(), row.fault);
+        }
+    }
+}
+
+#[test]
+fn a_summary_has_the_numbers_of_the_end(rt: HostRuntime) {
+    let outcome = run(rt.alloc(), CHAIN_IN_ORDER.script, WHOLE);
+    assert!(rt;
+        outcome.result
+            == Ok(Summary {
+                steps: 14,
+                refused: 0,
+                enqueued: 2,
+                finished: 1,
+                forfeited: 0,
+                in_hand: 1,
+                left: 0,
+            })
+    );
+}
+
+/// Each read of the script fails in turn: whole lines before it are answered, and nothing else.
+#[test]
+fn each_read_fails(rt: HostRuntime) {
+    let row = ONE_OBJECT_LIFE;
+    for reads in 0..row.script.len() + 1 {
+        let outcome = run(
+            rt.alloc(),
+            row.script,
+            Limits {
+                reads: reads as u64,
+                ..BYTEWISE
+            },
+        );
+        let lines = lines_in(&row.script[..reads]);
+        assert!(rt;
+            outcome.result == fault(Refusal::Input, lines as u64 + 1),
+            "at read {reads}"
+        );
+        assert_eq!(rt;
+            outcome.text.as_slice(),
+            first_lines(row.report, lines),
+            "at read {reads}"
+        );
+    }
+}
+
+/// Each write of the report fails in turn.
+#[test]
+fn each_write_fails(rt: HostRuntime) {
+    let row = ONE_OBJECT_LIFE;
+    for writes in 0..row.report.len() {
+        let outcome = run(
+            rt.alloc(),
+            row.script,
+            Limits {
+                writes: writes as u64,
+                ..BYTEWISE
+            },
+        );
+        let lines = lines_in(&row.report[..writes]);
+        assert!(rt;
+            outcome.result == fault(Refusal::Output, lines as u64 + 1),
+            "at write {writes}"
+        );
+        assert_eq!(rt;
+            outcome.text.as_slice(),
+            &row.report[..writes],
+            "at write {writes}"
+        );
+    }
+}
+
+/// A writer that takes all that it is offered is called once for each line.
+#[test]
+fn a_reply_is_one_write(rt: HostRuntime) {
+    let row = ONE_OBJECT_LIFE;
+    let all = lines_in(row.report);
+    for writes in 0..all {
+        let outcome = run(
+            rt.alloc(),
+            row.script,
+            Limits {
+                writes: writes as u64,
+                ..WHOLE
+            },
+        );
+        assert!(rt;
+            outcome.result == fault(Refusal::Output, writes as u64 + 1),
+            "at write {writes}"
+        );
+        assert_eq!(rt;
+            outcome.text.as_slice(),
+            first_lines(row.report, writes),
+            "at write {writes}"
+        );
+    }
+    let outcome = run(
+        rt.alloc(),
+        row.script,
+        Limits {
+            writes: all as u64,
+            ..WHOLE
+        },
+    );
+    assert_eq!(rt; outcome.text.as_slice(), row.report);
+}
+
+/// A script that ends behind any of its lines, with or without the line feed.
+#[test]
+fn a_last_line_needs_no_line_feed(rt: HostRuntime) {
+    for row in [
+        EMPTY_HEAP,
+        ONE_OBJECT_LIFE,
+        CHAIN_IN_ORDER,
+        CYCLE_NEVER_PICKED,
+    ] {
+        for (place, byte) in row.script.iter().enumerate() {
+            if *byte == b'\n' {
+                let outcome = run(rt.alloc(), &row.script[..place], WHOLE);
+                let ended = run(rt.alloc(), &row.script[..place + 1], WHOLE);
+                let replies = first_lines(row.report, lines_in(&row.script[..place + 1]));
+                assert!(rt;
+                    outcome.text.as_slice().starts_with(replies),
+                    "at byte {place}"
+                );
+                assert!(rt;
+                    outcome.text.as_slice()[replies.len()..].starts_with(b"end enqueued "),
+                    "at byte {place}"
+                );
+                assert_eq!(rt;
+                    outcome.text.as_slice(),
+                    ended.text.as_slice(),
+                    "at byte {place}"
+                );
+                assert!(rt; outcome.result == ended.result, "at byte {place}");
+            }
+        }
+    }
+}
+
+#[test]
+fn malformed_lines(rt: HostRuntime) {
+    let cases: [(&[u8], &[u8], u64); 12] = [
+        (b"#\n\n", b"line 3 refused 15 BadLine\n", 3),
+        (b"set 0 0 1\n", b"line 1 refused 15 BadLine\n", 1),
+        (b"open 1 1 1 \n", b"line 1 refused 15 BadLine\n", 1),
+        (b"\nopen 1 1 1\r\n", b"line 2 refused 15 BadLine\n", 2),
+        (
+            b"open 1 1 1\nopen 1 1 1\n",
+            b"ok\nline 2 refused 15 BadLine\n",
+            2,
+        ),
+        (
+            b"open 1 1 1\nset 0 0 1\r\n",
+            b"ok\nline 2 refused 15 BadLine\n",
+            2,
+        ),
+        (
+            b"open 1 1 1\n#\r\nset  0 0 1",
+            b"ok\nline 3 refused 15 BadLine\n",
+            3,
+        ),
+        (
+            b"open 1 1 1\nset 0 0 18446744073709551616",
+            b"ok\nline 2 refused 15 BadLine\n",
+            2,
+        ),
+        (
+            b"open 1 1 1\nset 0 0 +1",
+            b"ok\nline 2 refused 15 BadLine\n",
+            2,
+        ),
+        (
+            b"open 1 1 1\nset 0 0",
+            b"ok\nline 2 refused 15 BadLine\n",
+            2,
+        ),
+        (
+            b"open 1 1 1\n set 0 0 1",
+            b"ok\nline 2 refused 15 BadLine\n",
+            2,
+        ),
+        (
+            b"open 1 1 1\nnew 0 0 1 Scanned\n",
+            b"ok\nline 2 refused 15 BadLine\n",
+            2,
+        ),
+    ];
+    for (script, report, line) in cases {
+        let outcome = run(rt.alloc(), script, WHOLE);
+        assert_eq!(rt; outcome.text.as_slice(), report);
+        assert!(rt; outcome.result == fault(Refusal::BadLine, line));
+    }
+}
+
+/// A comment of 200 bytes is skipped, and one of 201 is malformed as soon as its last byte was read.
+#[test]
+fn long_lines(rt: HostRuntime) {
+    let mut bytes = [b'#'; 202];
+    bytes[201] = b'\n';
+    let outcome = run(rt.alloc(), &bytes[1..], WHOLE);
+    assert!(rt; outcome.result == fault(Refusal::BadLine, 2));
+    let outcome = run(rt.alloc(), &bytes[..200], WHOLE);
+    assert!(rt; outcome.result == fault(Refusal::BadLine, 2));
+    let outcome = run(rt.alloc(), &bytes, WHOLE);
+    assert!(rt; outcome.result == fault(Refusal::BadLine, 1));
+    let outcome = run(
+        rt.alloc(),
+        &bytes,
+        Limits {
+            reads: 201,
+            ..BYTEWISE
+        },
+    );
+    assert!(rt; outcome.result == fault(Refusal::BadLine, 1));
+    let outcome = run(
+        rt.alloc(),
+        &bytes,
+        Limits {
+            reads: 200,
+            ..BYTEWISE
+        },
+    );
+    assert!(rt; outcome.result == fault(Refusal::Input, 1));
+}
+
+#[test]
+fn openings_outside_the_limits(rt: HostRuntime) {
+    let scripts: [&[u8]; 6] = [
+        b"open 0 1 1\n",
+        b"open 4097 1 1\n",
+        b"open 1 0 1\n",
+        b"open 1 9 1\n",
+        b"open 1 1 0\n",
+        b"open 1 1 9\n",
+    ];
+    for script in scripts {
+        let outcome = run(rt.alloc(), script, WHOLE);
+        assert_eq!(rt; outcome.text.as_slice(), b"refused 7 BadCount\n".as_slice());
+        assert!(rt; outcome.result == fault(Refusal::BadCount, 1));
+    }
+}
+
+/// What the workers are refused, and what stays in their hands.
+#[test]
+fn workers_are_refused(rt: HostRuntime) {
+    let script =
+        b"open 4 1 1\ntake 1\nfinish 1\nfinish 0\ntake 0\nnew 0 0 2 scanned\nregister 0 0 normal 7 0\n\
+        set 0 0 0\ncollect\ntake 0\ntake 0\nfinish 0\nfinish 0\n";
+    let report =
+        b"ok\nrefused 16 SeatsMissing\nrefused 16 SeatsMissing\nrefused 10 NotHeld\nempty\nnew 65536 0\nreg 0\n\
+        ok\npass 1 picked 1 reclaimed 0\nentry 0 1 0 65536 0 7 0\nrefused 16 SeatsMissing\nok\nrefused 10 NotHeld\n\
+        end enqueued 1 finished 1 forfeited 0 in_hand 0 left 0\n";
+    let outcome = run(rt.alloc(), script, WHOLE);
+    assert_eq!(rt; outcome.text.as_slice(), report.as_slice());
+    assert!(rt;
+        outcome.result
+            == Ok(Summary {
+                steps: 13,
+                refused: 5,
+                enqueued: 1,
+                finished: 1,
+                forfeited: 0,
+                in_hand: 0,
+                left: 0,
+            })
+    );
+}
+
+#[derive(Drop)]
+struct Said {
+    status: u8,
+    out: ArrayVec<u8, 4096>,
+    err: ArrayVec<u8, 4096>,
+}
+
+/// Runs the program over writers in memory.
+fn say(rt: &HostRuntime, words: &[&str]) -> Said {
+    say_counted::<Brand, Brand>(rt, words, Blank::new(1), Blank::new(1))
+}
+
+fn say_counted<O: Ledger, E: Ledger>(
+    rt: &HostRuntime,
+    words: &[&str],
+    output: Blank,
+    error: Blank,
+) -> Said
+    requires output_name { output.name ≡ O.name }
+    requires output_parts { (output.parts ≡ O.parts) × (O.parts ≡ 1) }
+    requires error_name { error.name ≡ E.name }
+    requires error_parts { (error.parts ≡ E.parts) × (E.parts ≡ 1) }
+{
+    let mut out = Page::new(Pieces::Whole, u64::MAX, Failures::<O>::none(output));
+    let mut err = Page::new(Pieces::Whole, u64::MAX, Failures::<E>::none(error));
+    let status = execute(rt, words, &mut out, &mut err);
+    Said {
+        status,
+        out: out.into_bytes(),
+        err: err.into_bytes(),
+    }
+}
+
+#[test]
+fn other_words_are_wrong(rt: HostRuntime) {
+    let cases: [&[&str]; 9] = [
+        &[],
+        &["run"],
+        &["-h", "run"],
+        &["help", "run"],
+        &["run", "--"],
+        &["run", "-x"],
+        &["run", "a", "b"],
+        &["run", "--", "a"],
+        &["walk", "a"],
+    ];
+    for words in cases {
+        let said = say(&rt, words);
+        assert_eq!(rt; said.status, 2);
+        assert_eq!(rt; said.out.as_slice(), b"".as_slice());
+        assert_eq!(rt;
+            said.err.as_slice(),
+            b"finalize: want run FILE or threads FILE\n".as_slice()
+        );
+    }
+}
+
+#[test]
+fn files_that_cannot_be_read(rt: HostRuntime) {
+    let said = say(&rt, &["run", "no such file"]);
+    assert_eq!(rt; said.status, 1);
+    assert_eq!(rt; said.out.as_slice(), b"".as_slice());
+    assert_eq!(rt;
+        said.err.as_slice(),
+        b"finalize: cannot open file\n".as_slice()
+    );
+    let said = say(&rt, &["run", "."]);
+    assert_eq!(rt; said.status, 1);
+    assert_eq!(rt; said.out.as_slice(), b"".as_slice());
+    assert_eq!(rt; said.err.as_slice(), b"finalize: input failed\n".as_slice());
+}
