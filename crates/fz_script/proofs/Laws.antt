@@ -1,5 +1,6 @@
 -- What is read is spelled so, and what is spelled so is read.
 use Rattle.std.proofs.Common.{◌≡◌, ℕ, ◌<◌, ◌^◌, List, [], ◌∷◌, ◌++◌, decimal, Option, Some, None, ◌∙◌, ap, sym, cond, Bool, true, false, refl, map, ◌⊎◌, inl, inr, IfSome, subst, append-nil, not, ◌&&◌, ◌==◌, ◌+◌, ◌%◌, ne_eqb, arith}
+use Rattle.std.proofs.lemmas.Bool.{and_parts}
 use Rattle.std.specs.List.{join_with_byte, AllByRecursion}
 use Rattle.std.proofs.lemmas.Fmt.{decimal_by_steps}
 use Rattle.std.proofs.lemmas.List.Splits.{join_with_byte-slice_split}
@@ -18,7 +19,7 @@ use Rattle.fz_script.specs.declared.verb.Verb.{Verb}
 use Rattle.fz_script.specs.declared.verb.Verb.TheVariants.{Open, New, Set, Copy, Load, Store, Register, Unregister, Link, Unlink, Move, Begin, Mark, Pause, Collect, Take, Hold, Finish, Forfeit, Close, Outstanding}
 use Rattle.fz_script.specs.Spelling.{Word, Number, Text, IsWord, obj_kind, reg_kind, link_kind, words, text, spelling, Fits}
 use Rattle.fz_script.specs.Reading.{◌>>=◌, with_rest, Field, a_number, an_obj_kind, a_reg_kind, a_link_kind, Value, Values, value_at, values_at, name_at, find_text, fields_at, shape, made, step_at, verb_text, all_verbs, verb_at, word_at, words_of, end_at, step_in}
-use Rattle.fz_script.proofs.Numbers.{number_takes, number_again, both_true}
+use Rattle.fz_script.proofs.Numbers.{number_takes, number_again}
 
 -- the cases of a bind and of a test
 bind_some : {A B : Type 0} (r : Option A) (f : A → Option B) (y : B) → (r >>= f) ≡ Some y → (x : A) × (r ≡ Some x) × (f x ≡ Some y)
@@ -194,12 +195,12 @@ not_true false h = refl
 split_word : (w rest : List ℕ) → lacks_space w ≡ true → words_of (w ++ (32 ∷ rest)) ≡ w ∷ words_of rest
 unfolding lacks_space
 split_word [] rest h = refl
-split_word (b ∷ bs) rest h = let p = both_true _ _ h in let other : (b == 32) ≡ false = not_true _ p.0 in rw (other, split_word bs rest p.1) refl
+split_word (b ∷ bs) rest h = let p = and_parts _ _ h in let other : (b == 32) ≡ false = not_true _ p.0 in rw (other, split_word bs rest p.1) refl
 
 split_last : (w : List ℕ) → lacks_space w ≡ true → words_of w ≡ w ∷ []
 unfolding lacks_space
 split_last [] h = refl
-split_last (b ∷ bs) h = let p = both_true _ _ h in let other : (b == 32) ≡ false = not_true _ p.0 in rw (other, split_last bs p.1) refl
+split_last (b ∷ bs) h = let p = and_parts _ _ h in let other : (b == 32) ≡ false = not_true _ p.0 in rw (other, split_last bs p.1) refl
 
 split_joined : (w : List ℕ) (ws : List (List ℕ)) → lacks_space w ≡ true → AllByRecursion (λ v. lacks_space v ≡ true) ws → words_of (join_with_byte 32 (w ∷ ws)) ≡ w ∷ ws
 split_joined w [] h all = split_last w h
@@ -211,7 +212,7 @@ digit_lacks_space k = ne_eqb (48 + k) 32 (λ e. omega arith)
 lacks_space_more : (ds : List ℕ) (k : ℕ) → lacks_space ds ≡ true → lacks_space (ds ++ ((48 + k) ∷ [])) ≡ true
 unfolding lacks_space
 lacks_space_more [] k h = rw (digit_lacks_space k) refl
-lacks_space_more (d ∷ ds) k h = let p = both_true (not (d == 32)) (lacks_space ds) h in rw (p.0, lacks_space_more ds k p.1) refl
+lacks_space_more (d ∷ ds) k h = let p = and_parts (not (d == 32)) (lacks_space ds) h in rw (p.0, lacks_space_more ds k p.1) refl
 
 lacks_space_decimal : (n : ℕ) → n < 2 ^ 64 → lacks_space (decimal n) ≡ true
 unfolding lacks_space

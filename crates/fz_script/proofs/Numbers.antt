@@ -1,5 +1,6 @@
 -- Numbers as words.
-use Rattle.std.proofs.Common.{◌≡◌, ℕ, ◌<◌, ◌^◌, List, decimal, Result, Ok, Err, Option, Some, None, ◌∙◌, ap, Bool, true, false, nat_lt, ◌&&◌, refl, ltb-true, lt-ltb}
+use Rattle.std.proofs.Common.{◌≡◌, ℕ, ◌<◌, ◌^◌, List, decimal, Result, Ok, Err, Option, Some, None, ◌∙◌, ap, Bool, true, false, nat_lt, refl, ltb-true, lt-ltb}
+use Rattle.std.proofs.lemmas.Bool.{and_parts}
 use Rattle.std.proofs.lemmas.Fmt.{parse-decimal, IsAscii-decimal, decimal_is_IsNumeral}
 use Rattle.std.proofs.lemmas.Str.{IsUtf8-from_ascii}
 use Rattle.std.proofs.lemmas.Slice.Eq.{bytes_eq-Decides}
@@ -20,10 +21,6 @@ is_text n word lt e = let h : IsUtf8 (decimal n) = IsUtf8-from_ascii _ (IsAscii-
 pub both : (b : Bool) → b ≡ true → b ≡ false → ⊥
 both b t f = cc
 
-pub both_true : (a b : Bool) → (a && b) ≡ true → (a ≡ true) × (b ≡ true)
-both_true true b h = (refl, h)
-both_true false b h = cc
-
 -- what is written is read
 pub number_again : (n : ℕ) → n < 2 ^ 64 → number (decimal n) ≡ Some n
 unfolding number
@@ -38,7 +35,7 @@ pub number_takes : (word : List ℕ) (n : ℕ) → number word ≡ Some n → (w
 unfolding number
 number_takes word n h =
     let t = cond_some _ _ _ h in
-    let p = both_true _ _ t.0 in
+    let p = and_parts _ _ t.0 in
     let e : word ≡ decimal (digits_value 10 word) = (bytes_eq-Decides _ _).0 p.1 in
     let lt : digits_value 10 word < 2 ^ 64 = ltb-true (digits_value 10 word) (2 ^ 64) p.0 in
     (e ∙ ap decimal t.1, rw (← t.1) lt)

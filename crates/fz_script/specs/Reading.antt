@@ -168,6 +168,31 @@ made Forfeit x = steps.Forfeit x.0
 made Close x = steps.Close
 made Outstanding x = steps.Outstanding
 
+-- what the step of a verb is about
+pub data Subject : Type 0 where
+  an_object : Subject
+  a_registration : Subject
+  a_link : Subject
+  a_worker : Subject
+  the_world : Subject
+
+abbrev pub subject : Verb → Subject
+subject New = an_object
+subject Set = an_object
+subject Copy = an_object
+subject Load = an_object
+subject Store = an_object
+subject Register = a_registration
+subject Unregister = a_registration
+subject Link = a_link
+subject Unlink = a_link
+subject Move = a_link
+subject Take = a_worker
+subject Hold = a_worker
+subject Finish = a_worker
+subject Forfeit = a_worker
+subject _ = the_world
+
 unfoldable pub fields_at : (fields : List Field) → (Values fields → Step) → List (List ℕ) → Option (Step × List (List ℕ))
 fields_at fields make words = values_at fields words >>= λ x. Some (make x.0, x.1)
 

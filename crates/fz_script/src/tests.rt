@@ -3,125 +3,127 @@
 use crate::{Step, step_of};
 use fz_model::{LinkKind, ObjKind, RegKind};
 
+/// A line of each verb.
+const EACH_VERB: [(&[u8], Step); 21] = [
+    (
+        b"open 4 1 2",
+        Step::Open {
+            blocks: 4,
+            frames: 1,
+            workers: 2,
+        },
+    ),
+    (
+        b"new 0 1 2 atomic",
+        Step::New {
+            frame: 0,
+            slot: 1,
+            size: 2,
+            kind: ObjKind::Atomic,
+        },
+    ),
+    (
+        b"set 0 1 18446744073709551615",
+        Step::Set {
+            frame: 0,
+            slot: 1,
+            word: u64::MAX,
+        },
+    ),
+    (
+        b"copy 0 1 2 3",
+        Step::Copy {
+            frame: 0,
+            slot: 1,
+            to_frame: 2,
+            to_slot: 3,
+        },
+    ),
+    (
+        b"load 0 1 2 3 4",
+        Step::Load {
+            frame: 0,
+            slot: 1,
+            offset: 2,
+            to_frame: 3,
+            to_slot: 4,
+        },
+    ),
+    (
+        b"store 0 1 2 3 4",
+        Step::Store {
+            frame: 0,
+            slot: 1,
+            offset: 2,
+            from_frame: 3,
+            from_slot: 4,
+        },
+    ),
+    (
+        b"register 0 1 ignore_self 7 65536",
+        Step::Register {
+            frame: 0,
+            slot: 1,
+            kind: RegKind::IgnoreSelf,
+            procedure: 7,
+            client_data: 65536,
+        },
+    ),
+    (b"unregister 0 1", Step::Unregister { frame: 0, slot: 1 }),
+    (
+        b"link short 0 1 2 3 4",
+        Step::Link {
+            which: LinkKind::Short,
+            frame: 0,
+            slot: 1,
+            offset: 2,
+            target_frame: 3,
+            target_slot: 4,
+        },
+    ),
+    (
+        b"unlink long 0 1 2",
+        Step::Unlink {
+            which: LinkKind::Long,
+            frame: 0,
+            slot: 1,
+            offset: 2,
+        },
+    ),
+    (
+        b"move long 0 1 2 3 4 5",
+        Step::Move {
+            which: LinkKind::Long,
+            frame: 0,
+            slot: 1,
+            offset: 2,
+            to_frame: 3,
+            to_slot: 4,
+            to_offset: 5,
+        },
+    ),
+    (b"begin", Step::Begin),
+    (b"mark 10", Step::Mark { budget: 10 }),
+    (b"pause", Step::Pause),
+    (b"collect", Step::Collect),
+    (b"take 0", Step::Take { worker: 0 }),
+    (
+        b"hold 0 1 2",
+        Step::Hold {
+            worker: 0,
+            frame: 1,
+            slot: 2,
+        },
+    ),
+    (b"finish 1", Step::Finish { worker: 1 }),
+    (b"forfeit 1", Step::Forfeit { worker: 1 }),
+    (b"close", Step::Close),
+    (b"outstanding", Step::Outstanding),
+];
+
 #[test]
 fn reads_each_verb(rt: HostRuntime) {
-    let lines: [(&[u8], Step); 21] = [
-        (
-            b"open 4 1 2",
-            Step::Open {
-                blocks: 4,
-                frames: 1,
-                workers: 2,
-            },
-        ),
-        (
-            b"new 0 1 2 atomic",
-            Step::New {
-                frame: 0,
-                slot: 1,
-                size: 2,
-                kind: ObjKind::Atomic,
-            },
-        ),
-        (
-            b"set 0 1 18446744073709551615",
-            Step::Set {
-                frame: 0,
-                slot: 1,
-                word: u64::MAX,
-            },
-        ),
-        (
-            b"copy 0 1 2 3",
-            Step::Copy {
-                frame: 0,
-                slot: 1,
-                to_frame: 2,
-                to_slot: 3,
-            },
-        ),
-        (
-            b"load 0 1 2 3 4",
-            Step::Load {
-                frame: 0,
-                slot: 1,
-                offset: 2,
-                to_frame: 3,
-                to_slot: 4,
-            },
-        ),
-        (
-            b"store 0 1 2 3 4",
-            Step::Store {
-                frame: 0,
-                slot: 1,
-                offset: 2,
-                from_frame: 3,
-                from_slot: 4,
-            },
-        ),
-        (
-            b"register 0 1 ignore_self 7 65536",
-            Step::Register {
-                frame: 0,
-                slot: 1,
-                kind: RegKind::IgnoreSelf,
-                procedure: 7,
-                client_data: 65536,
-            },
-        ),
-        (b"unregister 0 1", Step::Unregister { frame: 0, slot: 1 }),
-        (
-            b"link short 0 1 2 3 4",
-            Step::Link {
-                which: LinkKind::Short,
-                frame: 0,
-                slot: 1,
-                offset: 2,
-                target_frame: 3,
-                target_slot: 4,
-            },
-        ),
-        (
-            b"unlink long 0 1 2",
-            Step::Unlink {
-                which: LinkKind::Long,
-                frame: 0,
-                slot: 1,
-                offset: 2,
-            },
-        ),
-        (
-            b"move long 0 1 2 3 4 5",
-            Step::Move {
-                which: LinkKind::Long,
-                frame: 0,
-                slot: 1,
-                offset: 2,
-                to_frame: 3,
-                to_slot: 4,
-                to_offset: 5,
-            },
-        ),
-        (b"begin", Step::Begin),
-        (b"mark 10", Step::Mark { budget: 10 }),
-        (b"pause", Step::Pause),
-        (b"collect", Step::Collect),
-        (b"take 0", Step::Take { worker: 0 }),
-        (
-            b"hold 0 1 2",
-            Step::Hold {
-                worker: 0,
-                frame: 1,
-                slot: 2,
-            },
-        ),
-        (b"finish 1", Step::Finish { worker: 1 }),
-        (b"forfeit 1", Step::Forfeit { worker: 1 }),
-        (b"close", Step::Close),
-        (b"outstanding", Step::Outstanding),
-    ];
-    for (line, want) in lines {
+    for (line, want) in EACH_VERB {
         assert_eq!(rt; step_of(line), Some(want), "at {want:?}");
     }
 }

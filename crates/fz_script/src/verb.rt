@@ -6,7 +6,7 @@
 //! of specs/Reading.antt and proofs/Laws.antt, which are means only, then get a clause each.
 
 ghost use Rattle.std.specs.Prelude.{◌≡◌};
-ghost use Rattle.fz_script.specs.Reading.{words_left, with_rest, verb_text, step_at};
+ghost use Rattle.fz_script.specs.Reading.{words_left, with_rest, verb_text, step_at, subject, an_object, a_registration, a_link, a_worker, the_world};
 
 use crate::names::Named;
 use crate::step::Step;
@@ -95,16 +95,27 @@ impl Named for Verb {
 
 impl Verb {
     /// The step of this verb, whose fields are the next words.
-    #[tactic(auto, unfolding(crate::specs::Reading::fields_at))]
     pub(crate) fn step(self, words: &mut Words<'_>) -> Option<Step>
         ensures { step_at self (words_left words.old) ≡ with_rest result (words_left words.new) }
     {
+        match self {
+            Verb::New | Verb::Set | Verb::Copy | Verb::Load | Verb::Store => self.object_step(
+                words,
+            ),
+            Verb::Register | Verb::Unregister => self.registration_step(words),
+            Verb::Link | Verb::Unlink | Verb::Move => self.link_step(words),
+            Verb::Take | Verb::Hold | Verb::Finish | Verb::Forfeit => self.worker_step(words),
+            _ => self.world_step(words),
+        }
+    }
+
+    /// The step of a verb that makes an object, or reads or writes a slot or a word.
+    #[tactic(auto, unfolding(crate::specs::Reading::fields_at))]
+    fn object_step(self, words: &mut Words<'_>) -> Option<Step>
+        requires { subject self ≡ an_object }
+        ensures { step_at self (words_left words.old) ≡ with_rest result (words_left words.new) }
+    {
         Some(match self {
-            Verb::Open => Step::Open {
-                blocks: words.number()?,
-                frames: words.number()?,
-                workers: words.number()?,
-            },
             Verb::New => Step::New {
                 frame: words.number()?,
                 slot: words.number()?,
@@ -136,6 +147,17 @@ impl Verb {
                 from_frame: words.number()?,
                 from_slot: words.number()?,
             },
+            _ => unreachable!(),
+        })
+    }
+
+    /// The step of a verb that registers an object, or ends its registration.
+    #[tactic(auto, unfolding(crate::specs::Reading::fields_at))]
+    fn registration_step(self, words: &mut Words<'_>) -> Option<Step>
+        requires { subject self ≡ a_registration }
+        ensures { step_at self (words_left words.old) ≡ with_rest result (words_left words.new) }
+    {
+        Some(match self {
             Verb::Register => Step::Register {
                 frame: words.number()?,
                 slot: words.number()?,
@@ -147,6 +169,17 @@ impl Verb {
                 frame: words.number()?,
                 slot: words.number()?,
             },
+            _ => unreachable!(),
+        })
+    }
+
+    /// The step of a verb about a disappearing link.
+    #[tactic(auto, unfolding(crate::specs::Reading::fields_at))]
+    fn link_step(self, words: &mut Words<'_>) -> Option<Step>
+        requires { subject self ≡ a_link }
+        ensures { step_at self (words_left words.old) ≡ with_rest result (words_left words.new) }
+    {
+        Some(match self {
             Verb::Link => Step::Link {
                 which: words.link_kind()?,
                 frame: words.number()?,
@@ -170,28 +203,51 @@ impl Verb {
                 to_slot: words.number()?,
                 to_offset: words.number()?,
             },
+            _ => unreachable!(),
+        })
+    }
+
+    /// The step of a verb that a worker carries out.
+    #[tactic(auto, unfolding(crate::specs::Reading::fields_at))]
+    fn worker_step(self, words: &mut Words<'_>) -> Option<Step>
+        requires { subject self ≡ a_worker }
+        ensures { step_at self (words_left words.old) ≡ with_rest result (words_left words.new) }
+    {
+        let worker = words.number()?;
+        Some(match self {
+            Verb::Take => Step::Take { worker },
+            Verb::Hold => Step::Hold {
+                worker,
+                frame: words.number()?,
+                slot: words.number()?,
+            },
+            Verb::Finish => Step::Finish { worker },
+            Verb::Forfeit => Step::Forfeit { worker },
+            _ => unreachable!(),
+        })
+    }
+
+    /// The step of a verb about the whole world.
+    #[tactic(auto, unfolding(crate::specs::Reading::fields_at))]
+    fn world_step(self, words: &mut Words<'_>) -> Option<Step>
+        requires { subject self ≡ the_world }
+        ensures { step_at self (words_left words.old) ≡ with_rest result (words_left words.new) }
+    {
+        Some(match self {
+            Verb::Open => Step::Open {
+                blocks: words.number()?,
+                frames: words.number()?,
+                workers: words.number()?,
+            },
             Verb::Begin => Step::Begin,
             Verb::Mark => Step::Mark {
                 budget: words.number()?,
             },
             Verb::Pause => Step::Pause,
             Verb::Collect => Step::Collect,
-            Verb::Take => Step::Take {
-                worker: words.number()?,
-            },
-            Verb::Hold => Step::Hold {
-                worker: words.number()?,
-                frame: words.number()?,
-                slot: words.number()?,
-            },
-            Verb::Finish => Step::Finish {
-                worker: words.number()?,
-            },
-            Verb::Forfeit => Step::Forfeit {
-                worker: words.number()?,
-            },
             Verb::Close => Step::Close,
             Verb::Outstanding => Step::Outstanding,
+            _ => unreachable!(),
         })
     }
 }
