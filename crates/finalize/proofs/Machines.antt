@@ -13,6 +13,7 @@ use Rattle.fz_model.specs.Causes.{first_cause}
 use Rattle.fz_model.specs.Events.{Event, Finish, Answer}
 use Rattle.fz_model.specs.Joint.{Worker, Joint, idle, JointEvent, Call, Take, HoldOwn, FinishOwn, Forfeit, JointAnswer, is_finish, worker_at, taken_by, own_causes, Acts, JointStep}
 use Rattle.fz_world.specs.Does.{StandsFor, Does}
+use Rattle.fz_world.specs.declared.world.World.{World}
 use Rattle.fz_script.specs.declared.step.Step.{Step}
 use Rattle.finalize.specs.declared.machine.Machine.{Machine}
 use Rattle.finalize.specs.declared.reply.Reply.{Reply}
@@ -173,7 +174,7 @@ the_error (Err x) e h = ap Err h
 pub told_again : {step known : Step} {e : Option JointEvent} → step ≡ known → event_of known ≡ e → event_of step ≡ e
 told_again is asked = ap event_of is ∙ asked
 
-pub refused : (old new : Machine) (step : Step) (e : JointEvent) (r : Refusal) → event_of step ≡ Some e → JointDoes old e (Err r) new → StepDoes old step (Err r) new
+refused : (old new : Machine) (step : Step) (e : JointEvent) (r : Refusal) → event_of step ≡ Some e → JointDoes old e (Err r) new → StepDoes old step (Err r) new
 refused old new step e r asked does = record { event = e; reply = Err r; asked = asked; does = does; tells = record { words = refl; refused = refl; finish = no_finish e; forfeit = no_forfeit e } }
   where
     no_finish : (e : JointEvent) → false ≡ finishes e (Err r)
@@ -193,3 +194,18 @@ refused old new step e r asked does = record { event = e; reply = Err r; asked =
 pub accepted : (old new : Machine) (step : Step) (e : JointEvent) (answer : JointAnswer e) (reply : Reply) → event_of step ≡ Some e → JointDoes old e (Ok answer) new
     → words_of reply ≡ answer_words e answer → machines.is_finish (Ok reply) ≡ finishes e (Ok answer) → is_forfeit (Ok reply) ≡ forfeits e (Ok answer) → StepDoes old step (Ok reply) new
 accepted old new step e answer reply asked does words finish forfeit = record { event = e; reply = Ok answer; asked = asked; does = does; tells = record { words = words; refused = refl; finish = finish; forfeit = forfeit } }
+
+-- the error that a call gives back is the step's
+pub refuses : (old new : Machine) (step : Step) (e : JointEvent) (r : Refusal) (result : Result Reply Refusal) → event_of step ≡ Some e → JointDoes old e (Err r) new → IsErrAnd result (λ x. x ≡ r) → StepDoes old step result new
+refuses old new step e r result asked does error = subst (λ x. StepDoes old step x new) (sym (the_error result r error)) (refused old new step e r asked does)
+
+-- ---- a step that is a call of the world alone
+
+pub world_refuses : (m : Machine) (w : World) (step : Step) (e : Event) (r : Refusal) (result : Result Reply Refusal) → event_of step ≡ Some (Call e) → IsFalse (is_finish e) → Does m.world e (Err r) w
+    → IsErrAnd result (λ x. x ≡ r) → StepDoes m step result (record m { world = w })
+world_refuses m w step e r result asked call does error = refuses m (record m { world = w }) step (Call e) r result asked (called m (record m { world = w }) e (Err r) call does refl refl) error
+
+pub world_accepts : (m : Machine) (w : World) (step : Step) (e : Event) (answer : Answer e) (reply : Reply) → event_of step ≡ Some (Call e) → IsFalse (is_finish e) → Does m.world e (Ok answer) w
+    → words_of reply ≡ answer_words (Call e) answer → machines.is_finish (Ok reply) ≡ false → is_forfeit (Ok reply) ≡ false → StepDoes m step (Ok reply) (record m { world = w })
+world_accepts m w step e answer reply asked call does words finish forfeit =
+    accepted m (record m { world = w }) step (Call e) answer reply asked (called m (record m { world = w }) e (Ok answer) call does refl refl) words finish forfeit

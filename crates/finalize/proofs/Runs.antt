@@ -1,7 +1,7 @@
 -- How a run goes on by one line, and how it ends.
-use Rattle.std.proofs.Common.{◌≡◌, ◌≢◌, ℕ, ◌≤◌, ◌<◌, ◌+◌, List, [], ◌∷◌, ◌++◌, Option, Some, None, Result, Ok, Err, Bool, true, false, ◌∙◌, ap, sym, refl, subst, append-nil, arith, length, length-append, flat_map, is_some, IfOk, IfErr, IsTrue, IsFalse, inl, inr, ◌⊎◌, leb-true, nat_le}
+use Rattle.std.proofs.Common.{◌≡◌, ◌≢◌, ℕ, ◌≤◌, ◌<◌, ◌+◌, List, [], ◌∷◌, ◌++◌, Option, Some, None, Result, Ok, Err, Bool, true, false, ◌∙◌, ap, sym, refl, subst, append-nil, arith, length, length-append, flat_map, is_some, IfOk, IfErr, IsTrue, IsFalse, inl, inr, ◌⊎◌, leb-true, nat_le, append_assoc}
 use Rattle.std.proofs.lemmas.Bool.{leb-false}
-use Rattle.std.proofs.lemmas.List.Elements.{All-push}
+use Rattle.std.proofs.lemmas.List.Elements.{All-nil, All-push}
 use Rattle.std.proofs.lemmas.List.Concat.{flat_map-append}
 use Rattle.std.specs.List.{All}
 use Rattle.std.specs.Bool.{MatchBool}
@@ -19,14 +19,14 @@ use Rattle.finalize.specs.declared.answer.Answer.TheVariants as answers
 use Rattle.finalize.specs.declared.run.Counts.{Counts}
 use Rattle.finalize.specs.declared.run.Summary.{Summary}
 use Rattle.finalize.specs.declared.run.DriveFault.{DriveFault}
-use Rattle.finalize.specs.Devices.{Took, Wrote, IsAtEnd, ahead}
+use Rattle.std.specs.Io.KnownBytes.{Consumes, Appends, IsAtEnd, prepend_known}
 use Rattle.finalize.specs.Script.{with_lf, IsOneLine, all_lines, max_line, max_lines, may_come, IsMalformed}
 use Rattle.finalize.specs.Replies.{text_line, done, refused_words, reply_words, malformed_words, end_words}
 use Rattle.finalize.specs.Report.{Course, Reports, opening_causes, summary_of, AtEnd, IsReport, IsEnded, AtLine, IsRefusedOpening, IsDue, Opens, OpensNot, Replies, closing_words, Explains, failures_of}
 use Rattle.finalize.specs.Report as report
 use Rattle.finalize.specs.Lines.{TakenFor, EndsInput}
 use Rattle.finalize.specs.Machines.{Gives, Given, answer_text, is_told, stop_of, bit, TellsAnswer, counts_after, counts_of, no_counts, summary_at, Finishes}
-use Rattle.finalize.proofs.Writing.{wrote_more, took_after}
+use Rattle.std.proofs.KnownBytes.{Appends-trans}
 use Rattle.finalize.proofs.Balance.{balanced}
 use Rattle.finalize.proofs.Scripts.{Follows, follows_some, After, at_start, carried_out, same_summary, same_ending}
 
@@ -38,22 +38,22 @@ pub record Position (bytes : List ℕ) (number : ℕ) (text : List ℕ) (machine
   pub place : length lines + 1 ≡ number
   pub after : After lines text machine counts
 
-none_all : {A : Type 0} (P : A → Type 0) → All P []
-none_all P = λ k d lt. absurd (omega arith)
-
 pub at_first : Position [] 1 [] None no_counts
-at_first = record { lines = []; is = refl; each = none_all IsOneLine; place = refl; after = at_start }
+at_first = record { lines = []; is = refl; each = All-nil IsOneLine; place = refl; after = at_start }
 
-pub took_start : (r : Option (List ℕ)) (u : List ℕ) → u ≡ [] → Took r [] (ahead u r)
-took_start None u e = refl
-took_start (Some v) u e = ap (λ w. Some (w ++ v)) (sym e)
+pub took_start : (r : Option (List ℕ)) (u : List ℕ) → u ≡ [] → Consumes r (prepend_known u r) []
+took_start None u e = tt
+took_start (Some v) u e = ap (λ w. w ++ v) (sym e)
 
 -- what was used and what was read beyond it
-pub took_ahead : (a r : Option (List ℕ)) (y u : List ℕ) → Took a y (ahead u r) → Took a (y ++ u) r
-took_ahead a r y u e = e ∙ took_after r y u
+pub took_ahead : (a r : Option (List ℕ)) (y u : List ℕ) → Consumes a (prepend_known u r) y → Consumes a r (y ++ u)
+took_ahead None r y u e = tt
+took_ahead (Some x) None y u e = absurd e
+took_ahead (Some x) (Some v) y u e = e ∙ sym (append_assoc y u v)
 
-took_all : (a r : Option (List ℕ)) (y u : List ℕ) → IsAtEnd (ahead u r) → Took a y (ahead u r) → Took a y r × IsAtEnd r
-took_all a None y u h e = (e, tt)
+took_all : (a r : Option (List ℕ)) (y u : List ℕ) → IsAtEnd (prepend_known u r) → Consumes a (prepend_known u r) y → Consumes a r y × IsAtEnd r
+took_all None None y u h e = (tt, tt)
+took_all (Some x) None y u h e = absurd e
 took_all a (Some v) y [] h e = (e, h)
 took_all a (Some v) y (b ∷ bs) h e = cc
 
@@ -125,7 +125,7 @@ close_here seen bytes text number machine counts p e = record {
   at_end = record {
     lines = p.lines;
     last = [];
-    split = record { is = ap (λ b. seen ++ b) e ∙ ap (λ b. b ++ []) p.is; each = p.each; one = none_all (λ b. b ≢ 10) };
+    split = record { is = ap (λ b. seen ++ b) e ∙ ap (λ b. b ++ []) p.is; each = p.each; one = All-nil (λ b. b ≢ 10) };
     place = p.place;
     reports = p.after.reports;
   };
@@ -160,7 +160,7 @@ close_last seen bytes text line number old new counts answer p e some one short 
 -- ---- faults: what was read, used and written
 
 abbrev pub Failed : Option (List ℕ) → Option (List ℕ) → Option (List ℕ) → Option (List ℕ) → DriveFault → Type 0
-Failed a r w0 w2 f = (bytes : List ℕ) × (unread : List ℕ) × (text : List ℕ) × Took a (bytes ++ unread) r × Wrote w0 text w2 × Explains f.refusal f.line bytes unread r text
+Failed a r w0 w2 f = (bytes : List ℕ) × (unread : List ℕ) × (text : List ℕ) × Consumes a r (bytes ++ unread) × Appends w0 w2 text × Explains f.refusal f.line bytes unread r text
 
 explained : (f : DriveFault) (q : Refusal) (number : ℕ) (bytes u text : List ℕ) (r : Option (List ℕ)) → f.refusal ≡ q → f.line ≡ number → Explains q number bytes u r text → Explains f.refusal f.line bytes u r text
 explained f q number bytes u text r e n h = subst (λ p. Explains p f.line bytes u r text) (sym e) (subst (λ m. Explains q m bytes u r text) (sym n) h)
@@ -178,20 +178,20 @@ finish_report y text number machine (Some course) counts summary at f e is =
     record { number = number; before = text; course = course; at_end = at; counted = same; told = ap (λ s. text ++ text_line (end_words s)) (sym is) }
 
 pub finish_ok : (a r : Option (List ℕ)) (u y text : List ℕ) (w0 w1 w2 : Option (List ℕ)) (f f2 : ℕ) (number : ℕ) (machine : Option Machine) (counts : Counts) (result : Result Summary DriveFault)
-    → Took a y (ahead u r) → IsAtEnd (ahead u r) → Wrote w0 text w1 → Ended y number text machine counts → Finishes number machine counts w1 f result w2 f2
-    → IfOk result (λ summary. (bytes : List ℕ) × (text : List ℕ) × Took a bytes r × IsAtEnd r × Wrote w0 text w2 × IsReport bytes text summary)
+    → Consumes a (prepend_known u r) y → IsAtEnd (prepend_known u r) → Appends w0 w1 text → Ended y number text machine counts → Finishes number machine counts w1 f result w2 f2
+    → IfOk result (λ summary. (bytes : List ℕ) × (text : List ℕ) × Consumes a r bytes × IsAtEnd r × Appends w0 w2 text × IsReport bytes text summary)
 finish_ok a r u y text w0 w1 w2 f f2 number machine counts (Err e) took end wrote closed fin = tt
 finish_ok a r u y text w0 w1 w2 f f2 number machine counts (Ok summary) took end wrote closed fin =
     let t = took_all a r y u end took in
     let last : List ℕ = text_line (end_words (summary_at fin.0 counts)) in
-    (y, text ++ last, t.0, t.1, wrote_more w0 w1 w2 text last wrote fin.3, finish_report y text number fin.0 closed.course counts summary closed.at_end (subst (λ m. Follows m closed.course) fin.1 closed.follows) closed.counted fin.2)
+    (y, text ++ last, t.0, t.1, Appends-trans w0 w1 w2 text last wrote fin.3, finish_report y text number fin.0 closed.course counts summary closed.at_end (subst (λ m. Follows m closed.course) fin.1 closed.follows) closed.counted fin.2)
 
 no_course : (course : Option Course) → Follows None course → course ≡ None
 no_course None f = refl
 no_course (Some course) f = absurd f
 
 pub finish_fault : (a r : Option (List ℕ)) (u y text : List ℕ) (w0 w1 w2 : Option (List ℕ)) (f f2 : ℕ) (number : ℕ) (machine : Option Machine) (counts : Counts) (result : Result Summary DriveFault)
-    → Took a y (ahead u r) → IsAtEnd (ahead u r) → Wrote w0 text w1 → Ended y number text machine counts → Finishes number machine counts w1 f result w2 f2
+    → Consumes a (prepend_known u r) y → IsAtEnd (prepend_known u r) → Appends w0 w1 text → Ended y number text machine counts → Finishes number machine counts w1 f result w2 f2
     → IfErr result (λ fault. Failed a r w0 w2 fault)
 finish_fault a r u y text w0 w1 w2 f f2 number machine counts (Ok summary) took end wrote closed fin = tt
 finish_fault a r u y text w0 w1 w2 f f2 number machine counts (Err fault) took end wrote closed fin = elim fin.1 [
@@ -200,7 +200,7 @@ finish_fault a r u y text w0 w1 w2 f f2 number machine counts (Err fault) took e
     u,
     text ++ out.1.0,
     took_ahead a r y u took,
-    wrote_more w0 w1 w2 text out.1.0 wrote out.1.3,
+    Appends-trans w0 w1 w2 text out.1.0 wrote out.1.3,
     explained fault Output number y u (text ++ out.1.0) r out.0 fin.0
         (text, out.1.0, out.1.1, refl, inr (closed.course, closed.at_end, end, ap text_line (sym (same_ending number machine closed.course counts closed.follows closed.counted)) ∙ out.1.2)),
   )
@@ -209,7 +209,7 @@ finish_fault a r u y text w0 w1 w2 f f2 number machine counts (Err fault) took e
     u,
     text ++ text_line (malformed_words number),
     took_ahead a r y u took,
-    wrote_more w0 w1 w2 text (text_line (malformed_words number)) wrote bad.2,
+    Appends-trans w0 w1 w2 text (text_line (malformed_words number)) wrote bad.2,
     explained fault BadLine number y u (text ++ text_line (malformed_words number)) r bad.0 fin.0
         (text, refl, inr (subst (λ c. AtEnd y number text c) (no_course closed.course (subst (λ m. Follows m closed.course) bad.1 closed.follows)) closed.at_end, end)),
   )
@@ -228,7 +228,7 @@ finish_failures w1 w2 f0 f1 f2 number machine counts (Err fault) e fin = elim fi
 
 -- what else is known where the run ends at this answer
 abbrev pub Why : ℕ → List ℕ → Option Course → Answer → Type 0
-Why number line course (answers.Ended refusal) = (course ≡ None) × IsRefusedOpening line refusal
+Why number line course (answers.Ended refusal) = (course ≡ None) × IsRefusedOpening line refusal × (number ≤ max_lines)
 Why number line course Malformed = IsMalformed (is_some course) number line
 Why number line course _ = Unit {0}
 
@@ -242,25 +242,25 @@ pub record Due (number : ℕ) (line : List ℕ) (course : Option Course) (answer
 malformed_due : (number : ℕ) (line : List ℕ) (course : Option Course) (answer : Answer) → answer ≡ Malformed → IsMalformed (is_some course) number line → Due number line course answer
 malformed_due number line course answer e h = subst (Due number line course) (sym e) (record { words = malformed_words number; due = report.Malformed course h; said = refl; why = h })
 
-given_due : (number : ℕ) (line : List ℕ) (old new : Option Machine) (course : Option Course) (answer : Answer) → Follows old course → IsTrue (is_told answer) → Gives old line answer new → Due number line course answer
-given_due number line old new course Skipped f told g = absurd cc
-given_due number line old new None Opened f told g = record { words = done; due = Opens g.3 g.4 g.5 g.6 g.7; said = refl; why = tt }
-given_due number line old new (Some course) Opened f told g = absurd (subst (λ m. Follows m (Some course)) g.0 f)
-given_due number line old new None (Replied result) f told g = absurd (subst (λ m. Follows m None) g.1 f)
-given_due number line old new (Some course) (Replied result) f told g =
+given_due : (number : ℕ) (line : List ℕ) (old new : Option Machine) (course : Option Course) (answer : Answer) → number ≤ max_lines → Follows old course → IsTrue (is_told answer) → Gives old line answer new → Due number line course answer
+given_due number line old new course Skipped few f told g = absurd cc
+given_due number line old new None Opened few f told g = record { words = done; due = Opens g.3 g.4 g.5 few g.6 g.7; said = refl; why = tt }
+given_due number line old new (Some course) Opened few f told g = absurd (subst (λ m. Follows m (Some course)) g.0 f)
+given_due number line old new None (Replied result) few f told g = absurd (subst (λ m. Follows m None) g.1 f)
+given_due number line old new (Some course) (Replied result) few f told g =
     let does = g.7 in
     let d = does.does course.end (subst (λ m. Follows m (Some course)) g.1 f) in
     let m : Move = record { event = does.event; reply = does.reply } in
-    record { words = reply_words m.event m.reply; due = Replies course g.4 m d.0 g.5 g.6 does.asked d.1; said = ap text_line does.tells.words; why = tt }
-given_due number line old new None (answers.Ended refusal) f told g = record { words = refused_words refusal; due = OpensNot refusal g.2; said = refl; why = (refl, g.2) }
-given_due number line old new (Some course) (answers.Ended refusal) f told g = absurd (subst (λ m. Follows m (Some course)) g.0 f)
-given_due number line old new course Malformed f told g =
+    record { words = reply_words m.event m.reply; due = Replies course g.4 m d.0 few g.5 g.6 does.asked d.1; said = ap text_line does.tells.words; why = tt }
+given_due number line old new None (answers.Ended refusal) few f told g = record { words = refused_words refusal; due = OpensNot refusal few g.2; said = refl; why = (refl, g.2, few) }
+given_due number line old new (Some course) (answers.Ended refusal) few f told g = absurd (subst (λ m. Follows m (Some course)) g.0 f)
+given_due number line old new course Malformed few f told g =
     malformed_due number line course Malformed refl (inr (inr (g.1, λ step fits is. subst (λ b. IsFalse (may_come b step)) (follows_some old course f) (g.2 step fits is))))
 
 timed_due : (number : ℕ) (line : List ℕ) (old new : Option Machine) (course : Option Course) (answer : Answer) → Follows old course → IsTrue (is_told answer) → MatchBool (nat_le number max_lines) (Gives old line answer new) ((answer ≡ Malformed) × (new ≡ old))
     → Due number line course answer
 timed_due number line old new course answer f told h = elim (timed number old new line answer h) [
-  | inl t ↦ given_due number line old new course answer f told t.1
+  | inl t ↦ given_due number line old new course answer t.0 f told t.1
   | inr t ↦ malformed_due number line course answer t.1 (inr (inl t.0))
 ]
 
@@ -306,31 +306,31 @@ two_refusals blocks frames workers q h = elim h [
   | inr none ↦ inr none.1
 ]
 
-opening_explains : (q : Refusal) (number : ℕ) (line bytes u text : List ℕ) (r : Option (List ℕ)) → AtLine bytes (ahead u r) number line text None → IsRefusedOpening line q → Explains q number bytes u r (text ++ text_line (refused_words q))
-opening_explains q number line bytes u text r at h =
-    let at' : AtLine bytes (ahead u r) number line [] None = subst (λ t. AtLine bytes (ahead u r) number line t None) at.reports.1 at in
+opening_explains : (q : Refusal) (number : ℕ) (line bytes u text : List ℕ) (r : Option (List ℕ)) → number ≤ max_lines → AtLine bytes (prepend_known u r) number line text None → IsRefusedOpening line q → Explains q number bytes u r (text ++ text_line (refused_words q))
+opening_explains q number line bytes u text r few at h =
+    let at' : AtLine bytes (prepend_known u r) number line [] None = subst (λ t. AtLine bytes (prepend_known u r) number line t None) at.reports.1 at in
     let only : text ++ text_line (refused_words q) ≡ text_line (refused_words q) = ap (λ t. t ++ text_line (refused_words q)) at.reports.1 in
     elim (two_refusals h.0 h.1 h.2 q h.4) [
       | inl count ↦
           let P : Refusal → Type 0 = λ p. IsRefusedOpening line p in
           let Q : Refusal → Type 0 = λ p. Explains p number bytes u r (text ++ text_line (refused_words q)) in
-          subst Q (sym count) (line, at', subst P count h, only ∙ ap (λ p. text_line (refused_words p)) count)
+          subst Q (sym count) (few, line, at', subst P count h, only ∙ ap (λ p. text_line (refused_words p)) count)
       | inr memory ↦
           let P : Refusal → Type 0 = λ p. IsRefusedOpening line p in
           let Q : Refusal → Type 0 = λ p. Explains p number bytes u r (text ++ text_line (refused_words q)) in
-          subst Q (sym memory) (line, at', subst P memory h, only ∙ ap (λ p. text_line (refused_words p)) memory)
+          subst Q (sym memory) (few, line, at', subst P memory h, only ∙ ap (λ p. text_line (refused_words p)) memory)
     ]
 
 same_some : (x y : Refusal) → ◌≡◌ {A = Option Refusal} (Some x) (Some y) → x ≡ y
 same_some x y h = cc
 
-stop_explains : (answer : Answer) (q : Refusal) (number : ℕ) (bytes u text : List ℕ) (r : Option (List ℕ)) → stop_of answer ≡ Some q → DueAt bytes (ahead u r) number text answer → Explains q number bytes u r (text ++ answer_text number answer)
+stop_explains : (answer : Answer) (q : Refusal) (number : ℕ) (bytes u text : List ℕ) (r : Option (List ℕ)) → stop_of answer ≡ Some q → DueAt bytes (prepend_known u r) number text answer → Explains q number bytes u r (text ++ answer_text number answer)
 stop_explains Skipped q number bytes u text r h due = absurd cc
 stop_explains Opened q number bytes u text r h due = absurd cc
 stop_explains (Replied result) q number bytes u text r h due = absurd cc
 stop_explains (answers.Ended e) q number bytes u text r h due =
     subst (λ p. Explains p number bytes u r (text ++ text_line (refused_words e))) (same_some e q h)
-    (opening_explains e number due.line bytes u text r (subst (λ c. AtLine bytes (ahead u r) number due.line text c) due.due.why.0 due.at) due.due.why.1)
+    (opening_explains e number due.line bytes u text r due.due.why.2 (subst (λ c. AtLine bytes (prepend_known u r) number due.line text c) due.due.why.0 due.at) due.due.why.1)
 stop_explains Malformed q number bytes u text r h due = subst (λ p. Explains p number bytes u r (text ++ text_line (malformed_words number))) (same_some BadLine q h) (text, refl, inl (due.line, due.course, due.at, due.due.why))
 
 -- what stops a run is no failure of a device
@@ -358,7 +358,7 @@ stop_told Malformed q h = refl
 
 -- a fault of a line, told by the line's answer or by the writer
 pub tell_fault : (a r : Option (List ℕ)) (u y text : List ℕ) (w0 w1 w2 : Option (List ℕ)) (f f2 : ℕ) (number : ℕ) (answer : Answer) (fault : DriveFault)
-    → Took a y (ahead u r) → Wrote w0 text w1 → (IsTrue (is_told answer) → DueAt y (ahead u r) number text answer) → TellsAnswer number answer w1 f (Err fault) w2 f2 → Failed a r w0 w2 fault
+    → Consumes a (prepend_known u r) y → Appends w0 w1 text → (IsTrue (is_told answer) → DueAt y (prepend_known u r) number text answer) → TellsAnswer number answer w1 f (Err fault) w2 f2 → Failed a r w0 w2 fault
 tell_fault a r u y text w0 w1 w2 f f2 number answer fault took wrote due tells = elim tells.1 [
   | inl out ↦
       let d = due out.1 in (
@@ -366,7 +366,7 @@ tell_fault a r u y text w0 w1 w2 f f2 number answer fault took wrote due tells =
         u,
         text ++ out.2.0,
         took_ahead a r y u took,
-        wrote_more w0 w1 w2 text out.2.0 wrote out.2.3,
+        Appends-trans w0 w1 w2 text out.2.0 wrote out.2.3,
         explained fault Output number y u (text ++ out.2.0) r out.0 tells.0 (text, out.2.0, out.2.1, refl, inl (d.line, d.course, d.due.words, d.at, d.due.due, sym d.due.said ∙ out.2.2)),
       )
   | inr stop ↦ (
@@ -374,7 +374,7 @@ tell_fault a r u y text w0 w1 w2 f f2 number answer fault took wrote due tells =
     u,
     text ++ answer_text number answer,
     took_ahead a r y u took,
-    wrote_more w0 w1 w2 text (answer_text number answer) wrote stop.1,
+    Appends-trans w0 w1 w2 text (answer_text number answer) wrote stop.1,
     explained fault fault.refusal number y u (text ++ answer_text number answer) r refl tells.0 (stop_explains answer fault.refusal number y u text r stop.0 (due (stop_told answer fault.refusal stop.0))),
   )
 ]
@@ -410,7 +410,7 @@ counts_bound counts Malformed n a b c d = (omega arith, omega arith, omega arith
 pub no_more : {n m k : ℕ} → n ≡ m → k ≡ 0 → n ≡ m + k
 no_more e z = omega (arith, e, z)
 
-pub report_balanced : (result : Result Summary DriveFault) (a b : Option (List ℕ)) (w v : Option (List ℕ)) → IfOk result (λ summary. (bytes : List ℕ) × (text : List ℕ) × Took a bytes b × IsAtEnd b × Wrote w text v × IsReport bytes text summary)
+pub report_balanced : (result : Result Summary DriveFault) (a b : Option (List ℕ)) (w v : Option (List ℕ)) → IfOk result (λ summary. (bytes : List ℕ) × (text : List ℕ) × Consumes a b bytes × IsAtEnd b × Appends w v text × IsReport bytes text summary)
     → IfOk result (λ summary. summary.enqueued ≡ summary.finished + summary.forfeited + summary.in_hand + summary.left)
 report_balanced (Err fault) a b w v h = tt
 report_balanced (Ok summary) a b w v h =

@@ -1,10 +1,9 @@
 -- Scripts, reports and joint runs that go on by one line.
 use Rattle.std.proofs.Common.{◌≡◌, ℕ, ◌≤◌, ◌+◌, ◌-◌, List, [], ◌∷◌, ◌++◌, Option, Some, None, Result, Bool, true, false, ◌∙◌, ap, sym, refl, subst, append-nil, append_assoc, arith, length, length-append, flat_map, filter, map, count_by, is_some, is_err, IsTrue, cond}
 use Rattle.std.proofs.lemmas.List.{map-append}
-use Rattle.std.proofs.lemmas.List.Elements.{All-push, filter-append}
+use Rattle.std.proofs.lemmas.List.Elements.{All-nil, All-push, filter-append}
 use Rattle.std.proofs.lemmas.List.Concat.{flat_map-append}
 use Rattle.std.proofs.lemmas.List.Sums.{sum_by_push, sum_by-cons}
-use Rattle.std.specs.List.{All}
 use Rattle.fz_model.specs.declared.answers.Entry.{Entry}
 use Rattle.fz_model.specs.declared.refusal.Refusal.{Refusal}
 use Rattle.fz_model.specs.Joint.{Worker, Joint, JointStep, Move, MovesTo, joint_opening}
@@ -21,9 +20,6 @@ use Rattle.finalize.specs.Replies.{text_line, done, reply_line, end_words}
 use Rattle.finalize.specs.Report.{Course, Reports, AsksFor, summary_of, closing_words, finishes, forfeits}
 use Rattle.finalize.specs.Machines.{StandsForJoint, Gives, answer_text, stop_of, bit, no_counts, counts_after, counts_of, result_words, summary_at, ending_words, is_finish, is_forfeit}
 
-none_all : {A : Type 0} (P : A → Type 0) → All P []
-none_all P = λ k d lt. absurd (omega arith)
-
 -- ---- scripts
 
 filter_kept : (line : List ℕ) → is_kept line ≡ true → filter is_kept (line ∷ []) ≡ line ∷ []
@@ -33,7 +29,7 @@ filter_skipped : (line : List ℕ) → is_kept line ≡ false → filter is_kept
 filter_skipped line h = rw h refl
 
 pub no_script : IsScript [] []
-no_script = record { spelled = refl; fit = none_all Fits; short = none_all (λ line. length line ≤ max_line); few = omega arith }
+no_script = record { spelled = refl; fit = All-nil Fits; short = All-nil (λ line. length line ≤ max_line); few = omega arith }
 
 pub script_skips : (lines : List (List ℕ)) (steps : List Step) (line : List ℕ) → IsScript lines steps → length line ≤ max_line → length lines + 1 ≤ max_lines → is_kept line ≡ false → IsScript (lines ++ line ∷ []) steps
 script_skips lines steps line s short few skipped = record {
@@ -136,7 +132,7 @@ carried_out lines text line number old new counts Opened None r f e short few g 
         workers = g.5;
         steps = [];
         script = script_asks lines [] line (Open g.3 g.4 g.5) r.0 short few g.6;
-        came = none_all (λ step. IsTrue (has_come step));
+        came = All-nil (λ step. IsTrue (has_come step));
         asked = refl;
         opened = g.7;
         run = refl;

@@ -1,5 +1,6 @@
 -- Words that are joined into a line.
-use Rattle.std.proofs.Common.{◌≡◌, ℕ, zero, suc, ◌+◌, ◌<◌, ◌≤◌, Bool, true, false, List, [], ◌∷◌, ◌++◌, length, map, refl, sym, ap, ◌∙◌, append_assoc, arith, get_or, take, ◌&&◌, add-one, if◌then◌else◌}
+use Rattle.std.proofs.Common.{◌≡◌, ℕ, zero, suc, ◌+◌, ◌<◌, ◌≤◌, true, List, [], ◌∷◌, ◌++◌, length, map, refl, sym, ap, ◌∙◌, append_assoc, arith, get_or, take, add-one, if◌then◌else◌}
+use Rattle.std.proofs.lemmas.Bool.{and_parts}
 use Rattle.std.proofs.lemmas.List.{map-append, length-map, length-take-le}
 use Rattle.std.proofs.lemmas.Bool.{lt-ltb}
 use Rattle.std.proofs.Math.Seq.{take-suc, take-length}
@@ -8,15 +9,10 @@ use Rattle.fz_script.specs.Spelling.{text}
 use Rattle.finalize.specs.declared.output.Word.{Word}
 use Rattle.finalize.specs.Words.{said, separator, is_short, all_short}
 
-pub both : (a b : Bool) → (a && b) ≡ true → (a ≡ true) × (b ≡ true)
-both true true h = (refl, refl)
-both true false h = absurd cc
-both false b h = absurd cc
-
 pub short_at : (words : List Word) (k : ℕ) (d : Word) → all_short words ≡ true → k < length words → is_short (get_or words k d) ≡ true
 short_at [] k d h l = absurd (omega arith)
-short_at (w ∷ ws) zero d h l = (both _ _ h).0
-short_at (w ∷ ws) (suc k) d h l = short_at ws k d ((both _ _ h).1) (omega arith)
+short_at (w ∷ ws) zero d h l = (and_parts _ _ h).0
+short_at (w ∷ ws) (suc k) d h l = short_at ws k d ((and_parts _ _ h).1) (omega arith)
 
 later : (n : ℕ) → separator (suc n) ≡ 32 ∷ []
 later n = ap (λ b. if b then (32 ∷ []) else []) (lt-ltb 0 (suc n) (omega arith))

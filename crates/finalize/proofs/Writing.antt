@@ -1,30 +1,22 @@
--- Writes in a row, and reads in a row.
-use Rattle.std.proofs.Common.{◌≡◌, ◌≢◌, ℕ, zero, suc, ◌+◌, ◌-◌, List, [], ◌++◌, Option, Some, None, ◌∙◌, ap, sym, refl, option_map, append-nil, append_assoc, take, drop, arith, length, take-append-drop}
+-- Writes in a row.
+use Rattle.std.proofs.Common.{◌≡◌, ◌≢◌, ℕ, zero, suc, ◌+◌, ◌-◌, List, [], ◌++◌, Option, Some, None, Result, Ok, Err, inl, inr, ◌∙◌, ap, sym, refl, append-nil, append_assoc, take, drop, arith, length, take-append-drop}
+use Rattle.std.proofs.KnownBytes.{Appends-trans}
 use Rattle.std.proofs.lemmas.List.{take_rest}
-use Rattle.finalize.specs.Devices.{Wrote, Took, write_failures}
+use Rattle.std.specs.Io.KnownBytes.{Appends}
+use Rattle.finalize.specs.Devices.{write_failures, Emits}
+use Rattle.finalize.specs.Program.{Says}
 
-pub wrote_none : (a : Option (List ℕ)) → Wrote a [] a
-wrote_none None = refl
-wrote_none (Some v) = ap Some (sym (append-nil v))
-
-pub wrote_more : (a b c : Option (List ℕ)) (x y : List ℕ) → Wrote a x b → Wrote b y c → Wrote a (x ++ y) c
-wrote_more None b c x y e f = f ∙ ap (option_map (λ v. v ++ y)) e
-wrote_more (Some v) b c x y e f = f ∙ ap (option_map (λ v. v ++ y)) e ∙ ap Some (append_assoc v x y)
-
-pub took_after : (c : Option (List ℕ)) (x y : List ℕ) → option_map (λ r. x ++ r) (option_map (λ r. y ++ r) c) ≡ option_map (λ r. (x ++ y) ++ r) c
-took_after None x y = refl
-took_after (Some v) x y = ap Some (sym (append_assoc x y v))
-
-pub took_more : (a b c : Option (List ℕ)) (x y : List ℕ) → Took a x b → Took b y c → Took a (x ++ y) c
-took_more a b c x y e f = e ∙ ap (option_map (λ r. x ++ r)) f ∙ took_after c x y
+pub wrote_none : (a : Option (List ℕ)) → Appends a a []
+wrote_none None = tt
+wrote_none (Some v) = sym (append-nil v)
 
 -- one more write of a front of what is left
-pub written_more : (a b c : Option (List ℕ)) (bytes rest : List ℕ) (n : ℕ) → ((done : List ℕ) × (bytes ≡ done ++ rest) × Wrote a done b) → Wrote b (take n rest) c
-    → (done : List ℕ) × (bytes ≡ done ++ take (length rest - n) (drop n rest)) × Wrote a done c
+pub written_more : (a b c : Option (List ℕ)) (bytes rest : List ℕ) (n : ℕ) → ((done : List ℕ) × (bytes ≡ done ++ rest) × Appends a b done) → Appends b c (take n rest)
+    → (done : List ℕ) × (bytes ≡ done ++ take (length rest - n) (drop n rest)) × Appends a c done
 written_more a b c bytes rest n h w = (
   h.0 ++ take n rest,
   h.1 ∙ ap (λ r. h.0 ++ r) (sym (take-append-drop n rest) ∙ ap (λ r. take n rest ++ r) (sym (take_rest rest n))) ∙ sym (append_assoc h.0 (take n rest) (take (length rest - n) (drop n rest))),
-  wrote_more a b c h.0 (take n rest) h.2 w,
+  Appends-trans a b c h.0 (take n rest) h.2 w,
 )
 
 -- a write that takes a byte hasn't failed
@@ -32,3 +24,11 @@ pub still_works : (offered n : ℕ) (before after : ℕ) → n ≢ 0 → after �
 still_works zero n before after h m = omega (arith, m)
 still_works (suc offered) zero before after h m = absurd (h refl)
 still_works (suc offered) (suc n) before after h m = omega (arith, m)
+
+-- what is said is written as any text is
+pub said : {T E : Type 0} → (before : Option (List ℕ)) (failures : ℕ) (line : List ℕ) (result : Result T E) (after : Option (List ℕ)) (failures' : ℕ) → Emits before failures line result after failures' → Says before failures line after failures'
+said before failures line (Ok x) after failures' h = inl h
+said before failures line (Err e) after failures' h = inr h
+
+pub says_nothing : (before : Option (List ℕ)) (failures : ℕ) → Says before failures [] before failures
+says_nothing before failures = inl (wrote_none before, refl)

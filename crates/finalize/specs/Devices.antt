@@ -1,25 +1,10 @@
--- What readers hand over and writers take. A device that can't tell its bytes has `None` in their place.
-use Rattle.std.specs.Prelude.{◌≡◌, ℕ, zero, suc, ◌+◌, List, ◌++◌, Option, Some, None, Result, Ok, Err, option_map, IfSome, []}
-
--- a reader that had `before` handed over these bytes, and has `after`
-abbrev pub Took : Option (List ℕ) → List ℕ → Option (List ℕ) → Type 0
-Took before bytes after = before ≡ option_map (λ rest. bytes ++ rest) after
-
--- a writer that had `before` gained these bytes
-abbrev pub Wrote : Option (List ℕ) → List ℕ → Option (List ℕ) → Type 0
-Wrote before bytes after = after ≡ option_map (λ front. front ++ bytes) before
+-- What readers hand over and writers take, beside std's words for it. Of a device whose bytes aren't known nothing is said.
+use Rattle.std.specs.Prelude.{◌≡◌, ℕ, zero, suc, ◌+◌, List, ◌++◌, Option, Some, None, Result, Ok, Err}
+use Rattle.std.specs.Io.KnownBytes.{Appends}
 
 -- the writer gained a beginning of the text
 abbrev pub IsPart : Option (List ℕ) → List ℕ → Option (List ℕ) → Type 0
-IsPart before text after = (part : List ℕ) × (rest : List ℕ) × (text ≡ part ++ rest) × Wrote before part after
-
--- a reader with nothing left
-abbrev pub IsAtEnd : Option (List ℕ) → Type 0
-IsAtEnd remaining = IfSome remaining (λ rest. rest ≡ [])
-
--- what can still be read: the bytes that were read and not used, and then what the reader has left
-abbrev pub ahead : List ℕ → Option (List ℕ) → Option (List ℕ)
-ahead unread remaining = option_map (λ rest. unread ++ rest) remaining
+IsPart before text after = (part : List ℕ) × (rest : List ℕ) × (text ≡ part ++ rest) × Appends before after part
 
 -- how many bytes a call handed over or took
 abbrev pub count_of : Option ℕ → ℕ
@@ -40,5 +25,5 @@ write_failures (suc offered) (Some (suc count)) = 0
 
 -- the writer took the whole text and didn't fail; or it took a beginning of it and failed once
 abbrev pub Emits : {T E : Type 0} → Option (List ℕ) → ℕ → List ℕ → Result T E → Option (List ℕ) → ℕ → Type 0
-Emits before failures text (Ok x) after failures' = Wrote before text after × (failures' ≡ failures)
+Emits before failures text (Ok x) after failures' = Appends before after text × (failures' ≡ failures)
 Emits before failures text (Err e) after failures' = IsPart before text after × (failures' ≡ failures + 1)

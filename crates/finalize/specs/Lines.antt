@@ -2,7 +2,7 @@
 use Rattle.std.specs.Prelude.{◌≡◌, ◌≢◌, ℕ, ◌≤◌, ◌+◌, List, [], ◌∷◌, ◌++◌, Option, Some, None, Result, Ok, Err, length}
 use Rattle.finalize.specs.declared.input.Ending.{Ending}
 use Rattle.finalize.specs.declared.input.Ending.TheVariants.{Whole, Last, Nothing, TooLong}
-use Rattle.finalize.specs.Devices.{Took, IsAtEnd}
+use Rattle.std.specs.Io.KnownBytes.{Consumes, IsAtEnd}
 use Rattle.finalize.specs.Script.{IsOneLine, max_line}
 
 -- the bytes that were taken for a line, by how it ends
@@ -21,11 +21,11 @@ EndsInput TooLong left = Unit {0}
 -- the next line was read; or the reader failed first
 abbrev pub Reads : {E : Type 0} → Option (List ℕ) → ℕ → Result Ending E → List ℕ → List ℕ → Option (List ℕ) → ℕ → Type 0
 Reads before failures (Ok ending) line unread left failures' =
-    ((bytes : List ℕ) × TakenFor ending line bytes × Took before bytes left) × EndsInput ending left × IsOneLine line × (length line ≤ max_line) × (failures' ≡ failures)
+    ((bytes : List ℕ) × TakenFor ending line bytes × Consumes before left bytes) × EndsInput ending left × IsOneLine line × (length line ≤ max_line) × (failures' ≡ failures)
 Reads before failures (Err e) line unread left failures' =
-    Took before line left × IsOneLine line × (length line ≤ max_line) × (unread ≡ []) × (failures' ≡ failures + 1)
+    Consumes before left line × IsOneLine line × (length line ≤ max_line) × (unread ≡ []) × (failures' ≡ failures + 1)
 
 abbrev pub ReadsByte : {E : Type 0} → Option (List ℕ) → ℕ → Result (Option ℕ) E → List ℕ → Option (List ℕ) → ℕ → Type 0
-ReadsByte before failures (Ok None) unread left failures' = Took before [] left × IsAtEnd left × (failures' ≡ failures)
-ReadsByte before failures (Ok (Some b)) unread left failures' = Took before (b ∷ []) left × (failures' ≡ failures)
-ReadsByte before failures (Err e) unread left failures' = Took before [] left × (unread ≡ []) × (failures' ≡ failures + 1)
+ReadsByte before failures (Ok None) unread left failures' = Consumes before left [] × IsAtEnd left × (failures' ≡ failures)
+ReadsByte before failures (Ok (Some b)) unread left failures' = Consumes before left (b ∷ []) × (failures' ≡ failures)
+ReadsByte before failures (Err e) unread left failures' = Consumes before left [] × (unread ≡ []) × (failures' ≡ failures + 1)

@@ -6,7 +6,7 @@ use Rattle.fz_model.specs.Causes.{first_cause}
 use Rattle.fz_model.specs.Joint.{Worker, Joint, JointEvent, JointAnswer, JointStep, Move, joint_opening}
 use Rattle.fz_world.specs.Does.{StandsFor}
 use Rattle.fz_script.specs.declared.step.Step.{Step}
-use Rattle.fz_script.specs.declared.step.Step.TheVariants.{Open}
+use Rattle.fz_script.specs.declared.step.Step.TheVariants.{Open, New, Set, Copy, Load, Store, Register, Unregister, Collect}
 use Rattle.fz_script.specs.Spelling.{Word, Number, Text, spelling, Fits}
 use Rattle.finalize.specs.declared.machine.Machine.{Machine}
 use Rattle.finalize.specs.declared.reply.Reply.{Reply}
@@ -18,7 +18,8 @@ use Rattle.finalize.specs.declared.input.Ending.TheVariants.{TooLong}
 use Rattle.finalize.specs.declared.run.Summary.{Summary}
 use Rattle.finalize.specs.declared.run.Counts.{Counts}
 use Rattle.finalize.specs.declared.run.DriveFault.{DriveFault}
-use Rattle.finalize.specs.Devices.{Wrote, IsPart}
+use Rattle.std.specs.Io.KnownBytes.{Appends}
+use Rattle.finalize.specs.Devices.{IsPart}
 use Rattle.finalize.specs.Script.{is_kept, max_lines, has_come, may_come, event_of}
 use Rattle.finalize.specs.Replies.{text_line, done, registered_words, unregistered_words, passed_words, taken_words, refused_words, reply_words, malformed_words, end_words}
 use Rattle.finalize.specs.Report.{Course, opening_causes, AsksFor, IsRefusedOpening, finishes, forfeits}
@@ -71,6 +72,22 @@ pub record StepDoes (old : Machine) (step : Step) (result : Result Reply Refusal
   pub does : JointDoes old event reply new
   pub tells : Tells event reply result
 
+-- a step that puts a word into a slot or an object
+abbrev pub moves_word : Step → Bool
+moves_word (Set frame slot word) = true
+moves_word (Copy frame slot to_frame to_slot) = true
+moves_word (Load frame slot offset to_frame to_slot) = true
+moves_word (Store frame slot offset from_frame from_slot) = true
+moves_word _ = false
+
+-- a step that makes, registers or reclaims objects
+abbrev pub changes_objects : Step → Bool
+changes_objects (New frame slot size kind) = true
+changes_objects (Register frame slot kind procedure client_data) = true
+changes_objects (Unregister frame slot) = true
+changes_objects Collect = true
+changes_objects _ = false
+
 -- what one line gives, before the opening and after it
 abbrev pub Gives : Option Machine → List ℕ → Answer → Option Machine → Type 0
 Gives old line Skipped new = (is_kept line ≡ false) × (new ≡ old)
@@ -110,11 +127,11 @@ stop_of Malformed = Some BadLine
 -- the answer's text was written, and the run goes on or ends; or the writer failed in it
 abbrev pub TellsAnswer : ℕ → Answer → Option (List ℕ) → ℕ → Result (Unit {0}) DriveFault → Option (List ℕ) → ℕ → Type 0
 TellsAnswer number answer before failures (Ok x) after failures' =
-    (stop_of answer ≡ None) × Wrote before (answer_text number answer) after × (failures' ≡ failures)
+    (stop_of answer ≡ None) × Appends before after (answer_text number answer) × (failures' ≡ failures)
 TellsAnswer number answer before failures (Err fault) after failures' =
     (fault.line ≡ number)
     × (((fault.refusal ≡ Output) × IsTrue (is_told answer) × IsPart before (answer_text number answer) after × (failures' ≡ failures + 1))
-    ⊎ ((stop_of answer ≡ Some fault.refusal) × Wrote before (answer_text number answer) after × (failures' ≡ failures)))
+    ⊎ ((stop_of answer ≡ Some fault.refusal) × Appends before after (answer_text number answer) × (failures' ≡ failures)))
 
 -- counts of the steps so far
 abbrev pub no_counts : Counts
@@ -166,8 +183,8 @@ ending_words number (Some machine) counts = end_words (summary_at machine counts
 -- the last line of the report was written; or the script had no opening; or the writer failed
 abbrev pub Finishes : ℕ → Option Machine → Counts → Option (List ℕ) → ℕ → Result Summary DriveFault → Option (List ℕ) → ℕ → Type 0
 Finishes number world counts before failures (Ok summary) after failures' =
-    (machine : Machine) × (world ≡ Some machine) × (summary ≡ summary_at machine counts) × Wrote before (text_line (end_words (summary_at machine counts))) after × (failures' ≡ failures)
+    (machine : Machine) × (world ≡ Some machine) × (summary ≡ summary_at machine counts) × Appends before after (text_line (end_words (summary_at machine counts))) × (failures' ≡ failures)
 Finishes number world counts before failures (Err fault) after failures' =
     (fault.line ≡ number)
     × (((fault.refusal ≡ Output) × IsPart before (text_line (ending_words number world counts)) after × (failures' ≡ failures + 1))
-    ⊎ ((fault.refusal ≡ BadLine) × (world ≡ None) × Wrote before (text_line (malformed_words number)) after × (failures' ≡ failures)))
+    ⊎ ((fault.refusal ≡ BadLine) × (world ≡ None) × Appends before after (text_line (malformed_words number)) × (failures' ≡ failures)))

@@ -1,5 +1,5 @@
 -- The report of a script: the replies to its steps, which are those of a joint run, and how it ends.
-use Rattle.std.specs.Prelude.{◌≡◌, ◌≢◌, ℕ, ◌+◌, ◌-◌, ◌<◌, Bool, true, false, ◌⊎◌, List, [], ◌∷◌, ◌++◌, length, map, flat_map, count_by, Option, Some, None, is_some, is_err, Result, Ok, Err, IsTrue, if◌then◌else◌, ◌==◌}
+use Rattle.std.specs.Prelude.{◌≡◌, ◌≢◌, ℕ, ◌+◌, ◌-◌, ◌<◌, ◌≤◌, Bool, true, false, ◌⊎◌, List, [], ◌∷◌, ◌++◌, length, map, flat_map, count_by, Option, Some, None, is_some, is_err, Result, Ok, Err, IsTrue, if◌then◌else◌, ◌==◌}
 use Rattle.std.specs.List.{All}
 use Rattle.fz_model.specs.declared.refusal.Refusal.{Refusal}
 use Rattle.fz_model.specs.declared.refusal.Refusal.TheVariants.{BadLine, BadCount, NoMemory, Output, Input}
@@ -12,8 +12,8 @@ use Rattle.fz_script.specs.declared.step.Step.TheVariants.{Open}
 use Rattle.fz_script.specs.Spelling.{Word, spelling, Fits}
 use Rattle.finalize.specs.declared.run.Summary.{Summary}
 use Rattle.finalize.specs.declared.run.DriveFault.{DriveFault}
-use Rattle.finalize.specs.Devices.{IsAtEnd, ahead}
-use Rattle.finalize.specs.Script.{with_lf, IsOneLine, Lines, all_lines, is_kept, max_line, IsScript, has_come, IsMalformed, event_of}
+use Rattle.std.specs.Io.KnownBytes.{IsAtEnd, prepend_known}
+use Rattle.finalize.specs.Script.{with_lf, IsOneLine, Lines, all_lines, is_kept, max_line, max_lines, IsScript, has_come, IsMalformed, event_of}
 use Rattle.finalize.specs.Replies.{text_line, done, refused_words, reply_words, reply_line, malformed_words, end_words}
 
 -- the causes of refusal of an opening
@@ -107,11 +107,11 @@ abbrev pub IsRefusedOpening : List ℕ → Refusal → Type 0
 IsRefusedOpening line refusal =
     (blocks : ℕ) × (frames : ℕ) × (workers : ℕ) × AsksFor line (Open blocks frames workers) × IsRefusedFor (opening_causes blocks frames workers) true refusal
 
--- the words that the line with this number gets, after the course so far
+-- the words that the line with this number gets, after the course so far; a line past the last is malformed, whatever it asks for
 pub data IsDue (number : ℕ) (line : List ℕ) : Option Course → List Word → Type 0 where
-  Opens : (blocks frames workers : ℕ) → AsksFor line (Open blocks frames workers) → first_cause (opening_causes blocks frames workers) ≡ None → IsDue number line None done
-  OpensNot : (refusal : Refusal) → IsRefusedOpening line refusal → IsDue number line None (refused_words refusal)
-  Replies : (course : Course) (step : Step) (m : Move) (new : Joint) → AsksFor line step → IsTrue (has_come step) → event_of step ≡ Some m.event → JointStep course.end m.event m.reply new → IsDue number line (Some course) (reply_words m.event m.reply)
+  Opens : (blocks frames workers : ℕ) → number ≤ max_lines → AsksFor line (Open blocks frames workers) → first_cause (opening_causes blocks frames workers) ≡ None → IsDue number line None done
+  OpensNot : (refusal : Refusal) → number ≤ max_lines → IsRefusedOpening line refusal → IsDue number line None (refused_words refusal)
+  Replies : (course : Course) (step : Step) (m : Move) (new : Joint) → number ≤ max_lines → AsksFor line step → IsTrue (has_come step) → event_of step ≡ Some m.event → JointStep course.end m.event m.reply new → IsDue number line (Some course) (reply_words m.event m.reply)
   Malformed : (course : Option Course) → IsMalformed (is_some course) number line → IsDue number line course (malformed_words number)
 
 -- the words of a report's end, after the last line: an input without an opening is malformed there
@@ -125,17 +125,17 @@ abbrev pub Explains : Refusal → ℕ → List ℕ → List ℕ → Option (List
 -- the line is malformed, or the input has ended without an opening; all replies before it and its own were written
 Explains BadLine number bytes unread left text =
     (before : List ℕ) × (text ≡ before ++ text_line (malformed_words number))
-    × (((line : List ℕ) × (course : Option Course) × AtLine bytes (ahead unread left) number line before course × IsMalformed (is_some course) number line) ⊎ (AtEnd bytes number before None × IsAtEnd (ahead unread left)))
+    × (((line : List ℕ) × (course : Option Course) × AtLine bytes (prepend_known unread left) number line before course × IsMalformed (is_some course) number line) ⊎ (AtEnd bytes number before None × IsAtEnd (prepend_known unread left)))
 -- the opening was refused, and its reply was written
 Explains BadCount number bytes unread left text =
-    (line : List ℕ) × AtLine bytes (ahead unread left) number line [] None × IsRefusedOpening line BadCount × (text ≡ text_line (refused_words BadCount))
+    (number ≤ max_lines) × (line : List ℕ) × AtLine bytes (prepend_known unread left) number line [] None × IsRefusedOpening line BadCount × (text ≡ text_line (refused_words BadCount))
 Explains NoMemory number bytes unread left text =
-    (line : List ℕ) × AtLine bytes (ahead unread left) number line [] None × IsRefusedOpening line NoMemory × (text ≡ text_line (refused_words NoMemory))
+    (number ≤ max_lines) × (line : List ℕ) × AtLine bytes (prepend_known unread left) number line [] None × IsRefusedOpening line NoMemory × (text ≡ text_line (refused_words NoMemory))
 -- what this line gets, or what ends the report, wasn't written whole; all replies before it were
 Explains Output number bytes unread left text =
     (before : List ℕ) × (part : List ℕ) × (rest : List ℕ) × (text ≡ before ++ part)
-    × (((line : List ℕ) × (course : Option Course) × (words : List Word) × AtLine bytes (ahead unread left) number line before course × IsDue number line course words × (text_line words ≡ part ++ rest))
-    ⊎ ((course : Option Course) × AtEnd bytes number before course × IsAtEnd (ahead unread left) × (text_line (closing_words number course) ≡ part ++ rest)))
+    × (((line : List ℕ) × (course : Option Course) × (words : List Word) × AtLine bytes (prepend_known unread left) number line before course × IsDue number line course words × (text_line words ≡ part ++ rest))
+    ⊎ ((course : Option Course) × AtEnd bytes number before course × IsAtEnd (prepend_known unread left) × (text_line (closing_words number course) ≡ part ++ rest)))
 -- the reader failed in this line; all whole lines before it were carried out, and their replies were written
 Explains Input number bytes unread left text =
     (unread ≡ []) × (lines : List (List ℕ)) × (line : List ℕ) × (course : Option Course) × Lines bytes lines line × (length lines + 1 ≡ number) × Reports lines text course

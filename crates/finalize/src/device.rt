@@ -1,7 +1,8 @@
 //! Where a script comes from, and where its report goes.
 
 ghost use Rattle.std.specs.Prelude.{◌≡◌, ◌<◌, ◌≤◌, ◌+◌, ℕ, List, [], Option, IfSome, Some, length, take};
-ghost use Rattle.finalize.specs.Devices.{Took, Wrote, count_of, read_failures, write_failures};
+ghost use Rattle.std.specs.Io.KnownBytes.{Consumes, Appends, IsAtEnd};
+ghost use Rattle.finalize.specs.Devices.{count_of, read_failures, write_failures};
 
 /// A reader.
 pub trait Source {
@@ -14,8 +15,8 @@ pub trait Source {
     /// the end of the input. `None` says that the read failed.
     fn read(&mut self, buf: &mut [u8]) -> Option<usize>
         ensures bound { count_of result ≤ length buf.new }
-        ensures bytes { Took (remaining self.old) (take (count_of result) buf.new) (remaining self.new) }
-        ensures end { result ≡ Some 0 → 0 < length buf.old → IfSome (remaining self.new) (λ rest. rest ≡ []) }
+        ensures bytes { Consumes (remaining self.old) (remaining self.new) (take (count_of result) buf.new) }
+        ensures end { result ≡ Some 0 → 0 < length buf.old → IsAtEnd (remaining self.new) }
         ensures failures { failures self.new ≡ failures self.old + read_failures result };
 }
 
@@ -30,6 +31,6 @@ pub trait Sink {
     /// failed.
     fn write(&mut self, bytes: &[u8]) -> Option<usize>
         ensures bound { count_of result ≤ length bytes.now }
-        ensures bytes { Wrote (written self.old) (take (count_of result) bytes.now) (written self.new) }
+        ensures bytes { Appends (written self.old) (written self.new) (take (count_of result) bytes.now) }
         ensures failures { failures self.new ≡ failures self.old + write_failures (length bytes.now) result };
 }

@@ -1,7 +1,7 @@
 //! Lines of input.
 
 ghost use Rattle.std.specs.Prelude.{◌≡◌, ◌≤◌, take, drop, []};
-ghost use Rattle.finalize.specs.Devices.{ahead};
+ghost use Rattle.std.specs.Io.KnownBytes.{prepend_known};
 ghost use Rattle.finalize.specs.Lines.{Reads, ReadsByte};
 
 use crate::device::Source;
@@ -50,9 +50,9 @@ pub(crate) enum Ending {
 }
 
 fn next_byte<R: Source>(source: &mut R, chunk: &mut Chunk) -> Result<Option<u8>, ReadFailed>
-    ensures { ReadsByte (ahead (drop chunk.old.at (take chunk.old.len chunk.old.bytes)) (R.remaining source.old)) (R.failures source.old)
+    ensures { ReadsByte (prepend_known (drop chunk.old.at (take chunk.old.len chunk.old.bytes)) (R.remaining source.old)) (R.failures source.old)
         result (drop chunk.new.at (take chunk.new.len chunk.new.bytes))
-        (ahead (drop chunk.new.at (take chunk.new.len chunk.new.bytes)) (R.remaining source.new)) (R.failures source.new) }
+        (prepend_known (drop chunk.new.at (take chunk.new.len chunk.new.bytes)) (R.remaining source.new)) (R.failures source.new) }
 {
     if chunk.at == chunk.len {
         match source.read(&mut chunk.bytes) {
@@ -75,9 +75,9 @@ pub(crate) fn next_line<R: Source>(
     chunk: &mut Chunk,
     line: &mut ArrayVec<u8, MAX_LINE>,
 ) -> Result<Ending, ReadFailed>
-    ensures { Reads (ahead (drop chunk.old.at (take chunk.old.len chunk.old.bytes)) (R.remaining source.old)) (R.failures source.old)
+    ensures { Reads (prepend_known (drop chunk.old.at (take chunk.old.len chunk.old.bytes)) (R.remaining source.old)) (R.failures source.old)
         result line.new.items (drop chunk.new.at (take chunk.new.len chunk.new.bytes))
-        (ahead (drop chunk.new.at (take chunk.new.len chunk.new.bytes)) (R.remaining source.new)) (R.failures source.new) }
+        (prepend_known (drop chunk.new.at (take chunk.new.len chunk.new.bytes)) (R.remaining source.new)) (R.failures source.new) }
 {
     line.clear();
     loop {

@@ -5,7 +5,7 @@ ghost use Rattle.fz_model.specs.Causes.{first_cause, IsRefusedFor};
 ghost use Rattle.fz_model.specs.Joint.{Take, FinishOwn, Forfeit, joint_opening};
 ghost use Rattle.finalize.specs.Script.{has_come};
 ghost use Rattle.finalize.specs.Report.{opening_causes};
-ghost use Rattle.finalize.specs.Machines.{StandsForJoint, JointDoes, StepDoes};
+ghost use Rattle.finalize.specs.Machines.{StandsForJoint, JointDoes, StepDoes, moves_word, changes_objects};
 
 use crate::plain_line::PlainLine;
 use crate::reply::Reply;
@@ -102,15 +102,31 @@ impl Machine {
         ensures { StepDoes self.old step result self.new }
     {
         match step {
-            Step::New {
-                frame,
-                slot,
-                size,
-                kind,
-            } => {
-                let (address, birth) = self.world.alloc(frame, slot, size, kind)?;
-                Ok(Reply::Allocated { address, birth })
+            Step::Set { .. } | Step::Copy { .. } | Step::Load { .. } | Step::Store { .. } => {
+                self.move_word(step)
             }
+            Step::Take { worker } => {
+                let entry = self.take(worker)?;
+                Ok(Reply::Taken(entry))
+            }
+            Step::Finish { worker } => {
+                self.finish(worker)?;
+                Ok(Reply::Finished)
+            }
+            Step::Forfeit { worker } => {
+                self.forfeit(worker)?;
+                Ok(Reply::Forfeited)
+            }
+            _ => self.change_objects(step),
+        }
+    }
+
+    /// Carries out a step that puts a word into a slot or an object.
+    fn move_word(&mut self, step: Step) -> Result<Reply, Refusal>
+        requires { moves_word step ≡ true }
+        ensures { StepDoes self.old step result self.new }
+    {
+        match step {
             Step::Set { frame, slot, word } => {
                 self.world.set(frame, slot, word)?;
                 Ok(Reply::Done)
@@ -145,6 +161,25 @@ impl Machine {
                     .store(frame, slot, offset, from_frame, from_slot)?;
                 Ok(Reply::Done)
             }
+            _ => unreachable!(),
+        }
+    }
+
+    /// Carries out a step that makes, registers or reclaims objects.
+    fn change_objects(&mut self, step: Step) -> Result<Reply, Refusal>
+        requires { changes_objects step ≡ true }
+        ensures { StepDoes self.old step result self.new }
+    {
+        match step {
+            Step::New {
+                frame,
+                slot,
+                size,
+                kind,
+            } => {
+                let (address, birth) = self.world.alloc(frame, slot, size, kind)?;
+                Ok(Reply::Allocated { address, birth })
+            }
             Step::Register {
                 frame,
                 slot,
@@ -164,18 +199,6 @@ impl Machine {
             Step::Collect => {
                 let passed = self.world.collect()?;
                 Ok(Reply::Passed(passed))
-            }
-            Step::Take { worker } => {
-                let entry = self.take(worker)?;
-                Ok(Reply::Taken(entry))
-            }
-            Step::Finish { worker } => {
-                self.finish(worker)?;
-                Ok(Reply::Finished)
-            }
-            Step::Forfeit { worker } => {
-                self.forfeit(worker)?;
-                Ok(Reply::Forfeited)
             }
             _ => unreachable!(),
         }

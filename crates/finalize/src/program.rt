@@ -1,10 +1,8 @@
 //! The program, over its words and two writers.
 
-ghost use Rattle.std.specs.Prelude.{◌≡◌, ◌≤◌, ◌<◌, List, ℕ, codes};
-ghost use Rattle.finalize.specs.Devices.{Wrote, IsPart};
-ghost use Rattle.finalize.specs.Report.{IsReport};
-ghost use Rattle.finalize.specs.Program.{want_line};
-ghost use Rattle.finalize.specs.declared.run.Summary.{Summary};
+ghost use Rattle.std.specs.Prelude.{◌≡◌, ◌≢◌, ◌≤◌, ◌<◌, ◌⊎◌, List, ℕ, Option, codes, length, Ok, None};
+ghost use Rattle.finalize.specs.Program.{want_line, memory_line, open_line, fault_line, Says, Reported, Stopped};
+ghost use Rattle.finalize.specs.declared.run.DriveFault.{DriveFault};
 
 use crate::device::Sink;
 use crate::failures::Failures;
@@ -31,7 +29,9 @@ fn command<'a>(alloc: Global) -> Result<Command<'a>, AllocError> {
 }
 
 /// The file that the words ask to run. An error says that they are wrong, or that memory is wanting.
-fn file_of<'a, S: AsStr>(alloc: Global, words: &'a [S]) -> Result<Option<&'a str>, Error> {
+fn file_of<'a, S: AsStr>(alloc: Global, words: &'a [S]) -> Result<Option<&'a str>, Error>
+    ensures { length words.now ≢ 2 → result ≡ Ok None }
+{
     if words.len() != 2 {
         return Ok(None);
     }
@@ -46,7 +46,7 @@ fn file_of<'a, S: AsStr>(alloc: Global, words: &'a [S]) -> Result<Option<&'a str
 /// Writes the line, whether or not that succeeds, and answers the status.
 fn say<E: Sink>(err: &mut E, line: &[u8], status: u8) -> u8
     ensures status { result ≡ status }
-    ensures line { IsPart (E.written err.old) line.now (E.written err.new) }
+    ensures line { Says (E.written err.old) (E.failures err.old) line.now (E.written err.new) (E.failures err.new) }
 {
     let _ = write_all(err, line);
     status
@@ -55,14 +55,15 @@ fn say<E: Sink>(err: &mut E, line: &[u8], status: u8) -> u8
 /// Says that the words are wrong, and answers the status.
 pub(crate) fn wrong_words<E: Sink>(err: &mut E) -> u8
     ensures status { result ≡ 2 }
-    ensures line { IsPart (E.written err.old) want_line (E.written err.new) }
+    ensures line { Says (E.written err.old) (E.failures err.old) want_line (E.written err.new) (E.failures err.new) }
 {
     say(err, b"finalize: want run FILE or threads FILE\n", 2)
 }
 
 /// Says that memory is wanting, and answers the status.
 pub(crate) fn out_of_memory<E: Sink>(err: &mut E) -> u8
-    ensures { result ≡ 1 }
+    ensures status { result ≡ 1 }
+    ensures line { Says (E.written err.old) (E.failures err.old) memory_line (E.written err.new) (E.failures err.new) }
 {
     say(err, b"finalize: out of memory\n", 1)
 }
@@ -76,10 +77,16 @@ pub(crate) fn execute<R: Files + AllocGlobal, S: AsStr, O: Sink, E: Sink>(
     err: &mut E,
 ) -> u8
     ensures known { result ≤ 2 }
-    // Of wrong words nothing is written but the line that says so, or a part of it.
-    ensures wrong { result ≡ 2 → (O.written out.new ≡ O.written out.old) × IsPart (E.written err.old) want_line (E.written err.new) }
-    // Where it succeeds, what was written is a whole report.
-    ensures reported { result ≡ 0 → (bytes : List ℕ) × (text : List ℕ) × (summary : Summary) × Wrote (O.written out.old) text (O.written out.new) × IsReport bytes text summary × (E.written err.new ≡ E.written err.old) }
+    // Any words but two are wrong.
+    ensures counted { length words.now ≢ 2 → result ≡ 2 }
+    // Of wrong words nothing is written but the line that says so.
+    ensures wrong { result ≡ 2 → (O.written out.new ≡ O.written out.old) × Says (E.written err.old) (E.failures err.old) want_line (E.written err.new) (E.failures err.new) }
+    // Where it succeeds, what was written is a whole report. (What a file holds, no contract can tell.)
+    ensures reported { result ≡ 0 → ((input : Option (List ℕ)) × Reported input (O.written out.old) (O.written out.new)) × (E.written err.new ≡ E.written err.old) }
+    // Where it fails, either nothing could be run, or the report ends where its fault says.
+    ensures failed { result ≡ 1 →
+        ((O.written out.new ≡ O.written out.old) × ((line : List ℕ) × ((line ≡ memory_line) ⊎ (line ≡ open_line)) × Says (E.written err.old) (E.failures err.old) line (E.written err.new) (E.failures err.new)))
+        ⊎ ((fault : DriveFault) × ((input : Option (List ℕ)) × Stopped input (O.written out.old) (O.written out.new) fault) × Says (E.written err.old) (E.failures err.old) (fault_line fault.refusal) (E.written err.new) (E.failures err.new)) }
 {
     let file = match file_of(rt.alloc(), words) {
         Ok(Some(file)) => file,
@@ -103,7 +110,8 @@ fn run_script<I: Read + Drop, O: Sink, E: Sink, L: Ledger>(
     requires name { ledger.name ≡ L.name }
     requires parts { (ledger.parts ≡ L.parts) × (L.parts ≡ 1) }
     ensures known { result ≤ 1 }
-    ensures reported { result ≡ 0 → (bytes : List ℕ) × (text : List ℕ) × (summary : Summary) × Wrote (O.written out.old) text (O.written out.new) × IsReport bytes text summary × (E.written err.new ≡ E.written err.old) }
+    ensures reported { result ≡ 0 → Reported (I.remaining input) (O.written out.old) (O.written out.new) × (E.written err.new ≡ E.written err.old) }
+    ensures failed { result ≡ 1 → (fault : DriveFault) × Stopped (I.remaining input) (O.written out.old) (O.written out.new) fault × Says (E.written err.old) (E.failures err.old) (fault_line fault.refusal) (E.written err.new) (E.failures err.new) }
 {
     let mut reader = Stream::new(input, Failures::<L>::none(ledger));
     match drive(alloc, &mut reader, out) {
@@ -114,7 +122,8 @@ fn run_script<I: Read + Drop, O: Sink, E: Sink, L: Ledger>(
 
 /// Writes why a run ended early, where its report doesn't say so.
 fn explain<E: Sink>(err: &mut E, fault: DriveFault) -> u8
-    ensures { result ≡ 1 }
+    ensures status { result ≡ 1 }
+    ensures line { Says (E.written err.old) (E.failures err.old) (fault_line fault.refusal) (E.written err.new) (E.failures err.new) }
 {
     match fault.refusal {
         Refusal::Input => say(err, b"finalize: input failed\n", 1),

@@ -1,7 +1,7 @@
 //! A script from its first byte to its last.
 
 ghost use Rattle.std.specs.Prelude.{◌≡◌, ◌<◌, ◌^◌, ◌+◌, ◌++◌, List, ℕ, IfOk, IfErr};
-ghost use Rattle.finalize.specs.Devices.{Took, Wrote, IsAtEnd};
+ghost use Rattle.std.specs.Io.KnownBytes.{Consumes, Appends, IsAtEnd};
 ghost use Rattle.finalize.specs.Report.{IsReport, Explains, failures_of};
 ghost use Rattle.finalize.specs.Machines.{counts_after, summary_at, TellsAnswer, Finishes};
 
@@ -119,14 +119,14 @@ pub(crate) fn drive<R: Source, W: Sink>(
 ) -> Result<Summary, DriveFault>
     // The whole input was read, and the text is the report of a joint run over its script.
     ensures ok { IfOk result (λ summary. (bytes : List ℕ) × (text : List ℕ)
-        × Took (R.remaining reader.old) bytes (R.remaining reader.new) × IsAtEnd (R.remaining reader.new)
-        × Wrote (W.written writer.old) text (W.written writer.new) × IsReport bytes text summary) }
+        × Consumes (R.remaining reader.old) (R.remaining reader.new) bytes × IsAtEnd (R.remaining reader.new)
+        × Appends (W.written writer.old) (W.written writer.new) text × IsReport bytes text summary) }
     // Each entry is finished, given up, in a hand or left.
     ensures balanced { IfOk result (λ summary. summary.enqueued ≡ summary.finished + summary.forfeited + summary.in_hand + summary.left) }
     // A fault comes where its cause stands, and nothing else was written.
     ensures fault { IfErr result (λ fault. (bytes : List ℕ) × (unread : List ℕ) × (text : List ℕ)
-        × Took (R.remaining reader.old) (bytes ++ unread) (R.remaining reader.new)
-        × Wrote (W.written writer.old) text (W.written writer.new)
+        × Consumes (R.remaining reader.old) (R.remaining reader.new) (bytes ++ unread)
+        × Appends (W.written writer.old) (W.written writer.new) text
         × Explains fault.refusal fault.line bytes unread (R.remaining reader.new) text) }
     // In this call a read failed just where it says so, and so for writes.
     ensures reads { R.failures reader.new ≡ R.failures reader.old + failures_of Refusal.Input result }
@@ -143,24 +143,20 @@ pub(crate) fn drive<R: Source, W: Sink>(
     };
     let mut number = 1;
     'lines: loop {
-        let ending = match next_line(reader, &mut chunk, &mut line) {
-            Ok(ending) => ending,
-            Err(_) => return Err(fault(Refusal::Input, number)),
+        let Ok(ending) = next_line(reader, &mut chunk, &mut line) else {
+            return Err(fault(Refusal::Input, number));
         };
-        match ending {
-            Ending::Nothing => return finish(writer, number, &machine, counts),
-            _ => {}
+        if let Ending::Nothing = ending {
+            return finish(writer, number, &machine, counts);
         }
         let answer = answer_at(alloc, &mut machine, number, ending, line.as_slice());
-        match tell(writer, number, answer) {
-            Ok(()) => {}
-            Err(fault) => return Err(fault),
+        if let Err(fault) = tell(writer, number, answer) {
+            return Err(fault);
         }
         counts = counts.after(answer);
         number += 1;
-        match ending {
-            Ending::Last => return finish(writer, number, &machine, counts),
-            _ => {}
+        if let Ending::Last = ending {
+            return finish(writer, number, &machine, counts);
         }
     }
 }

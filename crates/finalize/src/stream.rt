@@ -1,4 +1,4 @@
-//! Streams as readers and writers. What a stream hands over or takes, no contract can tell.
+//! The standard library's readers and writers, with their failures counted.
 
 ghost use Rattle.std.specs.Prelude.{◌≡◌, None};
 
@@ -15,13 +15,15 @@ pub struct Stream<S, L: Ledger> {
 }
 
 impl<S, L: Ledger> Stream<S, L> {
-    pub fn new(inner: S, failures: Failures<L>) -> Stream<S, L> {
+    pub fn new(inner: S, failures: Failures<L>) -> Stream<S, L>
+        ensures { result ≡ record { inner = inner; failures = failures } }
+    {
         Stream { inner, failures }
     }
 }
 
 impl<S: io::Read, L: Ledger> Source for Stream<S, L> {
-    ghost remaining = { λ _. None };
+    ghost remaining = { λ s. S.remaining s.inner };
 
     ghost failures = { λ s. s.failures };
 
@@ -37,7 +39,7 @@ impl<S: io::Read, L: Ledger> Source for Stream<S, L> {
 }
 
 impl<S: io::Write, L: Ledger> Sink for Stream<S, L> {
-    ghost written = { λ _. None };
+    ghost written = { λ s. S.contents s.inner };
 
     ghost failures = { λ s. s.failures };
 

@@ -1,10 +1,10 @@
 use Rattle.std.proofs.Common.{◌≡◌, ℕ, List, ◌++◌, length}
-use Rattle.finalize.specs.Devices.{Wrote}
+use Rattle.std.specs.Io.KnownBytes.{Appends}
 use Rattle.finalize.proofs.output.write_all.Given as goal
 
 abbrev pub invariant-loop-rest : goal.invariant-loop-rest
 invariant-loop-rest g l = record {
-  written : (done : List ℕ) × (l.bytes ≡ done ++ l.rest) × Wrote (g.W.Sink.written l.fn.writer) done (g.W.Sink.written l.writer);
+  written : (done : List ℕ) × (l.bytes ≡ done ++ l.rest) × Appends (g.W.Sink.written l.fn.writer) (g.W.Sink.written l.writer) done;
   same : g.W.Sink.failures l.writer ≡ g.W.Sink.failures l.fn.writer;
 }
 

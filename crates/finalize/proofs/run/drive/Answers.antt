@@ -1,11 +1,12 @@
 use Rattle.std.proofs.Common.{arith, refl, ◌+◌, ◌++◌, ◌∙◌, [], drop, take, sym, subst, IsTrue}
 use Rattle.finalize.specs.declared.run.DriveFault.{DriveFault}
-use Rattle.finalize.specs.Devices.{Took, ahead}
+use Rattle.std.specs.Io.KnownBytes.{Consumes, prepend_known}
 use Rattle.finalize.specs.Script.{with_lf}
 use Rattle.finalize.specs.Report.{Explains}
 use Rattle.finalize.specs.Machines.{answer_text, is_told}
 use Rattle.finalize.proofs.Runs.{Position, Ended, at_first, took_start, took_ahead, finish_ok, finish_fault, finish_failures, tell_fault, tell_failures, reach, close_here, close_last, break_off, goes_on, position_more, whole_taken, IsBelow, counts_bound, no_more, report_balanced}
-use Rattle.finalize.proofs.Writing.{wrote_none, wrote_more, took_more}
+use Rattle.std.proofs.KnownBytes.{Appends-trans, Consumes-trans}
+use Rattle.finalize.proofs.Writing.{wrote_none}
 use Rattle.finalize.proofs.run.drive.Goals as goal
 
 pub lines-init : goal.lines-init
@@ -25,14 +26,14 @@ returns-in-Nothing-clause-fault g c =
     let h = rw c.in-Nothing.is at c.in-Ok.ensures in
     let p = c.lines.invariant.position in
     finish_fault (g.R.Source.remaining c.args.reader.now) (g.R.Source.remaining c.next_line.new.source) (drop c.next_line.new.chunk.at (take c.next_line.new.chunk.len c.next_line.new.chunk.bytes)) (p.0 ++ h.0.0) p.1 (g.W.Sink.written c.args.writer.now) (g.W.Sink.written c.lines.writer) (g.W.Sink.written c.finish.new.writer) (g.W.Sink.failures c.lines.writer) (g.W.Sink.failures c.finish.new.writer) c.lines.number c.lines.machine c.lines.counts c.finish.result
-    (took_more _ _ _ _ _ p.2 h.0.2) h.1 p.3 (close_here p.0 h.0.0 p.1 c.lines.number c.lines.machine c.lines.counts p.4 h.0.1.0) c.finish.ensures
+    (Consumes-trans _ _ _ _ _ p.2 h.0.2) h.1 p.3 (close_here p.0 h.0.0 p.1 c.lines.number c.lines.machine c.lines.counts p.4 h.0.1.0) c.finish.ensures
 
 pub returns-in-Nothing-clause-ok : goal.returns-in-Nothing-clause-ok
 returns-in-Nothing-clause-ok g c =
     let h = rw c.in-Nothing.is at c.in-Ok.ensures in
     let p = c.lines.invariant.position in
     finish_ok (g.R.Source.remaining c.args.reader.now) (g.R.Source.remaining c.next_line.new.source) (drop c.next_line.new.chunk.at (take c.next_line.new.chunk.len c.next_line.new.chunk.bytes)) (p.0 ++ h.0.0) p.1 (g.W.Sink.written c.args.writer.now) (g.W.Sink.written c.lines.writer) (g.W.Sink.written c.finish.new.writer) (g.W.Sink.failures c.lines.writer) (g.W.Sink.failures c.finish.new.writer) c.lines.number c.lines.machine c.lines.counts c.finish.result
-    (took_more _ _ _ _ _ p.2 h.0.2) h.1 p.3 (close_here p.0 h.0.0 p.1 c.lines.number c.lines.machine c.lines.counts p.4 h.0.1.0) c.finish.ensures
+    (Consumes-trans _ _ _ _ _ p.2 h.0.2) h.1 p.3 (close_here p.0 h.0.0 p.1 c.lines.number c.lines.machine c.lines.counts p.4 h.0.1.0) c.finish.ensures
 
 pub returns-in-Nothing-clause-balanced : goal.returns-in-Nothing-clause-balanced
 returns-in-Nothing-clause-balanced g c = report_balanced c.finish.result (g.R.Source.remaining c.args.reader.now) (g.R.Source.remaining c.next_line.new.source) (g.W.Sink.written c.args.writer.now) (g.W.Sink.written c.finish.new.writer) (returns-in-Nothing-clause-ok g c)
@@ -47,25 +48,25 @@ pub returns-in-Nothing-clause-writes : goal.returns-in-Nothing-clause-writes
 returns-in-Nothing-clause-writes g c =
     (finish_failures (g.W.Sink.written c.lines.writer) (g.W.Sink.written c.finish.new.writer) (g.W.Sink.failures c.args.writer.now) (g.W.Sink.failures c.lines.writer) (g.W.Sink.failures c.finish.new.writer) c.lines.number c.lines.machine c.lines.counts c.finish.result c.lines.invariant.writes c.finish.ensures).1
 
-pub returns-in-Err-clause-fault : goal.returns-in-Err-clause-fault
-returns-in-Err-clause-fault g c =
-    let h = c.in-Err.ensures in
+pub returns-in_default-clause-fault : goal.returns-in_default-clause-fault
+returns-in_default-clause-fault g c =
+    let h = c.in_default.ensures in
     let p = c.lines.invariant.position in
     let P : DriveFault → Type 0 = λ f. Explains f.refusal f.line (p.0 ++ c.next_line.new.line.items) (drop c.next_line.new.chunk.at (take c.next_line.new.chunk.len c.next_line.new.chunk.bytes)) (g.R.Source.remaining c.next_line.new.source) p.1 in
-    (p.0 ++ c.next_line.new.line.items, (drop c.next_line.new.chunk.at (take c.next_line.new.chunk.len c.next_line.new.chunk.bytes)), p.1, took_ahead _ _ _ _ (took_more _ _ _ _ _ p.2 h.0), p.3, subst P (sym c.fault.ensures) (break_off p.0 p.1 c.next_line.new.line.items (drop c.next_line.new.chunk.at (take c.next_line.new.chunk.len c.next_line.new.chunk.bytes)) c.lines.number c.lines.machine c.lines.counts (g.R.Source.remaining c.next_line.new.source) p.4 h.1 h.3))
+    (p.0 ++ c.next_line.new.line.items, (drop c.next_line.new.chunk.at (take c.next_line.new.chunk.len c.next_line.new.chunk.bytes)), p.1, took_ahead _ _ _ _ (Consumes-trans _ _ _ _ _ p.2 h.0), p.3, subst P (sym c.fault.ensures) (break_off p.0 p.1 c.next_line.new.line.items (drop c.next_line.new.chunk.at (take c.next_line.new.chunk.len c.next_line.new.chunk.bytes)) c.lines.number c.lines.machine c.lines.counts (g.R.Source.remaining c.next_line.new.source) p.4 h.1 h.3))
 
-pub returns-in-Err-tell : goal.returns-in-Err-tell
-returns-in-Err-tell g c =
+pub returns-in-Err : goal.returns-in-Err
+returns-in-Err g c =
     let h = c.in-Ok.ensures in
     let p = c.lines.invariant.position in
     let given = rw c.as_slice.ensures.value at c.answer_at-answer.ensures in
-    let left = ahead (drop c.next_line.new.chunk.at (take c.next_line.new.chunk.len c.next_line.new.chunk.bytes)) (g.R.Source.remaining c.next_line.new.source) in
-    let due = λ (told : IsTrue (is_told c.answer_at-answer.result)). reach p.0 h.0.0 p.1 c.next_line.new.line.items left c.lines.number c.in-Ok.ending c.lines.machine c.answer_at-answer.new.machine c.lines.counts c.answer_at-answer.result p.4 h.0.1 h.1 h.2 h.3 c.in_default.not-Nothing given told in
-    let f = tell_failures (g.W.Sink.written c.lines.writer) (g.W.Sink.written c.tell.new.writer) (g.W.Sink.failures c.args.writer.now) (g.W.Sink.failures c.lines.writer) (g.W.Sink.failures c.tell.new.writer) c.lines.number c.answer_at-answer.result c.in-Err-tell.fault (p.0 ++ h.0.0) p.1 left c.lines.invariant.writes due c.in-Err-tell.ensures in
+    let left = prepend_known (drop c.next_line.new.chunk.at (take c.next_line.new.chunk.len c.next_line.new.chunk.bytes)) (g.R.Source.remaining c.next_line.new.source) in
+    let due = λ (told : IsTrue (is_told c.answer_at-answer.result)). reach p.0 h.0.0 p.1 c.next_line.new.line.items left c.lines.number c.in-Ok.ending c.lines.machine c.answer_at-answer.new.machine c.lines.counts c.answer_at-answer.result p.4 h.0.1 h.1 h.2 h.3 c.in_default-ending.not-Nothing given told in
+    let f = tell_failures (g.W.Sink.written c.lines.writer) (g.W.Sink.written c.tell.new.writer) (g.W.Sink.failures c.args.writer.now) (g.W.Sink.failures c.lines.writer) (g.W.Sink.failures c.tell.new.writer) c.lines.number c.answer_at-answer.result c.in-Err.fault (p.0 ++ h.0.0) p.1 left c.lines.invariant.writes due c.in-Err.ensures in
     record {
       ok = tt;
       balanced = tt;
-      fault = tell_fault (g.R.Source.remaining c.args.reader.now) (g.R.Source.remaining c.next_line.new.source) (drop c.next_line.new.chunk.at (take c.next_line.new.chunk.len c.next_line.new.chunk.bytes)) (p.0 ++ h.0.0) p.1 (g.W.Sink.written c.args.writer.now) (g.W.Sink.written c.lines.writer) (g.W.Sink.written c.tell.new.writer) (g.W.Sink.failures c.lines.writer) (g.W.Sink.failures c.tell.new.writer) c.lines.number c.answer_at-answer.result c.in-Err-tell.fault (took_more _ _ _ _ _ p.2 h.0.2) p.3 due c.in-Err-tell.ensures;
+      fault = tell_fault (g.R.Source.remaining c.args.reader.now) (g.R.Source.remaining c.next_line.new.source) (drop c.next_line.new.chunk.at (take c.next_line.new.chunk.len c.next_line.new.chunk.bytes)) (p.0 ++ h.0.0) p.1 (g.W.Sink.written c.args.writer.now) (g.W.Sink.written c.lines.writer) (g.W.Sink.written c.tell.new.writer) (g.W.Sink.failures c.lines.writer) (g.W.Sink.failures c.tell.new.writer) c.lines.number c.answer_at-answer.result c.in-Err.fault (Consumes-trans _ _ _ _ _ p.2 h.0.2) p.3 due c.in-Err.ensures;
       reads = no_more (h.4 ∙ c.lines.invariant.reads) f.0;
       writes = f.1;
     }
@@ -82,18 +83,18 @@ returns-in-Last g c =
     let new = c.answer_at-answer.new.machine in
     let counts = c.lines.counts in
     let text = p.1 ++ answer_text number answer in
-    let go = goes_on number c.in-Ok.ending old new line answer given c.in-Ok-tell.ensures.0 in
+    let go = goes_on number c.in-Ok.ending old new line answer given c.in_default-tell.ensures.0 in
     let bytes = p.0 ++ h.0.0 in
     let counts' = c.after-counts.result in
     let closed : Ended bytes (number + 1) text new counts' =
-    subst (Ended bytes (number + 1) text new) (sym c.after-counts.ensures) (close_last p.0 h.0.0 p.1 line number old new counts answer p.4 h.0.1.0 h.0.1.1 h.2 h.3 go.0 go.1 c.in-Ok-tell.ensures.0) in
-    let took = took_more _ _ _ _ _ p.2 h.0.2 in
-    let wrote = wrote_more _ _ _ _ _ p.3 c.in-Ok-tell.ensures.1 in
+    subst (Ended bytes (number + 1) text new) (sym c.after-counts.ensures) (close_last p.0 h.0.0 p.1 line number old new counts answer p.4 h.0.1.0 h.0.1.1 h.2 h.3 go.0 go.1 c.in_default-tell.ensures.0) in
+    let took = Consumes-trans _ _ _ _ _ p.2 h.0.2 in
+    let wrote = Appends-trans _ _ _ _ _ p.3 c.in_default-tell.ensures.1 in
     let w1 = g.W.Sink.written c.tell.new.writer in
     let w2 = g.W.Sink.written c.finish-in-Last.new.writer in
     let f1 = g.W.Sink.failures c.tell.new.writer in
     let f2 = g.W.Sink.failures c.finish-in-Last.new.writer in
-    let f = finish_failures w1 w2 (g.W.Sink.failures c.args.writer.now) f1 f2 (number + 1) new counts' c.finish-in-Last.result (c.in-Ok-tell.ensures.2 ∙ c.lines.invariant.writes) c.finish-in-Last.ensures in
+    let f = finish_failures w1 w2 (g.W.Sink.failures c.args.writer.now) f1 f2 (number + 1) new counts' c.finish-in-Last.result (c.in_default-tell.ensures.2 ∙ c.lines.invariant.writes) c.finish-in-Last.ensures in
     let ok = finish_ok (g.R.Source.remaining c.args.reader.now) (g.R.Source.remaining c.next_line.new.source) (drop c.next_line.new.chunk.at (take c.next_line.new.chunk.len c.next_line.new.chunk.bytes)) bytes text (g.W.Sink.written c.args.writer.now) w1 w2 f1 f2 (number + 1) new counts' c.finish-in-Last.result took h.1 wrote closed c.finish-in-Last.ensures in
     record {
       ok = ok;
@@ -108,25 +109,19 @@ lines-preserved g c =
     let h = c.in-Ok.ensures in
     let p = c.lines.invariant.position in
     let given = rw c.as_slice.ensures.value at c.answer_at-answer.ensures in
-    let line = c.next_line.new.line.items in
-    let answer = c.answer_at-answer.result in
-    let number = c.lines.number in
-    let old = c.lines.machine in
-    let new = c.answer_at-answer.new.machine in
-    let counts = c.lines.counts in
-    let text = p.1 ++ answer_text number answer in
-    let go = goes_on number c.in-Ok.ending old new line answer given c.in-Ok-tell.ensures.0 in
-    let whole = whole_taken number c.in-Ok.ending old new line h.0.0 answer given c.in-Ok-tell.ensures.0 c.in_default.not-Nothing c.in_default-ending.not-Last h.0.1 in
-    let seen = p.0 ++ with_lf line in
-    let position = position_more p.0 p.1 line number old new counts answer p.4 h.2 h.3 go.0 go.1 c.in-Ok-tell.ensures.0 in
-    let small = subst (IsBelow (number + 1)) (sym c.after-counts.ensures) (counts_bound counts answer number c.lines.invariant.steps c.lines.invariant.refused c.lines.invariant.finished c.lines.invariant.forfeited) in
+    let text = p.1 ++ answer_text c.lines.number c.answer_at-answer.result in
+    let go = goes_on c.lines.number c.in-Ok.ending c.lines.machine c.answer_at-answer.new.machine c.next_line.new.line.items c.answer_at-answer.result given c.in_default-tell.ensures.0 in
+    let whole = whole_taken c.lines.number c.in-Ok.ending c.lines.machine c.answer_at-answer.new.machine c.next_line.new.line.items h.0.0 c.answer_at-answer.result given c.in_default-tell.ensures.0 c.in_default-ending.not-Nothing c.in_default-ending-2.not-Last h.0.1 in
+    let seen = p.0 ++ with_lf c.next_line.new.line.items in
+    let position = position_more p.0 p.1 c.next_line.new.line.items c.lines.number c.lines.machine c.answer_at-answer.new.machine c.lines.counts c.answer_at-answer.result p.4 h.2 h.3 go.0 go.1 c.in_default-tell.ensures.0 in
+    let small = subst (IsBelow (c.lines.number + 1)) (sym c.after-counts.ensures) (counts_bound c.lines.counts c.answer_at-answer.result c.lines.number c.lines.invariant.steps c.lines.invariant.refused c.lines.invariant.finished c.lines.invariant.forfeited) in
     record {
       position = (
         seen,
         text,
-        subst (λ b. Took (g.R.Source.remaining c.args.reader.now) (p.0 ++ b) (ahead (drop c.next_line.new.chunk.at (take c.next_line.new.chunk.len c.next_line.new.chunk.bytes)) (g.R.Source.remaining c.next_line.new.source))) whole (took_more _ _ _ _ _ p.2 h.0.2),
-        wrote_more _ _ _ _ _ p.3 c.in-Ok-tell.ensures.1,
-        subst (Position seen (number + 1) text new) (sym c.after-counts.ensures) position,
+        subst (λ b. Consumes (g.R.Source.remaining c.args.reader.now) (prepend_known (drop c.next_line.new.chunk.at (take c.next_line.new.chunk.len c.next_line.new.chunk.bytes)) (g.R.Source.remaining c.next_line.new.source)) (p.0 ++ b)) whole (Consumes-trans _ _ _ _ _ p.2 h.0.2),
+        Appends-trans _ _ _ _ _ p.3 c.in_default-tell.ensures.1,
+        subst (Position seen (c.lines.number + 1) text c.answer_at-answer.new.machine) (sym c.after-counts.ensures) position,
       );
       in_time = let few = go.0 in omega (arith, few);
       steps = small.0;
@@ -134,5 +129,5 @@ lines-preserved g c =
       finished = small.2;
       forfeited = small.3;
       reads = h.4 ∙ c.lines.invariant.reads;
-      writes = c.in-Ok-tell.ensures.2 ∙ c.lines.invariant.writes;
+      writes = c.in_default-tell.ensures.2 ∙ c.lines.invariant.writes;
     }

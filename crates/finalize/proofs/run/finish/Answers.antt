@@ -1,5 +1,5 @@
 use Rattle.std.proofs.Common.{subst}
-use Rattle.finalize.specs.Devices.{Wrote}
+use Rattle.std.specs.Io.KnownBytes.{Appends}
 use Rattle.finalize.specs.Replies.{text_line, end_words}
 use Rattle.finalize.proofs.run.finish.Goals as goal
 
@@ -8,6 +8,6 @@ returns-in-Ok-write_end g c = (
   c.in-Some.machine,
   c.in-Some.is,
   c.summary-summary.ensures,
-  subst (λ s. Wrote (g.W.Sink.written c.args.writer.now) (text_line (end_words s)) (g.W.Sink.written c.write_end.new.writer)) c.summary-summary.ensures c.in-Ok-write_end.ensures.0,
+  subst (λ s. Appends (g.W.Sink.written c.args.writer.now) (g.W.Sink.written c.write_end.new.writer) (text_line (end_words s))) c.summary-summary.ensures c.in-Ok-write_end.ensures.0,
   c.in-Ok-write_end.ensures.1,
 )

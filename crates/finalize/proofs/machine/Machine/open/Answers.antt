@@ -1,4 +1,4 @@
-use Rattle.std.proofs.Common.{◌≡◌, ◌+◌, ℕ, zero, suc, [], ◌∷◌, List, Option, None, map, replicate, refl, ap, ◌∙◌, sym, not, ◌&&◌, nat_le, arith}
+use Rattle.std.proofs.Common.{◌≡◌, ℕ, zero, suc, ◌∷◌, List, Option, None, map, replicate, refl, ap, ◌∙◌, ◌&&◌, nat_le, arith}
 use Rattle.std.proofs.lemmas.Bool.{and_from, le-leb, not_from_true}
 use Rattle.fz_model.specs.declared.answers.Entry.{Entry}
 use Rattle.fz_model.specs.Causes.{bad_count}
