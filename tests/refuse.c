@@ -1,0 +1,42 @@
+/* Preloaded before the C library: the allocation whose number stands in REFUSED fails, counted from 1. When the program ends, the number of
+ * allocations that it asked for is written to the descriptor in COUNTED. */
+#define _GNU_SOURCE
+#include <dlfcn.h>
+#include <errno.h>
+#include <stdio.h>
+#include <stdlib.h>
+
+static long asked;
+
+static int is_refused(void) {
+    const char *refused = getenv("REFUSED");
+    return ++asked == (refused ? atol(refused) : 0);
+}
+
+void *malloc(size_t size) {
+    static void *(*next)(size_t);
+    if (!next)
+        next = dlsym(RTLD_NEXT, "malloc");
+    if (is_refused()) {
+        errno = ENOMEM;
+        return NULL;
+    }
+    return next(size);
+}
+
+void *realloc(void *old, size_t size) {
+    static void *(*next)(void *, size_t);
+    if (!next)
+        next = dlsym(RTLD_NEXT, "realloc");
+    if (is_refused()) {
+        errno = ENOMEM;
+        return NULL;
+    }
+    return next(old, size);
+}
+
+__attribute__((destructor)) static void tell(void) {
+    const char *counted = getenv("COUNTED");
+    if (counted)
+        dprintf(atoi(counted), "%ld\n", asked);
+}
