@@ -4,6 +4,8 @@
 mod pass;
 mod plan;
 mod set;
+#[cfg(test)]
+mod tests;
 mod trace;
 
 pub use pass::decide;

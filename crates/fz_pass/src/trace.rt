@@ -1,6 +1,6 @@
 //! What objects lead to.
 
-ghost use Rattle.std.specs.Prelude.{◌≡◌, ◌≢◌, ◌≤◌, ◌<◌, ◌+◌, ◌*◌, ◌==◌, ◌||◌, ◌↔◌, ◌⊎◌, ℕ, false, length, Some, None, IsTrue, IfSome, IfOk, OnOk};
+ghost use Rattle.std.specs.Prelude.{◌≡◌, ◌≢◌, ◌≤◌, ◌<◌, ◌+◌, ◌*◌, ◌==◌, ◌||◌, ◌↔◌, ◌⊎◌, ℕ, false, length, Some, None, IsTrue, IfSome, IfOk, OnOk, OnErr};
 ghost use Rattle.fz_model.specs.Memory.{points};
 ghost use Rattle.fz_model.specs.Reachability.{Child};
 ghost use Rattle.fz_model.specs.Pass.{LeadsFirst};
@@ -26,6 +26,7 @@ impl Frontier {
         requires in_heap { (65536 ≤ start) × (start < 65536 + length self.old.set) }
         ensures grows { Grows self.old.set self.old.work.items self.new.set self.new.work.items }
         ensures added { OnOk result ((a : ℕ) → has self.new.set a ≡ (has self.old.set a || a == start)) }
+        ensures unchanged { OnErr result (self.new.set ≡ self.old.set) }
     {
         if self.set.contains(start) {
             return Ok(());
@@ -114,11 +115,12 @@ impl Tracer {
         })
     }
 
-    /// Adds the object at the start. Where memory is wanting, the set may have it or not.
+    /// Adds the object at the start.
     pub fn mark(&mut self, start: Addr) -> Result<(), AllocError>
         requires in_heap { (65536 ≤ start) × (start < 65536 + length self.old) }
         ensures size { length self.new ≡ length self.old }
         ensures marked { OnOk result ((a : ℕ) → has self.new a ≡ (has self.old a || a == start)) }
+        ensures unchanged { OnErr result (self.new ≡ self.old) }
     {
         self.frontier.add(start)
     }
@@ -128,6 +130,7 @@ impl Tracer {
         requires { length self.old ≡ 64 * heap.now.blocks }
         ensures size { length self.new ≡ length self.old }
         ensures marked { OnOk result ((a : ℕ) → IsTrue (has self.new a) ↔ (IsTrue (has self.old a) ⊎ (points heap.now.objects word ≡ Some a))) }
+        ensures unchanged { OnErr result (self.new ≡ self.old) }
     {
         match heap.resolve(word) {
             Some(start) => self.mark(start),
