@@ -8,7 +8,7 @@ use Rattle.fz_model.specs.declared.answers.Entry.{Entry}
 use Rattle.fz_model.specs.declared.answers.Pick.{Pick}
 use Rattle.fz_model.specs.Pass.{entry_of, entries_of}
 use Rattle.fz_model.specs.Events.{same_entry}
-use Rattle.fz_world.specs.Ready.{flagged, AreNumbered}
+use Rattle.fz_world.specs.Ready.{flagged, first_flagged, AreNumbered}
 
 pub entries_of-push : (pass seq : ℕ) (picks : List Pick) (p : Pick) → entries_of pass seq (picks ++ p ∷ []) ≡ entries_of pass seq picks ++ entry_of pass (seq + length picks) p ∷ []
 entries_of-push pass seq [] p = let e : seq ≡ seq + 0 = omega arith in ap (λ n. entry_of pass n p ∷ []) e
@@ -135,25 +135,69 @@ is_at_within entry (suc k) (e ∷ es) (f ∷ flags) at = let rest = is_at_within
 pub held_there : (entry : Entry) (es : List Entry) (flags : List Bool) → AreNumbered 0 es → list_any (same_entry entry) (flagged es flags) ≡ true → entry.seq < length es
 held_there entry es flags n held = is_at_within entry entry.seq es flags (held_at entry es flags n entry.seq refl held)
 
+-- ---- the first flag that is up
+
+pub first_flagged_le : (flags : List Bool) → first_flagged flags ≤ length flags
+first_flagged_le [] = omega arith
+first_flagged_le (true ∷ flags) = omega arith
+first_flagged_le (false ∷ flags) = let rest = first_flagged_le flags in omega (arith, rest)
+
+-- no entry before it is flagged
+pub none_before : (es : List Entry) (flags : List Bool) (n : ℕ) → n ≡ first_flagged flags → flagged (take n es) (take n flags) ≡ []
+none_before es flags zero is = refl
+none_before [] [] (suc n) is = refl
+none_before [] (f ∷ flags) (suc n) is = refl
+none_before (e ∷ es) [] (suc n) is = refl
+none_before (e ∷ es) (true ∷ flags) (suc n) is = absurd (omega arith)
+none_before (e ∷ es) (false ∷ flags) (suc n) is = none_before es flags n (omega arith)
+
+-- it isn't past a flag that is up
+pub first_within : (flags : List Bool) (k : ℕ) (d : Bool) → k < length flags → get_or flags k d ≡ true → first_flagged flags ≤ k
+first_within [] k d l up = absurd (omega arith)
+first_within (true ∷ flags) k d l up = omega arith
+first_within (false ∷ flags) zero d l up = absurd (true≢false (sym up))
+first_within (false ∷ flags) (suc k) d l up = let rest = first_within flags k d (omega arith) up in omega (arith, rest)
+
+-- and is past one that isn't, if it isn't before it
+pub first_past : (flags : List Bool) (k : ℕ) (d : Bool) → k < length flags → get_or flags k d ≡ false → k ≤ first_flagged flags → k + 1 ≤ first_flagged flags
+first_past [] k d l down before = absurd (omega arith)
+first_past (true ∷ flags) zero d l down before = absurd (true≢false down)
+first_past (true ∷ flags) (suc k) d l down before = absurd (omega arith)
+first_past (false ∷ flags) zero d l down before = omega arith
+first_past (false ∷ flags) (suc k) d l down before = let rest = first_past flags k d (omega arith) down (omega arith) in omega (arith, rest)
+
+-- it stays where a flag comes up at the end
+first_flagged-push : (flags : List Bool) → first_flagged (flags ++ true ∷ []) ≡ first_flagged flags
+first_flagged-push [] = refl
+first_flagged-push (true ∷ flags) = refl
+first_flagged-push (false ∷ flags) = ap (λ n. n + 1) (first_flagged-push flags)
+
+-- it can but move on where one is taken down
+pub first_flagged-set : (flags : List Bool) (k : ℕ) → first_flagged flags ≤ first_flagged (set flags k false)
+first_flagged-set [] k = omega arith
+first_flagged-set (true ∷ flags) k = omega arith
+first_flagged-set (false ∷ flags) zero = omega arith
+first_flagged-set (false ∷ flags) (suc k) = let rest = first_flagged-set flags k in omega (arith, rest)
+
 -- ---- a push with room
 
 pub pushed : {X : Type 0} (b : Bool) (xs ys : List X) (v : X) → b ≡ true → ys ≡ cond b (xs ++ v ∷ []) xs → ys ≡ xs ++ v ∷ []
 pushed b xs ys v ok is = is ∙ ap (λ t. cond t (xs ++ v ∷ []) xs) ok
 
-abbrev pub IsWhole : List Entry → List Bool → ℕ → Type 0
-IsWhole queue flags count = (length flags ≡ length queue) × AreNumbered 0 queue × (count ≡ length (flagged queue flags))
+abbrev pub IsWhole : List Entry → List Bool → ℕ → ℕ → Type 0
+IsWhole queue flags count first = (length flags ≡ length queue) × AreNumbered 0 queue × (count ≡ length (flagged queue flags)) × (first ≡ first_flagged flags)
 
 pub flagged_more : (queue more : List Entry) (flags wider : List Bool) (e : Entry) → length flags ≡ length queue → more ≡ queue ++ e ∷ [] → wider ≡ flags ++ true ∷ [] → flagged more wider ≡ flagged queue flags ++ e ∷ []
 flagged_more queue more flags wider e same is wide = ap (λ q. flagged q wider) is ∙ ap (flagged (queue ++ e ∷ [])) wide ∙ flagged-push queue flags e same
 
-pub whole_more : (queue more : List Entry) (flags wider : List Bool) (count : ℕ) (e : Entry) → IsWhole queue flags count → e.seq ≡ length queue → more ≡ queue ++ e ∷ [] → wider ≡ flags ++ true ∷ [] → IsWhole more wider (count + 1)
-whole_more queue more flags wider count e h seq is wide =
+pub whole_more : (queue more : List Entry) (flags wider : List Bool) (count first : ℕ) (e : Entry) → IsWhole queue flags count first → e.seq ≡ length queue → more ≡ queue ++ e ∷ [] → wider ≡ flags ++ true ∷ [] → IsWhole more wider (count + 1) first
+whole_more queue more flags wider count first e h seq is wide =
     let same = h.0 in
     let left : length more ≡ length queue + 1 = ap length is ∙ length-append queue (e ∷ []) in
     let right : length wider ≡ length flags + 1 = ap length wide ∙ length-append flags (true ∷ []) in
     let all = ap length (flagged_more queue more flags wider e h.0 is wide) ∙ length-append (flagged queue flags) (e ∷ []) in
     let one = h.2 in
-    (omega (arith, left, right, same), subst (AreNumbered 0) (sym is) (AreNumbered-push 0 queue e h.1 (seq ∙ sym (zero-add (length queue)))), omega (arith, all, one))
+    (omega (arith, left, right, same), subst (AreNumbered 0) (sym is) (AreNumbered-push 0 queue e h.1 (seq ∙ sym (zero-add (length queue)))), omega (arith, all, one), h.3 ∙ sym (first_flagged-push flags) ∙ ap first_flagged (sym wide))
 
 -- ---- the entries of one pick more
 

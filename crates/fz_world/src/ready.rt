@@ -4,6 +4,7 @@ ghost use Rattle.std.specs.Prelude.{◌≡◌, ◌≤◌, ◌<◌, ◌+◌, ◌+
 ghost use Rattle.std.specs.List.{list_any};
 ghost use Rattle.fz_model.specs.Events.{same_entry};
 ghost use Rattle.fz_model.specs.Pass.{entries_of};
+ghost use Rattle.fz_world.specs.Ready.{first_flagged};
 
 use fz_model::{Entry, Pick};
 use std::alloc::{AllocError, Global};
@@ -15,11 +16,14 @@ pub(crate) struct Ready {
     queue: Vec<Entry>,
     is_held: Vec<bool>,
     outstanding: u64,
+    /// The place of the first entry that isn't finished, or the queue's length. It only grows, so all its moves together cost no more than
+    /// the queue is long.
+    first_held: usize,
 }
 
 impl Model for Ready {
     ghost use Rattle.std.specs.Prelude.{◌≡◌, ◌-◌, min, length, vec_len, vec_capacity};
-    ghost use Rattle.fz_world.specs.Ready.{Ready, ready_code, flagged, AreNumbered};
+    ghost use Rattle.fz_world.specs.Ready.{Ready, ready_code, flagged, first_flagged, AreNumbered};
 
     ghost Value = { Ready };
 
@@ -31,7 +35,7 @@ impl Model for Ready {
       room = min (vec_capacity r.queue - vec_len r.queue) (vec_capacity r.is_held - vec_len r.is_held);
     } };
 
-    ghost invariant = { λ r. (length r.is_held.items ≡ length r.queue.items) × AreNumbered 0 r.queue.items × (r.outstanding ≡ length (flagged r.queue.items r.is_held.items)) };
+    ghost invariant = { λ r. (length r.is_held.items ≡ length r.queue.items) × AreNumbered 0 r.queue.items × (r.outstanding ≡ length (flagged r.queue.items r.is_held.items)) × (r.first_held ≡ first_flagged r.is_held.items) };
 }
 
 fn is_same(one: &Entry, other: &Entry) -> bool
@@ -46,6 +50,19 @@ fn is_same(one: &Entry, other: &Entry) -> bool
         && one.cd == other.cd
 }
 
+/// The place of the first flag that is up, or the number of flags. None before `start` is up.
+fn next_held(is_held: &[bool], start: usize) -> usize
+    requires { start ≤ first_flagged is_held.now }
+    ensures { result ≡ first_flagged is_held.now }
+{
+    for place in start..is_held.len() {
+        if is_held[place] {
+            return place;
+        }
+    }
+    is_held.len()
+}
+
 impl Ready {
     pub(crate) fn new(alloc: Global) -> Ready
         ensures { (result.queue ≡ []) × (result.held ≡ []) }
@@ -54,6 +71,7 @@ impl Ready {
             queue: Vec::new(alloc),
             is_held: Vec::new(alloc),
             outstanding: 0,
+            first_held: 0,
         }
     }
 
@@ -76,7 +94,7 @@ impl Ready {
         ensures { IfOk result (λ held. held.items ≡ self.now.held) }
     {
         let mut held = Vec::new(alloc);
-        for place in 0..self.queue.len() {
+        for place in self.first_held..self.queue.len() {
             if self.is_held[place] {
                 held.push(self.queue[place])?;
             }
@@ -148,6 +166,7 @@ impl Ready {
             Some(place) => {
                 self.is_held[place] = false;
                 self.outstanding -= 1;
+                self.first_held = next_held(self.is_held.as_slice(), self.first_held);
                 true
             }
             None => false,
