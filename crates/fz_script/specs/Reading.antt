@@ -3,7 +3,7 @@
 use Rattle.std.specs.Prelude.{ℕ, List, [], ◌∷◌, codes, Option, Some, None, if◌then◌else◌, ◌==◌, ◌&&◌, nat_lt, ◌^◌, decimal}
 use Rattle.std.specs.Str.{bytes_eq}
 use Rattle.std.specs.Str.Parse.{digits_value}
-use Rattle.std.specs.List.{slice_split}
+use Rattle.std.specs.List.{slice_split, find}
 use Rattle.fz_script.specs.declared.words.Words.{Words}
 use Rattle.fz_script.specs.Spelling.{obj_kind, reg_kind, link_kind}
 use Rattle.fz_model.specs.declared.kinds.ObjKind.{ObjKind}
@@ -64,8 +64,7 @@ number word = let n = digits_value 10 word in if nat_lt n (2 ^ 64) && bytes_eq w
 
 -- the first of these that is written so
 abbrev pub find_text : {A : Type 0} → (A → List ℕ) → List A → List ℕ → Option A
-find_text text [] word = None
-find_text text (x ∷ xs) word = if bytes_eq (text x) word then Some x else find_text text xs word
+find_text text xs word = find (λ x. bytes_eq (text x) word) xs
 
 abbrev pub name_at : {A : Type 0} → (A → List ℕ) → List A → List (List ℕ) → Option (A × List (List ℕ))
 name_at text xs [] = None

@@ -38,18 +38,6 @@ impl Model for Ready {
     ghost invariant = { λ r. (length r.is_held.items ≡ length r.queue.items) × AreNumbered 0 r.queue.items × (r.outstanding ≡ length (flagged r.queue.items r.is_held.items)) × (r.first_held ≡ first_flagged r.is_held.items) };
 }
 
-fn is_same(one: &Entry, other: &Entry) -> bool
-    ensures { result ≡ same_entry one.now other.now }
-{
-    one.seq == other.seq
-        && one.pass == other.pass
-        && one.reg == other.reg
-        && one.obj == other.obj
-        && one.birth == other.birth
-        && one.proc == other.proc
-        && one.cd == other.cd
-}
-
 /// The place of the first flag that is up, or the number of flags. None before `start` is up.
 fn next_held(is_held: &[bool], start: usize) -> usize
     requires { start ≤ first_flagged is_held.now }
@@ -149,7 +137,7 @@ impl Ready {
         ensures { MatchOption result (list_any (same_entry entry.now) self.now.held ≡ false) (λ place. (place ≡ entry.now.seq) × (list_any (same_entry entry.now) self.now.held ≡ true)) }
     {
         let place = entry.seq as usize;
-        if place < self.queue.len() && self.is_held[place] && is_same(entry, &self.queue[place]) {
+        if place < self.queue.len() && self.is_held[place] && *entry == self.queue[place] {
             Some(place)
         } else {
             None
