@@ -1,14 +1,12 @@
 -- The claimed cells of a list of blocks, as a map and as objects.
-use Rattle.std.proofs.Common.{T, is_lt, ◌≡◌, ℕ, suc, ◌+◌, ◌-◌, ◌*◌, ◌/◌, ◌%◌, ◌<◌, ◌≤◌, Bool, true, false, cond, ◌&&◌, ◌==◌, List, [], ◌∷◌, map, length, Option, Some, None, option_map, option_and_then, slice_get, nat_lt, nat_cmp, refl, sym, ap, ◌∙◌, subst, ⊎_elim, arith, mul-le-mul_right, suc-mul, div-mul-le_self}
+use Rattle.std.proofs.Common.{◌≡◌, ℕ, suc, ◌+◌, ◌-◌, ◌*◌, ◌/◌, ◌%◌, ◌<◌, ◌≤◌, Bool, true, false, cond, ◌&&◌, ◌==◌, List, length, Option, Some, None, option_map, option_and_then, slice_get, nat_lt, refl, sym, ap, ◌∙◌, ⊎_elim, arith, mul-le-mul_right, suc-mul, div-mul-le_self}
 use Rattle.std.proofs.Math.Nat.{mul-mod_left, mul-div_cancel, div-add-mod, mul_comm}
 use Rattle.std.proofs.lemmas.Bool.{cond-true, cond-false, cases_lt, lt-ltb, le-ltb, ltb-false, and_parts, eq-eqb, eqb-true}
 use Rattle.std.proofs.lemmas.Option.{same_Some, none-some, slice_get_past, cond_some}
-use Rattle.std.specs.Ordering.{eq_by_cmp}
-use Rattle.std.specs.FinMap as finmap
-use Rattle.std.specs.FinMap.{get, entries, entries_sorted, is_sorted, get-entries, get-from_sorted}
-use Rattle.std.specs.FinMap.Entries.{below_all}
-use Rattle.fz_model.specs.State.{Map, Object}
+use Rattle.std.specs.FinMap.{get}
+use Rattle.fz_model.specs.State.{Object}
 use Rattle.fz_model.specs.Allocation.{block_start}
+use Rattle.fz_model.proofs.Maps.{get-mapped}
 use Rattle.fz_blocks.specs.declared.block.Block.{Block}
 use Rattle.fz_blocks.specs.Blocks.{holds, IsBlock}
 use Rattle.fz_blocks.specs.Cells.{Cell, blank, blank_object}
@@ -92,31 +90,8 @@ place_of_cell blocks sound a cell e = low (nat_lt a 65536) refl e
 
 -- ---- the cells as objects
 
-module _ {X Y : Type 0} (f : X → Y) where
-  abbrev valued : List (ℕ × X) → List (ℕ × Y)
-  valued es = map (λ (e : ℕ × X). (e.0, f e.1)) es
-
-  find-valued : (q : ℕ) (es : List (ℕ × X)) → finmap.find nat_cmp q (valued es) ≡ option_map f (finmap.find nat_cmp q es)
-  find-valued q [] = refl
-  find-valued q (e ∷ es) =
-      elim (eq_by_cmp nat_cmp q e.0) as (λ b. cond b (Some (f e.1)) (finmap.find nat_cmp q (valued es)) ≡ option_map f (cond b (Some e.1) (finmap.find nat_cmp q es))) [ true ↦ refl | false ↦ find-valued q es ]
-
-  below_all-valued : (k : ℕ) (es : List (ℕ × X)) → below_all nat_cmp k (valued es) ≡ below_all nat_cmp k es
-  below_all-valued k [] = refl
-  below_all-valued k (e ∷ es) = ap (λ b. is_lt (nat_cmp k e.0) && b) (below_all-valued k es)
-
-  is_sorted-valued : (es : List (ℕ × X)) → is_sorted nat_cmp (valued es) ≡ is_sorted nat_cmp es
-  is_sorted-valued [] = refl
-  is_sorted-valued (e ∷ es) = ap (λ b. b && is_sorted nat_cmp (valued es)) (below_all-valued e.0 es) ∙ ap (λ b. below_all nat_cmp e.0 es && b) (is_sorted-valued es)
-
-  pub sorted_valued : (m : Map X) → T (is_sorted nat_cmp (valued (entries m)))
-  sorted_valued m = subst T (sym (is_sorted-valued (entries m))) (entries_sorted m)
-
-  pub get-valued : (m : Map X) (q : ℕ) → get (finmap.from_sorted {R = nat_cmp} (valued (entries m))) q ≡ option_map f (get m q)
-  get-valued m q = get-from_sorted nat_cmp (valued (entries m)) q (sorted_valued m) ∙ find-valued q (entries m) ∙ ap (option_map f) (sym (get-entries m q))
-
 pub get-blank : (blocks : List Block) (a : ℕ) → get (blank (claimed_in blocks)) a ≡ option_map blank_object (cell_at blocks a)
-get-blank blocks a = get-valued blank_object (claimed_in blocks) a ∙ ap (option_map blank_object) (get-claimed_in blocks a)
+get-blank blocks a = get-mapped (λ a. blank_object) (claimed_in blocks) a ∙ ap (option_map blank_object) (get-claimed_in blocks a)
 
 -- an object is a claimed cell
 pub record IsObjectAt (blocks : List Block) (a : ℕ) (o : Object) : Type 0 where

@@ -149,6 +149,9 @@ module _ (blocks : List Block) (bare : Blocks) (rooms : List Blocks) (tied : Are
       pub bare_in_list : b < length blocks
       bare_in_list = slice_get_within blocks b bared.0 bared.1
 
+      pub bare_low : b < 4096
+      bare_low = omega (arith, bare_in_list, tied.few)
+
       module _ (ready : Block) (sound : IsBlock ready) (is_ready : ready.claimed ≡ 0) (size_is : ready.size ≡ size) (kind_is : ready.kind ≡ kind) where
         here_ready : slice_get (set blocks b ready) b ≡ Some ready
         here_ready = slice_get-set blocks b ready bare_in_list b ∙ cond-true (nat_eq b b) _ _ (eq-eqb b b refl)

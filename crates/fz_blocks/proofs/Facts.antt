@@ -12,8 +12,9 @@ use Rattle.fz_model.specs.Allocation.{block_of}
 use Rattle.fz_blocks.specs.Cells.{Cell, blank, blank_object, IsCell, AreLaidOut}
 use Rattle.fz_blocks.specs.Layout.{cell_in, cell_at, claimed_in}
 use Rattle.fz_blocks.proofs.Bits.{holds_within}
+use Rattle.fz_model.proofs.Objects.{to_covers}
 use Rattle.fz_blocks.proofs.Claimed.{get-claimed_in, get-blank, place_of_cell, cell_fits, IsAt}
-use Rattle.fz_blocks.proofs.Words.{points_at, to_covers}
+use Rattle.fz_blocks.proofs.Words.{points_at}
 
 module _ (blocks : List Block) where
   pub none_low : (a : ℕ) → a < 65536 → get (claimed_in blocks) a ≡ None

@@ -1,7 +1,6 @@
 pub mod Sets
 pub mod Tabulating
 pub mod Bits
-pub mod Finding
 pub mod Ranges
 pub mod Claimed
 pub mod Places

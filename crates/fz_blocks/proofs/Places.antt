@@ -1,8 +1,9 @@
 -- Where a new cell goes, by the sets of blocks.
-use Rattle.std.proofs.Common.{◌≡◌, ℕ, suc, zero, ◌+◌, ◌*◌, ◌/◌, ◌<◌, ◌≤◌, Bool, true, false, cond, not, ◌&&◌, ◌==◌, List, [], ◌∷◌, map, filter, flat_map, length, Some, None, option_map, slice_get, refl, sym, ap, ◌∙◌, subst, ⊎_elim, arith, is_none}
-use Rattle.std.proofs.lemmas.Bool.{cases_Bool, and_parts, and_from, or_left, or_right, or_cases, eq-eqb, eqb-true, both_ways, true≢false, not-true, not_from_true, not_from_false}
-use Rattle.std.proofs.lemmas.Option.{same_Some, none-some, slice_get_within}
+use Rattle.std.proofs.Common.{◌≡◌, ℕ, suc, zero, ◌+◌, ◌*◌, ◌/◌, ◌<◌, ◌≤◌, Bool, true, false, cond, not, ◌&&◌, ◌==◌, List, [], ◌∷◌, filter, flat_map, length, Some, None, option_map, slice_get, refl, sym, ap, ◌∙◌, subst, ⊎_elim, arith, is_none}
+use Rattle.std.proofs.lemmas.Bool.{cases_Bool, and_parts, and_from, eq-eqb, eqb-true, both_ways, true≢false, not-true, not_from_true, not_from_false}
+use Rattle.std.proofs.lemmas.Option.{same_Some, slice_get_within}
 use Rattle.std.proofs.lemmas.List.{length-replicate}
+use Rattle.std.proofs.lemmas.Map.Keys.{any_passes_from_place}
 use Rattle.std.specs.List.{find, list_any, range_with_len}
 use Rattle.std.specs.Option.{option_or}
 use Rattle.std.specs.FinMap.{get, entries, keys}
@@ -11,12 +12,14 @@ use Rattle.fz_model.specs.declared.kinds.ObjKind.TheVariants.{Scanned, Atomic}
 use Rattle.fz_model.specs.State.{Map, Object}
 use Rattle.fz_model.specs.Allocation as allocation
 use Rattle.fz_model.specs.Allocation.{block_start, block_of, cells, has_class, same_kind, is_free, place_for}
+use Rattle.fz_model.proofs.Lists.{any_at}
+use Rattle.fz_model.proofs.MapEntries.{get_at, place_of_key, key_in, at_key}
+use Rattle.fz_model.proofs.Objects.{kind_itself, kinds_same}
 use Rattle.fz_blocks.specs.declared.block.Block.{Block}
 use Rattle.fz_blocks.specs.Blocks.{holds, is_bare, is_full, IsBlock}
 use Rattle.fz_blocks.specs.Cells.{blank, blank_object}
 use Rattle.fz_blocks.specs.Layout.{claimed_in, class_of, has_room}
 use Rattle.fz_blocks.proofs.Bits.{bare_holds, full_holds, holds_within, some_holds}
-use Rattle.fz_blocks.proofs.Finding.{get_at, place_of_key}
 use Rattle.fz_blocks.proofs.Ranges.{find_first, find_nowhere, find_mapped, search_first, search_nowhere}
 use Rattle.fz_blocks.proofs.Claimed.{object_at, object_here, get-blank, cell_at_index, cell_fits}
 
@@ -25,43 +28,13 @@ same_test true y f g = sym (f refl)
 same_test false true f g = absurd (true≢false (sym (g refl)))
 same_test false false f g = refl
 
-any_from : {X : Type 0} (p : X → Bool) (xs : List X) (i : ℕ) (x : X) → slice_get xs i ≡ Some x → p x ≡ true → list_any p xs ≡ true
-any_from p [] i x here on = absurd (none-some x here)
-any_from p (y ∷ xs) zero x here on = or_left (p y) _ (subst (λ z. p z ≡ true) (sym (same_Some y x here)) on)
-any_from p (y ∷ xs) (suc i) x here on = or_right (p y) _ (any_from p xs i x here on)
-
-any_at : {X : Type 0} (p : X → Bool) (xs : List X) → list_any p xs ≡ true → (i : ℕ) × (x : X) × (slice_get xs i ≡ Some x) × (p x ≡ true)
-any_at p [] e = absurd (both_ways _ refl e)
-any_at p (x ∷ xs) e =
-    ⊎_elim (λ on. (0, x, refl, on)) (λ later. let r = any_at p xs later in (suc r.0, r.1, r.2, r.3)) (or_cases (p x) (list_any p xs) e)
-
-keys_at : (es : List (ℕ × Object)) (i a : ℕ) → slice_get (map (λ (e : ℕ × Object). e.0) es) i ≡ Some a → (o : Object) × (slice_get es i ≡ Some (a, o))
-keys_at [] i a here = absurd (none-some a here)
-keys_at (e ∷ es) zero a here = (e.1, ap (λ k. Some (k, e.1)) (same_Some e.0 a here))
-keys_at (e ∷ es) (suc i) a here = keys_at es i a here
-
-key_there : (es : List (ℕ × Object)) (i a : ℕ) (o : Object) → slice_get es i ≡ Some (a, o) → slice_get (map (λ (e : ℕ × Object). e.0) es) i ≡ Some a
-key_there [] i a o e = absurd (none-some (a, o) e)
-key_there (e ∷ es) zero a o is = ap (option_map (λ (e : ℕ × Object). e.0)) is
-key_there (e ∷ es) (suc i) a o is = key_there es i a o is
-
 pub item_at : {X : Type 0} (xs : List X) (i : ℕ) → i < length xs → (x : X) × (slice_get xs i ≡ Some x)
 item_at [] i lt = absurd (omega (arith, lt))
 item_at (x ∷ xs) zero lt = (x, refl)
 item_at (x ∷ xs) (suc i) lt = item_at xs i (omega (arith, lt))
 
-own_block : (b i size a : ℕ) → 1 ≤ size → i < 64 / size → a ≡ block_start b + i * size → block_of a ≡ b
+pub own_block : (b i size a : ℕ) → 1 ≤ size → i < 64 / size → a ≡ block_start b + i * size → block_of a ≡ b
 own_block b i size a sized lt at = let fits = cell_fits size i lt in omega (arith, fits, at, sized)
-
-kind_itself : (k : ObjKind) → same_kind k k ≡ true
-kind_itself Scanned = refl
-kind_itself Atomic = refl
-
-kinds_same : (k l : ObjKind) → same_kind k l ≡ true → k ≡ l
-kinds_same Scanned Scanned e = refl
-kinds_same Scanned Atomic e = absurd (both_ways _ refl e)
-kinds_same Atomic Scanned e = absurd (both_ways _ refl e)
-kinds_same Atomic Atomic e = refl
 
 -- a class is one size and kind
 pub one_class : (s t : ℕ) (k l : ObjKind) → 1 ≤ s → s ≤ 64 → 1 ≤ t → t ≤ 64 → class_of s k ≡ class_of t l → (s ≡ t) × (k ≡ l)
@@ -128,7 +101,7 @@ module _ (blocks : List Block) (sound : (b : ℕ) (block : Block) → slice_get 
           let parts = and_parts (not (is_bare block)) (block.size == size && same_kind block.kind kind) on in
           let one = object_of b block here (not-true _ parts.0) in
           let at = place_of_key objects one.0 (blank_object (record { size = block.size; kind = block.kind })) one.1 in
-          any_from test (entries objects) at.0 (one.0, blank_object (record { size = block.size; kind = block.kind })) at.1
+          any_passes_from_place test (entries objects) at.0 (one.0, blank_object (record { size = block.size; kind = block.kind })) at.1
           (and_from (block_of one.0 == b) _ (eq-eqb _ _ one.2) (subst (λ n. (n == size && same_kind block.kind kind) ≡ true) (sym (length-replicate block.size 0)) parts.1))
 
   pub is_bare-block : (b : ℕ) (block : Block) → slice_get blocks b ≡ Some block → allocation.is_bare objects b ≡ is_bare block
@@ -142,14 +115,14 @@ module _ (blocks : List Block) (sound : (b : ℕ) (block : Block) → slice_get 
           not_from_false _ (⊎_elim
           (λ on.
           let one = any_at test (keys objects) on in
-          let entry = keys_at (entries objects) one.0 one.1 one.2 in
-          absurd (both_ways _ (in_block b one.1 block entry.0 here (get_at objects one.0 (one.1, entry.0) entry.1) (eqb-true _ _ one.3)).0 bare))
+          let object = at_key objects one.0 one.1 one.2 in
+          absurd (both_ways _ (in_block b one.1 block object.0 here object.1 (eqb-true _ _ one.3)).0 bare))
           (λ off. off)
           (cases_Bool (list_any test (keys objects))))
       at false some =
           let one = object_of b block here some in
-          let entry = place_of_key objects one.0 (blank_object (record { size = block.size; kind = block.kind })) one.1 in
-          not_from_true _ (any_from test (keys objects) entry.0 one.0 (key_there (entries objects) entry.0 one.0 _ entry.1) (eq-eqb _ _ one.2))
+          let key = key_in objects one.0 _ one.1 in
+          not_from_true _ (any_passes_from_place test (keys objects) key.0 one.0 key.1 (eq-eqb _ _ one.2))
 
   -- ---- the search for a place
 

@@ -1,8 +1,8 @@
 -- A release: where its cell is, and what it leaves.
-use Rattle.std.proofs.Common.{◌≡◌, ◌≢◌, ℕ, ◌+◌, ◌-◌, ◌*◌, ◌/◌, ◌%◌, ◌<◌, ◌≤◌, Bool, true, false, cond, not, ◌&&◌, ◌==◌, List, length, Option, Some, None, is_some, slice_get, slice_index_or, set, nat_eq, refl, sym, ap, ◌∙◌, subst, ⊎_elim, arith, length-set}
+use Rattle.std.proofs.Common.{◌≡◌, ◌≢◌, ℕ, ◌+◌, ◌-◌, ◌*◌, ◌/◌, ◌%◌, ◌<◌, ◌≤◌, Bool, true, false, cond, not, ◌&&◌, ◌==◌, List, length, Option, Some, None, is_some, slice_get, get_or, slice_index_or, set, nat_eq, refl, sym, ap, ◌∙◌, subst, ⊎_elim, arith, length-set}
 use Rattle.std.proofs.Math.Nat.{mul-div_cancel}
 use Rattle.std.proofs.lemmas.Bool.{cases_Bool, and_left, eq-eqb, eqb-true, both_ways, not_from_true}
-use Rattle.std.proofs.lemmas.Option.{same_Some, slice_get_within}
+use Rattle.std.proofs.lemmas.Option.{same_Some, slice_get_within, slice_get_read}
 use Rattle.std.specs.Option.{option_map_or}
 use Rattle.std.specs.FinMap as maps
 use Rattle.std.specs.FinMap.{contains_key}
@@ -59,6 +59,12 @@ module _ (blocks : List Block) (sound : (b : ℕ) (block : Block) → slice_get 
 
   pub start_in_list : (start - 65536) / 64 < length blocks
   start_in_list = subst (λ n. n < length blocks) (sym block_is) (slice_get_within blocks at_start.block at_start.inside at_start.here)
+
+  -- the block that the code reads there
+  pub block_read : (old : Block) → old ≡ get_or blocks ((start - 65536) / 64) old → (slice_get blocks ((start - 65536) / 64) ≡ Some old) × IsBlock old
+  block_read old value =
+      let here = slice_get_read blocks (length blocks) ((start - 65536) / 64) old refl start_in_list value in
+      (here, sound ((start - 65536) / 64) old here)
 
   pub found : (old : Block) → slice_get blocks ((start - 65536) / 64) ≡ Some old → IsFound blocks start ((start - 65536) / 64) old
   found old here = subst (IsFound blocks start ((start - 65536) / 64)) same (record {

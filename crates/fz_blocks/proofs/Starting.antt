@@ -23,7 +23,7 @@ use Rattle.fz_blocks.specs.Cells.{Cell}
 use Rattle.fz_blocks.specs.Layout.{cell_in, cell_at, claimed_in}
 use Rattle.fz_blocks.specs.Starts.{starts_at, IsFirstStart, starts_from}
 use Rattle.fz_blocks.proofs.Bits.{holds_within, claimed_fits}
-use Rattle.fz_blocks.proofs.Finding.{get_at}
+use Rattle.fz_model.proofs.MapEntries.{get_at}
 use Rattle.fz_blocks.proofs.Tabulating.{get-tabulated}
 use Rattle.fz_blocks.proofs.Claimed.{cell_fits}
 

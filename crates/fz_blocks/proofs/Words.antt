@@ -1,20 +1,19 @@
 -- Which claimed cell a word lies in.
-use Rattle.std.proofs.Common.{◌≡◌, ℕ, suc, ◌+◌, ◌-◌, ◌*◌, ◌/◌, ◌%◌, ◌<◌, ◌≤◌, Bool, true, false, cond, List, length, is_some, Option, Some, None, option_map, slice_get, get_or, nat_lt, nat_le, refl, sym, ap, ◌∙◌, subst, ⊎_elim, arith, mul-le-mul_right, suc-mul, replicate}
+use Rattle.std.proofs.Common.{◌≡◌, ℕ, suc, ◌+◌, ◌-◌, ◌*◌, ◌/◌, ◌%◌, ◌<◌, ◌≤◌, Bool, true, false, cond, List, length, is_some, Option, Some, None, slice_get, get_or, nat_lt, refl, sym, ap, ◌∙◌, subst, ⊎_elim, arith, mul-le-mul_right, suc-mul, replicate}
 use Rattle.std.proofs.Math.Nat.{div-add-mod, mul_comm}
-use Rattle.std.proofs.lemmas.Bool.{cases_lt, and_parts, and_from, leb-true, ltb-true, le-leb, lt-ltb, ltb-false, both_ways}
+use Rattle.std.proofs.lemmas.Bool.{cases_lt, ltb-true, ltb-false, both_ways}
 use Rattle.std.proofs.lemmas.Option.{same_Some, none-some, cond_some, slice_get_read, slice_get_past, slice_get_within}
 use Rattle.std.proofs.lemmas.List.{length-replicate}
-use Rattle.std.specs.List.{find}
-use Rattle.std.specs.FinMap.{get, entries, contains_key}
+use Rattle.std.specs.FinMap.{get, contains_key}
 use Rattle.fz_model.specs.State.{Map, Object}
 use Rattle.fz_model.specs.Memory.{covers, points}
 use Rattle.fz_model.specs.Allocation.{block_start}
+use Rattle.fz_model.proofs.Objects.{from_covers, to_covers, points_target, points_only}
 use Rattle.fz_blocks.specs.declared.block.Block.{Block}
 use Rattle.fz_blocks.specs.Blocks.{holds, IsBlock}
 use Rattle.fz_blocks.specs.Cells.{blank, blank_object}
 use Rattle.fz_blocks.specs.Layout.{claimed_in}
 use Rattle.fz_blocks.proofs.Bits.{holds_within}
-use Rattle.fz_blocks.proofs.Finding.{get_at, place_of_key, find_place, found_some}
 use Rattle.fz_blocks.proofs.Claimed.{object_at, object_here, cell_fits, get-claimed_in}
 
 quotient_is : (p size i r : ℕ) → 1 ≤ size → p ≡ i * size + r → r < size → p / size ≡ i
@@ -28,12 +27,6 @@ quotient_is p size i r sized at rest =
     (λ (le : p / size ≤ i). omega (arith, ge, le))
     (cases_lt i (p / size)))
     (cases_lt (p / size) i)
-
-pub from_covers : (a w : ℕ) (o : Object) → covers (a, o) w ≡ true → (a ≤ w) × (w < a + length o.words)
-from_covers a w o e = let parts = and_parts (nat_le a w) (nat_lt w (a + length o.words)) e in (leb-true a w parts.0, ltb-true w (a + length o.words) parts.1)
-
-pub to_covers : (a w : ℕ) (o : Object) → a ≤ w → w < a + length o.words → covers (a, o) w ≡ true
-to_covers a w o low high = and_from (nat_le a w) (nat_lt w (a + length o.words)) (le-leb a w low) (lt-ltb w (a + length o.words) high)
 
 module _ (blocks : List Block) (sound : (b : ℕ) (block : Block) → slice_get blocks b ≡ Some block → IsBlock block) where
   abbrev objects : Map Object
@@ -72,19 +65,14 @@ module _ (blocks : List Block) (sound : (b : ℕ) (block : Block) → slice_get 
       }
 
   pub points_nowhere : (w : ℕ) → ((a : ℕ) → IsCovered w a → ⊥) → points objects w ≡ None
-  points_nowhere w none = at (find (λ e. covers e w) (entries objects)) refl
+  points_nowhere w none = at (points objects w) refl
     where
-      at : (f : Option (ℕ × Object)) → find (λ e. covers e w) (entries objects) ≡ f → option_map (λ (e : ℕ × Object). e.0) f ≡ None
+      at : (p : Option ℕ) → points objects w ≡ p → p ≡ None
       at None is = refl
-      at (Some e) is = let place = find_place (λ e. covers e w) (entries objects) e is in absurd (none e.0 (covered e.0 w e.1 (get_at objects place.0 e place.1) place.2))
+      at (Some a) is = let target = points_target objects w a is in absurd (none a (covered a w target.0 target.1 target.2))
 
   pub points_at : (a w : ℕ) (o : Object) → get objects a ≡ Some o → covers (a, o) w ≡ true → points objects w ≡ Some a
-  points_at a w o here has =
-      let at = place_of_key objects a o here in
-      let found = found_some (λ e. covers e w) (entries objects) at.0 (a, o) at.1 has in
-      let place = find_place (λ e. covers e w) (entries objects) found.0 found.1 in
-      ap (option_map (λ (e : ℕ × Object). e.0)) found.1
-      ∙ ap Some (same_cell (covered found.0.0 w found.0.1 (get_at objects place.0 found.0 place.1) place.2) (covered a w o here has))
+  points_at a w o here has = points_only objects w a o here has (λ b p there also. same_cell (covered b w p there also) (covered a w o here has))
     where
       same_cell : {b : ℕ} → IsCovered w b → IsCovered w a → b ≡ a
       same_cell one two =
@@ -150,13 +138,7 @@ module _ (blocks : List Block) (sound : (b : ℕ) (block : Block) → slice_get 
       (omega (arith, start), omega (arith, start, fits, sized, in_list), ap is_some (get-claimed_in blocks a ∙ found.found))
 
   pub target_within : (w a : ℕ) → Some a ≡ points objects w → (65536 ≤ a) × (a < 65536 + 64 * length blocks) × (contains_key (claimed_in blocks) a ≡ true)
-  target_within w a pointed = at (find (λ e. covers e w) (entries objects)) refl (sym pointed)
-    where
-      at : (f : Option (ℕ × Object)) → find (λ e. covers e w) (entries objects) ≡ f → option_map (λ (e : ℕ × Object). e.0) f ≡ Some a → (65536 ≤ a) × (a < 65536 + 64 * length blocks) × (contains_key (claimed_in blocks) a ≡ true)
-      at None is e = absurd (none-some a e)
-      at (Some f) is e =
-          let place = find_place (λ e. covers e w) (entries objects) f is in
-          subst (λ a. (65536 ≤ a) × (a < 65536 + 64 * length blocks) × (contains_key (claimed_in blocks) a ≡ true)) (same_Some f.0 a e) (object_within f.0 f.1 (get_at objects place.0 f place.1))
+  target_within w a pointed = let target = points_target objects w a (sym pointed) in object_within a target.0 target.1
 
 pub read_block : (xs ys : List Block) (i : ℕ) (x : Block) → ys ≡ xs → true ≡ nat_lt i (length ys) → x ≡ get_or ys i x → slice_get xs i ≡ Some x
 read_block xs ys i x same lt is = ap (λ zs. slice_get zs i) (sym same) ∙ slice_get_read ys (length ys) i x refl (ltb-true i (length ys) (sym lt)) is

@@ -1,11 +1,12 @@
 -- What contracts see of a block map: its number of blocks, and the claimed cells by their starts.
-use Rattle.std.specs.Prelude.{◌≡◌, ℕ, ◌+◌, ◌*◌, ◌<◌, ◌≤◌, Some, not, nat_le, ◌&&◌, is_none, map, replicate, refl, [], ◌∷◌}
+use Rattle.std.specs.Prelude.{◌≡◌, ℕ, ◌+◌, ◌*◌, ◌<◌, ◌≤◌, Some, not, nat_le, ◌&&◌, is_none, replicate, refl, [], ◌∷◌}
 use Rattle.std.specs.Coded.{Coded, code_by, coded×, coded_ℕ}
 use Rattle.std.specs.FinMap as map
-use Rattle.std.specs.FinMap.{get, entries, from_sorted}
+use Rattle.std.specs.FinMap.{get}
 use Rattle.fz_model.specs.declared.kinds.ObjKind.{ObjKind}
 use Rattle.fz_model.specs.declared.refusal.Refusal.TheVariants.{BadSize, NoSpace}
 use Rattle.fz_model.specs.State.{Map, Object}
+use Rattle.fz_model.specs.Memory.{mapped}
 use Rattle.fz_model.specs.Allocation.{place_for, block_start, block_of}
 use Rattle.fz_model.specs.Causes.{Causes}
 use Rattle.fz_model.specs.Codes.{kind_code}
@@ -30,7 +31,7 @@ abbrev pub blank_object : Cell → Object
 blank_object cell = record { kind = cell.kind; birth = 0; words = replicate cell.size 0 }
 
 abbrev pub blank : Map Cell → Map Object
-blank claimed = from_sorted (map (λ e. (e.0, blank_object e.1)) (entries claimed))
+blank claimed = mapped (λ start cell. blank_object cell) claimed
 
 -- a new cell: why it is refused
 abbrev pub claim_causes : Cells → ℕ → ObjKind → Causes

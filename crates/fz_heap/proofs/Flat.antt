@@ -11,14 +11,15 @@ use Rattle.fz_model.specs.Allocation.{place_for}
 use Rattle.fz_model.specs.Causes.{first_cause, place_causes, alloc_causes, count_limit, bad_count}
 use Rattle.fz_model.specs.declared.kinds.ObjKind.{ObjKind}
 use Rattle.fz_model.specs.declared.refusal.Refusal.TheVariants.{BadSize, Exhausted, NoSpace, BadCount}
-use Rattle.fz_model.proofs.Maps.{get-insert_same, get-insert_other}
+use Rattle.fz_model.proofs.Maps.{get-insert_same, get-insert_other, get-mapped, mapped_here, mapped_back}
+use Rattle.fz_model.proofs.Objects.{from_covers, to_covers, points_target, points_same}
 use Rattle.fz_blocks.specs.Cells.{Cell, Cells, blank, blank_object, claim_causes}
 use Rattle.fz_heap.specs.Contents.{Contents}
 use Rattle.fz_heap.specs.Flat.{words_from, object_at, objects_of, IsPlace, IsZeroedAt}
 use Rattle.fz_heap.specs.Layout.{IsLaidOut}
-use Rattle.fz_heap.proofs.Laying.{apart, itself, points_at, within_heap, from_covers, to_covers, points_target}
+use Rattle.fz_heap.proofs.Laying.{apart, itself, points_at, within_heap}
 use Rattle.fz_heap.proofs.Placing.{laid_new}
-use Rattle.fz_heap.proofs.Remade.{has_key, get-remade, remade_here, remade_back, remade-insert, mapped-remade, points_same, place_for_same, place_causes_same}
+use Rattle.fz_heap.proofs.Mapped.{has_key, mapped-insert, mapped-mapped, place_for_same, place_causes_same}
 
 -- ---- words
 
@@ -70,7 +71,7 @@ module _ (claimed : Map Cell) (words births : List ℕ) where
   sizes a cell = length-words_from words (a - 65536) cell.size ∙ sym (zeros_len cell.size)
 
   pub points_flat : (w : ℕ) → points (objects_of claimed words births) w ≡ points (blank claimed) w
-  points_flat = points_same (object_at words births) (λ a. blank_object) sizes (λ a cell. refl) claimed
+  points_flat = points_same (object_at words births) (λ a. blank_object) sizes claimed
 
   pub place_flat : (blocks size : ℕ) (kind : ObjKind) → place_for (objects_of claimed words births) blocks size kind ≡ place_for (blank claimed) blocks size kind
   place_flat = place_for_same (object_at words births) (λ a. blank_object) sizes (λ a cell. refl) claimed
@@ -85,7 +86,7 @@ module _ (claimed : Map Cell) (words births : List ℕ) where
 
 -- ---- a cell
 
-abbrev size_and_kind : Cell → ℕ × ObjKind
+abbrev pub size_and_kind : Cell → ℕ × ObjKind
 size_and_kind c = (c.size, c.kind)
 
 pub no_cell : (o : Option Cell) → None ≡ option_map size_and_kind o → o ≡ None
@@ -99,7 +100,7 @@ cell_with (Some cell) size kind e = let is = same_Some (cell.size, cell.kind) (s
 pub spans : (claimed : Map Cell) (word start : ℕ) (cell : Cell) → get claimed start ≡ Some cell → points (blank claimed) word ≡ Some start → (start ≤ word) × (word < start + cell.size)
 spans claimed word start cell here pointed =
     let target = points_target (blank claimed) word start pointed in
-    let is = same_Some (blank_object cell) target.0 (sym (remade_here (λ a. blank_object) claimed start cell here) ∙ target.1) in
+    let is = same_Some (blank_object cell) target.0 (sym (mapped_here (λ a. blank_object) claimed start cell here) ∙ target.1) in
     let inside = from_covers start word target.0 target.2 in
     (inside.0, subst (λ n. word < start + n) (ap (λ (o : Object). length o.words) (sym is) ∙ zeros_len cell.size) inside.1)
 
@@ -108,7 +109,7 @@ spans claimed word start cell here pointed =
 pub word_read : (cells : Cells) (words births : List ℕ) (word offset place : ℕ) → IsLaidOut cells.blocks (blank cells.claimed) → IsPlace cells word offset place → word_at (objects_of cells.claimed words births) (word + offset) ≡ slice_index words place
 word_read cells words births word offset place laid is =
     ap (λ p. unwrap_or (option_and_then (λ start. option_map (λ (o : Object). slice_index o.words (word + offset - start)) (get (objects_of cells.claimed words births) start)) p) 0) (points_flat cells.claimed words births (word + offset) ∙ pointed)
-    ∙ ap (λ g. unwrap_or (option_map (λ (o : Object). slice_index o.words (word + offset - is.start)) g) 0) (remade_here (object_at words births) cells.claimed is.start is.cell is.here)
+    ∙ ap (λ g. unwrap_or (option_map (λ (o : Object). slice_index o.words (word + offset - is.start)) g) 0) (mapped_here (object_at words births) cells.claimed is.start is.cell is.here)
     ∙ word_of words (is.start - 65536) is.cell.size (word + offset - is.start) (omega (arith, low, high))
     ∙ ap (slice_index words) there
   where
@@ -120,7 +121,7 @@ word_read cells words births word offset place laid is =
 
     pointed : points (blank cells.claimed) (word + offset) ≡ Some is.start
     pointed =
-        points_at cells.blocks (blank cells.claimed) laid is.start (word + offset) (blank_object is.cell) (remade_here (λ a. blank_object) cells.claimed is.start is.cell is.here)
+        points_at cells.blocks (blank cells.claimed) laid is.start (word + offset) (blank_object is.cell) (mapped_here (λ a. blank_object) cells.claimed is.start is.cell is.here)
         (to_covers is.start (word + offset) (blank_object is.cell) low (subst (λ n. word + offset < is.start + n) (sym (zeros_len is.cell.size)) high))
 
     there : (is.start - 65536) + (word + offset - is.start) ≡ place
@@ -128,11 +129,11 @@ word_read cells words births word offset place laid is =
 
 module _ (blocks : ℕ) (claimed : Map Cell) (laid : IsLaidOut blocks (blank claimed)) where
   pub in_heap : (a : ℕ) (cell : Cell) → get claimed a ≡ Some cell → (65536 ≤ a) × (a < 65536 + 64 * blocks)
-  in_heap a cell here = within_heap blocks (blank claimed) laid a (blank_object cell) (remade_here (λ a. blank_object) claimed a cell here)
+  in_heap a cell here = within_heap blocks (blank claimed) laid a (blank_object cell) (mapped_here (λ a. blank_object) claimed a cell here)
 
   pub word_written : (words births : List ℕ) (t place value : ℕ) → t ≡ 65536 + place → place < length words → filled (λ a. a == t) value (objects_of claimed words births) ≡ objects_of claimed (set words place value) births
   word_written words births t place value at lt =
-      mapped-remade (λ start (o : Object). record o { words = fill (λ a. a == t) value start o.words }) (object_at words births) (object_at (set words place value) births) claimed
+      mapped-mapped (λ start (o : Object). record o { words = fill (λ a. a == t) value start o.words }) (object_at words births) (object_at (set words place value) births) claimed
       (λ q cell here. let from = (in_heap q cell here).0 in ap (λ ws. record { kind = cell.kind; birth = slice_index births (q - 65536); words = ws }) (fill_words words value t place q (q - 65536) cell.size at (omega (arith, from)) lt))
 
   -- ---- a new object
@@ -143,14 +144,14 @@ module _ (blocks : ℕ) (claimed : Map Cell) (laid : IsLaidOut blocks (blank cla
 
     pub laid_claimed : IsLaidOut blocks (blank (insert claimed start new_cell))
     laid_claimed =
-        subst (IsLaidOut blocks) (sym (remade-insert (λ a. blank_object) (λ a. blank_object) claimed start new_cell (blank_object new_cell) (λ q x ne here. refl) refl))
+        subst (IsLaidOut blocks) (sym (mapped-insert (λ a. blank_object) (λ a. blank_object) claimed start new_cell (blank_object new_cell) (λ q x ne here. refl) refl))
         (laid_new blocks size 0 start kind (replicate size 0) (blank claimed) laid sized small refl placed)
 
     here_new : get (blank (insert claimed start new_cell)) start ≡ Some (blank_object new_cell)
-    here_new = remade_here (λ a. blank_object) (insert claimed start new_cell) start new_cell (get-insert_same claimed start new_cell)
+    here_new = mapped_here (λ a. blank_object) (insert claimed start new_cell) start new_cell (get-insert_same claimed start new_cell)
 
     here_old : (q : ℕ) (cell : Cell) → q ≢ start → get claimed q ≡ Some cell → get (blank (insert claimed start new_cell)) q ≡ Some (blank_object cell)
-    here_old q cell ne here = remade_here (λ a. blank_object) (insert claimed start new_cell) q cell (get-insert_other claimed start new_cell q ne ∙ here)
+    here_old q cell ne here = mapped_here (λ a. blank_object) (insert claimed start new_cell) q cell (get-insert_other claimed start new_cell q ne ∙ here)
 
     -- it points to itself, whatever the words are
     pub new_start : (words births : List ℕ) → points (objects_of (insert claimed start new_cell) words births) start ≡ Some start
@@ -166,7 +167,7 @@ module _ (blocks : ℕ) (claimed : Map Cell) (laid : IsLaidOut blocks (blank cla
         (omega (arith, at), omega (arith, from, in_heap, whole))
 
     pub new_object_made : (words zeroed births : List ℕ) (birth : ℕ) → IsZeroedAt words zeroed (start - 65536) size → start - 65536 < length births → objects_of (insert claimed start new_cell) zeroed (set births (start - 65536) birth) ≡ insert (objects_of claimed words births) start (new_object kind birth size)
-    new_object_made words zeroed births birth are lt = remade-insert (object_at words births) (object_at zeroed (set births (start - 65536) birth)) claimed start new_cell (new_object kind birth size) others own
+    new_object_made words zeroed births birth are lt = mapped-insert (object_at words births) (object_at zeroed (set births (start - 65536) birth)) claimed start new_cell (new_object kind birth size) others own
       where
         own : object_at zeroed (set births (start - 65536) birth) start new_cell ≡ new_object kind birth size
         own = λ i. record { kind = kind; birth = get_or-set_same births (start - 65536) birth 0 lt i; words = words_zero zeroed (start - 65536) size are.zeroed i }
@@ -209,10 +210,10 @@ laid_empty blocks few = record {
 }
   where
     none : (a : ℕ) (o : Object) → get (blank empty) a ≡ Some o → ⊥
-    none a o here = let cell = remade_back (λ a. blank_object) empty a o here in none-some cell.0 (sym (get-empty nat_cmp a) ∙ cell.1)
+    none a o here = let cell = mapped_back (λ a. blank_object) empty a o here in none-some cell.0 (sym (get-empty nat_cmp a) ∙ cell.1)
 
 pub no_objects : (words births : List ℕ) → objects_of empty words births ≡ empty
-no_objects words births = same_map nat_cmp_total nat_cmp-IsAntisymmetric _ _ (λ q. get-remade (object_at words births) empty q ∙ ap (option_map (object_at words births q)) (get-empty nat_cmp q) ∙ sym (get-empty nat_cmp q))
+no_objects words births = same_map nat_cmp_total nat_cmp-IsAntisymmetric _ _ (λ q. get-mapped (object_at words births) empty q ∙ ap (option_map (object_at words births q)) (get-empty nat_cmp q) ∙ sym (get-empty nat_cmp q))
 
 -- ---- a heap's contents
 
@@ -228,10 +229,10 @@ module _ (cells : Cells) (words births : List ℕ) (now : Contents) (next_birth 
     alloc_now size kind few = ap (λ (v : Contents). first_cause (alloc_causes v.objects v.blocks v.next_birth size kind)) (sym is) ∙ alloc_flat cells.claimed words births cells.blocks next_birth size kind (lt-leb count_limit next_birth few)
 
     pub object_here : (a : ℕ) (cell : Cell) → get cells.claimed a ≡ Some cell → get now.objects a ≡ Some (object_at words births a cell)
-    object_here a cell here = ap (λ (v : Contents). get v.objects a) (sym is) ∙ remade_here (object_at words births) cells.claimed a cell here
+    object_here a cell here = ap (λ (v : Contents). get v.objects a) (sym is) ∙ mapped_here (object_at words births) cells.claimed a cell here
 
     pub nothing_here : (a : ℕ) → get cells.claimed a ≡ None → get now.objects a ≡ None
-    nothing_here a none = ap (λ (v : Contents). get v.objects a) (sym is) ∙ get-remade (object_at words births) cells.claimed a ∙ ap (option_map (object_at words births a)) none
+    nothing_here a none = ap (λ (v : Contents). get v.objects a) (sym is) ∙ get-mapped (object_at words births) cells.claimed a ∙ ap (option_map (object_at words births a)) none
 
     pub target_within : (found : Option ℕ) → IfSome found (λ start. (65536 ≤ start) × (start < 65536 + 64 * cells.blocks) × IsTrue (contains_key cells.claimed start)) → IfSome found (λ start. (65536 ≤ start) × (start < 65536 + 64 * now.blocks) × IsTrue (contains_key now.objects start))
     target_within None h = h
@@ -243,8 +244,8 @@ module _ (cells : Cells) (words births : List ℕ) (now : Contents) (next_birth 
     module _ (laid : IsLaidOut cells.blocks (blank cells.claimed)) where
       pub start_here : (a : ℕ) (o : Object) → get now.objects a ≡ Some o → (65536 ≤ a) × (a < 65536 + 64 * now.blocks) × (points now.objects a ≡ Some a)
       start_here a o here =
-          let cell = remade_back (object_at words births) cells.claimed a o (ap (λ (v : Contents). get v.objects a) is ∙ here) in
-          let blank_here = remade_here (λ a. blank_object) cells.claimed a cell.0 cell.1 in
+          let cell = mapped_back (object_at words births) cells.claimed a o (ap (λ (v : Contents). get v.objects a) is ∙ here) in
+          let blank_here = mapped_here (λ a. blank_object) cells.claimed a cell.0 cell.1 in
           let within = within_heap cells.blocks (blank cells.claimed) laid a (blank_object cell.0) blank_here in
           let points_here = points_flat cells.claimed words births a ∙ itself cells.blocks (blank cells.claimed) laid a (blank_object cell.0) blank_here in
           (within.0, subst (λ (v : Contents). a < 65536 + 64 * v.blocks) is within.1, subst (λ (v : Contents). points v.objects a ≡ Some a) is points_here)

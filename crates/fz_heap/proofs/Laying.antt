@@ -1,10 +1,9 @@
 -- Objects that are laid out don't overlap, and what keeps them laid out.
-use Rattle.std.proofs.Common.{◌≡◌, ◌≢◌, ℕ, suc, ◌+◌, ◌*◌, ◌<◌, ◌≤◌, true, false, cond, not, length, Option, Some, None, option_map, refl, sym, ap, ◌∙◌, subst, ⊎_elim, arith, nat_le, nat_lt, mul-le-mul_right, suc-mul, is_none}
-use Rattle.std.proofs.lemmas.Bool.{and_parts, and_from, and_right, leb-true, ltb-true, le-leb, lt-ltb, le-ltb, cases_order, cases_eq, cases_lt}
+use Rattle.std.proofs.Common.{◌≡◌, ◌≢◌, ℕ, suc, ◌+◌, ◌*◌, ◌<◌, ◌≤◌, true, false, cond, not, length, Option, Some, None, sym, ap, ◌∙◌, subst, ⊎_elim, arith, mul-le-mul_right, suc-mul, is_none}
+use Rattle.std.proofs.lemmas.Bool.{cases_order, cases_eq, cases_lt}
 use Rattle.std.proofs.lemmas.Option.{same_Some, none-some}
-use Rattle.std.specs.List.{find}
 use Rattle.std.specs.Option.{option_map_or}
-use Rattle.std.specs.FinMap.{get, insert, remove, entries}
+use Rattle.std.specs.FinMap.{get, insert, remove}
 use Rattle.fz_model.specs.State.{Map, Object}
 use Rattle.fz_model.specs.Memory.{covers, points}
 use Rattle.fz_model.specs.Allocation.{block_of, block_start}
@@ -12,21 +11,9 @@ use Rattle.fz_model.specs.Causes.{first_cause, place_causes}
 use Rattle.fz_model.specs.declared.refusal.Refusal.{Refusal}
 use Rattle.fz_model.specs.declared.refusal.Refusal.TheVariants.{NotPointer, OutsideObject}
 use Rattle.fz_model.proofs.Maps.{get-insert_same, get-insert_other, get-remove_same, get-remove_other}
-use Rattle.fz_heap.specs.Layout.{IsCell, IsLaidOut}
-use Rattle.fz_heap.proofs.Finding.{find_place, found_some, get_at, place_of_key}
-
--- ---- extents
-
-pub from_covers : (a w : ℕ) (o : Object) → covers (a, o) w ≡ true → (a ≤ w) × (w < a + length o.words)
-from_covers a w o e =
-    let parts = and_parts (nat_le a w) (nat_lt w (a + length o.words)) e in
-    (leb-true a w parts.0, ltb-true w (a + length o.words) parts.1)
-
-pub to_covers : (a w : ℕ) (o : Object) → a ≤ w → w < a + length o.words → covers (a, o) w ≡ true
-to_covers a w o low high = and_from (nat_le a w) (nat_lt w (a + length o.words)) (le-leb a w low) (lt-ltb w (a + length o.words) high)
-
-pub past_covers : (a w : ℕ) (o : Object) → a + length o.words ≤ w → covers (a, o) w ≡ false
-past_covers a w o high = and_right (nat_le a w) (nat_lt w (a + length o.words)) (le-ltb w (a + length o.words) high)
+use Rattle.fz_model.proofs.Objects.{from_covers, to_covers, points_only}
+use Rattle.fz_blocks.specs.Cells.{IsCell}
+use Rattle.fz_heap.specs.Layout.{IsLaidOut}
 
 next_multiple : (i j s : ℕ) → i * s < j * s → i * s + s ≤ j * s
 next_multiple i j s lt =
@@ -41,17 +28,6 @@ block_of_cell blocks a size cell =
     let whole = cell.whole in
     let sized = cell.sized in
     omega (arith, at, whole, sized)
-
--- what a word points to has the word
-pub points_target : (objects : Map Object) (w a : ℕ) → points objects w ≡ Some a → (o : Object) × (get objects a ≡ Some o) × (covers (a, o) w ≡ true)
-points_target objects w a e = found (find (λ e. covers e w) (entries objects)) refl e
-  where
-    found : (f : Option (ℕ × Object)) → find (λ e. covers e w) (entries objects) ≡ f → option_map (λ (e : ℕ × Object). e.0) f ≡ Some a → (o : Object) × (get objects a ≡ Some o) × (covers (a, o) w ≡ true)
-    found None is e = absurd (none-some a e)
-    found (Some f) is e =
-        let place = find_place (λ e. covers e w) (entries objects) f is in
-        let start = same_Some f.0 a e in
-        (f.1, subst (λ s. get objects s ≡ Some f.1) start (get_at objects place.0 f place.1), subst (λ s. covers (s, f.1) w ≡ true) start place.2)
 
 module _ (blocks : ℕ) (objects : Map Object) (laid : IsLaidOut blocks objects) where
   pub apart : (a b : ℕ) (o p : Object) → get objects a ≡ Some o → get objects b ≡ Some p → a < b → a + length o.words ≤ b
@@ -88,12 +64,7 @@ module _ (blocks : ℕ) (objects : Map Object) (laid : IsLaidOut blocks objects)
       (cases_order a b)
 
   pub points_at : (a w : ℕ) (o : Object) → get objects a ≡ Some o → covers (a, o) w ≡ true → points objects w ≡ Some a
-  points_at a w o here has =
-      let at = place_of_key objects a o here in
-      let found = found_some (λ e. covers e w) (entries objects) at.0 (a, o) at.1 has in
-      let place = find_place (λ e. covers e w) (entries objects) found.0 found.1 in
-      ap (option_map (λ (e : ℕ × Object). e.0)) found.1
-      ∙ ap Some (covered_once found.0.0 a w found.0.1 o (get_at objects place.0 found.0 place.1) here place.2 has)
+  points_at a w o here has = points_only objects w a o here has (λ b p there also. covered_once b a w p o there here also has)
 
   pub itself : (a : ℕ) (o : Object) → get objects a ≡ Some o → points objects a ≡ Some a
   itself a o here =

@@ -1,5 +1,4 @@
-pub mod Finding
 pub mod Laying
 pub mod Placing
-pub mod Remade
+pub mod Mapped
 pub mod Flat

@@ -1,19 +1,23 @@
 -- What a search for a place finds.
-use Rattle.std.proofs.Common.{◌≡◌, ℕ, zero, suc, ◌+◌, ◌*◌, ◌/◌, ◌<◌, ◌≤◌, Bool, true, false, ◌&&◌, ◌==◌, List, [], ◌∷◌, map, filter, flat_map, length, Option, Some, None, option_map, refl, sym, ap, ◌∙◌, subst, ⊎_elim, arith, slice_get, replicate, div-mul-le_self, mul-le-mul_right, suc-mul}
-use Rattle.std.proofs.lemmas.Bool.{and_parts, eqb-true, both_ways, or_parts, not-true, or_cases, eq-eqb}
+use Rattle.std.proofs.Common.{◌≡◌, ℕ, zero, suc, ◌+◌, ◌*◌, ◌/◌, ◌<◌, ◌≤◌, true, ◌&&◌, ◌==◌, List, [], ◌∷◌, filter, flat_map, length, Option, Some, None, option_map, refl, sym, ap, ◌∙◌, subst, ⊎_elim, arith, slice_get, replicate}
+use Rattle.std.proofs.lemmas.Bool.{and_parts, eqb-true, both_ways, not-true, eq-eqb}
 use Rattle.std.proofs.lemmas.Option.{same_Some, none-some}
 use Rattle.std.proofs.lemmas.List.{length-replicate}
-use Rattle.std.specs.List.{find, list_any, range_with_len}
+use Rattle.std.proofs.lemmas.Map.Keys.{any_passes_from_place}
+use Rattle.std.specs.List.{find, range_with_len}
 use Rattle.std.specs.Option.{option_or}
 use Rattle.std.specs.FinMap.{get, insert, entries, keys}
 use Rattle.fz_model.specs.State.{Map, Object}
 use Rattle.fz_model.specs.Allocation.{block_of, block_start, cells, has_class, same_kind, is_bare, is_free, place_for}
 use Rattle.fz_model.specs.declared.kinds.ObjKind.{ObjKind}
-use Rattle.fz_model.specs.declared.kinds.ObjKind.TheVariants.{Scanned, Atomic}
-use Rattle.fz_model.proofs.Lists.{filter_at, slice_get-cases}
-use Rattle.fz_heap.specs.Layout.{IsLaidOut, IsCell}
+use Rattle.fz_model.proofs.Lists.{filter_at, slice_get-cases, find_place, any_at, map_at}
+use Rattle.fz_model.proofs.MapEntries.{get_at, key_in}
+use Rattle.fz_model.proofs.Objects.{kinds_same}
+use Rattle.fz_blocks.specs.Cells.{IsCell}
+use Rattle.fz_blocks.proofs.Claimed.{cell_fits}
+use Rattle.fz_blocks.proofs.Places.{own_block}
+use Rattle.fz_heap.specs.Layout.{IsLaidOut}
 use Rattle.fz_heap.proofs.Laying.{laid_insert}
-use Rattle.fz_heap.proofs.Finding.{find_place, get_at, place_of_key}
 
 -- ---- the place found
 
@@ -21,11 +25,6 @@ range_at : (a n i x : ℕ) → slice_get (range_with_len a n) i ≡ Some x → (
 range_at a zero i x e = absurd (none-some x e)
 range_at a (suc n) zero x e = let is = same_Some a x e in (omega arith, omega arith)
 range_at a (suc n) (suc i) x e = let r = range_at (a + 1) n i x e in (omega (arith, r.0), omega (arith, r.1))
-
-map_at : (f : ℕ → ℕ) (xs : List ℕ) (i y : ℕ) → slice_get (map f xs) i ≡ Some y → (x : ℕ) × (slice_get xs i ≡ Some x) × (f x ≡ y)
-map_at f [] i y e = absurd (none-some y e)
-map_at f (x ∷ xs) zero y e = (x, refl, same_Some _ _ e)
-map_at f (x ∷ xs) (suc i) y e = map_at f xs i y e
 
 flat_map_at : (f : ℕ → List ℕ) (xs : List ℕ) (i y : ℕ) → slice_get (flat_map f xs) i ≡ Some y → (j : ℕ) × (x : ℕ) × (k : ℕ) × (slice_get xs j ≡ Some x) × (slice_get (f x) k ≡ Some y)
 flat_map_at f [] i y e = absurd (none-some y e)
@@ -35,35 +34,12 @@ flat_map_at f (x ∷ xs) i y e =
     (λ later. let r = flat_map_at f xs later.0 y later.2 in (suc r.0, r.1, r.2, r.3, r.4))
     (slice_get-cases (f x) (flat_map f xs) i y e)
 
-any_at : {X : Type 0} (p : X → Bool) (xs : List X) → list_any p xs ≡ true → (i : ℕ) × (x : X) × (slice_get xs i ≡ Some x) × (p x ≡ true)
-any_at p [] e = absurd (both_ways _ refl e)
-any_at p (x ∷ xs) e = ⊎_elim (λ t. (0, x, refl, t)) (λ t. let r = any_at p xs t in (suc r.0, r.1, r.2, r.3)) (or_cases (p x) (list_any p xs) e)
-
-none_at : {X : Type 0} (p : X → Bool) (xs : List X) (i : ℕ) (x : X) → list_any p xs ≡ false → slice_get xs i ≡ Some x → p x ≡ false
-none_at p [] i x off e = absurd (none-some x e)
-none_at p (y ∷ xs) zero x off e = subst (λ z. p z ≡ false) (same_Some y x e) (or_parts (p y) _ off).0
-none_at p (y ∷ xs) (suc i) x off e = none_at p xs i x (or_parts (p y) _ off).1 e
-
-pub kinds_same : (k l : ObjKind) → same_kind k l ≡ true → k ≡ l
-kinds_same Scanned Scanned e = refl
-kinds_same Scanned Atomic e = absurd (both_ways _ refl e)
-kinds_same Atomic Scanned e = absurd (both_ways _ refl e)
-kinds_same Atomic Atomic e = refl
-
 -- every object of the block has this size and kind
 abbrev pub IsOfClass : Map Object → ℕ → ℕ → ObjKind → Type 0
 IsOfClass objects block size kind = (a : ℕ) (o : Object) → get objects a ≡ Some o → block_of a ≡ block → (length o.words ≡ size) × (o.kind ≡ kind)
 
 cell_of_block : (blocks b i size : ℕ) → b < blocks → 1 ≤ size → i < 64 / size → IsCell blocks (block_start b + i * size) size
-cell_of_block blocks b i size in_heap sized in_block =
-    let rows : suc i * size ≤ (64 / size) * size = mul-le-mul_right size in_block in
-    record { block = b; index = i; in_heap = in_heap; at = refl; sized = sized; whole = omega (arith, rows, suc-mul i size, div-mul-le_self 64 size) }
-
-own_block : (b i size a : ℕ) → 1 ≤ size → i < 64 / size → block_start b + i * size ≡ a → block_of a ≡ b
-own_block b i size a sized in_block at =
-    let rows : suc i * size ≤ (64 / size) * size = mul-le-mul_right size in_block in
-    let whole : i * size + size ≤ 64 = omega (arith, rows, suc-mul i size, div-mul-le_self 64 size) in
-    omega (arith, whole, at)
+cell_of_block blocks b i size in_heap sized in_block = record { block = b; index = i; in_heap = in_heap; at = refl; sized = sized; whole = cell_fits size i in_block }
 
 module _ (blocks : ℕ) (objects : Map Object) (laid : IsLaidOut blocks objects) (size : ℕ) (kind : ObjKind) (sized : 1 ≤ size) (small : size ≤ 64) where
   class_kept : (b : ℕ) → has_class objects size kind b ≡ true → IsOfClass objects b size kind
@@ -76,13 +52,8 @@ module _ (blocks : ℕ) (objects : Map Object) (laid : IsLaidOut blocks objects)
 
   bare_kept : (b : ℕ) → is_bare objects b ≡ true → IsOfClass objects b size kind
   bare_kept b bare a o here same =
-      let at = place_of_key objects a o here in
-      absurd (both_ways _ (none_at (λ start. block_of start == b) (keys objects) at.0 a (not-true _ bare) (key_at (entries objects) at.0 a o at.1)) (eq-eqb _ _ same))
-    where
-      key_at : (es : List (ℕ × Object)) (i a : ℕ) (o : Object) → slice_get es i ≡ Some (a, o) → slice_get (map (λ (e : ℕ × Object). e.0) es) i ≡ Some a
-      key_at [] i a o e = absurd (none-some (a, o) e)
-      key_at (e ∷ es) zero a o is = ap (option_map (λ (e : ℕ × Object). e.0)) is
-      key_at (e ∷ es) (suc i) a o is = key_at es i a o is
+      let key = key_in objects a o here in
+      absurd (both_ways _ (not-true _ bare) (any_passes_from_place (λ start. block_of start == b) (keys objects) key.0 a key.1 (eq-eqb _ _ same)))
 
   -- a place is a cell, in a block of its class
   pub place_cell : (a : ℕ) → place_for objects blocks size kind ≡ Some a → IsCell blocks a size × ((b : ℕ) → block_of a ≡ b → IsOfClass objects b size kind)
@@ -108,7 +79,7 @@ module _ (blocks : ℕ) (objects : Map Object) (laid : IsLaidOut blocks objects)
           let index = map_at (λ i. block_start of_block.1 + i * size) (range_with_len 0 (64 / size)) of_block.2 a of_block.4 in
           let in_block = range_at 0 (64 / size) of_block.2 index.0 index.1 in
           let cell : IsCell blocks a size = subst (λ s. IsCell blocks s size) index.2 (cell_of_block blocks of_block.1 index.0 size (omega (arith, in_heap.1)) sized (omega (arith, in_block.1))) in
-          let own : block_of a ≡ of_block.1 = own_block of_block.1 index.0 size a sized (omega (arith, in_block.1)) index.2 in
+          let own : block_of a ≡ of_block.1 = own_block of_block.1 index.0 size a sized (omega (arith, in_block.1)) (sym index.2) in
           (cell, λ c same. subst (λ c. IsOfClass objects c size kind) (sym own ∙ same) (class_kept of_block.1 block.2))
 
 -- a new object in the place found keeps objects laid out

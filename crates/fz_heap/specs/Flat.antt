@@ -1,7 +1,8 @@
 -- The objects of claimed cells whose words stand flat, by address from the heap's first on, with a birth beside each word.
-use Rattle.std.specs.Prelude.{◌≡◌, ℕ, zero, suc, ◌+◌, ◌-◌, ◌*◌, ◌<◌, ◌≤◌, List, [], ◌∷◌, map, length, slice_index, Some, None}
-use Rattle.std.specs.FinMap.{get, entries, from_sorted}
+use Rattle.std.specs.Prelude.{◌≡◌, ℕ, zero, suc, ◌+◌, ◌-◌, ◌*◌, ◌<◌, ◌≤◌, List, [], ◌∷◌, length, slice_index, Some, None}
+use Rattle.std.specs.FinMap.{get}
 use Rattle.fz_model.specs.State.{Map, Object}
+use Rattle.fz_model.specs.Memory.{mapped}
 use Rattle.fz_model.specs.Causes.{first_cause, place_causes}
 use Rattle.fz_blocks.specs.Cells.{Cell, Cells, blank}
 
@@ -14,7 +15,7 @@ abbrev pub object_at : List ℕ → List ℕ → ℕ → Cell → Object
 object_at words births start cell = record { kind = cell.kind; birth = slice_index births (start - 65536); words = words_from words (start - 65536) cell.size }
 
 abbrev pub objects_of : Map Cell → List ℕ → List ℕ → Map Object
-objects_of claimed words births = from_sorted (map (λ e. (e.0, object_at words births e.0 e.1)) (entries claimed))
+objects_of claimed words births = mapped (object_at words births) claimed
 
 -- word plus offset is the address of the word at this place, in the claimed cell to which the word points
 pub record IsPlace (cells : Cells) (word offset place : ℕ) : Type 0 where

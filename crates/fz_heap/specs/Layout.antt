@@ -1,18 +1,9 @@
 -- How objects lie in blocks: each in one of the cells of its block, and all objects of a block of one size and kind.
-use Rattle.std.specs.Prelude.{◌≡◌, ℕ, ◌+◌, ◌*◌, ◌<◌, ◌≤◌, List, length, Some}
+use Rattle.std.specs.Prelude.{◌≡◌, ℕ, ◌*◌, ◌≤◌, List, length, Some}
 use Rattle.std.specs.FinMap.{get}
 use Rattle.fz_model.specs.State.{Map, Object}
-use Rattle.fz_model.specs.Allocation.{block_start, block_of}
-use Rattle.fz_blocks.specs.Cells.{Cells, blank}
-
--- a cell of this size, whole within one of so many blocks
-pub record IsCell (blocks start size : ℕ) : Type 0 where
-  pub block : ℕ
-  pub index : ℕ
-  pub in_heap : block < blocks
-  pub at : start ≡ block_start block + index * size
-  pub sized : 1 ≤ size
-  pub whole : index * size + size ≤ 64
+use Rattle.fz_model.specs.Allocation.{block_of}
+use Rattle.fz_blocks.specs.Cells.{Cells, blank, IsCell}
 
 pub record IsLaidOut (blocks : ℕ) (objects : Map Object) : Type 0 where
   pub few : blocks ≤ 4096

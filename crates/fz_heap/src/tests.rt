@@ -1,4 +1,4 @@
-//! Worked examples of a heap: where objects go, what words point to, and which refusal comes first.
+//! Worked examples of a heap: births, the words of objects, and which refusal comes first. Where cells go, `fz_blocks` tests.
 
 use crate::Heap;
 use fz_model::ObjKind::{Atomic, Scanned};
@@ -15,118 +15,57 @@ pub(crate) fn free(heap: &mut Heap, start: Addr) -> bool {
 }
 
 #[test]
-fn blocks_have_one_size_and_kind(rt: HostRuntime) -> Result<(), Fail> {
-    let mut heap = Heap::new(rt.alloc(), 3)?;
+fn births_count_the_objects(rt: HostRuntime) -> Result<(), Fail> {
+    let mut heap = Heap::new(rt.alloc(), 2)?;
     assert_eq!(rt; heap.alloc(3, Scanned), Ok((65_536, 0)));
-    assert_eq!(rt; heap.alloc(3, Scanned), Ok((65_539, 1)));
-    assert_eq!(rt;
-        heap.alloc(3, Atomic),
-        Ok((65_600, 2)),
-        "another kind takes the next block"
-    );
-    assert_eq!(rt;
-        heap.alloc(2, Scanned),
-        Ok((65_664, 3)),
-        "and so does another size"
-    );
+    assert_eq!(rt; heap.alloc(3, Atomic), Ok((65_600, 1)));
     assert_eq!(rt; heap.alloc(4, Scanned), Err(Refusal::NoSpace));
     assert_eq!(rt;
+        heap.alloc(65, Scanned),
+        Err(Refusal::BadSize),
+        "tested before the room"
+    );
+    assert_eq!(rt;
         heap.alloc(3, Scanned),
-        Ok((65_542, 4)),
+        Ok((65_539, 2)),
         "a refused call takes no birth"
     );
-    assert_eq!(rt; heap.alloc(3, Atomic), Ok((65_603, 5)));
-    assert_eq!(rt; heap.alloc(2, Scanned), Ok((65_666, 6)));
-    Ok(())
-}
-
-#[test]
-fn a_block_has_as_many_cells_as_fit_whole(rt: HostRuntime) -> Result<(), Fail> {
-    let mut heap = Heap::new(rt.alloc(), 2)?;
-    for i in 0..21u64 {
-        assert_eq!(rt; heap.alloc(3, Scanned), Ok((65_536 + 3 * i, i)), "cell {i}");
-    }
-    assert_eq!(rt;
-        heap.resolve(65_598),
-        Some(65_596),
-        "the last word of the last cell"
-    );
-    assert_eq!(rt; heap.resolve(65_599), None, "the rest of the block");
+    assert!(rt; free(&mut heap, 65_536));
     assert_eq!(rt;
         heap.alloc(3, Scanned),
-        Ok((65_600, 21)),
-        "the first cell of the next block"
+        Ok((65_536, 3)),
+        "nor is one given twice"
     );
-    assert_eq!(rt; heap.resolve(65_600), Some(65_600));
-    assert_eq!(rt; heap.resolve(65_603), None, "a free cell");
     Ok(())
 }
 
 #[test]
 fn one_object_fills_a_block(rt: HostRuntime) -> Result<(), Fail> {
     let mut heap = Heap::new(rt.alloc(), 1)?;
-    assert_eq!(rt; heap.alloc(0, Scanned), Err(Refusal::BadSize));
-    assert_eq!(rt; heap.alloc(65, Scanned), Err(Refusal::BadSize));
     assert_eq!(rt; heap.alloc(64, Scanned), Ok((65_536, 0)));
-    assert_eq!(rt; heap.alloc(1, Scanned), Err(Refusal::NoSpace));
-    assert_eq!(rt;
-        heap.alloc(u64::MAX, Scanned),
-        Err(Refusal::BadSize),
-        "tested before the room"
-    );
     assert_eq!(rt; heap.read(65_536, 63), Ok(0));
     assert_eq!(rt; heap.read(65_536, 64), Err(Refusal::OutsideObject));
     assert!(rt; free(&mut heap, 65_536));
+    assert!(rt; !free(&mut heap, 65_536), "it is gone");
     assert_eq!(rt; heap.read(65_536, 0), Err(Refusal::NotPointer));
-    assert_eq!(rt;
-        heap.alloc(1, Atomic),
-        Ok((65_536, 1)),
-        "an empty block takes any size and kind"
-    );
     Ok(())
 }
 
 #[test]
-fn the_least_free_cell_is_taken_again(rt: HostRuntime) -> Result<(), Fail> {
-    let mut heap = Heap::new(rt.alloc(), 2)?;
-    for _ in 0..65 {
-        heap.alloc(1, Scanned)?;
+fn a_new_object_is_zero_where_another_was(rt: HostRuntime) -> Result<(), Fail> {
+    let mut heap = Heap::new(rt.alloc(), 1)?;
+    for start in [65_536, 65_538, 65_540] {
+        heap.alloc(2, Scanned)?;
+        heap.write(start, 0, 8)?;
+        heap.write(start, 1, 9)?;
     }
-    assert!(rt; free(&mut heap, 65_540));
     assert!(rt; free(&mut heap, 65_538));
-    assert!(rt; !free(&mut heap, 65_538), "it is gone");
-    heap.write(65_539, 0, 9)?;
     assert_eq!(rt; heap.facts(65_538), None);
-    assert_eq!(rt; heap.alloc(1, Scanned), Ok((65_538, 65)));
-    assert_eq!(rt; heap.alloc(1, Scanned), Ok((65_540, 66)));
-    assert_eq!(rt;
-        heap.alloc(1, Scanned),
-        Ok((65_601, 67)),
-        "then the second block's"
-    );
-    assert_eq!(rt; heap.read(65_538, 0), Ok(0));
-    assert_eq!(rt; heap.read(65_539, 0), Ok(9), "its neighbour is as it was");
-    Ok(())
-}
-
-#[test]
-fn words_point_into_extents(rt: HostRuntime) -> Result<(), Fail> {
-    let mut heap = Heap::new(rt.alloc(), 2)?;
-    heap.alloc(5, Scanned)?;
-    heap.alloc(5, Scanned)?;
-    for (word, start) in [
-        (0, None),
-        (65_535, None),
-        (65_536, Some(65_536)),
-        (65_540, Some(65_536)),
-        (65_541, Some(65_541)),
-        (65_545, Some(65_541)),
-        (65_546, None),
-        (65_600, None),
-        (65_664, None),
-        (u64::MAX, None),
-    ] {
-        assert_eq!(rt; heap.resolve(word), start, "at {word}");
+    assert_eq!(rt; heap.alloc(2, Scanned), Ok((65_538, 3)));
+    assert_eq!(rt; heap.facts(65_538), Some((2, Scanned, 3)));
+    for (start, first, second) in [(65_536, 8, 9), (65_538, 0, 0), (65_540, 8, 9)] {
+        assert_eq!(rt; heap.read(start, 0), Ok(first), "at {start}");
+        assert_eq!(rt; heap.read(start, 1), Ok(second), "at {start}");
     }
     Ok(())
 }
@@ -136,6 +75,8 @@ fn words_are_read_where_they_were_written(rt: HostRuntime) -> Result<(), Fail> {
     let mut heap = Heap::new(rt.alloc(), 1)?;
     heap.alloc(4, Scanned)?;
     heap.alloc(4, Scanned)?;
+    assert_eq!(rt; heap.resolve(65_539), Some(65_536), "an interior word");
+    assert_eq!(rt; heap.resolve(65_544), None, "a free cell");
     assert_eq!(rt; heap.write(65_537, 2, 7), Ok(()), "from an interior word");
     assert_eq!(rt; heap.write(65_540, 3, u64::MAX), Ok(()));
     for (offset, word) in [(0, 0), (1, 0), (2, 0), (3, 7)] {
@@ -195,14 +136,8 @@ fn objects_come_by_address(rt: HostRuntime) -> Result<(), Fail> {
 }
 
 #[test]
-fn a_heap_has_one_to_4096_blocks(rt: HostRuntime) -> Result<(), Fail> {
-    for blocks in [0, 4_097, u64::MAX] {
-        assert_eq!(rt;
-            Heap::new(rt.alloc(), blocks).err(),
-            Some(Refusal::BadCount),
-            "at {blocks}"
-        );
-    }
+fn a_heap_begins_without_objects(rt: HostRuntime) -> Result<(), Fail> {
+    assert_eq!(rt; Heap::new(rt.alloc(), 0).err(), Some(Refusal::BadCount));
     let mut heap = Heap::new(rt.alloc(), 4_096)?;
     assert_eq!(rt; heap.blocks(), 4_096);
     assert_eq!(rt; heap.objects().next(), None);

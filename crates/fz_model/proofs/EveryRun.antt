@@ -1,6 +1,6 @@
 -- What holds of every joint run.
 use Rattle.std.proofs.Common.{Option, inl, inr, ◌⊎◌, ◌≡◌, ℕ, ◌+◌, ◌-◌, ◌<◌, ◌≤◌, ◌==◌, Bool, true, false, cond, not, List, length, Some, None, Result, Ok, Err, refl, sym, ap, ◌∙◌, subst, ⊎_elim, arith, slice_get, slice_index, Contains, sum_by, IsTrue, IsFalse, true≢false, IsOk, MatchOption, nat_lt, is_none}
-use Rattle.std.proofs.lemmas.Bool.{eqb-true, cases_Bool, cases_lt, and_parts, ltb-true, leb-true, cond-false, not_from_false, not_from_true, eq-eqb, lt-ltb}
+use Rattle.std.proofs.lemmas.Bool.{eqb-true, cases_Bool, cases_lt, and_parts, ltb-true, leb-true, cond-false, not_from_true, eq-eqb, lt-ltb}
 use Rattle.std.proofs.lemmas.Option.{get_or_from_slice_get, same_Some, none-some, slice_get_within}
 use Rattle.std.proofs.lemmas.List.{get_or_past}
 use Rattle.std.proofs.lemmas.List.Elements.{All-get_or, All-contains}
@@ -25,7 +25,7 @@ use Rattle.fz_model.proofs.Maps.{retained_back, filled_back, fill_at, fill_zero,
 use Rattle.fz_model.proofs.Lists.{contains_at, count_some, sum_some, place_of}
 use Rattle.fz_model.proofs.Stepwise.{accepted_keeps}
 use Rattle.fz_model.proofs.Joints.{in_hand, JointSound, OwnsQueued, IsQueued, owned, count_held, counted_held, hand_held, same_itself}
-use Rattle.fz_model.proofs.Runs.{reached_sound, run_sound, opening_joint, moves_handed, moves_closed}
+use Rattle.fz_model.proofs.Runs.{reached_sound, run_sound, opening_joint, moves_handed, run_own, moves_closed}
 
 -- ---- takes
 
@@ -35,6 +35,7 @@ takes_in_order moves end r =
     record {
       within = h.within;
       first_entries = sym (moves_handed _ moves end (opening_joint r.blocks r.frames r.count) r.run);
+      own = run_own moves end r;
       numbered = h.core.numbered;
       rising = h.rising;
       each_once = h.each_once;

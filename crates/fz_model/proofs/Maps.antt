@@ -1,11 +1,12 @@
 -- Maps by address, and the words of objects.
 use Rattle.std.proofs.Common.{T, is_lt, ◌&&◌, Bool, ◌≡◌, ◌≢◌, ℕ, ◌+◌, ◌<◌, ◌==◌, true, false, cond, ◌||◌, List, [], ◌∷◌, map, length, Option, Some, None, is_some, option_map, refl, sym, ap, ◌∙◌, subst, arith, slice_index, filter, flat_map, nat_cmp, Equal, suc, zero, true≢false, add-zero}
-use Rattle.std.proofs.lemmas.Bool.{eqb-true, ne_eqb, eq-eqb, both_ways, cond-true, not-true, or_parts}
+use Rattle.std.proofs.lemmas.Bool.{eq-eqb, both_ways, cond-true, not-true, or_parts}
 use Rattle.std.proofs.lemmas.Option.{same_Some, none-some}
+use Rattle.std.proofs.lemmas.List.{map-id}
 use Rattle.std.specs.FinMap as finmap
 use Rattle.std.specs.FinMap.Entries.{below_all}
-use Rattle.std.specs.FinMap.{is_sorted, entries_sorted, entries-from_sorted, get-from_sorted, get, insert, remove, retain_keys, entries, keys, get-entries, get-retain_keys, get-insert, get-remove, contains_key-keys}
-use Rattle.std.specs.Cmp.{nat_cmp_total, unsigned_tied, ranked}
+use Rattle.std.specs.FinMap.{same_entries_map, is_sorted, entries_sorted, entries-from_sorted, get-from_sorted, get, insert, remove, retain_keys, entries, keys, get-entries, get-retain_keys, get-insert, get-remove, contains_key-keys}
+use Rattle.std.specs.Cmp.{nat_cmp_total, ranked}
 use Rattle.std.specs.Ordering.{eq_by_cmp}
 use Rattle.std.specs.List.{find, list_any, range_with_len}
 use Rattle.std.specs.Option.{option_or}
@@ -13,16 +14,8 @@ use Rattle.fz_model.specs.State.{Map, Object}
 use Rattle.fz_model.specs.Memory.{mapped, fill, filled}
 use Rattle.fz_model.specs.Allocation.{place_for, is_free, is_bare, block_of, block_start, cells, has_class}
 use Rattle.fz_model.specs.declared.kinds.ObjKind.{ObjKind}
-
--- the keys' order is that of numbers
-same_key : (q k : ℕ) → eq_by_cmp nat_cmp q k ≡ true → q ≡ k
-same_key q k e = eqb-true q k (sym (unsigned_tied q k) ∙ e)
-
-other_key : (q k : ℕ) → q ≢ k → eq_by_cmp nat_cmp q k ≡ false
-other_key q k e = unsigned_tied q k ∙ ne_eqb q k e
-
-own_key : (q : ℕ) → eq_by_cmp nat_cmp q q ≡ true
-own_key q = unsigned_tied q q ∙ eq-eqb q q refl
+use Rattle.fz_model.proofs.Lists.{find_place}
+use Rattle.fz_model.proofs.MapEntries.{same_key, other_key, own_key}
 
 module _ {X : Type 0} where
   pub get-insert_same : (m : Map X) (k : ℕ) (v : X) → get (insert m k v) k ≡ Some v
@@ -47,7 +40,8 @@ module _ {X : Type 0} where
         | false ↦ λ e. absurd (none-some v e)
       ] (sym (get-retain m p q) ∙ e)
 
-  find-map : (f : ℕ → X → X) (q : ℕ) (es : List (ℕ × X)) → finmap.find nat_cmp q (map (λ e. (e.0, f e.0 e.1)) es) ≡ option_map (f q) (finmap.find nat_cmp q es)
+module _ {X Y : Type 0} where
+  find-map : (f : ℕ → X → Y) (q : ℕ) (es : List (ℕ × X)) → finmap.find nat_cmp q (map (λ e. (e.0, f e.0 e.1)) es) ≡ option_map (f q) (finmap.find nat_cmp q es)
   find-map f q [] = refl
   find-map f q (e ∷ es) =
       elim (eq_by_cmp nat_cmp q e.0) as (λ b. eq_by_cmp nat_cmp q e.0 ≡ b → cond b (Some (f e.0 e.1)) (finmap.find nat_cmp q (map (λ e. (e.0, f e.0 e.1)) es)) ≡ option_map (f q) (cond b (Some e.1) (finmap.find nat_cmp q es))) [
@@ -55,31 +49,36 @@ module _ {X : Type 0} where
         | false ↦ λ _. find-map f q es
       ] refl
 
-  below_all-map : (f : ℕ → X → X) (k : ℕ) (es : List (ℕ × X)) → below_all nat_cmp k (map (λ e. (e.0, f e.0 e.1)) es) ≡ below_all nat_cmp k es
+  below_all-map : (f : ℕ → X → Y) (k : ℕ) (es : List (ℕ × X)) → below_all nat_cmp k (map (λ e. (e.0, f e.0 e.1)) es) ≡ below_all nat_cmp k es
   below_all-map f k [] = refl
   below_all-map f k (e ∷ es) = ap (λ b. is_lt (nat_cmp k e.0) && b) (below_all-map f k es)
 
-  is_sorted-map : (f : ℕ → X → X) (es : List (ℕ × X)) → is_sorted nat_cmp (map (λ e. (e.0, f e.0 e.1)) es) ≡ is_sorted nat_cmp es
+  is_sorted-map : (f : ℕ → X → Y) (es : List (ℕ × X)) → is_sorted nat_cmp (map (λ e. (e.0, f e.0 e.1)) es) ≡ is_sorted nat_cmp es
   is_sorted-map f [] = refl
   is_sorted-map f (e ∷ es) = ap (λ b. b && is_sorted nat_cmp (map (λ e. (e.0, f e.0 e.1)) es)) (below_all-map f e.0 es) ∙ ap (λ b. below_all nat_cmp e.0 es && b) (is_sorted-map f es)
 
-  sorted_map : (f : ℕ → X → X) (m : Map X) → T (is_sorted nat_cmp (map (λ e. (e.0, f e.0 e.1)) (entries m)))
+  sorted_map : (f : ℕ → X → Y) (m : Map X) → T (is_sorted nat_cmp (map (λ e. (e.0, f e.0 e.1)) (entries m)))
   sorted_map f m = subst T (sym (is_sorted-map f (entries m))) (entries_sorted m)
 
-  pub entries-mapped : (f : ℕ → X → X) (m : Map X) → entries (mapped f m) ≡ map (λ e. (e.0, f e.0 e.1)) (entries m)
+  pub entries-mapped : (f : ℕ → X → Y) (m : Map X) → entries (mapped f m) ≡ map (λ e. (e.0, f e.0 e.1)) (entries m)
   entries-mapped f m = entries-from_sorted nat_cmp (map (λ e. (e.0, f e.0 e.1)) (entries m)) (sorted_map f m)
 
-  pub get-mapped : (f : ℕ → X → X) (m : Map X) (q : ℕ) → get (mapped f m) q ≡ option_map (f q) (get m q)
+  pub get-mapped : (f : ℕ → X → Y) (m : Map X) (q : ℕ) → get (mapped f m) q ≡ option_map (f q) (get m q)
   get-mapped f m q =
       get-from_sorted nat_cmp (map (λ e. (e.0, f e.0 e.1)) (entries m)) q (sorted_map f m) ∙ find-map f q (entries m) ∙ ap (option_map (f q)) (sym (get-entries m q))
 
-  find_passes : (p : X → Bool) (xs : List X) (x : X) → find p xs ≡ Some x → p x ≡ true
-  find_passes p [] x e = absurd (none-some x e)
-  find_passes p (y ∷ xs) x e =
-      elim (p y) as (λ b. p y ≡ b → cond b (Some y) (find p xs) ≡ Some x → p x ≡ true) [
-        | true ↦ λ t e. subst (λ z. p z ≡ true) (same_Some y x e) t
-        | false ↦ λ _ e. find_passes p xs x e
-      ] refl e
+  pub mapped_here : (f : ℕ → X → Y) (m : Map X) (q : ℕ) (x : X) → get m q ≡ Some x → get (mapped f m) q ≡ Some (f q x)
+  mapped_here f m q x here = get-mapped f m q ∙ ap (option_map (f q)) here
+
+  pub mapped_back : (f : ℕ → X → Y) (m : Map X) (q : ℕ) (y : Y) → get (mapped f m) q ≡ Some y → (x : X) × (get m q ≡ Some x) × (f q x ≡ y)
+  mapped_back f m q y e = back (get m q) refl (sym (get-mapped f m q) ∙ e)
+    where
+      back : (g : Option X) → get m q ≡ g → option_map (f q) g ≡ Some y → (x : X) × (get m q ≡ Some x) × (f q x ≡ y)
+      back None is e = absurd (none-some y e)
+      back (Some x) is e = (x, is, same_Some _ _ e)
+
+pub mapped_same : {X : Type 0} (m : Map X) → mapped (λ a x. x) m ≡ m
+mapped_same m = same_entries_map _ m (entries-mapped (λ a x. x) m ∙ map-id (entries m))
 
 no_key : (t : ℕ → Bool) (q : ℕ) (ks : List ℕ) → t q ≡ true → list_any t ks ≡ false → list_any (eq_by_cmp nat_cmp q) ks ≡ false
 no_key t q [] here none = refl
@@ -106,13 +105,13 @@ free_place objects blocks size a kind e = cases _ refl e
     bare : (o : Option ℕ) → o ≡ find (is_bare objects) (range_with_len 0 blocks) → option_map block_start o ≡ Some a → get objects a ≡ None
     bare o is e =
         let at = found_of_map o a e in
-        let none = find_passes (is_bare objects) _ at.0 (sym is ∙ at.1) in
-        let apart = no_key (λ start. block_of start == at.0) (block_start at.0) (keys objects) (own_block at.0) (not-true _ none) in
+        let none = find_place (is_bare objects) _ at.0 (sym is ∙ at.1) in
+        let apart = no_key (λ start. block_of start == at.0) (block_start at.0) (keys objects) (own_block at.0) (not-true _ none.2) in
         subst (λ x. get objects x ≡ None) at.2 (not_some _ (contains_key-keys objects (block_start at.0) ∙ apart))
 
     cases : (o : Option ℕ) → o ≡ find (is_free objects) (flat_map (cells size) (filter (has_class objects size kind) (range_with_len 0 blocks))) → option_or o (option_map block_start (find (is_bare objects) (range_with_len 0 blocks))) ≡ Some a → get objects a ≡ None
     cases None is e = bare _ refl e
-    cases (Some b) is e = not_some _ (not-true _ (find_passes (is_free objects) _ a (sym is ∙ e)))
+    cases (Some b) is e = not_some _ (not-true _ (find_place (is_free objects) _ a (sym is ∙ e)).2)
 
 -- the words after a fill
 pub length-fill : (test : ℕ → Bool) (value a : ℕ) (ws : List ℕ) → length (fill test value a ws) ≡ length ws
@@ -132,12 +131,11 @@ fill_zero test a [] i z = z
 fill_zero test a (w ∷ ws) zero z = elim (test a) as (λ b. cond b 0 w ≡ 0) [ true ↦ refl | false ↦ z ]
 fill_zero test a (w ∷ ws) (suc i) z = fill_zero test (a + 1) ws i z
 
+abbrev pub filling : (ℕ → Bool) → ℕ → ℕ → Object → Object
+filling test value start o = record o { words = fill test value start o.words }
+
 pub filled_here : (test : ℕ → Bool) (value : ℕ) (objects : Map Object) (a : ℕ) (o : Object) → get objects a ≡ Some o → get (filled test value objects) a ≡ Some (record o { words = fill test value a o.words })
-filled_here test value objects a o e = get-mapped (λ start (o : Object). record o { words = fill test value start o.words }) objects a ∙ ap (option_map (λ (o : Object). record o { words = fill test value a o.words })) e
+filled_here test value = mapped_here (filling test value)
 
 pub filled_back : (test : ℕ → Bool) (value : ℕ) (objects : Map Object) (a : ℕ) (o : Object) → get (filled test value objects) a ≡ Some o → (old : Object) × (get objects a ≡ Some old) × (o ≡ record old { words = fill test value a old.words })
-filled_back test value objects a o e = back (get objects a) refl (sym (get-mapped (λ start (o : Object). record o { words = fill test value start o.words }) objects a) ∙ e)
-  where
-    back : (g : Option Object) → get objects a ≡ g → option_map (λ (o : Object). record o { words = fill test value a o.words }) g ≡ Some o → (old : Object) × (get objects a ≡ Some old) × (o ≡ record old { words = fill test value a old.words })
-    back None is e = absurd (none-some o e)
-    back (Some old) is e = (old, is, sym (same_Some _ _ e))
+filled_back test value objects a o e = let old = mapped_back (filling test value) objects a o e in (old.0, old.1, sym old.2)

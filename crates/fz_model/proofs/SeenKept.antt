@@ -1,5 +1,5 @@
 -- A step keeps what was seen closed under children.
-use Rattle.std.proofs.Common.{get_or-set_same, length-set, replicate, set, get_or, ◌≡◌, ℕ, ◌+◌, ◌⊎◌, Bool, true, false, cond, ◌&&◌, List, [], ◌∷◌, map, Option, Some, None, refl, sym, ap, ◌∙◌, subst, inl, inr, ⊎_elim, arith, suc, zero, Any, IsTrue, slice_get, option_map, nat_le, nat_lt, nat_cmp, Less, Equal, Greater, All, ◌<◌, Contains, ◌==◌, length}
+use Rattle.std.proofs.Common.{get_or-set_same, length-set, replicate, set, get_or, ◌≡◌, ℕ, ◌+◌, ◌⊎◌, Bool, true, false, cond, ◌&&◌, List, [], ◌∷◌, Option, Some, None, refl, sym, ap, ◌∙◌, subst, inl, inr, ⊎_elim, arith, suc, zero, Any, IsTrue, slice_get, option_map, nat_lt, nat_cmp, Less, Equal, Greater, All, ◌<◌, Contains, ◌==◌, length}
 use Rattle.std.proofs.lemmas.Bool.{cond-true, cond-false, cases_eq, both_ways, ltb-true, and_parts, not-false}
 use Rattle.std.proofs.lemmas.Option.{same_Some, none-some}
 use Rattle.std.specs.Cmp.{nat_cmp_total}
@@ -16,28 +16,15 @@ use Rattle.fz_model.specs.declared.kinds.ObjKind.{ObjKind}
 use Rattle.fz_model.specs.Events.{Store, Alloc, Begin, bad_slot}
 use Rattle.fz_model.specs.Steps.{moments_after, Accepts}
 use Rattle.std.proofs.lemmas.List.Elements.{Contains-get_or}
-use Rattle.fz_model.proofs.Maps.{free_place, entries-mapped, length-fill, filled_back, get-insert_other}
+use Rattle.fz_model.proofs.Objects.{points_same}
+use Rattle.fz_model.proofs.Maps.{free_place, filling, mapped_same, length-fill, filled_back, get-insert_other}
 use Rattle.fz_model.proofs.Lists.{place_of, contains_at}
 
 -- ---- what words point to, after a write and with a new object
 
-same_cover : (test : ℕ → Bool) (value : ℕ) (e : ℕ × Object) (w : ℕ) → covers (e.0, record e.1 { words = fill test value e.0 e.1.words }) w ≡ covers e w
-same_cover test value e w = ap (λ n. nat_le e.0 w && nat_lt w (e.0 + n)) (length-fill test value e.0 e.1.words)
-
-find-filled : (test : ℕ → Bool) (value w : ℕ) (es : List (ℕ × Object)) → option_map (λ (e : ℕ × Object). e.0) (find (λ e. covers e w) (map (λ (e : ℕ × Object). (e.0, record e.1 { words = fill test value e.0 e.1.words })) es)) ≡ option_map (λ e. e.0) (find (λ e. covers e w) es)
-find-filled test value w [] = refl
-find-filled test value w (e ∷ es) =
-    let rest = find (λ e. covers e w) (map (λ (e : ℕ × Object). (e.0, record e.1 { words = fill test value e.0 e.1.words })) es) in
-    ap (λ b. option_map (λ (e : ℕ × Object). e.0) (cond b (Some (e.0, record e.1 { words = fill test value e.0 e.1.words })) rest)) (same_cover test value e w)
-    ∙ elim (covers e w) as (λ b. option_map (λ (e : ℕ × Object). e.0) (cond b (Some (e.0, record e.1 { words = fill test value e.0 e.1.words })) rest) ≡ option_map (λ (e : ℕ × Object). e.0) (cond b (Some e) (find (λ e. covers e w) es))) [
-      | true ↦ refl
-      | false ↦ find-filled test value w es
-    ]
-
 pub points-filled : (test : ℕ → Bool) (value : ℕ) (objects : Map Object) (w : ℕ) → points (filled test value objects) w ≡ points objects w
 points-filled test value objects w =
-    ap (λ es. option_map (λ (e : ℕ × Object). e.0) (find (λ e. covers e w) es)) (entries-mapped (λ start (o : Object). record o { words = fill test value start o.words }) objects)
-    ∙ find-filled test value w (entries objects)
+    points_same (filling test value) (λ a o. o) (λ a o. length-fill test value a o.words) objects w ∙ ap (λ m. points m w) (mapped_same objects)
 
 find-put : (a w b : ℕ) (o : Object) (es : List (ℕ × Object)) → finmap.find nat_cmp a es ≡ None → option_map (λ (e : ℕ × Object). e.0) (find (λ e. covers e w) (put nat_cmp a o es)) ≡ Some b → (b ≡ a) ⊎ (option_map (λ (e : ℕ × Object). e.0) (find (λ e. covers e w) es) ≡ Some b)
 find-put a w b o [] fresh is =
@@ -102,6 +89,9 @@ now_seen c ms a r = (0, c, omega arith, refl, r)
 still_seen : (c : Core) (ms : List Core) (a : ℕ) → Any (λ c. IsReachable c a) ms → Any (λ c. IsReachable c a) (c ∷ ms)
 still_seen c ms a (k, x, l, e, r) = (suc k, x, omega arith, e, r)
 
+pub nothing_seen : {a : ℕ} → Any (λ c. IsReachable c a) [] → ⊥
+nothing_seen (k, x, l, e, r) = omega arith
+
 pub seen_cases : (c : Core) (ms : List Core) (a : ℕ) → Any (λ c. IsReachable c a) (c ∷ ms) → IsReachable c a ⊎ Any (λ c. IsReachable c a) ms
 seen_cases c ms a (zero, x, l, e, r) = inl (subst (λ c. IsReachable c a) (sym e) r)
 seen_cases c ms a (suc k, x, l, e, r) = inr (k, x, omega arith, e, r)
@@ -128,9 +118,6 @@ seen_kept s t h moments edges opened = record {
 
     seen : IsTrue t.cycle → (a : ℕ) → Any (λ c. IsReachable c a) (t.core ∷ s.moments) → WasSeen t a
     seen on a h = subst (λ ms. Any (λ c. IsReachable c a) ms) (sym (open_moments on)) h
-
-    nothing_seen : {a : ℕ} → Any (λ c. IsReachable c a) [] → ⊥
-    nothing_seen (k, x, l, e, r) = omega arith
 
 -- ---- each call
 

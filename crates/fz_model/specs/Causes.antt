@@ -1,5 +1,5 @@
 -- Why a call is refused: its causes of refusal as one list in their order, of which the first that stands is answered.
-use Rattle.std.specs.Prelude.{◌≡◌, ℕ, ◌+◌, ◌*◌, ◌^◌, Bool, false, ◌||◌, ◌&&◌, not, nat_le, nat_lt, length, if◌then◌else◌, ◌⊎◌, List, [], ◌∷◌, Option, Some, None, is_none, IsTrue}
+use Rattle.std.specs.Prelude.{◌≡◌, ℕ, ◌+◌, ◌*◌, ◌^◌, Bool, false, ◌||◌, ◌&&◌, not, nat_le, nat_lt, if◌then◌else◌, ◌⊎◌, List, [], ◌∷◌, Option, Some, None, is_none, IsTrue}
 use Rattle.std.specs.Option.{option_map_or}
 use Rattle.std.specs.FinMap.{get, len, contains_key}
 use Rattle.fz_model.specs.declared.kinds.ObjKind.{ObjKind}

@@ -1,6 +1,6 @@
 -- What holds of every joint run: of the workers' takes, of each pass, of a closed world, and of held entries (Boehm, "Destructors, finalizers, and
 -- synchronization", POPL 2003, on finalizers that threads of their own run from a queue).
-use Rattle.std.specs.Prelude.{◌≡◌, ◌≢◌, ℕ, ◌+◌, ◌-◌, ◌<◌, ◌≤◌, ◌==◌, ◌⊎◌, Bool, true, false, List, length, take, Some, slice_get, slice_index, All, AllPairs, Contains, sum_by, count_by, Result, Ok, IsTrue, IsFalse, IsOk, ◌++◌}
+use Rattle.std.specs.Prelude.{◌≡◌, ◌≢◌, ℕ, ◌+◌, ◌-◌, ◌<◌, ◌≤◌, ◌==◌, ◌⊎◌, Bool, true, false, List, map, length, take, Some, slice_get, slice_index, All, AllPairs, Contains, sum_by, count_by, Result, Ok, IsTrue, IsFalse, IsOk, ◌++◌}
 use Rattle.std.specs.FinMap.{get}
 use Rattle.fz_model.specs.declared.answers.Entry.{Entry}
 use Rattle.fz_model.specs.declared.answers.Pick.{Pick}
@@ -12,16 +12,17 @@ use Rattle.fz_model.specs.Reachability.{IsReachable, Computes}
 use Rattle.fz_model.specs.Pass.{IsFinding, is_outside, ArePicks, entries_of}
 use Rattle.fz_model.specs.Events.{Event, Pause, Collect, Answer, Mark, Begin}
 use Rattle.fz_model.specs.Steps.{Step, StepsTo}
-use Rattle.fz_model.specs.Joint.{Worker, Joint, FinishOwn, JointAnswer, worker_at, JointStep, Move, MovesTo, handed}
+use Rattle.fz_model.specs.Joint.{Worker, Joint, FinishOwn, JointAnswer, worker_at, JointStep, Move, MovesTo, handed, handed_to}
 
 -- how often the number was taken
 abbrev pub times_taken : Joint → ℕ → ℕ
 times_taken j k = sum_by (λ (w : Worker). count_by (λ n. n == k) w.took) j.workers
 
--- the workers were handed the first entries of the queue, each entry by one worker, once, and each worker's in the queue's order
+-- the workers were handed the first entries of the queue, each entry to one worker, once, and each worker's in the queue's order
 pub record TakesInOrder (moves : List Move) (j : Joint) : Type 0 where
   pub within : j.taken ≤ length j.state.queue
   pub first_entries : handed moves ≡ take j.taken j.state.queue
+  pub own : (w : ℕ) → map (λ (e : Entry). e.seq) (handed_to w moves) ≡ (worker_at j w).took
   pub numbered : (k : ℕ) (e : Entry) → slice_get j.state.queue k ≡ Some e → e.seq ≡ k
   pub rising : All (λ (w : Worker). AllPairs ◌<◌ w.took) j.workers
   pub each_once : (k : ℕ) → k < j.taken → times_taken j k ≡ 1

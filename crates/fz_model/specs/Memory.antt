@@ -10,8 +10,8 @@ use Rattle.fz_model.specs.State.{Map, Object, Core}
 abbrev pub new_object : ObjKind → ℕ → ℕ → Object
 new_object kind birth size = record { kind = kind; birth = birth; words = replicate size 0 }
 
--- what a map has, with each value changed
-abbrev pub mapped : {X : Type 0} → (ℕ → X → X) → Map X → Map X
+-- what a map has, with each value made anew
+abbrev pub mapped : {X Y : Type 0} → (ℕ → X → Y) → Map X → Map Y
 mapped f m = from_sorted (map (λ e. (e.0, f e.0 e.1)) (entries m))
 
 -- the address stands in the object
@@ -29,7 +29,7 @@ fill test value address (w ∷ ws) = (if test address then value else w) ∷ fil
 
 -- the objects, with the value at each address that passes
 abbrev pub filled : (ℕ → Bool) → ℕ → Map Object → Map Object
-filled test value objects = mapped (λ start o. record o { words = fill test value start o.words }) objects
+filled test value objects = mapped (λ start (o : Object). record o { words = fill test value start o.words }) objects
 
 -- the word at an address
 abbrev pub word_at : Map Object → ℕ → ℕ

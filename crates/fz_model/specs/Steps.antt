@@ -1,5 +1,5 @@
 -- What each call of a world does: the step from one state to the next, and the states that steps reach.
-use Rattle.std.specs.Prelude.{true, false, ◌≡◌, ℕ, ◌+◌, ◌<◌, ◌⊎◌, Bool, not, ◌==◌, if◌then◌else◌, List, [], ◌∷◌, length, Option, Some, None, option_map, Result, Ok, Err, IsTrue, filter}
+use Rattle.std.specs.Prelude.{true, ◌≡◌, ℕ, ◌+◌, ◌<◌, Bool, not, ◌==◌, if◌then◌else◌, List, [], ◌∷◌, length, Option, Some, None, option_map, Result, Ok, Err, IsTrue, filter}
 use Rattle.std.specs.FinMap.{get, len, contains_key, insert, remove}
 use Rattle.fz_model.specs.declared.kinds.LinkKind.{LinkKind}
 use Rattle.fz_model.specs.declared.kinds.LinkKind.TheVariants.{Short, Long}
@@ -103,11 +103,6 @@ pub data StepsTo (may : Event → Bool) (s : State) : State → Type 0 where
 
 abbrev pub any_call : Event → Bool
 any_call e = true
-
--- a finalizer's own calls finish nothing
-abbrev pub any_but_finish : Event → Bool
-any_but_finish (Finish entry) = false
-any_but_finish _ = true
 
 -- the end of a run
 abbrev pub IsReached : State → Type 0

@@ -1,14 +1,12 @@
 -- Members of lists, by place.
-use Rattle.std.proofs.Common.{◌≡◌, ℕ, ◌<◌, ◌||◌, Bool, true, false, cond, List, [], ◌∷◌, get_or, Option, Some, None, is_some, refl, sym, ap, ◌∙◌, arith, suc, zero, slice_get, filter, filter_map, nat_cmp, AllPairs, All}
-use Rattle.std.specs.List.{list_any, cons_option}
-use Rattle.std.specs.Ordering.{eq_by_cmp}
-use Rattle.std.specs.FinMap.{get, keys, contains_key, contains_key-keys}
+use Rattle.std.proofs.Common.{◌≡◌, ℕ, ◌<◌, Bool, true, false, cond, List, [], ◌∷◌, get_or, Option, Some, None, is_some, refl, sym, ap, ◌∙◌, arith, suc, zero, slice_get, filter, filter_map, AllPairs, All}
+use Rattle.std.specs.List.{cons_option}
+use Rattle.std.specs.FinMap.{keys, contains_key}
 use Rattle.std.proofs.lemmas.Bool.{true≢false}
 use Rattle.std.proofs.lemmas.Option.{same_Some, none-some, slice_get-get_or, slice_get_within, get_or_from_slice_get}
 use Rattle.std.proofs.lemmas.List.Kept.{AllPairs-cons}
-use Rattle.std.proofs.lemmas.Map.Keys.{any_passes_from_place}
 use Rattle.fz_model.specs.State.{Map}
-use Rattle.fz_pass.proofs.Sorted.{same_key, own_key}
+use Rattle.fz_model.proofs.MapEntries.{at_key}
 
 pub some_of : {A : Type 0} (o : Option A) → is_some o ≡ true → (x : A) × (o ≡ Some x)
 some_of None h = absurd (true≢false (sym h))
@@ -44,19 +42,8 @@ filter_in {X} p (z ∷ xs) (suc k) x at is = later (p z) (filter_in p xs k x at 
     later true r = (suc r.0, r.1)
     later false r = r
 
-any_place : (q : ℕ) (ks : List ℕ) → list_any (eq_by_cmp nat_cmp q) ks ≡ true → (k : ℕ) × (slice_get ks k ≡ Some q)
-any_place q [] h = absurd (true≢false (sym h))
-any_place q (k ∷ ks) h =
-    elim (eq_by_cmp nat_cmp q k) as (λ b. eq_by_cmp nat_cmp q k ≡ b → (b || list_any (eq_by_cmp nat_cmp q) ks) ≡ true → (i : ℕ) × (slice_get (k ∷ ks) i ≡ Some q)) [
-      | true ↦ λ t _. (0, ap Some (sym (same_key q k t)))
-      | false ↦ λ _ h. let r = any_place q ks h in (suc r.0, r.1)
-    ] refl h
-
-pub key_in : {X : Type 0} (m : Map X) (q : ℕ) (v : X) → get m q ≡ Some v → (k : ℕ) × (slice_get (keys m) k ≡ Some q)
-key_in m q v is = any_place q (keys m) (sym (contains_key-keys m q) ∙ ap is_some is)
-
 pub key_has : {X : Type 0} (m : Map X) (k q : ℕ) → slice_get (keys m) k ≡ Some q → contains_key m q ≡ true
-key_has m k q at = contains_key-keys m q ∙ any_passes_from_place (eq_by_cmp nat_cmp q) (keys m) k q at (own_key q)
+key_has m k q at = ap is_some (at_key m k q at).1
 
 -- a list made from rising numbers rises
 pub rising_from : {Y : Type 0} (f : ℕ → Option Y) (g : Y → ℕ) → ((x : ℕ) (y : Y) → f x ≡ Some y → g y ≡ x) → (xs : List ℕ) → AllPairs (λ x y. x < y) xs → AllPairs (λ u v. g u < g v) (filter_map f xs)

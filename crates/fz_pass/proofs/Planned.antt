@@ -16,7 +16,8 @@ use Rattle.fz_pass.specs.declared.plan.Candidate.{Candidate}
 use Rattle.fz_pass.specs.Sets.{has}
 use Rattle.fz_pass.specs.Plans.{candidate_at, all_candidates, AreLeading, AreNeeding, IsPlan}
 use Rattle.fz_pass.proofs.Cleared.{cleared_none}
-use Rattle.fz_pass.proofs.Members.{some_of, filter_map_in, filter_map_out, filter_in, key_in, rising_from}
+use Rattle.fz_model.proofs.MapEntries.{key_in}
+use Rattle.fz_pass.proofs.Members.{some_of, filter_map_in, filter_map_out, filter_in, rising_from}
 use Rattle.fz_pass.proofs.Reached.{no_candidate}
 use Rattle.fz_pass.proofs.Sorted.{keys_rise}
 

@@ -13,7 +13,8 @@ use Rattle.fz_model.specs.declared.answers.Registration.{Registration}
 use Rattle.fz_model.specs.Pass.{without_picks}
 use Rattle.fz_model.proofs.Maps.{get-retain, get-remove_same, get-remove_other}
 use Rattle.fz_pass.specs.Plans.{without_all}
-use Rattle.fz_pass.proofs.Members.{key_in, filter_in}
+use Rattle.fz_model.proofs.MapEntries.{key_in}
+use Rattle.fz_pass.proofs.Members.{filter_in}
 
 module _ {X : Type 0} where
   pub remove_turns : (m : Map X) (a b : ℕ) → remove (remove m a) b ≡ remove (remove m b) a

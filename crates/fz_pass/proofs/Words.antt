@@ -1,7 +1,7 @@
 -- The words of an object, by offsets from its start.
 use Rattle.std.proofs.Common.{◌≡◌, ◌≢◌, ℕ, ◌+◌, ◌-◌, ◌<◌, ◌≤◌, ◌⊎◌, ◌↔◌, Bool, true, false, cond, not, T, List, [], ◌∷◌, length, Option, Some, None, is_none, option_map, unwrap_or, refl, sym, ap, ◌∙◌, subst, inl, inr, ⊎_elim, arith, nat_cmp, nat_le, slice_index, Contains, IsTrue}
 use Rattle.std.specs.Option.{option_map_or, option_and_then}
-use Rattle.std.proofs.lemmas.Bool.{both_ways, and_from, and_right, and_cases, le-leb, lt-ltb, le-ltb, ltb-false, cases_eq, cases_lt}
+use Rattle.std.proofs.lemmas.Bool.{both_ways, and_right, and_cases, le-leb, le-ltb, ltb-false, cases_eq, cases_lt}
 use Rattle.std.proofs.lemmas.Option.{same_Some, none-some, get_or_from_slice_get, slice_get_within, slice_get-get_or}
 use Rattle.std.specs.Ordering.{eq_by_cmp}
 use Rattle.std.specs.List.{find}
@@ -16,13 +16,15 @@ use Rattle.fz_model.specs.declared.refusal.Refusal.{Refusal}
 use Rattle.fz_model.specs.declared.refusal.Refusal.TheVariants.{NotPointer, OutsideObject}
 use Rattle.fz_model.specs.declared.kinds.ObjKind.TheVariants.{Scanned}
 use Rattle.fz_model.proofs.Lists.{place_of, contains_at}
+use Rattle.fz_model.proofs.Objects.{to_covers}
 use Rattle.fz_model.specs.declared.kinds.ObjKind.{ObjKind}
 use Rattle.fz_pass.specs.Sets.{has}
 use Rattle.fz_pass.specs.Traces.{pointed_at}
-use Rattle.fz_pass.proofs.Sorted.{other_key, own_key, T-first, T-second, below_found}
+use Rattle.fz_model.proofs.MapEntries.{other_key, own_key, T-first, T-second}
+use Rattle.fz_pass.proofs.Sorted.{below_found}
 
 inside : (start i : ℕ) (o : Object) → i < length o.words → covers (start, o) (start + i) ≡ true
-inside start i o h = and_from _ _ (le-leb start (start + i) (omega arith)) (lt-ltb (start + i) (start + length o.words) (omega arith))
+inside start i o h = to_covers start (start + i) o (omega arith) (omega arith)
 
 -- the object is the first that covers its start: so it is the first that covers each of its words
 find_within : (start i : ℕ) (o : Object) (es : List (ℕ × Object)) → T (is_sorted nat_cmp es) → finmap.find nat_cmp start es ≡ Some o → option_map (λ e. e.0) (find (λ e. covers e start) es) ≡ Some start → i < length o.words → option_map (λ e. e.0) (find (λ e. covers e (start + i)) es) ≡ Some start

@@ -11,7 +11,7 @@ use Rattle.fz_blocks.specs.BlockSets.{Blocks, IsLeast}
 use Rattle.fz_model.specs.Allocation.{place_for}
 use Rattle.fz_blocks.specs.Cells.{Cells, blank}
 use Rattle.fz_blocks.specs.Layout.{AreTied, Fills, class_of, claimed_in}
-use Rattle.fz_blocks.proofs.Claiming.{IsDone, as_room, as_ready, room_in_list, room_ready, room_filled, bare_in_list, bare_ready_then, bare_filled, nowhere, causes_none, causes_space}
+use Rattle.fz_blocks.proofs.Claiming.{IsDone, as_room, as_ready, room_in_list, room_ready, room_filled, bare_in_list, bare_low, bare_ready_then, bare_filled, nowhere, causes_none, causes_space}
 use Rattle.fz_blocks.proofs.block_map.BlockMap.claim.Goals as goal
 
 pub claim_in-requires-clause-within : goal.claim_in-requires-clause-within
@@ -65,17 +65,13 @@ pub remove-requires : goal.remove-requires
 remove-requires c =
     let sized : 1 ≤ c.args.size = omega arith in
     let read = as_room c.self.inside.rooms.items c.args.size c.args.kind c.class_of-class.result c.index.result.now c.self.invariant.classes sized c.if-size-gt-BLOCK_WORDS.false c.class_of-class.ensures c.index.ensures in
-    let none = sym read ∙ c.in_default.ensures in
-    let lt = bare_in_list c.self.inside.blocks.items c.self.inside.bare c.self.inside.rooms.items c.self.invariant c.args.size c.args.kind sized c.if-size-gt-BLOCK_WORDS.false none c.in-Some-first.block c.in-Some-first.ensures in
-    omega (arith, lt, c.self.invariant.few)
+    bare_low c.self.inside.blocks.items c.self.inside.bare c.self.inside.rooms.items c.self.invariant c.args.size c.args.kind sized c.if-size-gt-BLOCK_WORDS.false (sym read ∙ c.in_default.ensures) c.in-Some-first.block c.in-Some-first.ensures
 
 pub insert-requires : goal.insert-requires
 insert-requires c =
     let sized : 1 ≤ c.args.size = omega arith in
     let read = as_room c.self.inside.rooms.items c.args.size c.args.kind c.class_of-class.result c.index.result.now c.self.invariant.classes sized c.if-size-gt-BLOCK_WORDS.false c.class_of-class.ensures c.index.ensures in
-    let none = sym read ∙ c.in_default.ensures in
-    let lt = bare_in_list c.self.inside.blocks.items c.self.inside.bare c.self.inside.rooms.items c.self.invariant c.args.size c.args.kind sized c.if-size-gt-BLOCK_WORDS.false none c.in-Some-first.block c.in-Some-first.ensures in
-    omega (arith, lt, c.self.invariant.few)
+    bare_low c.self.inside.blocks.items c.self.inside.bare c.self.inside.rooms.items c.self.invariant c.args.size c.args.kind sized c.if-size-gt-BLOCK_WORDS.false (sym read ∙ c.in_default.ensures) c.in-Some-first.block c.in-Some-first.ensures
 
 pub index_mut-requires-3 : goal.index_mut-requires-3
 index_mut-requires-3 c =

@@ -1,5 +1,4 @@
-use Rattle.std.proofs.Common.{◌≡◌, ◌∙◌, ◌-◌, ◌/◌, ap, sym, refl, subst, arith, rules, length, set, Some, true, slice_get, slice_index_or, List}
-use Rattle.std.proofs.lemmas.Option.{slice_get_read}
+use Rattle.std.proofs.Common.{◌≡◌, ◌∙◌, ◌-◌, ◌/◌, ap, sym, subst, arith, rules, length, set, true, slice_index_or, List}
 use Rattle.std.specs.FinMap.{contains_key}
 use Rattle.std.specs.FinMap as maps
 use Rattle.std.specs.FinSet as sets
@@ -7,7 +6,7 @@ use Rattle.fz_blocks.proofs.Claiming.{as_room}
 use Rattle.fz_blocks.specs.BlockSets.{Blocks}
 use Rattle.fz_blocks.specs.Cells.{Cells}
 use Rattle.fz_blocks.specs.Layout.{class_of, claimed_in}
-use Rattle.fz_blocks.proofs.Releasing.{IsFreed, start_high, start_in_list, found, freed_bare, freed_room}
+use Rattle.fz_blocks.proofs.Releasing.{IsFreed, start_high, start_in_list, block_read, found, freed_bare, freed_room}
 use Rattle.fz_blocks.proofs.block_map.BlockMap.release.Goals as goal
 
 pub overflow_sub-offset : goal.overflow_sub-offset
@@ -24,25 +23,19 @@ index_mut-place-requires c =
 pub class_of-class-requires-clause-sized : goal.class_of-class-requires-clause-sized
 class_of-class-requires-clause-sized c =
     let claimed = subst (λ (v : Cells). contains_key v.claimed c.args.start ≡ true) (sym c.self.view_is) c.requires in
-    let lt = start_in_list c.self.inside.blocks.items c.self.invariant.sound c.args.start claimed in
-    let here : slice_get c.self.inside.blocks.items ((c.args.start - 65536) / 64) ≡ Some c.index_mut-place.result.now = slice_get_read c.self.inside.blocks.items (length c.self.inside.blocks.items) ((c.args.start - 65536) / 64) c.index_mut-place.result.now refl lt c.index_mut-place.ensures.value in
-    let sound = c.self.invariant.sound ((c.args.start - 65536) / 64) c.index_mut-place.result.now here in
-    omega (arith, sound.sized, c.from.ensures)
+    let old = block_read c.self.inside.blocks.items c.self.invariant.sound c.args.start claimed c.index_mut-place.result.now c.index_mut-place.ensures.value in
+    omega (arith, old.1.sized, c.from.ensures)
 
 pub class_of-class-requires-clause-small : goal.class_of-class-requires-clause-small
 class_of-class-requires-clause-small c =
     let claimed = subst (λ (v : Cells). contains_key v.claimed c.args.start ≡ true) (sym c.self.view_is) c.requires in
-    let lt = start_in_list c.self.inside.blocks.items c.self.invariant.sound c.args.start claimed in
-    let here : slice_get c.self.inside.blocks.items ((c.args.start - 65536) / 64) ≡ Some c.index_mut-place.result.now = slice_get_read c.self.inside.blocks.items (length c.self.inside.blocks.items) ((c.args.start - 65536) / 64) c.index_mut-place.result.now refl lt c.index_mut-place.ensures.value in
-    let sound = c.self.invariant.sound ((c.args.start - 65536) / 64) c.index_mut-place.result.now here in
-    omega (arith, sound.small, c.from.ensures)
+    let old = block_read c.self.inside.blocks.items c.self.invariant.sound c.args.start claimed c.index_mut-place.result.now c.index_mut-place.ensures.value in
+    omega (arith, old.1.small, c.from.ensures)
 
 pub release-requires-clause-sound : goal.release-requires-clause-sound
 release-requires-clause-sound c =
     let claimed = subst (λ (v : Cells). contains_key v.claimed c.args.start ≡ true) (sym c.self.view_is) c.requires in
-    let lt = start_in_list c.self.inside.blocks.items c.self.invariant.sound c.args.start claimed in
-    let here : slice_get c.self.inside.blocks.items ((c.args.start - 65536) / 64) ≡ Some c.index_mut-place.result.now = slice_get_read c.self.inside.blocks.items (length c.self.inside.blocks.items) ((c.args.start - 65536) / 64) c.index_mut-place.result.now refl lt c.index_mut-place.ensures.value in
-    c.self.invariant.sound ((c.args.start - 65536) / 64) c.index_mut-place.result.now here
+    (block_read c.self.inside.blocks.items c.self.invariant.sound c.args.start claimed c.index_mut-place.result.now c.index_mut-place.ensures.value).1
 
 pub remove-requires : goal.remove-requires
 remove-requires c =
@@ -65,12 +58,10 @@ insert-requires-else-is_bare c =
 emptied : (c : goal.After-insert) → IsFreed c.self.inside.blocks.items (set c.self.inside.blocks.items ((c.args.start - 65536) / 64) c.release.new.self) c.insert.new.self (set c.self.inside.rooms.items c.class_of-class.result c.remove.new.self) c.args.start
 emptied c =
     let claimed = subst (λ (v : Cells). contains_key v.claimed c.args.start ≡ true) (sym c.self.view_is) c.requires in
-    let lt = start_in_list c.self.inside.blocks.items c.self.invariant.sound c.args.start claimed in
-    let here : slice_get c.self.inside.blocks.items ((c.args.start - 65536) / 64) ≡ Some c.index_mut-place.result.now = slice_get_read c.self.inside.blocks.items (length c.self.inside.blocks.items) ((c.args.start - 65536) / 64) c.index_mut-place.result.now refl lt c.index_mut-place.ensures.value in
-    let sound = c.self.invariant.sound ((c.args.start - 65536) / 64) c.index_mut-place.result.now here in
-    let at = found c.self.inside.blocks.items c.self.invariant.sound c.args.start claimed c.index_mut-place.result.now here in
+    let old = block_read c.self.inside.blocks.items c.self.invariant.sound c.args.start claimed c.index_mut-place.result.now c.index_mut-place.ensures.value in
+    let at = found c.self.inside.blocks.items c.self.invariant.sound c.args.start claimed c.index_mut-place.result.now old.0 in
     let class_is = c.class_of-class.ensures ∙ ap (λ n. class_of n c.index_mut-place.result.now.kind) c.from.ensures in
-    let read = as_room c.self.inside.rooms.items c.index_mut-place.result.now.size c.index_mut-place.result.now.kind c.class_of-class.result c.index_mut.result.now c.self.invariant.classes sound.sized sound.small class_is c.index_mut.ensures.value in
+    let read = as_room c.self.inside.rooms.items c.index_mut-place.result.now.size c.index_mut-place.result.now.kind c.class_of-class.result c.index_mut.result.now c.self.invariant.classes old.1.sized old.1.small class_is c.index_mut.ensures.value in
     let done = freed_bare c.self.inside.blocks.items c.self.inside.bare c.self.inside.rooms.items c.self.invariant c.args.start ((c.args.start - 65536) / 64) c.index_mut-place.result.now c.release.new.self at c.release.ensures (sym c.is_bare.ensures ∙ c.if-is_bare.true) in
     let P : Blocks → List Blocks → Type 0 = λ s rs. IsFreed c.self.inside.blocks.items (set c.self.inside.blocks.items ((c.args.start - 65536) / 64) c.release.new.self) s rs c.args.start in
     subst (λ s. P s (set c.self.inside.rooms.items c.class_of-class.result c.remove.new.self)) (sym c.insert.ensures)
@@ -80,12 +71,10 @@ emptied c =
 freed : (c : goal.After-self-else-is_bare-1) → IsFreed c.self.inside.blocks.items (set c.self.inside.blocks.items ((c.args.start - 65536) / 64) c.release.new.self) c.self.inside.bare (set c.self.inside.rooms.items c.class_of-class.result c.insert-else-is_bare.new.self) c.args.start
 freed c =
     let claimed = subst (λ (v : Cells). contains_key v.claimed c.args.start ≡ true) (sym c.self.view_is) c.requires in
-    let lt = start_in_list c.self.inside.blocks.items c.self.invariant.sound c.args.start claimed in
-    let here : slice_get c.self.inside.blocks.items ((c.args.start - 65536) / 64) ≡ Some c.index_mut-place.result.now = slice_get_read c.self.inside.blocks.items (length c.self.inside.blocks.items) ((c.args.start - 65536) / 64) c.index_mut-place.result.now refl lt c.index_mut-place.ensures.value in
-    let sound = c.self.invariant.sound ((c.args.start - 65536) / 64) c.index_mut-place.result.now here in
-    let at = found c.self.inside.blocks.items c.self.invariant.sound c.args.start claimed c.index_mut-place.result.now here in
+    let old = block_read c.self.inside.blocks.items c.self.invariant.sound c.args.start claimed c.index_mut-place.result.now c.index_mut-place.ensures.value in
+    let at = found c.self.inside.blocks.items c.self.invariant.sound c.args.start claimed c.index_mut-place.result.now old.0 in
     let class_is = c.class_of-class.ensures ∙ ap (λ n. class_of n c.index_mut-place.result.now.kind) c.from.ensures in
-    let read = as_room c.self.inside.rooms.items c.index_mut-place.result.now.size c.index_mut-place.result.now.kind c.class_of-class.result c.index_mut-else-is_bare.result.now c.self.invariant.classes sound.sized sound.small class_is c.index_mut-else-is_bare.ensures.value in
+    let read = as_room c.self.inside.rooms.items c.index_mut-place.result.now.size c.index_mut-place.result.now.kind c.class_of-class.result c.index_mut-else-is_bare.result.now c.self.invariant.classes old.1.sized old.1.small class_is c.index_mut-else-is_bare.ensures.value in
     let done = freed_room c.self.inside.blocks.items c.self.inside.bare c.self.inside.rooms.items c.self.invariant c.args.start ((c.args.start - 65536) / 64) c.index_mut-place.result.now c.release.new.self at c.release.ensures (sym c.is_bare.ensures ∙ c.if-is_bare.false) in
     let P : List Blocks → Type 0 = λ rs. IsFreed c.self.inside.blocks.items (set c.self.inside.blocks.items ((c.args.start - 65536) / 64) c.release.new.self) c.self.inside.bare rs c.args.start in
     subst (λ r. P (set c.self.inside.rooms.items c.class_of-class.result r)) (sym (c.insert-else-is_bare.ensures ∙ ap (λ s. sets.insert s ((c.args.start - 65536) / 64)) read))

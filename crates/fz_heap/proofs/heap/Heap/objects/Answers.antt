@@ -3,8 +3,8 @@ use Rattle.fz_model.specs.Memory.{points}
 use Rattle.std.specs.FinMap.{keys}
 use Rattle.fz_heap.specs.Contents.{Contents}
 use Rattle.fz_heap.specs.Flat.{object_at}
-use Rattle.fz_heap.proofs.Finding.{all_keys}
-use Rattle.fz_heap.proofs.Remade.{keys-remade}
+use Rattle.fz_model.proofs.MapEntries.{all_keys}
+use Rattle.fz_heap.proofs.Mapped.{keys-mapped}
 use Rattle.fz_heap.proofs.Flat.{start_here}
 use Rattle.fz_heap.proofs.heap.Heap.objects.Goals as goal
 
@@ -12,7 +12,7 @@ pub returns-clause-starts : goal.returns-clause-starts
 returns-clause-starts c =
     let h = c.self.inside in
     let all : c.starts.result ≡ keys h.map.claimed = search rules in
-    c.of.ensures ∙ all ∙ sym (keys-remade (object_at h.words.items h.births.items) h.map.claimed) ∙ ap (λ (v : Contents). keys v.objects) c.self.view_is
+    c.of.ensures ∙ all ∙ sym (keys-mapped (object_at h.words.items h.births.items) h.map.claimed) ∙ ap (λ (v : Contents). keys v.objects) c.self.view_is
 
 pub returns-clause-within : goal.returns-clause-within
 returns-clause-within c =

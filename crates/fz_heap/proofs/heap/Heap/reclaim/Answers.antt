@@ -5,7 +5,7 @@ use Rattle.fz_model.specs.State.{Map, Object}
 use Rattle.fz_heap.specs.Contents.{Contents}
 use Rattle.fz_heap.specs.Flat.{object_at, objects_of}
 use Rattle.fz_heap.specs.Layout.{IsHeap, IsLaidOut}
-use Rattle.fz_heap.proofs.Remade.{remade-remove, has_key}
+use Rattle.fz_heap.proofs.Mapped.{mapped-remove, has_key}
 use Rattle.fz_heap.proofs.Laying.{laid_remove}
 use Rattle.fz_heap.proofs.heap.Heap.reclaim.Goals as goal
 
@@ -21,7 +21,7 @@ invariant_of-self c =
     let start = c.args.start in
     subst (λ (m : Cells). IsHeap m h.words.items h.births.items) (sym c.release.ensures)
     (record {
-      laid_out = subst (IsLaidOut h.map.blocks) (sym (remade-remove (λ a. blank_object) h.map.claimed start)) (laid_remove h.map.blocks (blank h.map.claimed) c.self.invariant.laid_out start);
+      laid_out = subst (IsLaidOut h.map.blocks) (sym (mapped-remove (λ a. blank_object) h.map.claimed start)) (laid_remove h.map.blocks (blank h.map.claimed) c.self.invariant.laid_out start);
       words_len = c.self.invariant.words_len;
       births_len = c.self.invariant.births_len;
     })
@@ -30,5 +30,5 @@ pub returns : goal.returns
 returns c =
     let h = c.self.inside in
     ap (λ (m : Cells). record { blocks = m.blocks; objects = objects_of m.claimed h.words.items h.births.items; next_birth = h.next_birth }) c.release.ensures
-    ∙ ap (λ (m : Map Object). record { blocks = h.map.blocks; objects = m; next_birth = h.next_birth }) (remade-remove (object_at h.words.items h.births.items) h.map.claimed c.args.start)
+    ∙ ap (λ (m : Map Object). record { blocks = h.map.blocks; objects = m; next_birth = h.next_birth }) (mapped-remove (object_at h.words.items h.births.items) h.map.claimed c.args.start)
     ∙ ap (λ (v : Contents). record v { objects = remove v.objects c.args.start }) c.self.view_is
