@@ -4,10 +4,7 @@ ghost use Rattle.std.specs.Prelude.{◌≡◌, ◌≢◌, ◌<◌, ◌≤◌, �
 ghost use Rattle.fz_blocks.specs.Starts.{starts_at, IsFirstStart};
 ghost use Rattle.fz_blocks.specs.Blocks.{holds, is_bare, is_full, IsBlock, Claims, Frees};
 
-use fz_model::ObjKind;
-
-/// The words of a block.
-pub(crate) const BLOCK_WORDS: u64 = 64;
+use fz_model::{BLOCK_WORDS, ObjKind};
 
 /// A block of 64 words, whose cells have one size and one kind. Both say nothing while no cell is claimed.
 #[derive(Clone, Copy)]

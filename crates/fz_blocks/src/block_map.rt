@@ -12,19 +12,16 @@ ghost use Rattle.fz_blocks.specs.Blocks.{is_full, IsBlock};
 ghost use Rattle.fz_blocks.specs.Cells.{blank, claim_causes, AreLaidOut};
 ghost use Rattle.fz_blocks.specs.Layout.{Fills};
 
-use crate::block::{BLOCK_WORDS, Block};
+use crate::block::Block;
 use crate::block_set::BlockSet;
 use crate::class::{CLASSES, class_of};
 use crate::starts::Starts;
-use fz_model::{Addr, ObjKind, Refusal, Word};
+use fz_model::{Addr, BLOCK_WORDS, HEAP_START, ObjKind, Refusal, Word};
 use std::alloc::Global;
 use std::marker::Model;
 
 /// A heap has at least one block, and at most these.
 const MAX_BLOCKS: u64 = 4096;
-
-/// The first address of the heap.
-pub(crate) const HEAP_START: Addr = 65_536;
 
 /// Up to 4,096 blocks of 64 words each, from address 65,536 on, and the cells claimed in them.
 #[derive(Drop)]

@@ -3,9 +3,8 @@
 ghost use Rattle.std.specs.Prelude.{◌≡◌};
 ghost use Rattle.std.specs.Iterator.{YieldsFirst, item_count};
 
-use crate::block::{BLOCK_WORDS, Block};
-use crate::block_map::HEAP_START;
-use fz_model::Addr;
+use crate::block::Block;
+use fz_model::{Addr, BLOCK_WORDS, HEAP_START};
 use std::marker::Model;
 
 /// An iterator of the starts of all claimed cells, by rising address. A contract sees it as the list of those that are still to come.

@@ -6,18 +6,12 @@ ghost use Rattle.fz_model.specs.Memory.{points, word_at, filled, new_object};
 ghost use Rattle.fz_model.specs.Allocation.{place_for};
 ghost use Rattle.fz_model.specs.Causes.{IsRefusedFor, first_cause, bad_count, alloc_causes, place_causes};
 
-use crate::places::{HEAP_START, place_of, zero};
+use crate::places::{place_of, zero};
 use crate::starts::Starts;
 use fz_blocks::BlockMap;
-use fz_model::{Addr, ObjKind, Refusal, Word};
+use fz_model::{Addr, BLOCK_WORDS, COUNT_LIMIT, HEAP_START, ObjKind, Refusal, Word};
 use std::alloc::Global;
 use std::marker::Model;
-
-/// The words of a block.
-const BLOCK_WORDS: u64 = 64;
-
-/// Births stay below this.
-const MAX_BIRTHS: u64 = 1 << 48;
 
 /// A heap of up to 4,096 blocks of 64 words each, which begins at address 65,536.
 ///
@@ -95,7 +89,7 @@ impl Heap {
         if size == 0 || size > BLOCK_WORDS {
             return Err(Refusal::BadSize);
         }
-        if self.next_birth >= MAX_BIRTHS {
+        if self.next_birth >= COUNT_LIMIT {
             return Err(Refusal::Exhausted);
         }
         let start = self.map.claim(size, kind)?;

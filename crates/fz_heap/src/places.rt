@@ -6,10 +6,7 @@ ghost use Rattle.fz_blocks.specs.Cells.{blank};
 ghost use Rattle.fz_heap.specs.Flat.{IsPlace, IsZeroedAt};
 
 use fz_blocks::BlockMap;
-use fz_model::{Addr, Refusal, Word};
-
-/// The first address of the heap.
-pub(crate) const HEAP_START: Addr = 65_536;
+use fz_model::{Addr, HEAP_START, Refusal, Word};
 
 /// The place of the word at an offset from where a word points into a claimed cell.
 pub(crate) fn place_of(map: &BlockMap, word: Word, offset: u64) -> Result<usize, Refusal>

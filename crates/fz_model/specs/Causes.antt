@@ -53,6 +53,10 @@ other_object objects word address =
 abbrev pub no_start : Map Object → ℕ → Bool × Refusal
 no_start objects word = (is_none (get objects word), NotStart)
 
+-- a word that has to be the start of an object
+abbrev pub start_causes : Map Object → ℕ → Causes
+start_causes objects word = no_object objects word ∷ no_start objects word ∷ []
+
 -- the place at a word plus an offset
 abbrev pub place_causes : Map Object → ℕ → ℕ → Causes
 place_causes objects word offset = no_object objects word ∷ other_object objects word (word + offset) ∷ []

@@ -17,7 +17,7 @@ use Rattle.fz_model.specs.declared.refusal.Refusal.{Refusal}
 use Rattle.fz_model.specs.declared.refusal.Refusal.TheVariants.{BadSlot, BadCount, CycleOpen, NoCycle, NotHeld, Closed, Exhausted}
 use Rattle.fz_model.specs.State.{Map, Core}
 use Rattle.fz_model.specs.Memory.{slot_word}
-use Rattle.fz_model.specs.Causes.{Causes, count_limit, is_off_heap, no_object, no_start, place_causes, full, alloc_causes, register_causes}
+use Rattle.fz_model.specs.Causes.{Causes, count_limit, is_off_heap, place_causes, full, alloc_causes, register_causes, start_causes}
 
 -- `off` counts words from the word of the slot; `Mark` has its budget in objects
 pub data Event : Type 0 where
@@ -89,15 +89,15 @@ module _ (c : Core) where
   causes (Register frame slot kind proc cd) =
       let word = slot_word c frame slot in
       bad_slot frame slot
-      ∷ (if is_off_heap c.blocks word then [] else (no_object c.objects word ∷ no_start c.objects word ∷ register_causes c.registrations c.next_number word))
+      ∷ (if is_off_heap c.blocks word then [] else (start_causes c.objects word ++ register_causes c.registrations c.next_number word))
   causes (Unregister frame slot) =
       let word = slot_word c frame slot in
-      bad_slot frame slot ∷ (if is_off_heap c.blocks word then [] else (no_object c.objects word ∷ no_start c.objects word ∷ []))
+      bad_slot frame slot ∷ (if is_off_heap c.blocks word then [] else start_causes c.objects word)
   causes (Link which frame slot off to_frame to_slot) =
       let word = slot_word c frame slot in
       let target = slot_word c to_frame to_slot in
       bad_slot frame slot ∷ bad_slot to_frame to_slot
-      ∷ (place_causes c.objects word off ++ (no_object c.objects target ∷ no_start c.objects target ∷ full (links_of c which) (word + off) ∷ []))
+      ∷ (place_causes c.objects word off ++ (start_causes c.objects target ++ full (links_of c which) (word + off) ∷ []))
   causes (Unlink which frame slot off) = bad_slot frame slot ∷ place_causes c.objects (slot_word c frame slot) off
   causes (MoveLink which frame slot off to_frame to_slot to_off) =
       bad_slot frame slot ∷ bad_slot to_frame to_slot

@@ -11,3 +11,4 @@ pub mod Headline
 pub mod Codes
 pub mod Seen
 pub mod Refusals
+pub mod Sound

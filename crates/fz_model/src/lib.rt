@@ -6,6 +6,7 @@
 mod answers;
 mod headline;
 mod kinds;
+mod limits;
 mod refusal;
 
 pub use answers::{
@@ -13,6 +14,7 @@ pub use answers::{
 };
 pub use headline::every_run;
 pub use kinds::{LinkKind, ObjKind, RegKind};
+pub use limits::{BLOCK_WORDS, COUNT_LIMIT, HEAP_START};
 pub use refusal::Refusal;
 
 /// A word number of the heap.

@@ -3,12 +3,9 @@
 ghost use Rattle.std.specs.Prelude.{◌≡◌, ◌≤◌, ◌<◌, ◌+◌, ◌*◌, ◌==◌, ◌||◌, if◌then◌else◌, ℕ, false, not, length, IfOk};
 ghost use Rattle.fz_pass.specs.Sets.{has, vacant};
 
-use fz_model::Addr;
+use fz_model::{Addr, HEAP_START};
 use std::alloc::{AllocError, Global};
 use std::marker::Model;
-
-/// The address of a heap's first word.
-const FIRST: Addr = 65_536;
 
 /// A set of objects of a heap, by their starts. A contract sees one flag for each word of the heap's blocks.
 #[derive(Drop)]
@@ -39,10 +36,10 @@ impl ObjectSet {
     pub fn contains(&self, start: Addr) -> bool
         ensures { result ≡ has self.now start }
     {
-        start >= FIRST
+        start >= HEAP_START
             && self
                 .flags
-                .get((start - FIRST) as usize)
+                .get((start - HEAP_START) as usize)
                 .copied()
                 .unwrap_or(false)
     }
@@ -55,7 +52,7 @@ impl ObjectSet {
         ensures inserted { (a : ℕ) → has self.new a ≡ (has self.old a || a == start) }
         ensures vacant { vacant self.new + (if result then 1 else 0) ≡ vacant self.old }
     {
-        let flag = &mut self.flags[(start - FIRST) as usize];
+        let flag = &mut self.flags[(start - HEAP_START) as usize];
         let fresh = !*flag;
         *flag = true;
         fresh

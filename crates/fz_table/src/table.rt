@@ -9,13 +9,10 @@ ghost use Rattle.fz_model.specs.Steps.{old_of};
 ghost use Rattle.fz_model.specs.declared.refusal.Refusal.TheVariants.{Exhausted};
 
 use crate::registrations::Registrations;
-use fz_model::{Addr, Old, Refusal, RegKind, Registration, Word};
+use fz_model::{Addr, COUNT_LIMIT, Old, Refusal, RegKind, Registration, Word};
 use indexmap::IndexMap;
 use std::alloc::Global;
 use std::marker::Model;
-
-/// Registration numbers stay below this.
-const NUMBER_LIMIT: u64 = 1 << 48;
 
 /// How many objects may be registered at one time.
 const TABLE_LIMIT: usize = 65_536;
@@ -81,7 +78,7 @@ impl Table {
         }) }
     {
         let number = self.next_number;
-        if number >= NUMBER_LIMIT {
+        if number >= COUNT_LIMIT {
             return Err(Refusal::Exhausted);
         }
         if self.is_full_for(object) {

@@ -11,7 +11,8 @@ use Rattle.fz_model.specs.Memory.{filled, new_object, word_at}
 use Rattle.fz_model.specs.Allocation.{place_for}
 use Rattle.fz_model.specs.Causes.{Causes, first_cause, IsRefusedFor, alloc_causes, place_causes}
 use Rattle.fz_model.specs.Events.{Event, Alloc, Load, Store, Set, Copy, Finish, Outstanding, Queue, bad_slot, same_entry, causes, may_lack_memory}
-use Rattle.fz_model.proofs.Sound.{IsSound, finish_sound}
+use Rattle.fz_model.specs.Sound.{IsSound}
+use Rattle.fz_model.proofs.Sound.{finish_sound}
 use Rattle.fz_heap.specs.Contents.{Contents}
 use Rattle.fz_table.specs.Registered.{Registered}
 use Rattle.fz_world.specs.Does.{Does}

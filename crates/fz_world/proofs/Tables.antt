@@ -8,12 +8,12 @@ use Rattle.fz_model.specs.declared.answers.RegAnswer.TheVariants.{Outside, Numbe
 use Rattle.fz_model.specs.declared.refusal.Refusal.{Refusal}
 use Rattle.fz_model.specs.declared.refusal.Refusal.TheVariants.{NoMemory}
 use Rattle.fz_model.specs.State.{Core}
-use Rattle.fz_model.specs.Causes.{Causes, first_cause, IsRefusedFor, is_off_heap, register_causes}
+use Rattle.fz_model.specs.Causes.{start_causes, Causes, first_cause, IsRefusedFor, is_off_heap, register_causes}
 use Rattle.fz_model.specs.Events.{Event, Register, Unregister, bad_slot}
 use Rattle.fz_model.specs.Steps.{old_of}
 use Rattle.fz_heap.specs.Contents.{Contents}
 use Rattle.fz_table.specs.Registered.{Registered}
-use Rattle.fz_world.specs.Does.{Does, start_causes}
+use Rattle.fz_world.specs.Does.{Does}
 use Rattle.fz_world.specs.Ready.{Ready}
 use Rattle.fz_world.specs.Slots.{GivesSlot, word_of}
 use Rattle.fz_world.specs.World.{core_of}

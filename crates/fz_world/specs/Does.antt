@@ -1,9 +1,9 @@
 -- A world stands for a state of the model, and each of its calls is a step of the model from that state.
 use Rattle.std.specs.Prelude.{◌≡◌, ℕ, [], ◌∷◌, Result}
 use Rattle.fz_model.specs.declared.refusal.Refusal.{Refusal}
-use Rattle.fz_model.specs.State.{Map, Object, Core, State}
+use Rattle.fz_model.specs.State.{Core, State}
 use Rattle.fz_model.specs.Seen.{SeenIsClosed}
-use Rattle.fz_model.specs.Causes.{Causes, bad_count, no_object, no_start}
+use Rattle.fz_model.specs.Causes.{Causes, bad_count}
 use Rattle.fz_model.specs.Events.{Event, Answer}
 use Rattle.fz_model.specs.Steps.{Step}
 
@@ -19,7 +19,3 @@ Does old e reply new = (s : State) → StandsFor old s → (t : State) × Step s
 -- the causes of refusal of an opening
 abbrev pub open_causes : ℕ → ℕ → Causes
 open_causes blocks frames = bad_count 4096 blocks ∷ bad_count 8 frames ∷ []
-
--- a word that has to be the start of an object
-abbrev pub start_causes : Map Object → ℕ → Causes
-start_causes objects word = no_object objects word ∷ no_start objects word ∷ []

@@ -2,33 +2,27 @@
 
 ghost use Rattle.std.specs.Prelude.{◌≡◌, ◌<◌, ◌+◌, ◌*◌, length, true, false, None, Ok, Some, IfOk, IfErr, OnOk};
 ghost use Rattle.fz_model.specs.State.{opening};
-ghost use Rattle.fz_model.specs.Causes.{IsRefusedFor, first_cause, is_off_heap, count_limit};
+ghost use Rattle.fz_model.specs.Causes.{start_causes, IsRefusedFor, first_cause, is_off_heap, count_limit};
 ghost use Rattle.fz_model.specs.Events.{Alloc, Load, Store, Set, Copy, Register, Unregister, Collect, Finish, Outstanding, Queue};
 ghost use Rattle.fz_model.specs.Reachability.{IsReachable, Computes};
 ghost use Rattle.fz_pass.specs.Sets.{has};
-ghost use Rattle.fz_world.specs.Does.{StandsFor, Does, open_causes, start_causes};
+ghost use Rattle.fz_world.specs.Does.{StandsFor, Does, open_causes};
 
 use crate::frames::Frames;
 use crate::ready::Ready;
 use crate::roots::reachable;
 use fz_heap::Heap;
-use fz_model::{Addr, Entry, ObjKind, Old, Passed, Refusal, RegAnswer, RegKind, Word};
+use fz_model::{
+    Addr, BLOCK_WORDS, COUNT_LIMIT, Entry, HEAP_START, ObjKind, Old, Passed, Refusal, RegAnswer,
+    RegKind, Word,
+};
 use fz_pass::{ObjectSet, decide};
 use fz_table::Table;
 use std::alloc::{AllocError, Global};
 use std::marker::Model;
 
-/// The address of the heap's first word.
-const HEAP_START: u64 = 65_536;
-
-/// Passes stay below this.
-const COUNT_LIMIT: u64 = 1 << 48;
-
 /// The most frames of a world.
 const MAX_FRAMES: u64 = 8;
-
-/// The number of words of a block.
-const BLOCK_WORDS: u64 = 64;
 
 /// How a world opens.
 #[derive(Clone, Copy, Debug, PartialEq, Eq)]
@@ -54,7 +48,7 @@ pub struct World {
 impl Model for World {
     ghost use Rattle.fz_model.specs.State.{Core};
     ghost use Rattle.fz_model.specs.Codes.{core_code};
-    ghost use Rattle.fz_model.proofs.Sound.{IsSound};
+    ghost use Rattle.fz_model.specs.Sound.{IsSound};
     ghost use Rattle.fz_world.specs.World.{core_of};
 
     ghost Value = { Core };

@@ -7,11 +7,8 @@ ghost use Rattle.std.specs.FinMap.{contains_key};
 use crate::outcome::Outcome;
 use fz_heap::Heap;
 use fz_model::ObjKind::Scanned;
-use fz_model::{Addr, Refusal, Word};
+use fz_model::{Addr, BLOCK_WORDS, Refusal, Word};
 use std::alloc::Global;
-
-/// The words of a block.
-const BLOCK_WORDS: u64 = 64;
 
 /// A heap of just the blocks that so many objects of this size take.
 fn heap_for(alloc: Global, count: u64, size: u64) -> Result<Heap, Refusal> {

@@ -17,7 +17,7 @@ pub returns-in_err-start-clause-refused : goal.returns-in_err-start-clause-refus
 returns-in_err-start-clause-refused c =
     let h = c.self.inside in
     let p = err_from_is_err_and c.from_residual.result c.from_residual.ensures.1 in
-    rw (p.1, p.2) (inl (alloc_now h.map h.words.items h.births.items c.args.self.now h.next_birth c.self.view_is c.args.size c.args.kind c.if-self-ge-MAX_BIRTHS.false ∙ c.in_err-start.ensures.refused))
+    rw (p.1, p.2) (inl (alloc_now h.map h.words.items h.births.items c.args.self.now h.next_birth c.self.view_is c.args.size c.args.kind c.if-self-ge-COUNT_LIMIT.false ∙ c.in_err-start.ensures.refused))
 
 pub overflow_sub-first : goal.overflow_sub-first
 overflow_sub-first c =
@@ -60,7 +60,7 @@ invariant_of-self-2 c =
 pub returns-clause-accepted : goal.returns-clause-accepted
 returns-clause-accepted c =
     let h = c.self.inside in
-    alloc_now h.map h.words.items h.births.items c.args.self.now h.next_birth c.self.view_is c.args.size c.args.kind c.if-self-ge-MAX_BIRTHS.false ∙ c.in_ok-start.ensures.accepted
+    alloc_now h.map h.words.items h.births.items c.args.self.now h.next_birth c.self.view_is c.args.size c.args.kind c.if-self-ge-COUNT_LIMIT.false ∙ c.in_ok-start.ensures.accepted
 
 pub returns-clause-place : goal.returns-clause-place
 returns-clause-place c =

@@ -1,7 +1,7 @@
 use Rattle.std.proofs.Common.{List, sym, subst}
 use Rattle.std.specs.FinMap.{empty}
 use Rattle.fz_model.specs.declared.answers.Entry.{Entry}
-use Rattle.fz_model.proofs.Sound.{IsSound}
+use Rattle.fz_model.specs.Sound.{IsSound}
 use Rattle.fz_model.proofs.Runs.{opening_sound}
 use Rattle.fz_heap.specs.Contents.{Contents}
 use Rattle.fz_table.specs.Registered.{Registered}
