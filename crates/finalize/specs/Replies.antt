@@ -68,15 +68,15 @@ taken_words (Some entry) =
 -- No step of a script asks for the queue.
 abbrev pub call_words : (e : Event) → Answer e → List Word
 call_words (Alloc frame slot size kind) answer = Text (codes "new") ∷ Number answer.0 ∷ Number answer.1 ∷ []
-call_words (Load frame slot off to_frame to_slot) answer = Text (codes "word") ∷ Number answer ∷ []
-call_words (Store frame slot off from_frame from_slot) answer = done
+call_words (Load frame slot offset to_frame to_slot) answer = Text (codes "word") ∷ Number answer ∷ []
+call_words (Store frame slot offset from_frame from_slot) answer = done
 call_words (Set frame slot word) answer = done
 call_words (Copy frame slot to_frame to_slot) answer = done
 call_words (Register frame slot kind proc cd) answer = registered_words answer
 call_words (Unregister frame slot) answer = unregistered_words answer
-call_words (Link which frame slot off to_frame to_slot) answer = linked_words answer
-call_words (Unlink which frame slot off) answer = unlinked_words answer
-call_words (MoveLink which frame slot off to_frame to_slot to_off) answer = moved_words answer
+call_words (Link which frame slot offset to_frame to_slot) answer = linked_words answer
+call_words (Unlink which frame slot offset) answer = unlinked_words answer
+call_words (MoveLink which frame slot offset to_frame to_slot to_offset) answer = moved_words answer
 call_words Begin answer = done
 call_words (Mark budget) answer = marked_words answer
 call_words Pause answer = passed_words answer

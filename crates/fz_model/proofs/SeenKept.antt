@@ -167,10 +167,10 @@ ended s t off moments = record {
   closed = λ on. absurd (both_ways t.cycle off on);
 }
 
-pub store_seen : (s t : State) (frame slot off from_frame from_slot : ℕ) → SeenIsClosed s → FramesWhole s.core → (bad_slot s.core from_frame from_slot).0 ≡ false → Accepts s (Store frame slot off from_frame from_slot) tt t.core → t.moments ≡ moments_after s t.core → SeenIsClosed t
-store_seen s t frame slot off from_frame from_slot h whole good a moments =
+pub store_seen : (s t : State) (frame slot offset from_frame from_slot : ℕ) → SeenIsClosed s → FramesWhole s.core → (bad_slot s.core from_frame from_slot).0 ≡ false → Accepts s (Store frame slot offset from_frame from_slot) tt t.core → t.moments ≡ moments_after s t.core → SeenIsClosed t
+store_seen s t frame slot offset from_frame from_slot h whole good a moments =
     let word = slot_word s.core from_frame from_slot in
-    let at = λ (x : ℕ). x == slot_word s.core frame slot + off in
+    let at = λ (x : ℕ). x == slot_word s.core frame slot + offset in
     let after = filled at word s.objects in
     seen_kept s t h moments
     (λ x b c.

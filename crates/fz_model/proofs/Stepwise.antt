@@ -69,17 +69,17 @@ alloc_sized c frame slot size kind none =
 pub accepted_sound : (s : State) (e : Event) (answer : Answer e) (new : Core) → Sound s.core → first_cause (causes s.core e) ≡ None → Accepts s e answer new → Sound new
 accepted_sound s (Alloc frame slot size kind) answer new h none a =
     subst Sound (sym a.3) (other_objects _ _ _ _ _ _ h (new_sized s.objects a.0 (record { kind = kind; birth = s.next_birth; words = replicate size 0 }) (alloc_sized s.core frame slot size kind none) h.sized) (new_object _ a.0 _ (free_place s.objects s.blocks size a.0 kind a.1)))
-accepted_sound s (Load frame slot off to_frame to_slot) answer new h none a = subst Sound (sym a.1) h
-accepted_sound s (Store frame slot off from_frame from_slot) answer new h none a = subst Sound (sym a) (other_objects _ _ _ _ _ _ h (written_sized (λ x. x == slot_word s.core frame slot + off) (slot_word s.core from_frame from_slot) s.objects h.sized) (written_object (λ x. x == slot_word s.core frame slot + off) (slot_word s.core from_frame from_slot) s.objects))
+accepted_sound s (Load frame slot offset to_frame to_slot) answer new h none a = subst Sound (sym a.1) h
+accepted_sound s (Store frame slot offset from_frame from_slot) answer new h none a = subst Sound (sym a) (other_objects _ _ _ _ _ _ h (written_sized (λ x. x == slot_word s.core frame slot + offset) (slot_word s.core from_frame from_slot) s.objects h.sized) (written_object (λ x. x == slot_word s.core frame slot + offset) (slot_word s.core from_frame from_slot) s.objects))
 accepted_sound s (Set frame slot word) answer new h none a = subst Sound (sym a) h
 accepted_sound s (Copy frame slot to_frame to_slot) answer new h none a = subst Sound (sym a) h
 accepted_sound s (Register frame slot kind proc cd) answer new h none a =
     let w = slot_word s.core frame slot in
     registered_sound s.core (is_off_heap s.blocks w) w (record { number = s.next_number; kind = kind; proc = proc; cd = cd }) new h (registering s.core frame slot (is_off_heap s.blocks w) (register_causes s.registrations s.next_number w) none) refl a.1
 accepted_sound s (Unregister frame slot) answer new h none a = unregistered_sound s.core (is_off_heap s.blocks (slot_word s.core frame slot)) (slot_word s.core frame slot) new h a.1
-accepted_sound s (Link which frame slot off to_frame to_slot) answer new h none a = subst Sound (sym a.1) (links_sound s.core which _ h)
-accepted_sound s (Unlink which frame slot off) answer new h none a = subst Sound (sym a.1) (links_sound s.core which _ h)
-accepted_sound s (MoveLink which frame slot off to_frame to_slot to_off) answer new h none a = subst Sound (sym a.1) (links_sound s.core which _ h)
+accepted_sound s (Link which frame slot offset to_frame to_slot) answer new h none a = subst Sound (sym a.1) (links_sound s.core which _ h)
+accepted_sound s (Unlink which frame slot offset) answer new h none a = subst Sound (sym a.1) (links_sound s.core which _ h)
+accepted_sound s (MoveLink which frame slot offset to_frame to_slot to_offset) answer new h none a = subst Sound (sym a.1) (links_sound s.core which _ h)
 accepted_sound s Begin answer new h none a = subst Sound (sym a) h
 accepted_sound s (Mark budget) answer new h none a = subst Sound (sym a.1) h
 accepted_sound s Pause answer new h none a = pass_keeps s.core a.0 answer new h (has_reachable s a.0 a.1) a.2
@@ -115,8 +115,8 @@ same_links c e new Long links is = same c e new _ is refl refl refl
 
 pub accepted_keeps : (s : State) (e : Event) (answer : Answer e) (new : Core) → IsFalse (is_pass e) → Accepts s e answer new → Keeps s.core e new
 accepted_keeps s (Alloc frame slot size kind) answer new other a = same s.core _ new _ a.3 refl refl refl
-accepted_keeps s (Load frame slot off to_frame to_slot) answer new other a = same s.core _ new _ a.1 refl refl refl
-accepted_keeps s (Store frame slot off from_frame from_slot) answer new other a = same s.core _ new _ a refl refl refl
+accepted_keeps s (Load frame slot offset to_frame to_slot) answer new other a = same s.core _ new _ a.1 refl refl refl
+accepted_keeps s (Store frame slot offset from_frame from_slot) answer new other a = same s.core _ new _ a refl refl refl
 accepted_keeps s (Set frame slot word) answer new other a = same s.core _ new _ a refl refl refl
 accepted_keeps s (Copy frame slot to_frame to_slot) answer new other a = same s.core _ new _ a refl refl refl
 accepted_keeps s (Register frame slot kind proc cd) answer new other a =
@@ -125,9 +125,9 @@ accepted_keeps s (Register frame slot kind proc cd) answer new other a =
 accepted_keeps s (Unregister frame slot) answer new other a =
     let w = slot_word s.core frame slot in
     same_either s.core (Unregister frame slot) new (record s.core { registrations = remove s.registrations w }) (is_off_heap s.blocks w) a.1 refl refl refl
-accepted_keeps s (Link which frame slot off to_frame to_slot) answer new other a = same_links s.core _ new which _ a.1
-accepted_keeps s (Unlink which frame slot off) answer new other a = same_links s.core _ new which _ a.1
-accepted_keeps s (MoveLink which frame slot off to_frame to_slot to_off) answer new other a = same_links s.core _ new which _ a.1
+accepted_keeps s (Link which frame slot offset to_frame to_slot) answer new other a = same_links s.core _ new which _ a.1
+accepted_keeps s (Unlink which frame slot offset) answer new other a = same_links s.core _ new which _ a.1
+accepted_keeps s (MoveLink which frame slot offset to_frame to_slot to_offset) answer new other a = same_links s.core _ new which _ a.1
 accepted_keeps s Begin answer new other a = same s.core _ new _ a refl refl refl
 accepted_keeps s (Mark budget) answer new other a = same s.core _ new _ a.1 refl refl refl
 accepted_keeps s Pause answer new other a = absurd (true≢false other)

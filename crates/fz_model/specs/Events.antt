@@ -19,18 +19,18 @@ use Rattle.fz_model.specs.State.{Map, Core}
 use Rattle.fz_model.specs.Memory.{slot_word}
 use Rattle.fz_model.specs.Causes.{Causes, count_limit, is_off_heap, place_causes, full, alloc_causes, register_causes, start_causes}
 
--- `off` counts words from the word of the slot; `Mark` has its budget in objects
+-- `offset` counts words from the word of the slot; `Mark` has its budget in objects
 pub data Event : Type 0 where
   Alloc : (frame slot size : ℕ) (kind : ObjKind) → Event
-  Load : (frame slot off to_frame to_slot : ℕ) → Event
-  Store : (frame slot off from_frame from_slot : ℕ) → Event
+  Load : (frame slot offset to_frame to_slot : ℕ) → Event
+  Store : (frame slot offset from_frame from_slot : ℕ) → Event
   Set : (frame slot word : ℕ) → Event
   Copy : (frame slot to_frame to_slot : ℕ) → Event
   Register : (frame slot : ℕ) (kind : RegKind) (proc cd : ℕ) → Event
   Unregister : (frame slot : ℕ) → Event
-  Link : (which : LinkKind) (frame slot off to_frame to_slot : ℕ) → Event
-  Unlink : (which : LinkKind) (frame slot off : ℕ) → Event
-  MoveLink : (which : LinkKind) (frame slot off to_frame to_slot to_off : ℕ) → Event
+  Link : (which : LinkKind) (frame slot offset to_frame to_slot : ℕ) → Event
+  Unlink : (which : LinkKind) (frame slot offset : ℕ) → Event
+  MoveLink : (which : LinkKind) (frame slot offset to_frame to_slot to_offset : ℕ) → Event
   Begin : Event
   Mark : (budget : ℕ) → Event
   Pause : Event
@@ -43,15 +43,15 @@ pub data Event : Type 0 where
 
 abbrev pub Answer : Event → Type 0
 Answer (Alloc frame slot size kind) = ℕ × ℕ
-Answer (Load frame slot off to_frame to_slot) = ℕ
-Answer (Store frame slot off from_frame from_slot) = Unit {0}
+Answer (Load frame slot offset to_frame to_slot) = ℕ
+Answer (Store frame slot offset from_frame from_slot) = Unit {0}
 Answer (Set frame slot word) = Unit {0}
 Answer (Copy frame slot to_frame to_slot) = Unit {0}
 Answer (Register frame slot kind proc cd) = RegAnswer
 Answer (Unregister frame slot) = Option Old
-Answer (Link which frame slot off to_frame to_slot) = LinkAnswer
-Answer (Unlink which frame slot off) = Bool
-Answer (MoveLink which frame slot off to_frame to_slot to_off) = MoveAnswer
+Answer (Link which frame slot offset to_frame to_slot) = LinkAnswer
+Answer (Unlink which frame slot offset) = Bool
+Answer (MoveLink which frame slot offset to_frame to_slot to_offset) = MoveAnswer
 Answer Begin = Unit {0}
 Answer (Mark budget) = Progress
 Answer Pause = Passed
@@ -80,10 +80,10 @@ module _ (c : Core) where
   -- the causes of each call, in their order
   abbrev pub causes : Event → Causes
   causes (Alloc frame slot size kind) = bad_slot frame slot ∷ alloc_causes c.objects c.blocks c.next_birth size kind
-  causes (Load frame slot off to_frame to_slot) =
-      bad_slot frame slot ∷ bad_slot to_frame to_slot ∷ place_causes c.objects (slot_word c frame slot) off
-  causes (Store frame slot off from_frame from_slot) =
-      bad_slot frame slot ∷ bad_slot from_frame from_slot ∷ place_causes c.objects (slot_word c frame slot) off
+  causes (Load frame slot offset to_frame to_slot) =
+      bad_slot frame slot ∷ bad_slot to_frame to_slot ∷ place_causes c.objects (slot_word c frame slot) offset
+  causes (Store frame slot offset from_frame from_slot) =
+      bad_slot frame slot ∷ bad_slot from_frame from_slot ∷ place_causes c.objects (slot_word c frame slot) offset
   causes (Set frame slot word) = bad_slot frame slot ∷ []
   causes (Copy frame slot to_frame to_slot) = bad_slot frame slot ∷ bad_slot to_frame to_slot ∷ []
   causes (Register frame slot kind proc cd) =
@@ -93,15 +93,15 @@ module _ (c : Core) where
   causes (Unregister frame slot) =
       let word = slot_word c frame slot in
       bad_slot frame slot ∷ (if is_off_heap c.blocks word then [] else start_causes c.objects word)
-  causes (Link which frame slot off to_frame to_slot) =
+  causes (Link which frame slot offset to_frame to_slot) =
       let word = slot_word c frame slot in
       let target = slot_word c to_frame to_slot in
       bad_slot frame slot ∷ bad_slot to_frame to_slot
-      ∷ (place_causes c.objects word off ++ (start_causes c.objects target ++ full (links_of c which) (word + off) ∷ []))
-  causes (Unlink which frame slot off) = bad_slot frame slot ∷ place_causes c.objects (slot_word c frame slot) off
-  causes (MoveLink which frame slot off to_frame to_slot to_off) =
+      ∷ (place_causes c.objects word offset ++ (start_causes c.objects target ++ full (links_of c which) (word + offset) ∷ []))
+  causes (Unlink which frame slot offset) = bad_slot frame slot ∷ place_causes c.objects (slot_word c frame slot) offset
+  causes (MoveLink which frame slot offset to_frame to_slot to_offset) =
       bad_slot frame slot ∷ bad_slot to_frame to_slot
-      ∷ (place_causes c.objects (slot_word c frame slot) off ++ place_causes c.objects (slot_word c to_frame to_slot) to_off)
+      ∷ (place_causes c.objects (slot_word c frame slot) offset ++ place_causes c.objects (slot_word c to_frame to_slot) to_offset)
   causes Begin = (c.cycle, CycleOpen) ∷ (nat_le count_limit (c.passes + 1), Exhausted) ∷ []
   causes (Mark budget) = (budget == 0, BadCount) ∷ (not c.cycle, NoCycle) ∷ []
   causes Pause = (not c.cycle, NoCycle) ∷ []
@@ -116,8 +116,8 @@ module _ (c : Core) where
 abbrev pub may_lack_memory : Event → Bool
 may_lack_memory (Alloc frame slot size kind) = true
 may_lack_memory (Register frame slot kind proc cd) = true
-may_lack_memory (Link which frame slot off to_frame to_slot) = true
-may_lack_memory (MoveLink which frame slot off to_frame to_slot to_off) = true
+may_lack_memory (Link which frame slot offset to_frame to_slot) = true
+may_lack_memory (MoveLink which frame slot offset to_frame to_slot to_offset) = true
 may_lack_memory Begin = true
 may_lack_memory Pause = true
 may_lack_memory Collect = true

@@ -41,12 +41,12 @@ Accepts s (Alloc frame slot size kind) answer new =
     let c = s.core in
     (a : ℕ) × (place_for c.objects c.blocks size kind ≡ Some a) × (answer ≡ (a, c.next_birth))
     × (new ≡ record c { objects = insert c.objects a (new_object kind c.next_birth size); next_birth = c.next_birth + 1; frames = with_slot c frame slot a })
-Accepts s (Load frame slot off to_frame to_slot) answer new =
+Accepts s (Load frame slot offset to_frame to_slot) answer new =
     let c = s.core in
-    (answer ≡ word_at c.objects (slot_word c frame slot + off)) × (new ≡ record c { frames = with_slot c to_frame to_slot answer })
-Accepts s (Store frame slot off from_frame from_slot) answer new =
+    (answer ≡ word_at c.objects (slot_word c frame slot + offset)) × (new ≡ record c { frames = with_slot c to_frame to_slot answer })
+Accepts s (Store frame slot offset from_frame from_slot) answer new =
     let c = s.core in
-    new ≡ record c { objects = filled (λ a. a == slot_word c frame slot + off) (slot_word c from_frame from_slot) c.objects }
+    new ≡ record c { objects = filled (λ a. a == slot_word c frame slot + offset) (slot_word c from_frame from_slot) c.objects }
 Accepts s (Set frame slot word) answer new = new ≡ record s.core { frames = with_slot s.core frame slot word }
 Accepts s (Copy frame slot to_frame to_slot) answer new =
     new ≡ record s.core { frames = with_slot s.core to_frame to_slot (slot_word s.core frame slot) }
@@ -59,19 +59,19 @@ Accepts s (Unregister frame slot) answer new =
     let c = s.core in
     let word = slot_word c frame slot in
     (answer ≡ (if is_off_heap c.blocks word then None else old_of c.registrations word)) × (new ≡ (if is_off_heap c.blocks word then c else record c { registrations = remove c.registrations word }))
-Accepts s (Link which frame slot off to_frame to_slot) answer new =
+Accepts s (Link which frame slot offset to_frame to_slot) answer new =
     let c = s.core in
-    let place = slot_word c frame slot + off in
+    let place = slot_word c frame slot + offset in
     (answer ≡ (if contains_key (links_of c which) place then LinkAnswer.Duplicate else LinkAnswer.Success))
     × (new ≡ with_links c which (insert (links_of c which) place (slot_word c to_frame to_slot)))
-Accepts s (Unlink which frame slot off) answer new =
+Accepts s (Unlink which frame slot offset) answer new =
     let c = s.core in
-    let place = slot_word c frame slot + off in
+    let place = slot_word c frame slot + offset in
     (answer ≡ contains_key (links_of c which) place) × (new ≡ with_links c which (remove (links_of c which) place))
-Accepts s (MoveLink which frame slot off to_frame to_slot to_off) answer new =
+Accepts s (MoveLink which frame slot offset to_frame to_slot to_offset) answer new =
     let c = s.core in
-    let old = slot_word c frame slot + off in
-    let place = slot_word c to_frame to_slot + to_off in
+    let old = slot_word c frame slot + offset in
+    let place = slot_word c to_frame to_slot + to_offset in
     (answer ≡ move_answer (links_of c which) old place) × (new ≡ with_links c which (moved_to (links_of c which) old place (get (links_of c which) old)))
 Accepts s Begin answer new = new ≡ record s.core { cycle = true }
 Accepts s (Mark budget) answer new = (answer ≡ More → budget < len s.objects) × (new ≡ s.core)

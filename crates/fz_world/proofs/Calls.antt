@@ -50,24 +50,24 @@ module _ (heap : Contents) (frames : List (List ℕ)) (table : Registered) (read
 
   -- ---- words
 
-  pub loads : (frame slot off to_frame to_slot word read : ℕ) (new : List (List ℕ)) → GivesSlot frames frame slot (Ok word) → lacks_slot frames to_frame to_slot ≡ false → first_cause (place_causes heap.objects word off) ≡ None → read ≡ word_at heap.objects (word + off) → new ≡ with_word frames to_frame to_slot read → Allowed now (Load frame slot off to_frame to_slot) read (core_of heap new table ready passes)
-  loads frame slot off to_frame to_slot word read new from has none is put = record {
-    none = first_passes (bad_slot now frame slot) (bad_slot now to_frame to_slot ∷ place_causes heap.objects (word_of frames frame slot) off) from.0 ∙ first_passes (bad_slot now to_frame to_slot) (place_causes heap.objects (word_of frames frame slot) off) has ∙ subst (λ w. first_cause (place_causes heap.objects w off) ≡ None) from.1 none;
-    accepts = λ _. (is ∙ ap (λ w. word_at heap.objects (w + off)) from.1, ap (λ f. core_of heap f table ready passes) put);
+  pub loads : (frame slot offset to_frame to_slot word read : ℕ) (new : List (List ℕ)) → GivesSlot frames frame slot (Ok word) → lacks_slot frames to_frame to_slot ≡ false → first_cause (place_causes heap.objects word offset) ≡ None → read ≡ word_at heap.objects (word + offset) → new ≡ with_word frames to_frame to_slot read → Allowed now (Load frame slot offset to_frame to_slot) read (core_of heap new table ready passes)
+  loads frame slot offset to_frame to_slot word read new from has none is put = record {
+    none = first_passes (bad_slot now frame slot) (bad_slot now to_frame to_slot ∷ place_causes heap.objects (word_of frames frame slot) offset) from.0 ∙ first_passes (bad_slot now to_frame to_slot) (place_causes heap.objects (word_of frames frame slot) offset) has ∙ subst (λ w. first_cause (place_causes heap.objects w offset) ≡ None) from.1 none;
+    accepts = λ _. (is ∙ ap (λ w. word_at heap.objects (w + offset)) from.1, ap (λ f. core_of heap f table ready passes) put);
   }
 
   -- what a word of the heap is refused for, after two slots that are there
-  pub no_place : (e : Event) (frame slot off to_frame to_slot word : ℕ) (r : Refusal) → causes now e ≡ bad_slot now frame slot ∷ bad_slot now to_frame to_slot ∷ place_causes heap.objects (word_of frames frame slot) off → GivesSlot frames frame slot (Ok word) → lacks_slot frames to_frame to_slot ≡ false → first_cause (place_causes heap.objects word off) ≡ Some r → Does now e (Err r) now
-  no_place e frame slot off to_frame to_slot word r is from has cause =
-      let place = place_causes heap.objects (word_of frames frame slot) off in
-      let here : first_cause place ≡ Some r = subst (λ w. first_cause (place_causes heap.objects w off) ≡ Some r) from.1 cause in
+  pub no_place : (e : Event) (frame slot offset to_frame to_slot word : ℕ) (r : Refusal) → causes now e ≡ bad_slot now frame slot ∷ bad_slot now to_frame to_slot ∷ place_causes heap.objects (word_of frames frame slot) offset → GivesSlot frames frame slot (Ok word) → lacks_slot frames to_frame to_slot ≡ false → first_cause (place_causes heap.objects word offset) ≡ Some r → Does now e (Err r) now
+  no_place e frame slot offset to_frame to_slot word r is from has cause =
+      let place = place_causes heap.objects (word_of frames frame slot) offset in
+      let here : first_cause place ≡ Some r = subst (λ w. first_cause (place_causes heap.objects w offset) ≡ Some r) from.1 cause in
       let second = refused_later (bad_slot now to_frame to_slot) place (may_lack_memory e) r has (inl here) in
       refused now e r (subst (λ cs. IsRefusedFor cs (may_lack_memory e) r) (sym is) (refused_later (bad_slot now frame slot) (bad_slot now to_frame to_slot ∷ place) (may_lack_memory e) r from.0 second))
 
-  pub stores : (frame slot off from_frame from_slot word value : ℕ) (new : Contents) → GivesSlot frames frame slot (Ok word) → GivesSlot frames from_frame from_slot (Ok value) → first_cause (place_causes heap.objects word off) ≡ None → new ≡ record heap { objects = filled (λ a. a == word + off) value heap.objects } → Allowed now (Store frame slot off from_frame from_slot) tt (core_of new frames table ready passes)
-  stores frame slot off from_frame from_slot word value new to from none is = record {
-    none = first_passes (bad_slot now frame slot) (bad_slot now from_frame from_slot ∷ place_causes heap.objects (word_of frames frame slot) off) to.0 ∙ first_passes (bad_slot now from_frame from_slot) (place_causes heap.objects (word_of frames frame slot) off) from.0 ∙ subst (λ w. first_cause (place_causes heap.objects w off) ≡ None) to.1 none;
-    accepts = λ _. ap (λ (h : Contents). core_of h frames table ready passes) is ∙ ap (λ w. core_of (record heap { objects = filled (λ a. a == w + off) value heap.objects }) frames table ready passes) to.1 ∙ ap (λ v. core_of (record heap { objects = filled (λ a. a == word_of frames frame slot + off) v heap.objects }) frames table ready passes) from.1;
+  pub stores : (frame slot offset from_frame from_slot word value : ℕ) (new : Contents) → GivesSlot frames frame slot (Ok word) → GivesSlot frames from_frame from_slot (Ok value) → first_cause (place_causes heap.objects word offset) ≡ None → new ≡ record heap { objects = filled (λ a. a == word + offset) value heap.objects } → Allowed now (Store frame slot offset from_frame from_slot) tt (core_of new frames table ready passes)
+  stores frame slot offset from_frame from_slot word value new to from none is = record {
+    none = first_passes (bad_slot now frame slot) (bad_slot now from_frame from_slot ∷ place_causes heap.objects (word_of frames frame slot) offset) to.0 ∙ first_passes (bad_slot now from_frame from_slot) (place_causes heap.objects (word_of frames frame slot) offset) from.0 ∙ subst (λ w. first_cause (place_causes heap.objects w offset) ≡ None) to.1 none;
+    accepts = λ _. ap (λ (h : Contents). core_of h frames table ready passes) is ∙ ap (λ w. core_of (record heap { objects = filled (λ a. a == w + offset) value heap.objects }) frames table ready passes) to.1 ∙ ap (λ v. core_of (record heap { objects = filled (λ a. a == word_of frames frame slot + offset) v heap.objects }) frames table ready passes) from.1;
   }
 
   -- ---- objects

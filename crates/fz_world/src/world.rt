@@ -108,15 +108,15 @@ impl World {
         &mut self,
         frame: u64,
         slot: u64,
-        off: u64,
+        offset: u64,
         to_frame: u64,
         to_slot: u64,
     ) -> Result<Word, Refusal>
-        ensures { Does self.old (Load frame slot off to_frame to_slot) result self.new }
+        ensures { Does self.old (Load frame slot offset to_frame to_slot) result self.new }
     {
         let word = self.frames.get(frame, slot)?;
         self.frames.get(to_frame, to_slot)?;
-        let read = self.heap.read(word, off)?;
+        let read = self.heap.read(word, offset)?;
         self.frames.set(to_frame, to_slot, read);
         Ok(read)
     }
@@ -128,15 +128,15 @@ impl World {
         &mut self,
         frame: u64,
         slot: u64,
-        off: u64,
+        offset: u64,
         from_frame: u64,
         from_slot: u64,
     ) -> Result<(), Refusal>
-        ensures { Does self.old (Store frame slot off from_frame from_slot) result self.new }
+        ensures { Does self.old (Store frame slot offset from_frame from_slot) result self.new }
     {
         let word = self.frames.get(frame, slot)?;
         let value = self.frames.get(from_frame, from_slot)?;
-        self.heap.write(word, off, value)?;
+        self.heap.write(word, offset, value)?;
         Ok(())
     }
 
