@@ -22,7 +22,7 @@ use Rattle.finalize.specs.declared.run.DriveFault.{DriveFault}
 use Rattle.std.specs.Io.KnownBytes.{Consumes, Appends, IsAtEnd, prepend_known}
 use Rattle.finalize.specs.Script.{with_lf, IsOneLine, all_lines, max_line, max_lines, may_come, IsMalformed}
 use Rattle.finalize.specs.Replies.{text_line, done, refused_words, reply_words, malformed_words, end_words}
-use Rattle.finalize.specs.Report.{Course, Reports, opening_causes, summary_of, AtEnd, IsReport, IsEnded, AtLine, IsRefusedOpening, IsDue, Opens, OpensNot, Replies, closing_words, Explains, failures_of}
+use Rattle.finalize.specs.Report.{Course, Reports, opening_causes, summary_of, AtEnd, IsReport, IsEnded, AtLine, IsRefusedOpening, IsDue, Opens, OpensNot, Replies, closing_words, Explains, Reported, Stopped, failures_of}
 use Rattle.finalize.specs.Report as report
 use Rattle.finalize.specs.Lines.{TakenFor, EndsInput}
 use Rattle.finalize.specs.Machines.{Gives, Given, answer_text, is_told, stop_of, bit, TellsAnswer, counts_after, counts_of, no_counts, summary_at, Finishes}
@@ -159,9 +159,6 @@ close_last seen bytes text line number old new counts answer p e some one short 
 
 -- ---- faults: what was read, used and written
 
-abbrev pub Failed : Option (List ℕ) → Option (List ℕ) → Option (List ℕ) → Option (List ℕ) → DriveFault → Type 0
-Failed a r w0 w2 f = (bytes : List ℕ) × (unread : List ℕ) × (text : List ℕ) × Consumes a r (bytes ++ unread) × Appends w0 w2 text × Explains f.refusal f.line bytes unread r text
-
 explained : (f : DriveFault) (q : Refusal) (number : ℕ) (bytes u text : List ℕ) (r : Option (List ℕ)) → f.refusal ≡ q → f.line ≡ number → Explains q number bytes u r text → Explains f.refusal f.line bytes u r text
 explained f q number bytes u text r e n h = subst (λ p. Explains p f.line bytes u r text) (sym e) (subst (λ m. Explains q m bytes u r text) (sym n) h)
 
@@ -179,12 +176,12 @@ finish_report y text number machine (Some course) counts summary at f e is =
 
 pub finish_ok : (a r : Option (List ℕ)) (u y text : List ℕ) (w0 w1 w2 : Option (List ℕ)) (f f2 : ℕ) (number : ℕ) (machine : Option Machine) (counts : Counts) (result : Result Summary DriveFault)
     → Consumes a (prepend_known u r) y → IsAtEnd (prepend_known u r) → Appends w0 w1 text → Ended y number text machine counts → Finishes number machine counts w1 f result w2 f2
-    → IfOk result (λ summary. (bytes : List ℕ) × (text : List ℕ) × Consumes a r bytes × IsAtEnd r × Appends w0 w2 text × IsReport bytes text summary)
+    → IfOk result (Reported a r w0 w2)
 finish_ok a r u y text w0 w1 w2 f f2 number machine counts (Err e) took end wrote closed fin = tt
 finish_ok a r u y text w0 w1 w2 f f2 number machine counts (Ok summary) took end wrote closed fin =
     let t = took_all a r y u end took in
     let last : List ℕ = text_line (end_words (summary_at fin.0 counts)) in
-    (y, text ++ last, t.0, t.1, Appends-trans w0 w1 w2 text last wrote fin.3, finish_report y text number fin.0 closed.course counts summary closed.at_end (subst (λ m. Follows m closed.course) fin.1 closed.follows) closed.counted fin.2)
+    record { bytes = y; text = text ++ last; read = t.0; whole = t.1; written = Appends-trans w0 w1 w2 text last wrote fin.3; report = finish_report y text number fin.0 closed.course counts summary closed.at_end (subst (λ m. Follows m closed.course) fin.1 closed.follows) closed.counted fin.2 }
 
 no_course : (course : Option Course) → Follows None course → course ≡ None
 no_course None f = refl
@@ -192,27 +189,27 @@ no_course (Some course) f = absurd f
 
 pub finish_fault : (a r : Option (List ℕ)) (u y text : List ℕ) (w0 w1 w2 : Option (List ℕ)) (f f2 : ℕ) (number : ℕ) (machine : Option Machine) (counts : Counts) (result : Result Summary DriveFault)
     → Consumes a (prepend_known u r) y → IsAtEnd (prepend_known u r) → Appends w0 w1 text → Ended y number text machine counts → Finishes number machine counts w1 f result w2 f2
-    → IfErr result (λ fault. Failed a r w0 w2 fault)
+    → IfErr result (Stopped a r w0 w2)
 finish_fault a r u y text w0 w1 w2 f f2 number machine counts (Ok summary) took end wrote closed fin = tt
 finish_fault a r u y text w0 w1 w2 f f2 number machine counts (Err fault) took end wrote closed fin = elim fin.1 [
-  | inl out ↦ (
-    y,
-    u,
-    text ++ out.1.0,
-    took_ahead a r y u took,
-    Appends-trans w0 w1 w2 text out.1.0 wrote out.1.3,
-    explained fault Output number y u (text ++ out.1.0) r out.0 fin.0
-        (text, out.1.0, out.1.1, refl, inr (closed.course, closed.at_end, end, ap text_line (sym (same_ending number machine closed.course counts closed.follows closed.counted)) ∙ out.1.2)),
-  )
-  | inr bad ↦ (
-    y,
-    u,
-    text ++ text_line (malformed_words number),
-    took_ahead a r y u took,
-    Appends-trans w0 w1 w2 text (text_line (malformed_words number)) wrote bad.2,
-    explained fault BadLine number y u (text ++ text_line (malformed_words number)) r bad.0 fin.0
-        (text, refl, inr (subst (λ c. AtEnd y number text c) (no_course closed.course (subst (λ m. Follows m closed.course) bad.1 closed.follows)) closed.at_end, end)),
-  )
+  | inl out ↦ record {
+    bytes = y;
+    unread = u;
+    text = text ++ out.1.0;
+    read = took_ahead a r y u took;
+    written = Appends-trans w0 w1 w2 text out.1.0 wrote out.1.3;
+    explains = explained fault Output number y u (text ++ out.1.0) r out.0 fin.0
+        (text, out.1.0, out.1.1, refl, inr (closed.course, closed.at_end, end, ap text_line (sym (same_ending number machine closed.course counts closed.follows closed.counted)) ∙ out.1.2));
+  }
+  | inr bad ↦ record {
+    bytes = y;
+    unread = u;
+    text = text ++ text_line (malformed_words number);
+    read = took_ahead a r y u took;
+    written = Appends-trans w0 w1 w2 text (text_line (malformed_words number)) wrote bad.2;
+    explains = explained fault BadLine number y u (text ++ text_line (malformed_words number)) r bad.0 fin.0
+        (text, refl, inr (subst (λ c. AtEnd y number text c) (no_course closed.course (subst (λ m. Follows m closed.course) bad.1 closed.follows)) closed.at_end, end));
+  }
 ]
 
 -- the failures of a call that ended so
@@ -358,25 +355,25 @@ stop_told Malformed q h = refl
 
 -- a fault of a line, told by the line's answer or by the writer
 pub tell_fault : (a r : Option (List ℕ)) (u y text : List ℕ) (w0 w1 w2 : Option (List ℕ)) (f f2 : ℕ) (number : ℕ) (answer : Answer) (fault : DriveFault)
-    → Consumes a (prepend_known u r) y → Appends w0 w1 text → (IsTrue (is_told answer) → DueAt y (prepend_known u r) number text answer) → TellsAnswer number answer w1 f (Err fault) w2 f2 → Failed a r w0 w2 fault
+    → Consumes a (prepend_known u r) y → Appends w0 w1 text → (IsTrue (is_told answer) → DueAt y (prepend_known u r) number text answer) → TellsAnswer number answer w1 f (Err fault) w2 f2 → Stopped a r w0 w2 fault
 tell_fault a r u y text w0 w1 w2 f f2 number answer fault took wrote due tells = elim tells.1 [
   | inl out ↦
-      let d = due out.1 in (
-        y,
-        u,
-        text ++ out.2.0,
-        took_ahead a r y u took,
-        Appends-trans w0 w1 w2 text out.2.0 wrote out.2.3,
-        explained fault Output number y u (text ++ out.2.0) r out.0 tells.0 (text, out.2.0, out.2.1, refl, inl (d.line, d.course, d.due.words, d.at, d.due.due, sym d.due.said ∙ out.2.2)),
-      )
-  | inr stop ↦ (
-    y,
-    u,
-    text ++ answer_text number answer,
-    took_ahead a r y u took,
-    Appends-trans w0 w1 w2 text (answer_text number answer) wrote stop.1,
-    explained fault fault.refusal number y u (text ++ answer_text number answer) r refl tells.0 (stop_explains answer fault.refusal number y u text r stop.0 (due (stop_told answer fault.refusal stop.0))),
-  )
+      let d = due out.1 in record {
+        bytes = y;
+        unread = u;
+        text = text ++ out.2.0;
+        read = took_ahead a r y u took;
+        written = Appends-trans w0 w1 w2 text out.2.0 wrote out.2.3;
+        explains = explained fault Output number y u (text ++ out.2.0) r out.0 tells.0 (text, out.2.0, out.2.1, refl, inl (d.line, d.course, d.due.words, d.at, d.due.due, sym d.due.said ∙ out.2.2));
+      }
+  | inr stop ↦ record {
+    bytes = y;
+    unread = u;
+    text = text ++ answer_text number answer;
+    read = took_ahead a r y u took;
+    written = Appends-trans w0 w1 w2 text (answer_text number answer) wrote stop.1;
+    explains = explained fault fault.refusal number y u (text ++ answer_text number answer) r refl tells.0 (stop_explains answer fault.refusal number y u text r stop.0 (due (stop_told answer fault.refusal stop.0)));
+  }
 ]
 
 pub tell_failures : (w1 w2 : Option (List ℕ)) (f0 f1 f2 : ℕ) (number : ℕ) (answer : Answer) (fault : DriveFault) (bytes text : List ℕ) (left : Option (List ℕ))
@@ -410,10 +407,10 @@ counts_bound counts Malformed n a b c d = (omega arith, omega arith, omega arith
 pub no_more : {n m k : ℕ} → n ≡ m → k ≡ 0 → n ≡ m + k
 no_more e z = omega (arith, e, z)
 
-pub report_balanced : (result : Result Summary DriveFault) (a b : Option (List ℕ)) (w v : Option (List ℕ)) → IfOk result (λ summary. (bytes : List ℕ) × (text : List ℕ) × Consumes a b bytes × IsAtEnd b × Appends w v text × IsReport bytes text summary)
+pub report_balanced : (result : Result Summary DriveFault) (a b : Option (List ℕ)) (w v : Option (List ℕ)) → IfOk result (Reported a b w v)
     → IfOk result (λ summary. summary.enqueued ≡ summary.finished + summary.forfeited + summary.in_hand + summary.left)
 report_balanced (Err fault) a b w v h = tt
 report_balanced (Ok summary) a b w v h =
-    let r = h.5 in
+    let r = h.report in
     let P : Summary → Type 0 = λ s. s.enqueued ≡ s.finished + s.forfeited + s.in_hand + s.left in
     subst P (sym r.counted) (balanced (all_lines r.at_end.lines r.at_end.last) r.before r.course r.at_end.reports)

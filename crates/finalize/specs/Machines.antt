@@ -6,7 +6,7 @@ use Rattle.fz_model.specs.Causes.{first_cause}
 use Rattle.fz_model.specs.Joint.{Worker, Joint, JointEvent, JointAnswer, JointStep, Move, joint_opening}
 use Rattle.fz_world.specs.Does.{StandsFor}
 use Rattle.fz_script.specs.declared.step.Step.{Step}
-use Rattle.fz_script.specs.declared.step.Step.TheVariants.{Open, New, Set, Copy, Load, Store, Register, Unregister, Collect}
+use Rattle.fz_script.specs.declared.step.Step.TheVariants.{Open, New, Copy, Load, Store, Register, Unregister, Collect}
 use Rattle.fz_script.specs.Spelling.{Word, Number, Text, spelling, Fits}
 use Rattle.finalize.specs.declared.machine.Machine.{Machine}
 use Rattle.finalize.specs.declared.reply.Reply.{Reply}
@@ -72,9 +72,8 @@ pub record StepDoes (old : Machine) (step : Step) (result : Result Reply Refusal
   pub does : JointDoes old event reply new
   pub tells : Tells event reply result
 
--- a step that puts a word into a slot or an object
+-- a step that moves a word between slots and objects
 abbrev pub moves_word : Step → Bool
-moves_word (Set frame slot word) = true
 moves_word (Copy frame slot to_frame to_slot) = true
 moves_word (Load frame slot offset to_frame to_slot) = true
 moves_word (Store frame slot offset from_frame from_slot) = true

@@ -12,7 +12,7 @@ use Rattle.fz_script.specs.declared.step.Step.TheVariants.{Open}
 use Rattle.fz_script.specs.Spelling.{Word, spelling, Fits}
 use Rattle.finalize.specs.declared.run.Summary.{Summary}
 use Rattle.finalize.specs.declared.run.DriveFault.{DriveFault}
-use Rattle.std.specs.Io.KnownBytes.{IsAtEnd, prepend_known}
+use Rattle.std.specs.Io.KnownBytes.{Consumes, Appends, IsAtEnd, prepend_known}
 use Rattle.finalize.specs.Script.{with_lf, IsOneLine, Lines, all_lines, is_kept, max_line, max_lines, IsScript, has_come, IsMalformed, event_of}
 use Rattle.finalize.specs.Replies.{text_line, done, refused_words, reply_words, reply_line, malformed_words, end_words}
 
@@ -140,6 +140,24 @@ Explains Output number bytes unread left text =
 Explains Input number bytes unread left text =
     (unread ≡ []) × (lines : List (List ℕ)) × (line : List ℕ) × (course : Option Course) × Lines bytes lines line × (length lines + 1 ≡ number) × Reports lines text course
 Explains _ number bytes unread left text = ⊥
+
+-- the whole input was read, and the report of its script was written
+pub record Reported (input left before after : Option (List ℕ)) (summary : Summary) : Type 0 where
+  pub bytes : List ℕ
+  pub text : List ℕ
+  pub read : Consumes input left bytes
+  pub whole : IsAtEnd left
+  pub written : Appends before after text
+  pub report : IsReport bytes text summary
+
+-- the run of the input's script ended early: the fault stands where its cause does, and nothing else was written
+pub record Stopped (input left before after : Option (List ℕ)) (fault : DriveFault) : Type 0 where
+  pub bytes : List ℕ
+  pub unread : List ℕ
+  pub text : List ℕ
+  pub read : Consumes input left (bytes ++ unread)
+  pub written : Appends before after text
+  pub explains : Explains fault.refusal fault.line bytes unread left text
 
 -- 1 where the run ended for this cause, and 0 otherwise
 abbrev pub failures_of : Refusal → Result Summary DriveFault → ℕ

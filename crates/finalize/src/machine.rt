@@ -102,8 +102,10 @@ impl Machine {
         ensures { StepDoes self.old step result self.new }
     {
         match step {
-            Step::Set { .. } | Step::Copy { .. } | Step::Load { .. } | Step::Store { .. } => {
-                self.move_word(step)
+            Step::Copy { .. } | Step::Load { .. } | Step::Store { .. } => self.move_word(step),
+            Step::Set { frame, slot, word } => {
+                self.world.set(frame, slot, word)?;
+                Ok(Reply::Done)
             }
             Step::Take { worker } => {
                 let entry = self.take(worker)?;
@@ -121,16 +123,12 @@ impl Machine {
         }
     }
 
-    /// Carries out a step that puts a word into a slot or an object.
+    /// Carries out a step that moves a word between slots and objects.
     fn move_word(&mut self, step: Step) -> Result<Reply, Refusal>
         requires { moves_word step ≡ true }
         ensures { StepDoes self.old step result self.new }
     {
         match step {
-            Step::Set { frame, slot, word } => {
-                self.world.set(frame, slot, word)?;
-                Ok(Reply::Done)
-            }
             Step::Copy {
                 frame,
                 slot,

@@ -1,8 +1,7 @@
 //! A script from its first byte to its last.
 
-ghost use Rattle.std.specs.Prelude.{◌≡◌, ◌<◌, ◌^◌, ◌+◌, ◌++◌, List, ℕ, IfOk, IfErr};
-ghost use Rattle.std.specs.Io.KnownBytes.{Consumes, Appends, IsAtEnd};
-ghost use Rattle.finalize.specs.Report.{IsReport, Explains, failures_of};
+ghost use Rattle.std.specs.Prelude.{◌≡◌, ◌<◌, ◌^◌, ◌+◌, IfOk, IfErr};
+ghost use Rattle.finalize.specs.Report.{Reported, Stopped, failures_of};
 ghost use Rattle.finalize.specs.Machines.{counts_after, summary_at, TellsAnswer, Finishes};
 
 use crate::answer::{Answer, answer_at};
@@ -56,6 +55,13 @@ pub(crate) struct Counts {
     finished: u64,
     forfeited: u64,
 }
+
+const NO_COUNTS: Counts = Counts {
+    steps: 0,
+    refused: 0,
+    finished: 0,
+    forfeited: 0,
+};
 
 impl Counts {
     /// The counts after a line that gave this answer.
@@ -118,16 +124,11 @@ pub(crate) fn drive<R: Source, W: Sink>(
     writer: &mut W,
 ) -> Result<Summary, DriveFault>
     // The whole input was read, and the text is the report of a joint run over its script.
-    ensures ok { IfOk result (λ summary. (bytes : List ℕ) × (text : List ℕ)
-        × Consumes (R.remaining reader.old) (R.remaining reader.new) bytes × IsAtEnd (R.remaining reader.new)
-        × Appends (W.written writer.old) (W.written writer.new) text × IsReport bytes text summary) }
+    ensures ok { IfOk result (Reported (R.remaining reader.old) (R.remaining reader.new) (W.written writer.old) (W.written writer.new)) }
     // Each entry is finished, given up, in a hand or left.
     ensures balanced { IfOk result (λ summary. summary.enqueued ≡ summary.finished + summary.forfeited + summary.in_hand + summary.left) }
     // A fault comes where its cause stands, and nothing else was written.
-    ensures fault { IfErr result (λ fault. (bytes : List ℕ) × (unread : List ℕ) × (text : List ℕ)
-        × Consumes (R.remaining reader.old) (R.remaining reader.new) (bytes ++ unread)
-        × Appends (W.written writer.old) (W.written writer.new) text
-        × Explains fault.refusal fault.line bytes unread (R.remaining reader.new) text) }
+    ensures fault { IfErr result (Stopped (R.remaining reader.old) (R.remaining reader.new) (W.written writer.old) (W.written writer.new)) }
     // In this call a read failed just where it says so, and so for writes.
     ensures reads { R.failures reader.new ≡ R.failures reader.old + failures_of Refusal.Input result }
     ensures writes { W.failures writer.new ≡ W.failures writer.old + failures_of Refusal.Output result }
@@ -135,12 +136,7 @@ pub(crate) fn drive<R: Source, W: Sink>(
     let mut chunk = Chunk::new();
     let mut line = ArrayVec::new();
     let mut machine = None;
-    let mut counts = Counts {
-        steps: 0,
-        refused: 0,
-        finished: 0,
-        forfeited: 0,
-    };
+    let mut counts = NO_COUNTS;
     let mut number = 1;
     'lines: loop {
         let Ok(ending) = next_line(reader, &mut chunk, &mut line) else {

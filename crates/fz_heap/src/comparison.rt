@@ -80,25 +80,14 @@ fn call_both(
         0..=2 => {
             let size = random.size();
             let kind = random.kind();
-            assert_eq!(rt;
-                heap.alloc(size, kind),
-                plain.alloc(size, kind),
-                "{size} words"
-            );
+            assert_eq!(rt; heap.alloc(size, kind), plain.alloc(size, kind));
         }
         3 => {
             let value = random.next();
-            assert_eq!(rt;
-                heap.write(word, offset, value),
-                plain.write(word, offset, value),
-                "at {word} + {offset}"
-            );
+            let written = heap.write(word, offset, value);
+            assert_eq!(rt; written, plain.write(word, offset, value));
         }
-        4 => assert_eq!(rt;
-            heap.read(word, offset),
-            plain.read(word, offset),
-            "at {word} + {offset}"
-        ),
+        4 => assert_eq!(rt; heap.read(word, offset), plain.read(word, offset)),
         5 => assert_eq!(rt; heap.resolve(word), plain.resolve(word), "at {word}"),
         6 => assert_eq!(rt; heap.facts(word), plain.facts(word), "at {word}"),
         _ => {

@@ -89,11 +89,7 @@ fn words_are_read_where_they_were_written(rt: HostRuntime) -> Result<(), Fail> {
         "its neighbour's word"
     );
     assert_eq!(rt; heap.write(65_539, 1, 1), Err(Refusal::OutsideObject));
-    assert_eq!(rt;
-        heap.read(65_540, 0),
-        Ok(0),
-        "a refused write writes nothing"
-    );
+    assert_eq!(rt; heap.read(65_540, 0), Ok(0), "nothing was written");
     assert_eq!(rt;
         heap.read(65_536, u64::MAX),
         Err(Refusal::OutsideObject),

@@ -63,15 +63,11 @@ impl Table {
         cd: Word,
     ) -> Result<(u64, Option<Old>), Refusal>
         // The first cause that stands is answered; only a new object can want memory.
-        ensures refused { IfErr result
-            (λ r. IsRefusedFor (register_causes self.old.registrations self.old.next_number object) true r) }
+        ensures refused { IfErr result (λ r. IsRefusedFor (register_causes self.old.registrations self.old.next_number object) true r) }
         ensures replacement { IsSome (get self.old.registrations object) → IfErr result (λ r. r ≡ Exhausted) }
         ensures unchanged { OnErr result (self.new ≡ self.old) }
-
-        ensures accepted { OnOk result
-            (first_cause (register_causes self.old.registrations self.old.next_number object) ≡ None) }
-        ensures answer { IfOk result
-            (λ answer. answer ≡ (self.old.next_number, old_of self.old.registrations object)) }
+        ensures accepted { OnOk result (first_cause (register_causes self.old.registrations self.old.next_number object) ≡ None) }
+        ensures answer { IfOk result (λ answer. answer ≡ (self.old.next_number, old_of self.old.registrations object)) }
         ensures registered { OnOk result (self.new ≡ record {
           registrations = insert self.old.registrations object (record { number = self.old.next_number; kind = kind; proc = proc; cd = cd });
           next_number = self.old.next_number + 1;

@@ -53,7 +53,14 @@ returns-in_default-clause-fault g c =
     let h = c.in_default.ensures in
     let p = c.lines.invariant.position in
     let P : DriveFault → Type 0 = λ f. Explains f.refusal f.line (p.0 ++ c.next_line.new.line.items) (drop c.next_line.new.chunk.at (take c.next_line.new.chunk.len c.next_line.new.chunk.bytes)) (g.R.Source.remaining c.next_line.new.source) p.1 in
-    (p.0 ++ c.next_line.new.line.items, (drop c.next_line.new.chunk.at (take c.next_line.new.chunk.len c.next_line.new.chunk.bytes)), p.1, took_ahead _ _ _ _ (Consumes-trans _ _ _ _ _ p.2 h.0), p.3, subst P (sym c.fault.ensures) (break_off p.0 p.1 c.next_line.new.line.items (drop c.next_line.new.chunk.at (take c.next_line.new.chunk.len c.next_line.new.chunk.bytes)) c.lines.number c.lines.machine c.lines.counts (g.R.Source.remaining c.next_line.new.source) p.4 h.1 h.3))
+    record {
+      bytes = p.0 ++ c.next_line.new.line.items;
+      unread = drop c.next_line.new.chunk.at (take c.next_line.new.chunk.len c.next_line.new.chunk.bytes);
+      text = p.1;
+      read = took_ahead _ _ _ _ (Consumes-trans _ _ _ _ _ p.2 h.0);
+      written = p.3;
+      explains = subst P (sym c.fault.ensures) (break_off p.0 p.1 c.next_line.new.line.items (drop c.next_line.new.chunk.at (take c.next_line.new.chunk.len c.next_line.new.chunk.bytes)) c.lines.number c.lines.machine c.lines.counts (g.R.Source.remaining c.next_line.new.source) p.4 h.1 h.3);
+    }
 
 pub returns-in-Err : goal.returns-in-Err
 returns-in-Err g c =

@@ -1,9 +1,15 @@
 use Rattle.std.proofs.Common.{refl}
-use Rattle.finalize.proofs.Machines.{accepted, refuses, told_again}
+use Rattle.finalize.proofs.Machines.{accepted, refuses, world_accepts, world_refuses, told_again}
 use Rattle.finalize.proofs.machine.Machine.carry_out.Goals as goal
 
+pub returns-in_err-set-in-Set : goal.returns-in_err-set-in-Set
+returns-in_err-set-in-Set c = world_refuses _ _ _ _ _ _ (told_again c.in-Set.is refl) refl c.in_err-set-in-Set.ensures c.from_residual.ensures.1
+
+pub returns-in_ok-set-in-Set : goal.returns-in_ok-set-in-Set
+returns-in_ok-set-in-Set c = world_accepts _ _ _ _ _ _ (told_again c.in-Set.is refl) refl c.in_ok-set-in-Set.ensures refl refl refl
+
 pub returns-in_err-entry-in-Take : goal.returns-in_err-entry-in-Take
-returns-in_err-entry-in-Take c = refuses _ _ _ _ _ _ (told_again c.in-Take.is refl) c.in_err-entry-in-Take.ensures c.from_residual.ensures.1
+returns-in_err-entry-in-Take c = refuses _ _ _ _ _ _ (told_again c.in-Take.is refl) c.in_err-entry-in-Take.ensures c.from_residual-in_err-entry-in-Take.ensures.1
 
 pub returns-in_ok-entry-in-Take : goal.returns-in_ok-entry-in-Take
 returns-in_ok-entry-in-Take c = accepted _ _ _ _ _ _ (told_again c.in-Take.is refl) c.in_ok-entry-in-Take.ensures refl refl refl

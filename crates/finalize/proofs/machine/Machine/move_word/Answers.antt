@@ -2,14 +2,8 @@ use Rattle.std.proofs.Common.{refl}
 use Rattle.finalize.proofs.Machines.{world_refuses, world_accepts, told_again}
 use Rattle.finalize.proofs.machine.Machine.move_word.Goals as goal
 
-pub returns-in_err-set-in-Set : goal.returns-in_err-set-in-Set
-returns-in_err-set-in-Set c = world_refuses _ _ _ _ _ _ (told_again c.in-Set.is refl) refl c.in_err-set-in-Set.ensures c.from_residual.ensures.1
-
-pub returns-in_ok-set-in-Set : goal.returns-in_ok-set-in-Set
-returns-in_ok-set-in-Set c = world_accepts _ _ _ _ _ _ (told_again c.in-Set.is refl) refl c.in_ok-set-in-Set.ensures refl refl refl
-
 pub returns-in_err-copy-in-Copy : goal.returns-in_err-copy-in-Copy
-returns-in_err-copy-in-Copy c = world_refuses _ _ _ _ _ _ (told_again c.in-Copy.is refl) refl c.in_err-copy-in-Copy.ensures c.from_residual-in_err-copy-in-Copy.ensures.1
+returns-in_err-copy-in-Copy c = world_refuses _ _ _ _ _ _ (told_again c.in-Copy.is refl) refl c.in_err-copy-in-Copy.ensures c.from_residual.ensures.1
 
 pub returns-in_ok-copy-in-Copy : goal.returns-in_ok-copy-in-Copy
 returns-in_ok-copy-in-Copy c = world_accepts _ _ _ _ _ _ (told_again c.in-Copy.is refl) refl c.in_ok-copy-in-Copy.ensures refl refl refl
