@@ -163,9 +163,9 @@ explained : (f : DriveFault) (q : Refusal) (number : ℕ) (bytes u text : List �
 explained f q number bytes u text r e n h = subst (λ p. Explains p f.line bytes u r text) (sym e) (subst (λ m. Explains q m bytes u r text) (sym n) h)
 
 -- the reader failed
-pub break_off : (seen text line u : List ℕ) (number : ℕ) (machine : Option Machine) (counts : Counts) (r : Option (List ℕ)) → Position seen number text machine counts → IsOneLine line → u ≡ [] → Explains Input number (seen ++ line) u r text
-break_off seen text line u number machine counts r p one e =
-    (e, p.lines, line, p.after.course, record { is = ap (λ b. b ++ line) p.is; each = p.each; one = one }, p.place, p.after.reports)
+pub break_off : (seen text line u : List ℕ) (number : ℕ) (machine : Option Machine) (counts : Counts) (r : Option (List ℕ)) → Position seen number text machine counts → IsOneLine line → length line ≤ max_line → u ≡ [] → Explains Input number (seen ++ line) u r text
+break_off seen text line u number machine counts r p one short e =
+    (e, p.lines, line, p.after.course, record { is = ap (λ b. b ++ line) p.is; each = p.each; one = one }, short, p.place, p.after.reports)
 
 finish_report : (y text : List ℕ) (number : ℕ) (machine : Machine) (course : Option Course) (counts : Counts) (summary : Summary) → AtEnd y number text course → Follows (Some machine) course → counts ≡ counts_of course → summary ≡ summary_at machine counts
     → IsReport y (text ++ text_line (end_words (summary_at machine counts))) summary
@@ -197,9 +197,9 @@ finish_fault a r u y text w0 w1 w2 f f2 number machine counts (Err fault) took e
     unread = u;
     text = text ++ out.1.0;
     read = took_ahead a r y u took;
-    written = Appends-trans w0 w1 w2 text out.1.0 wrote out.1.3;
+    written = Appends-trans w0 w1 w2 text out.1.0 wrote out.1.4;
     explains = explained fault Output number y u (text ++ out.1.0) r out.0 fin.0
-        (text, out.1.0, out.1.1, refl, inr (closed.course, closed.at_end, end, ap text_line (sym (same_ending number machine closed.course counts closed.follows closed.counted)) ∙ out.1.2));
+        (text, out.1.0, out.1.1, refl, out.1.3, inr (closed.course, closed.at_end, end, ap text_line (sym (same_ending number machine closed.course counts closed.follows closed.counted)) ∙ out.1.2));
   }
   | inr bad ↦ record {
     bytes = y;
@@ -285,8 +285,8 @@ reach seen bytes text line left number Last old new counts answer p t end one sh
     due_at seen bytes text line [] left number old counts answer p (t.0 ∙ sym (append-nil line)) one (inr (refl, inl (end, t.1))) (timed_due number line old new p.after.course answer p.after.follows told g)
 reach seen bytes text line left number Nothing old new counts answer p t end one short n g told = absurd (n refl)
 reach seen bytes text line left number TooLong old new counts answer p t end one short n g told =
-    let longer : max_line < length (line ++ t.0 ∷ []) = let l = t.3 in omega (arith, length-append line (t.0 ∷ []), l) in
-    due_at seen bytes text (line ++ t.0 ∷ []) [] left number old counts answer p (t.1 ∙ sym (append-nil _)) (All-push (λ b. b ≢ 10) line t.0 one t.2) (inr (refl, inr longer)) (malformed_due number (line ++ t.0 ∷ []) p.after.course answer g.0 (inl longer))
+    let longer : length (line ++ t.0 ∷ []) ≡ max_line + 1 = let l = t.3 in omega (arith, length-append line (t.0 ∷ []), l) in
+    due_at seen bytes text (line ++ t.0 ∷ []) [] left number old counts answer p (t.1 ∙ sym (append-nil _)) (All-push (λ b. b ≢ 10) line t.0 one t.2) (inr (refl, inr longer)) (malformed_due number (line ++ t.0 ∷ []) p.after.course answer g.0 (inl (omega (arith, longer))))
 
 -- ---- faults of a line
 
@@ -363,8 +363,8 @@ tell_fault a r u y text w0 w1 w2 f f2 number answer fault took wrote due tells =
         unread = u;
         text = text ++ out.2.0;
         read = took_ahead a r y u took;
-        written = Appends-trans w0 w1 w2 text out.2.0 wrote out.2.3;
-        explains = explained fault Output number y u (text ++ out.2.0) r out.0 tells.0 (text, out.2.0, out.2.1, refl, inl (d.line, d.course, d.due.words, d.at, d.due.due, sym d.due.said ∙ out.2.2));
+        written = Appends-trans w0 w1 w2 text out.2.0 wrote out.2.4;
+        explains = explained fault Output number y u (text ++ out.2.0) r out.0 tells.0 (text, out.2.0, out.2.1, refl, out.2.3, inl (d.line, d.course, d.due.words, d.at, d.due.due, sym d.due.said ∙ out.2.2));
       }
   | inr stop ↦ record {
     bytes = y;

@@ -1,15 +1,10 @@
 -- What readers hand over and writers take, beside std's words for it. Of a device whose bytes aren't known nothing is said.
-use Rattle.std.specs.Prelude.{◌≡◌, ℕ, zero, suc, ◌+◌, List, ◌++◌, Option, Some, None, Result, Ok, Err}
+use Rattle.std.specs.Prelude.{◌≡◌, ◌≢◌, ℕ, zero, suc, ◌+◌, List, [], ◌++◌, Option, Some, None, Result, Ok, Err}
 use Rattle.std.specs.Io.KnownBytes.{Appends}
 
--- the writer gained a beginning of the text
+-- the writer gained a beginning of the text, but not all of it
 abbrev pub IsPart : Option (List ℕ) → List ℕ → Option (List ℕ) → Type 0
-IsPart before text after = (part : List ℕ) × (rest : List ℕ) × (text ≡ part ++ rest) × Appends before after part
-
--- how many bytes a call handed over or took
-abbrev pub count_of : Option ℕ → ℕ
-count_of None = 0
-count_of (Some count) = count
+IsPart before text after = (part : List ℕ) × (rest : List ℕ) × (text ≡ part ++ rest) × (rest ≢ []) × Appends before after part
 
 -- a read fails where it answers `None`
 abbrev pub read_failures : Option ℕ → ℕ

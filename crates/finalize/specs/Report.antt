@@ -1,5 +1,5 @@
 -- The report of a script: the replies to its steps, which are those of a joint run, and how it ends.
-use Rattle.std.specs.Prelude.{◌≡◌, ◌≢◌, ℕ, ◌+◌, ◌-◌, ◌<◌, ◌≤◌, Bool, true, false, ◌⊎◌, List, [], ◌∷◌, ◌++◌, length, map, flat_map, count_by, Option, Some, None, is_some, is_err, Result, Ok, Err, IsTrue, if◌then◌else◌, ◌==◌}
+use Rattle.std.specs.Prelude.{◌≡◌, ◌≢◌, ℕ, ◌+◌, ◌-◌, ◌≤◌, Bool, true, false, ◌⊎◌, List, [], ◌∷◌, ◌++◌, length, map, flat_map, count_by, Option, Some, None, is_some, is_err, Result, Ok, Err, IsTrue, if◌then◌else◌, ◌==◌}
 use Rattle.std.specs.List.{All}
 use Rattle.fz_model.specs.declared.refusal.Refusal.{Refusal}
 use Rattle.fz_model.specs.declared.refusal.Refusal.TheVariants.{BadLine, BadCount, NoMemory, Output, Input}
@@ -84,9 +84,9 @@ pub record IsReport (bytes text : List ℕ) (summary : Summary) : Type 0 where
   pub counted : summary ≡ summary_of course
   pub told : text ≡ before ++ text_line (end_words summary)
 
--- A line ends with LF or with the input, or it is too long already. `left` is what can still be read.
+-- A line ends with LF or with the input, or it is too long with its last byte. `left` is what can still be read.
 abbrev pub IsEnded : List ℕ → List ℕ → Option (List ℕ) → Type 0
-IsEnded line end left = (end ≡ 10 ∷ []) ⊎ ((end ≡ []) × ((IsAtEnd left × (line ≢ [])) ⊎ (max_line < length line)))
+IsEnded line end left = (end ≡ 10 ∷ []) ⊎ ((end ≡ []) × ((IsAtEnd left × (line ≢ [])) ⊎ (length line ≡ max_line + 1)))
 
 -- the bytes end with this line; the lines before it were carried out, and this is their report
 pub record AtLine (bytes : List ℕ) (left : Option (List ℕ)) (number : ℕ) (line text : List ℕ) (course : Option Course) : Type 0 where
@@ -133,12 +133,12 @@ Explains NoMemory number bytes unread left text =
     (number ≤ max_lines) × (line : List ℕ) × AtLine bytes (prepend_known unread left) number line [] None × IsRefusedOpening line NoMemory × (text ≡ text_line (refused_words NoMemory))
 -- what this line gets, or what ends the report, wasn't written whole; all replies before it were
 Explains Output number bytes unread left text =
-    (before : List ℕ) × (part : List ℕ) × (rest : List ℕ) × (text ≡ before ++ part)
+    (before : List ℕ) × (part : List ℕ) × (rest : List ℕ) × (text ≡ before ++ part) × (rest ≢ [])
     × (((line : List ℕ) × (course : Option Course) × (words : List Word) × AtLine bytes (prepend_known unread left) number line before course × IsDue number line course words × (text_line words ≡ part ++ rest))
     ⊎ ((course : Option Course) × AtEnd bytes number before course × IsAtEnd (prepend_known unread left) × (text_line (closing_words number course) ≡ part ++ rest)))
 -- the reader failed in this line; all whole lines before it were carried out, and their replies were written
 Explains Input number bytes unread left text =
-    (unread ≡ []) × (lines : List (List ℕ)) × (line : List ℕ) × (course : Option Course) × Lines bytes lines line × (length lines + 1 ≡ number) × Reports lines text course
+    (unread ≡ []) × (lines : List (List ℕ)) × (line : List ℕ) × (course : Option Course) × Lines bytes lines line × (length line ≤ max_line) × (length lines + 1 ≡ number) × Reports lines text course
 Explains _ number bytes unread left text = ⊥
 
 -- the whole input was read, and the report of its script was written

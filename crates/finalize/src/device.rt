@@ -1,11 +1,11 @@
 //! Where a script comes from, and where its report goes.
 
-ghost use Rattle.std.specs.Prelude.{◌≡◌, ◌<◌, ◌≤◌, ◌+◌, ℕ, List, [], Option, IfSome, Some, length, take};
+ghost use Rattle.std.specs.Prelude.{◌≡◌, ◌<◌, ◌≤◌, ◌+◌, ℕ, List, [], Option, IfSome, Some, length, take, unwrap_or};
 ghost use Rattle.std.specs.Io.KnownBytes.{Consumes, Appends, IsAtEnd};
-ghost use Rattle.finalize.specs.Devices.{count_of, read_failures, write_failures};
+ghost use Rattle.finalize.specs.Devices.{read_failures, write_failures};
 
 /// A reader.
-pub trait Source {
+pub(crate) trait Source {
     /// The bytes that it will hand over, if it can tell.
     ghost remaining: { Self → Option (List ℕ) };
     /// How many reads have failed.
@@ -14,14 +14,14 @@ pub trait Source {
     /// Reads some bytes into the front of `buf`, and answers how many. For a `buf` with room, 0 is
     /// the end of the input. `None` says that the read failed.
     fn read(&mut self, buf: &mut [u8]) -> Option<usize>
-        ensures bound { count_of result ≤ length buf.new }
-        ensures bytes { Consumes (remaining self.old) (remaining self.new) (take (count_of result) buf.new) }
+        ensures bound { (unwrap_or result 0) ≤ length buf.new }
+        ensures bytes { Consumes (remaining self.old) (remaining self.new) (take ((unwrap_or result 0)) buf.new) }
         ensures end { result ≡ Some 0 → 0 < length buf.old → IsAtEnd (remaining self.new) }
         ensures failures { failures self.new ≡ failures self.old + read_failures result };
 }
 
 /// A writer.
-pub trait Sink {
+pub(crate) trait Sink {
     /// The bytes that were written, if it can tell.
     ghost written: { Self → Option (List ℕ) };
     /// How many writes have failed, or have taken no byte though one was offered.
@@ -30,7 +30,7 @@ pub trait Sink {
     /// Writes some of the bytes from the front, and answers how many. `None` says that the write
     /// failed.
     fn write(&mut self, bytes: &[u8]) -> Option<usize>
-        ensures bound { count_of result ≤ length bytes.now }
-        ensures bytes { Appends (written self.old) (written self.new) (take (count_of result) bytes.now) }
+        ensures bound { (unwrap_or result 0) ≤ length bytes.now }
+        ensures bytes { Appends (written self.old) (written self.new) (take ((unwrap_or result 0)) bytes.now) }
         ensures failures { failures self.new ≡ failures self.old + write_failures (length bytes.now) result };
 }

@@ -7,7 +7,7 @@ use std::sync::ledger::{Blank, Book, Ledger, Share};
 
 /// How often a device has failed. It stands in contracts alone: it takes no bytes, and no code can read it.
 #[derive(Drop)]
-pub struct Failures<L: Ledger> {
+pub(crate) struct Failures<L: Ledger> {
     book: Book<L>,
     share: Share<L>,
 }
@@ -22,7 +22,7 @@ impl<L: Ledger> Model for Failures<L> {
 
 impl<L: Ledger> Failures<L> {
     /// No failure so far, in a ledger of one part.
-    pub fn none(blank: Blank) -> Failures<L>
+    pub(crate) fn none(blank: Blank) -> Failures<L>
         requires name { blank.name ≡ L.name }
         requires parts { blank.parts ≡ L.parts }
         requires one { L.parts ≡ 1 }
@@ -33,7 +33,7 @@ impl<L: Ledger> Failures<L> {
     }
 
     /// One failure more.
-    pub fn count(&mut self)
+    pub(crate) fn count(&mut self)
         ensures { self.new ≡ self.old + 1 }
     {
         self.book.add(&mut self.share, 1);

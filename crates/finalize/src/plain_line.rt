@@ -38,12 +38,8 @@ impl PlainLine {
         ensures entry { result ≡ slice_get queue.now self.old }
         ensures counted { self.new ≡ self.old + (if is_some result then 1 else 0) }
     {
-        if self.next < queue.len() {
-            let entry = queue[self.next];
-            self.next += 1;
-            Some(entry)
-        } else {
-            None
-        }
+        let entry = queue.get(self.next).copied()?;
+        self.next += 1;
+        Some(entry)
     }
 }

@@ -1,8 +1,8 @@
 //! The program, over its words and two writers.
 
-ghost use Rattle.std.specs.Prelude.{◌≡◌, ◌≢◌, ◌≤◌, ◌<◌, ◌⊎◌, List, ℕ, Option, codes, length, Ok, None};
+ghost use Rattle.std.specs.Prelude.{◌≡◌, ◌≢◌, ◌≤◌, ◌<◌, ◌⊎◌, ◌+◌, List, ℕ, Option, codes, length, Ok, Err, None};
 ghost use Rattle.finalize.specs.Program.{want_line, memory_line, open_line, fault_line, Says};
-ghost use Rattle.finalize.specs.Report.{Reported, Stopped};
+ghost use Rattle.finalize.specs.Report.{Reported, Stopped, failures_of};
 ghost use Rattle.finalize.specs.declared.run.Summary.{Summary};
 ghost use Rattle.finalize.specs.declared.run.DriveFault.{DriveFault};
 
@@ -82,13 +82,13 @@ pub(crate) fn execute<R: Files + AllocGlobal, S: AsStr, O: Sink, E: Sink>(
     // Any words but two are wrong.
     ensures counted { length words.now ≢ 2 → result ≡ 2 }
     // Of wrong words nothing is written but the line that says so.
-    ensures wrong { result ≡ 2 → (O.written out.new ≡ O.written out.old) × Says (E.written err.old) (E.failures err.old) want_line (E.written err.new) (E.failures err.new) }
+    ensures wrong { result ≡ 2 → (O.written out.new ≡ O.written out.old) × (O.failures out.new ≡ O.failures out.old) × Says (E.written err.old) (E.failures err.old) want_line (E.written err.new) (E.failures err.new) }
     // Where it succeeds, what was written is a whole report. (What a file holds, no contract can tell.)
-    ensures reported { result ≡ 0 → ((input : Option (List ℕ)) × (left : Option (List ℕ)) × (summary : Summary) × Reported input left (O.written out.old) (O.written out.new) summary) × (E.written err.new ≡ E.written err.old) }
+    ensures reported { result ≡ 0 → ((input : Option (List ℕ)) × (left : Option (List ℕ)) × (summary : Summary) × Reported input left (O.written out.old) (O.written out.new) summary) × (O.failures out.new ≡ O.failures out.old) × (E.written err.new ≡ E.written err.old) }
     // Where it fails, either nothing could be run, or the report ends where its fault says.
     ensures failed { result ≡ 1 →
-        ((O.written out.new ≡ O.written out.old) × ((line : List ℕ) × ((line ≡ memory_line) ⊎ (line ≡ open_line)) × Says (E.written err.old) (E.failures err.old) line (E.written err.new) (E.failures err.new)))
-        ⊎ ((fault : DriveFault) × ((input : Option (List ℕ)) × (left : Option (List ℕ)) × Stopped input left (O.written out.old) (O.written out.new) fault) × Says (E.written err.old) (E.failures err.old) (fault_line fault.refusal) (E.written err.new) (E.failures err.new)) }
+        ((O.written out.new ≡ O.written out.old) × (O.failures out.new ≡ O.failures out.old) × ((line : List ℕ) × ((line ≡ memory_line) ⊎ (line ≡ open_line)) × Says (E.written err.old) (E.failures err.old) line (E.written err.new) (E.failures err.new)))
+        ⊎ ((fault : DriveFault) × ((input : Option (List ℕ)) × (left : Option (List ℕ)) × Stopped input left (O.written out.old) (O.written out.new) fault) × (O.failures out.new ≡ O.failures out.old + failures_of Refusal.Output (Err fault)) × Says (E.written err.old) (E.failures err.old) (fault_line fault.refusal) (E.written err.new) (E.failures err.new)) }
 {
     let file = match file_of(rt.alloc(), words) {
         Ok(Some(file)) => file,
@@ -112,8 +112,8 @@ fn run_script<I: Read + Drop, O: Sink, E: Sink, L: Ledger>(
     requires name { ledger.name ≡ L.name }
     requires parts { (ledger.parts ≡ L.parts) × (L.parts ≡ 1) }
     ensures known { result ≤ 1 }
-    ensures reported { result ≡ 0 → ((left : Option (List ℕ)) × (summary : Summary) × Reported (I.remaining input) left (O.written out.old) (O.written out.new) summary) × (E.written err.new ≡ E.written err.old) }
-    ensures failed { result ≡ 1 → (fault : DriveFault) × ((left : Option (List ℕ)) × Stopped (I.remaining input) left (O.written out.old) (O.written out.new) fault) × Says (E.written err.old) (E.failures err.old) (fault_line fault.refusal) (E.written err.new) (E.failures err.new) }
+    ensures reported { result ≡ 0 → ((left : Option (List ℕ)) × (summary : Summary) × Reported (I.remaining input) left (O.written out.old) (O.written out.new) summary) × (O.failures out.new ≡ O.failures out.old) × (E.written err.new ≡ E.written err.old) }
+    ensures failed { result ≡ 1 → (fault : DriveFault) × ((left : Option (List ℕ)) × Stopped (I.remaining input) left (O.written out.old) (O.written out.new) fault) × (O.failures out.new ≡ O.failures out.old + failures_of Refusal.Output (Err fault)) × Says (E.written err.old) (E.failures err.old) (fault_line fault.refusal) (E.written err.new) (E.failures err.new) }
 {
     let mut reader = Stream::new(input, Failures::<L>::none(ledger));
     match drive(alloc, &mut reader, out) {

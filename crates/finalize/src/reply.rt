@@ -127,8 +127,8 @@ pub(crate) fn write_malformed<W: Sink>(writer: &mut W, number: u64) -> Result<()
             Word::Text("line"),
             Word::Number(number),
             Word::Text("refused"),
-            Word::Number(15),
-            Word::Text("BadLine"),
+            Word::Number(u64::from(Refusal::BadLine.code())),
+            Word::Text(Refusal::BadLine.name()),
         ],
     )
 }

@@ -88,7 +88,7 @@ impl Counts {
                 counts.steps += 1;
                 counts.refused += 1;
             }
-            _ => {}
+            Answer::Skipped | Answer::Ended(_) | Answer::Malformed => {}
         }
         counts
     }

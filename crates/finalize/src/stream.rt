@@ -9,13 +9,13 @@ use std::sync::ledger::Ledger;
 
 /// A stream, whose failed calls are counted.
 #[derive(Drop)]
-pub struct Stream<S, L: Ledger> {
+pub(crate) struct Stream<S, L: Ledger> {
     inner: S,
     failures: Failures<L>,
 }
 
 impl<S, L: Ledger> Stream<S, L> {
-    pub fn new(inner: S, failures: Failures<L>) -> Stream<S, L>
+    pub(crate) fn new(inner: S, failures: Failures<L>) -> Stream<S, L>
         ensures { result ≡ record { inner = inner; failures = failures } }
     {
         Stream { inner, failures }

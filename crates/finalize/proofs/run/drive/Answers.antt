@@ -59,7 +59,7 @@ returns-in_default-clause-fault g c =
       text = p.1;
       read = took_ahead _ _ _ _ (Consumes-trans _ _ _ _ _ p.2 h.0);
       written = p.3;
-      explains = subst P (sym c.fault.ensures) (break_off p.0 p.1 c.next_line.new.line.items (drop c.next_line.new.chunk.at (take c.next_line.new.chunk.len c.next_line.new.chunk.bytes)) c.lines.number c.lines.machine c.lines.counts (g.R.Source.remaining c.next_line.new.source) p.4 h.1 h.3);
+      explains = subst P (sym c.fault.ensures) (break_off p.0 p.1 c.next_line.new.line.items (drop c.next_line.new.chunk.at (take c.next_line.new.chunk.len c.next_line.new.chunk.bytes)) c.lines.number c.lines.machine c.lines.counts (g.R.Source.remaining c.next_line.new.source) p.4 h.1 h.2 h.3);
     }
 
 pub returns-in-Err : goal.returns-in-Err
