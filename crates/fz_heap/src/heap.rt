@@ -78,7 +78,7 @@ impl Heap {
 
     /// Makes an object of so many words, all of them zero, and answers its address and its birth.
     pub fn alloc(&mut self, size: u64, kind: ObjKind) -> Result<(Addr, u64), Refusal>
-        ensures refused { IfErr result (λ r. IsRefusedFor (alloc_causes self.old.objects self.old.blocks self.old.next_birth size kind) true r) }
+        ensures refused { IfErr result (λ r. first_cause (alloc_causes self.old.objects self.old.blocks self.old.next_birth size kind) ≡ Some r) }
         ensures unchanged { OnErr result (self.new ≡ self.old) }
         ensures accepted { OnOk result (first_cause (alloc_causes self.old.objects self.old.blocks self.old.next_birth size kind) ≡ None) }
         ensures place { IfOk result (λ made. (place_for self.old.objects self.old.blocks size kind ≡ Some made.0) × (made.1 ≡ self.old.next_birth)) }

@@ -20,7 +20,7 @@ use Rattle.fz_world.specs.Ready.{Ready}
 use Rattle.fz_world.specs.Slots.{GivesSlot, lacks_slot, word_of, with_word}
 use Rattle.fz_world.specs.World.{core_of}
 use Rattle.fz_world.proofs.Queues.{filter_none}
-use Rattle.fz_world.proofs.Stands.{Allowed, refused, first_passes, refused_first, refused_later}
+use Rattle.fz_world.proofs.Stands.{Allowed, refused, first_passes, first_stands, refused_first, refused_later}
 
 module _ (heap : Contents) (frames : List (List ℕ)) (table : Registered) (ready : Ready) (passes : ℕ) where
   abbrev pub now : Core
@@ -31,6 +31,9 @@ module _ (heap : Contents) (frames : List (List ℕ)) (table : Registered) (read
   no_slot e frame slot rest r is lacks =
       let first : IsRefusedFor (bad_slot now frame slot ∷ rest) (may_lack_memory e) r = subst (λ x. IsRefusedFor (bad_slot now frame slot ∷ rest) (may_lack_memory e) x) (sym lacks.1) (refused_first (bad_slot now frame slot) rest (may_lack_memory e) lacks.0) in
       refused now e r (subst (λ cs. IsRefusedFor cs (may_lack_memory e) r) (sym is) first)
+
+  pub slot_cause : (frame slot : ℕ) (rest : Causes) (r : Refusal) → GivesSlot frames frame slot (Err r) → first_cause (bad_slot now frame slot ∷ rest) ≡ Some r
+  slot_cause frame slot rest r lacks = first_stands (bad_slot now frame slot) rest lacks.0 ∙ ap (λ x. Some x) (sym lacks.1)
 
   pub no_second_slot : (e : Event) (frame slot to_frame to_slot : ℕ) (rest : Causes) (r : Refusal) → causes now e ≡ bad_slot now frame slot ∷ bad_slot now to_frame to_slot ∷ rest → lacks_slot frames frame slot ≡ false → GivesSlot frames to_frame to_slot (Err r) → Does now e (Err r) now
   no_second_slot e frame slot to_frame to_slot rest r is has lacks =
@@ -72,9 +75,13 @@ module _ (heap : Contents) (frames : List (List ℕ)) (table : Registered) (read
 
   -- ---- objects
 
-  pub no_object_made : (frame slot size : ℕ) (kind : ObjKind) (r : Refusal) → lacks_slot frames frame slot ≡ false → IsRefusedFor (alloc_causes heap.objects heap.blocks heap.next_birth size kind) true r → Does now (Alloc frame slot size kind) (Err r) now
+  pub no_object_made : (frame slot size : ℕ) (kind : ObjKind) (r : Refusal) → lacks_slot frames frame slot ≡ false → first_cause (alloc_causes heap.objects heap.blocks heap.next_birth size kind) ≡ Some r → Does now (Alloc frame slot size kind) (Err r) now
   no_object_made frame slot size kind r has cause =
-      refused now (Alloc frame slot size kind) r (refused_later (bad_slot now frame slot) (alloc_causes heap.objects heap.blocks heap.next_birth size kind) true r has cause)
+      refused now (Alloc frame slot size kind) r (refused_later (bad_slot now frame slot) (alloc_causes heap.objects heap.blocks heap.next_birth size kind) true r has (inl cause))
+
+  -- and the cause itself, behind a slot that is there
+  pub cause_made : (frame slot size : ℕ) (kind : ObjKind) (r : Refusal) → lacks_slot frames frame slot ≡ false → first_cause (alloc_causes heap.objects heap.blocks heap.next_birth size kind) ≡ Some r → first_cause (causes now (Alloc frame slot size kind)) ≡ Some r
+  cause_made frame slot size kind r has cause = first_passes (bad_slot now frame slot) (alloc_causes heap.objects heap.blocks heap.next_birth size kind) has ∙ cause
 
   pub makes : (frame slot size : ℕ) (kind : ObjKind) (made : ℕ × ℕ) (new : Contents) (new_frames : List (List ℕ)) → lacks_slot frames frame slot ≡ false → first_cause (alloc_causes heap.objects heap.blocks heap.next_birth size kind) ≡ None → (place_for heap.objects heap.blocks size kind ≡ Some made.0) × (made.1 ≡ heap.next_birth) → new ≡ record heap { objects = insert heap.objects made.0 (new_object kind heap.next_birth size); next_birth = heap.next_birth + 1 } → new_frames ≡ with_word frames frame slot made.0 → Allowed now (Alloc frame slot size kind) made (core_of new new_frames table ready passes)
   makes frame slot size kind made new new_frames has none at is put = record {

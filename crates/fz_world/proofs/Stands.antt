@@ -1,5 +1,5 @@
 -- A world whose calls are steps of the model, as long as no cycle is open in it.
-use Rattle.std.proofs.Common.{◌≡◌, ◌⊎◌, Bool, true, false, List, [], ◌∷◌, ◌++◌, if◌then◌else◌, Option, None, Some, Result, Ok, Err, refl, sym, ap, ◌∙◌, subst, inl, true≢false, IsTrue}
+use Rattle.std.proofs.Common.{◌≡◌, ◌⊎◌, Bool, true, false, List, [], ◌∷◌, ◌++◌, if◌then◌else◌, Option, None, Some, Result, Ok, Err, refl, sym, ap, ◌∙◌, subst, inl, true≢false, IsTrue, IfErr}
 use Rattle.std.proofs.lemmas.Option.{none-some}
 use Rattle.std.specs.Result.{IsErrAnd}
 use Rattle.std.proofs.lemmas.Result.{err_from_is_err_and}
@@ -25,6 +25,18 @@ handed_on e now w new result r seen same h does =
     let p = err_from_is_err_and result h in
     let here : Does w e (Err r) w = subst (λ c. Does c e (Err r) c) seen does in
     subst (λ x. Does w e x new) (sym (p.1 ∙ ap (λ x. Err x) p.2)) (subst (λ c. Does w e (Err r) c) (sym same) here)
+
+-- its cause stands in the world
+pub caused_at : (e : Event) (now w : Core) (result : Result (Answer e) Refusal) (r : Refusal) → now ≡ w → IsErrAnd result (λ x. x ≡ r) → first_cause (causes now e) ≡ Some r → IfErr result (λ x. first_cause (causes w e) ≡ Some x)
+caused_at e now w result r seen h cause =
+    let p = err_from_is_err_and result h in
+    subst (λ x. IfErr x (λ y. first_cause (causes w e) ≡ Some y)) (sym (p.1 ∙ ap (λ x. Err x) p.2)) (subst (λ c. first_cause (causes c e) ≡ Some r) seen cause)
+
+-- and what goes with a want of memory
+pub lacking_at : {A : Type 0} (P : Type 0) (result : Result A Refusal) (r : Refusal) → IsErrAnd result (λ x. x ≡ r) → (r ≡ NoMemory → P) → IfErr result (λ x. x ≡ NoMemory → P)
+lacking_at P result r h lacking =
+    let p = err_from_is_err_and result h in
+    subst (λ x. IfErr x (λ y. y ≡ NoMemory → P)) (sym (p.1 ∙ ap (λ x. Err x) p.2)) lacking
 
 -- the same, where the code makes the refusal
 pub refused_at : (e : Event) (now w new : Core) (r : Refusal) → now ≡ w → Does now e (Err r) new → Does w e (Err r) new

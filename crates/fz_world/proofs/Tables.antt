@@ -1,13 +1,16 @@
 -- Registering and unregistering, by what they do to the parts of a world.
-use Rattle.std.proofs.Common.{◌≡◌, ◌⊎◌, ℕ, ◌+◌, Bool, true, false, List, [], ◌∷◌, ◌++◌, if◌then◌else◌, Option, None, Some, Ok, Err, sym, ap, ◌∙◌, subst, inl, IsTrue}
-use Rattle.std.proofs.lemmas.Bool.{cond-true, cond-false}
-use Rattle.std.specs.FinMap.{insert, remove}
+use Rattle.std.proofs.Common.{◌≡◌, ◌⊎◌, ℕ, ◌+◌, Bool, true, false, List, [], ◌∷◌, ◌++◌, if◌then◌else◌, Option, None, Some, Ok, Err, refl, sym, ap, ◌∙◌, subst, inl, is_none, IsTrue, IsSome}
+use Rattle.std.proofs.lemmas.Bool.{true≢false, cond-true, cond-false}
+use Rattle.std.proofs.lemmas.Option.{none-some, same_Some}
+use Rattle.std.specs.Option.{IsNone}
+use Rattle.std.specs.FinMap.{get, insert, remove}
 use Rattle.fz_model.specs.declared.kinds.RegKind.{RegKind}
 use Rattle.fz_model.specs.declared.answers.Old.{Old}
 use Rattle.fz_model.specs.declared.answers.RegAnswer.TheVariants.{Outside, Number}
 use Rattle.fz_model.specs.declared.refusal.Refusal.{Refusal}
-use Rattle.fz_model.specs.declared.refusal.Refusal.TheVariants.{NoMemory}
-use Rattle.fz_model.specs.State.{Core}
+use Rattle.fz_model.specs.declared.refusal.Refusal.TheVariants.{NoMemory, NotPointer, NotStart, Exhausted}
+use Rattle.fz_model.specs.State.{Core, Map, Object}
+use Rattle.fz_model.specs.Memory.{points}
 use Rattle.fz_model.specs.Causes.{start_causes, Causes, first_cause, IsRefusedFor, is_off_heap, register_causes}
 use Rattle.fz_model.specs.Events.{Event, Register, Unregister, bad_slot}
 use Rattle.fz_model.specs.Steps.{old_of}
@@ -25,6 +28,31 @@ in_heap off causes is = ap (λ b. first_cause (if b then [] else causes)) is
 
 off_heap : (off : Bool) (causes : Causes) → off ≡ true → first_cause (if off then [] else causes) ≡ None
 off_heap off causes is = ap (λ b. first_cause (if b then [] else causes)) is
+
+-- ---- refusals that are no want of memory
+
+abbrev is_memory : Refusal → Bool
+is_memory NoMemory = true
+is_memory _ = false
+
+other_than_memory : (r : Refusal) (P : Type 0) → is_memory r ≡ false → r ≡ NoMemory → P
+other_than_memory r P other same = absurd (true≢false (sym (ap is_memory same) ∙ other))
+
+pub slot_lacks_none : (frames : List (List ℕ)) (frame slot : ℕ) (r : Refusal) (P : Type 0) → GivesSlot frames frame slot (Err r) → r ≡ NoMemory → P
+slot_lacks_none frames frame slot r P lacks = other_than_memory r P (ap is_memory lacks.1)
+
+start_lacks : (no_object no_start : Bool) (r : Refusal) → first_cause ((no_object, NotPointer) ∷ (no_start, NotStart) ∷ []) ≡ Some r → is_memory r ≡ false
+start_lacks true no_start r is = ap is_memory (sym (same_Some NotPointer r is))
+start_lacks false true r is = ap is_memory (sym (same_Some NotStart r is))
+start_lacks false false r is = absurd (none-some r is)
+
+pub start_lacks_none : (objects : Map Object) (word : ℕ) (r : Refusal) (P : Type 0) → first_cause (start_causes objects word) ≡ Some r → r ≡ NoMemory → P
+start_lacks_none objects word r P is = other_than_memory r P (start_lacks (is_none (points objects word)) (is_none (get objects word)) r is)
+
+-- a key that is in the table takes no memory
+pub key_lacks_none : {X : Type 0} (registration : Option X) (r : Refusal) → (IsSome registration → r ≡ Exhausted) → r ≡ NoMemory → IsNone registration
+key_lacks_none None r replaced lacking = refl
+key_lacks_none (Some x) r replaced lacking = other_than_memory r (IsNone (Some x)) (ap is_memory (replaced refl)) lacking
 
 module _ (heap : Contents) (frames : List (List ℕ)) (table : Registered) (ready : Ready) (passes : ℕ) (frame slot word : ℕ) (from : GivesSlot frames frame slot (Ok word)) where
   abbrev now : Core

@@ -1,9 +1,12 @@
 //! The world, whose calls are the steps of the model.
 
-ghost use Rattle.std.specs.Prelude.{◌≡◌, ◌<◌, ◌+◌, ◌*◌, length, true, false, None, Ok, Some, IfOk, IfErr, OnOk};
+ghost use Rattle.std.specs.Prelude.{◌≡◌, ◌<◌, ◌+◌, ◌*◌, length, true, false, None, Ok, Some, IfOk, IfErr, OnOk, IsFalse};
+ghost use Rattle.std.specs.Option.{IsNone};
+ghost use Rattle.std.specs.FinMap.{get};
 ghost use Rattle.fz_model.specs.State.{opening};
 ghost use Rattle.fz_model.specs.Causes.{start_causes, IsRefusedFor, first_cause, is_off_heap, count_limit};
-ghost use Rattle.fz_model.specs.Events.{Alloc, Load, Store, Set, Copy, Register, Unregister, Collect, Finish, Outstanding, Queue};
+ghost use Rattle.fz_model.specs.Events.{Alloc, Load, Store, Set, Copy, Register, Unregister, Collect, Finish, Outstanding, Queue, causes};
+ghost use Rattle.fz_model.specs.Memory.{slot_word};
 ghost use Rattle.fz_model.specs.Reachability.{IsReachable, Computes};
 ghost use Rattle.fz_pass.specs.Sets.{has};
 ghost use Rattle.fz_world.specs.Does.{StandsFor, Does, open_causes};
@@ -85,7 +88,7 @@ impl World {
 
     /// Makes an object of so many words, all of them zero, and puts its address into the slot. Answers the address and the birth.
     ///
-    /// Refusals, in their order: `BadSlot`, `BadSize` outside 1 to 64 words, `Exhausted` after 2^48 births, `NoSpace`, `NoMemory`.
+    /// Refusals, in their order: `BadSlot`, `BadSize` outside 1 to 64 words, `Exhausted` after 2^48 births, `NoSpace`.
     pub fn alloc(
         &mut self,
         frame: u64,
@@ -93,7 +96,9 @@ impl World {
         size: u64,
         kind: ObjKind,
     ) -> Result<(Addr, u64), Refusal>
-        ensures { Does self.old (Alloc frame slot size kind) result self.new }
+        ensures step { Does self.old (Alloc frame slot size kind) result self.new }
+        // It takes no memory, since `open` made its room: so each refusal has its cause.
+        ensures caused { IfErr result (λ r. first_cause (causes self.old (Alloc frame slot size kind)) ≡ Some r) }
     {
         self.frames.get(frame, slot)?;
         let (address, birth) = self.heap.alloc(size, kind)?;
@@ -180,7 +185,10 @@ impl World {
         proc: u64,
         cd: Word,
     ) -> Result<RegAnswer, Refusal>
-        ensures { Does self.old (Register frame slot kind proc cd) result self.new }
+        ensures step { Does self.old (Register frame slot kind proc cd) result self.new }
+        // Only the first registration of an object can want memory.
+        ensures inside { IfErr result (λ r. r ≡ Refusal.NoMemory → IsFalse (is_off_heap self.old.blocks (slot_word self.old frame slot))) }
+        ensures growth { IfErr result (λ r. r ≡ Refusal.NoMemory → IsNone (get self.old.registrations (slot_word self.old frame slot))) }
     {
         let word = self.frames.get(frame, slot)?;
         if is_off_heap(&self.heap, word) {

@@ -1,5 +1,7 @@
 //! What a run of calls answers to C.
 
+ghost use Rattle.std.specs.Prelude.{◌≡◌, IfOk, OnErr, true, false};
+
 use fz_model::Refusal;
 
 /// What a run of calls answered.
@@ -14,7 +16,10 @@ pub struct Outcome {
 
 impl Outcome {
     /// The sum, or that a call was refused.
-    pub(crate) fn of(sum: Result<u64, Refusal>) -> Outcome {
+    pub(crate) fn of(sum: Result<u64, Refusal>) -> Outcome
+        ensures done { IfOk sum (λ answer. result ≡ record { sum = answer; done = true }) }
+        ensures refused { OnErr sum (result ≡ record { sum = 0; done = false }) }
+    {
         match sum {
             Ok(sum) => Outcome { sum, done: true },
             Err(_) => Outcome {

@@ -1,4 +1,4 @@
-use Rattle.std.proofs.Common.{◌≡◌, ◌+◌, ◌-◌, ◌<◌, ◌≤◌, ◌∙◌, sym, ap, subst, arith, rules, inl, length, vec_len, slice_set, length-set, List, ℕ}
+use Rattle.std.proofs.Common.{◌≡◌, ◌+◌, ◌-◌, ◌<◌, ◌≤◌, ◌∙◌, sym, ap, subst, arith, rules, length, vec_len, slice_set, length-set, List, ℕ}
 use Rattle.std.proofs.lemmas.List.{with_items_is}
 use Rattle.std.proofs.lemmas.Result.{err_from_is_err_and}
 use Rattle.std.specs.Vec.{with_items}
@@ -17,7 +17,7 @@ pub returns-in_err-start-clause-refused : goal.returns-in_err-start-clause-refus
 returns-in_err-start-clause-refused c =
     let h = c.self.inside in
     let p = err_from_is_err_and c.from_residual.result c.from_residual.ensures.1 in
-    rw (p.1, p.2) (inl (alloc_now h.map h.words.items h.births.items c.args.self.now h.next_birth c.self.view_is c.args.size c.args.kind c.if-self-ge-COUNT_LIMIT.false ∙ c.in_err-start.ensures.refused))
+    rw (p.1, p.2) (alloc_now h.map h.words.items h.births.items c.args.self.now h.next_birth c.self.view_is c.args.size c.args.kind c.if-self-ge-COUNT_LIMIT.false ∙ c.in_err-start.ensures.refused)
 
 pub overflow_sub-first : goal.overflow_sub-first
 overflow_sub-first c =
