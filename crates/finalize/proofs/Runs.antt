@@ -1,5 +1,5 @@
 -- How a run goes on by one line, and how it ends.
-use Rattle.std.proofs.Common.{◌≡◌, ◌≢◌, ℕ, ◌≤◌, ◌<◌, ◌+◌, List, [], ◌∷◌, ◌++◌, Option, Some, None, Result, Ok, Err, Bool, true, false, ◌∙◌, ap, sym, refl, subst, append-nil, arith, length, length-append, flat_map, is_some, IfOk, IfErr, IsTrue, IsFalse, inl, inr, ◌⊎◌, leb-true, nat_le, append_assoc}
+use Rattle.std.proofs.Common.{◌≡◌, ◌≢◌, ℕ, ◌≤◌, ◌<◌, ◌+◌, List, [], ◌∷◌, ◌++◌, Option, Some, None, Result, Ok, Err, Bool, true, false, ◌∙◌, ap, sym, refl, subst, append-nil, arith, length, length-append, flat_map, is_some, IfOk, IfErr, IsTrue, IsFalse, inl, inr, ◌⊎◌, leb-true, nat_le, append_assoc, take, drop}
 use Rattle.std.proofs.lemmas.Bool.{leb-false}
 use Rattle.std.proofs.lemmas.List.Elements.{All-nil, All-push}
 use Rattle.std.proofs.lemmas.List.Concat.{flat_map-append}
@@ -24,7 +24,8 @@ use Rattle.finalize.specs.Script.{with_lf, IsOneLine, all_lines, max_line, max_l
 use Rattle.finalize.specs.Replies.{text_line, done, refused_words, reply_words, malformed_words, end_words}
 use Rattle.finalize.specs.Report.{Course, Reports, opening_causes, summary_of, AtEnd, IsReport, IsEnded, AtLine, IsRefusedOpening, IsDue, Opens, OpensNot, Replies, closing_words, Explains, Reported, Stopped, failures_of}
 use Rattle.finalize.specs.Report as report
-use Rattle.finalize.specs.Lines.{TakenFor, EndsInput}
+use Rattle.finalize.specs.declared.chunk.Chunk.{Chunk}
+use Rattle.finalize.specs.Lines.{unread, TakenFor, EndsInput}
 use Rattle.finalize.specs.Machines.{Gives, Given, answer_text, is_told, stop_of, bit, TellsAnswer, counts_after, counts_of, no_counts, summary_at, Finishes}
 use Rattle.std.proofs.KnownBytes.{Appends-trans}
 use Rattle.finalize.proofs.Balance.{balanced}
@@ -40,6 +41,10 @@ pub record Position (bytes : List ℕ) (number : ℕ) (text : List ℕ) (machine
 
 pub at_first : Position [] 1 [] None no_counts
 at_first = record { lines = []; is = refl; each = All-nil IsOneLine; place = refl; after = at_start }
+
+-- nothing is unread before the first read
+pub fresh : (chunk : Chunk) → (chunk.at ≡ 0) × (chunk.len ≡ 0) → unread chunk ≡ []
+fresh chunk h = ap (λ a. drop a (take chunk.len chunk.bytes)) h.0 ∙ ap (λ n. take n chunk.bytes) h.1
 
 pub took_start : (r : Option (List ℕ)) (u : List ℕ) → u ≡ [] → Consumes r (prepend_known u r) []
 took_start None u e = tt

@@ -1,9 +1,14 @@
 -- The reading of lines, one by one. Means only: no public contract cites this file.
-use Rattle.std.specs.Prelude.{◌≡◌, ◌≢◌, ℕ, ◌≤◌, ◌+◌, List, [], ◌∷◌, ◌++◌, Option, Some, None, Result, Ok, Err, length}
+use Rattle.std.specs.Prelude.{◌≡◌, ◌≢◌, ℕ, ◌≤◌, ◌+◌, List, [], ◌∷◌, ◌++◌, Option, Some, None, Result, Ok, Err, length, take, drop}
+use Rattle.finalize.specs.declared.chunk.Chunk.{Chunk}
 use Rattle.finalize.specs.declared.input.Ending.{Ending}
 use Rattle.finalize.specs.declared.input.Ending.TheVariants.{Whole, Last, Nothing, TooLong}
 use Rattle.std.specs.Io.KnownBytes.{Consumes, IsAtEnd}
 use Rattle.finalize.specs.Script.{IsOneLine, max_line}
+
+-- the bytes of a chunk that were read and not used
+abbrev pub unread : Chunk → List ℕ
+unread chunk = drop chunk.at (take chunk.len chunk.bytes)
 
 -- the bytes that were taken for a line, by how it ends
 abbrev pub TakenFor : Ending → List ℕ → List ℕ → Type 0

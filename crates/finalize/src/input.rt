@@ -1,9 +1,10 @@
 //! Lines of input.
 
-ghost use Rattle.std.specs.Prelude.{◌≡◌, ◌≤◌, take, drop, []};
+ghost use Rattle.std.specs.Prelude.{◌≡◌, ◌≤◌, []};
 ghost use Rattle.std.specs.Io.KnownBytes.{prepend_known};
-ghost use Rattle.finalize.specs.Lines.{Reads, ReadsByte};
+ghost use Rattle.finalize.specs.Lines.{unread, Reads, ReadsByte};
 
+use crate::chunk::Chunk;
 use crate::device::Source;
 use arrayvec::ArrayVec;
 
@@ -13,28 +14,6 @@ pub(crate) const MAX_LINE: usize = 200;
 /// The reader failed.
 #[derive(Clone, Copy, Debug, PartialEq, Eq)]
 pub(crate) struct ReadFailed;
-
-/// What was read and not yet used.
-#[derive(Drop)]
-pub(crate) struct Chunk {
-    bytes: [u8; 256],
-    at: usize,
-    len: usize,
-    ghost in_range: { at ≤ len },
-    ghost within: { len ≤ 256 },
-}
-
-impl Chunk {
-    pub(crate) fn new() -> Chunk
-        ensures { drop result.at (take result.len result.bytes) ≡ [] }
-    {
-        Chunk {
-            bytes: [0; 256],
-            at: 0,
-            len: 0,
-        }
-    }
-}
 
 /// How the next line ends.
 #[derive(Clone, Copy, Debug, PartialEq, Eq)]
@@ -50,9 +29,9 @@ pub(crate) enum Ending {
 }
 
 fn next_byte<R: Source>(source: &mut R, chunk: &mut Chunk) -> Result<Option<u8>, ReadFailed>
-    ensures { ReadsByte (prepend_known (drop chunk.old.at (take chunk.old.len chunk.old.bytes)) (R.remaining source.old)) (R.failures source.old)
-        result (drop chunk.new.at (take chunk.new.len chunk.new.bytes))
-        (prepend_known (drop chunk.new.at (take chunk.new.len chunk.new.bytes)) (R.remaining source.new)) (R.failures source.new) }
+    ensures { ReadsByte (prepend_known (unread chunk.old) (R.remaining source.old)) (R.failures source.old)
+        result (unread chunk.new)
+        (prepend_known (unread chunk.new) (R.remaining source.new)) (R.failures source.new) }
 {
     if chunk.at == chunk.len {
         match source.read(&mut chunk.bytes) {
@@ -75,9 +54,9 @@ pub(crate) fn next_line<R: Source>(
     chunk: &mut Chunk,
     line: &mut ArrayVec<u8, MAX_LINE>,
 ) -> Result<Ending, ReadFailed>
-    ensures { Reads (prepend_known (drop chunk.old.at (take chunk.old.len chunk.old.bytes)) (R.remaining source.old)) (R.failures source.old)
-        result line.new.items (drop chunk.new.at (take chunk.new.len chunk.new.bytes))
-        (prepend_known (drop chunk.new.at (take chunk.new.len chunk.new.bytes)) (R.remaining source.new)) (R.failures source.new) }
+    ensures { Reads (prepend_known (unread chunk.old) (R.remaining source.old)) (R.failures source.old)
+        result line.new.items (unread chunk.new)
+        (prepend_known (unread chunk.new) (R.remaining source.new)) (R.failures source.new) }
 {
     line.clear();
     loop {

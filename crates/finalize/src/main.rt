@@ -4,6 +4,7 @@
 ghost use Rattle.std.specs.Prelude.{◌≡◌};
 
 mod answer;
+mod chunk;
 mod device;
 mod failures;
 mod input;

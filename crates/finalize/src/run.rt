@@ -5,8 +5,9 @@ ghost use Rattle.finalize.specs.Report.{Reported, Stopped, failures_of};
 ghost use Rattle.finalize.specs.Machines.{counts_after, summary_at, TellsAnswer, Finishes};
 
 use crate::answer::{Answer, answer_at};
+use crate::chunk::Chunk;
 use crate::device::{Sink, Source};
-use crate::input::{Chunk, Ending, next_line};
+use crate::input::{Ending, next_line};
 use crate::machine::Machine;
 use crate::reply::{Reply, write_done, write_end, write_malformed, write_refused, write_reply};
 use arrayvec::ArrayVec;

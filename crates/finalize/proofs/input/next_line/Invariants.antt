@@ -1,4 +1,5 @@
-use Rattle.std.proofs.Common.{◌≡◌, ◌≤◌, take, drop, ◌-◌, length}
+use Rattle.std.proofs.Common.{◌≡◌, ◌≤◌, ◌-◌, length}
+use Rattle.finalize.specs.Lines.{unread}
 use Rattle.std.specs.Io.KnownBytes.{Consumes}
 use Rattle.std.specs.Io.KnownBytes.{prepend_known}
 use Rattle.finalize.specs.Script.{IsOneLine}
@@ -6,7 +7,7 @@ use Rattle.finalize.proofs.input.next_line.Given as goal
 
 abbrev pub invariant-loop-line : goal.invariant-loop-line
 invariant-loop-line g l = record {
-  taken : Consumes (prepend_known (drop l.fn.chunk.at (take l.fn.chunk.len l.fn.chunk.bytes)) (g.R.Source.remaining l.fn.source)) (prepend_known (drop l.chunk.at (take l.chunk.len l.chunk.bytes)) (g.R.Source.remaining l.source)) l.line.items;
+  taken : Consumes (prepend_known (unread l.fn.chunk) (g.R.Source.remaining l.fn.source)) (prepend_known (unread l.chunk) (g.R.Source.remaining l.source)) l.line.items;
   one : IsOneLine l.line.items;
   short : length l.line.items ≤ 200;
   same : g.R.Source.failures l.source ≡ g.R.Source.failures l.fn.source;

@@ -1,17 +1,18 @@
-use Rattle.std.proofs.Common.{arith, refl, ◌+◌, ◌++◌, ◌∙◌, [], drop, take, sym, subst, IsTrue}
+use Rattle.std.proofs.Common.{arith, refl, ◌+◌, ◌++◌, ◌∙◌, [], sym, subst, IsTrue}
+use Rattle.finalize.specs.Lines.{unread}
 use Rattle.finalize.specs.declared.run.DriveFault.{DriveFault}
 use Rattle.std.specs.Io.KnownBytes.{Consumes, prepend_known}
 use Rattle.finalize.specs.Script.{with_lf}
 use Rattle.finalize.specs.Report.{Explains}
 use Rattle.finalize.specs.Machines.{answer_text, is_told}
-use Rattle.finalize.proofs.Runs.{Position, Ended, at_first, took_start, took_ahead, finish_ok, finish_fault, finish_failures, tell_fault, tell_failures, reach, close_here, close_last, break_off, goes_on, position_more, whole_taken, IsBelow, counts_bound, no_more, report_balanced}
+use Rattle.finalize.proofs.Runs.{Position, Ended, at_first, fresh, took_start, took_ahead, finish_ok, finish_fault, finish_failures, tell_fault, tell_failures, reach, close_here, close_last, break_off, goes_on, position_more, whole_taken, IsBelow, counts_bound, no_more, report_balanced}
 use Rattle.std.proofs.KnownBytes.{Appends-trans, Consumes-trans}
 use Rattle.finalize.proofs.Writing.{wrote_none}
 use Rattle.finalize.proofs.run.drive.Goals as goal
 
 pub lines-init : goal.lines-init
 lines-init g c = record {
-  position = ([], [], took_start _ _ c.new-chunk.ensures, wrote_none _, at_first);
+  position = ([], [], took_start _ _ (fresh c.new-chunk.result c.new-chunk.ensures), wrote_none _, at_first);
   in_time = omega arith;
   steps = omega arith;
   refused = omega arith;
@@ -25,14 +26,14 @@ pub returns-in-Nothing-clause-fault : goal.returns-in-Nothing-clause-fault
 returns-in-Nothing-clause-fault g c =
     let h = rw c.in-Nothing.is at c.in-Ok.ensures in
     let p = c.lines.invariant.position in
-    finish_fault (g.R.Source.remaining c.args.reader.now) (g.R.Source.remaining c.next_line.new.source) (drop c.next_line.new.chunk.at (take c.next_line.new.chunk.len c.next_line.new.chunk.bytes)) (p.0 ++ h.0.0) p.1 (g.W.Sink.written c.args.writer.now) (g.W.Sink.written c.lines.writer) (g.W.Sink.written c.finish.new.writer) (g.W.Sink.failures c.lines.writer) (g.W.Sink.failures c.finish.new.writer) c.lines.number c.lines.machine c.lines.counts c.finish.result
+    finish_fault (g.R.Source.remaining c.args.reader.now) (g.R.Source.remaining c.next_line.new.source) (unread c.next_line.new.chunk) (p.0 ++ h.0.0) p.1 (g.W.Sink.written c.args.writer.now) (g.W.Sink.written c.lines.writer) (g.W.Sink.written c.finish.new.writer) (g.W.Sink.failures c.lines.writer) (g.W.Sink.failures c.finish.new.writer) c.lines.number c.lines.machine c.lines.counts c.finish.result
     (Consumes-trans _ _ _ _ _ p.2 h.0.2) h.1 p.3 (close_here p.0 h.0.0 p.1 c.lines.number c.lines.machine c.lines.counts p.4 h.0.1.0) c.finish.ensures
 
 pub returns-in-Nothing-clause-ok : goal.returns-in-Nothing-clause-ok
 returns-in-Nothing-clause-ok g c =
     let h = rw c.in-Nothing.is at c.in-Ok.ensures in
     let p = c.lines.invariant.position in
-    finish_ok (g.R.Source.remaining c.args.reader.now) (g.R.Source.remaining c.next_line.new.source) (drop c.next_line.new.chunk.at (take c.next_line.new.chunk.len c.next_line.new.chunk.bytes)) (p.0 ++ h.0.0) p.1 (g.W.Sink.written c.args.writer.now) (g.W.Sink.written c.lines.writer) (g.W.Sink.written c.finish.new.writer) (g.W.Sink.failures c.lines.writer) (g.W.Sink.failures c.finish.new.writer) c.lines.number c.lines.machine c.lines.counts c.finish.result
+    finish_ok (g.R.Source.remaining c.args.reader.now) (g.R.Source.remaining c.next_line.new.source) (unread c.next_line.new.chunk) (p.0 ++ h.0.0) p.1 (g.W.Sink.written c.args.writer.now) (g.W.Sink.written c.lines.writer) (g.W.Sink.written c.finish.new.writer) (g.W.Sink.failures c.lines.writer) (g.W.Sink.failures c.finish.new.writer) c.lines.number c.lines.machine c.lines.counts c.finish.result
     (Consumes-trans _ _ _ _ _ p.2 h.0.2) h.1 p.3 (close_here p.0 h.0.0 p.1 c.lines.number c.lines.machine c.lines.counts p.4 h.0.1.0) c.finish.ensures
 
 pub returns-in-Nothing-clause-balanced : goal.returns-in-Nothing-clause-balanced
@@ -52,14 +53,14 @@ pub returns-in_default-clause-fault : goal.returns-in_default-clause-fault
 returns-in_default-clause-fault g c =
     let h = c.in_default.ensures in
     let p = c.lines.invariant.position in
-    let P : DriveFault → Type 0 = λ f. Explains f.refusal f.line (p.0 ++ c.next_line.new.line.items) (drop c.next_line.new.chunk.at (take c.next_line.new.chunk.len c.next_line.new.chunk.bytes)) (g.R.Source.remaining c.next_line.new.source) p.1 in
+    let P : DriveFault → Type 0 = λ f. Explains f.refusal f.line (p.0 ++ c.next_line.new.line.items) (unread c.next_line.new.chunk) (g.R.Source.remaining c.next_line.new.source) p.1 in
     record {
       bytes = p.0 ++ c.next_line.new.line.items;
-      unread = drop c.next_line.new.chunk.at (take c.next_line.new.chunk.len c.next_line.new.chunk.bytes);
+      unread = unread c.next_line.new.chunk;
       text = p.1;
       read = took_ahead _ _ _ _ (Consumes-trans _ _ _ _ _ p.2 h.0);
       written = p.3;
-      explains = subst P (sym c.fault.ensures) (break_off p.0 p.1 c.next_line.new.line.items (drop c.next_line.new.chunk.at (take c.next_line.new.chunk.len c.next_line.new.chunk.bytes)) c.lines.number c.lines.machine c.lines.counts (g.R.Source.remaining c.next_line.new.source) p.4 h.1 h.2 h.3);
+      explains = subst P (sym c.fault.ensures) (break_off p.0 p.1 c.next_line.new.line.items (unread c.next_line.new.chunk) c.lines.number c.lines.machine c.lines.counts (g.R.Source.remaining c.next_line.new.source) p.4 h.1 h.2 h.3);
     }
 
 pub returns-in-Err : goal.returns-in-Err
@@ -67,13 +68,13 @@ returns-in-Err g c =
     let h = c.in-Ok.ensures in
     let p = c.lines.invariant.position in
     let given = rw c.as_slice.ensures.value at c.answer_at-answer.ensures in
-    let left = prepend_known (drop c.next_line.new.chunk.at (take c.next_line.new.chunk.len c.next_line.new.chunk.bytes)) (g.R.Source.remaining c.next_line.new.source) in
+    let left = prepend_known (unread c.next_line.new.chunk) (g.R.Source.remaining c.next_line.new.source) in
     let due = λ (told : IsTrue (is_told c.answer_at-answer.result)). reach p.0 h.0.0 p.1 c.next_line.new.line.items left c.lines.number c.in-Ok.ending c.lines.machine c.answer_at-answer.new.machine c.lines.counts c.answer_at-answer.result p.4 h.0.1 h.1 h.2 h.3 c.in_default-ending.not-Nothing given told in
     let f = tell_failures (g.W.Sink.written c.lines.writer) (g.W.Sink.written c.tell.new.writer) (g.W.Sink.failures c.args.writer.now) (g.W.Sink.failures c.lines.writer) (g.W.Sink.failures c.tell.new.writer) c.lines.number c.answer_at-answer.result c.in-Err.fault (p.0 ++ h.0.0) p.1 left c.lines.invariant.writes due c.in-Err.ensures in
     record {
       ok = tt;
       balanced = tt;
-      fault = tell_fault (g.R.Source.remaining c.args.reader.now) (g.R.Source.remaining c.next_line.new.source) (drop c.next_line.new.chunk.at (take c.next_line.new.chunk.len c.next_line.new.chunk.bytes)) (p.0 ++ h.0.0) p.1 (g.W.Sink.written c.args.writer.now) (g.W.Sink.written c.lines.writer) (g.W.Sink.written c.tell.new.writer) (g.W.Sink.failures c.lines.writer) (g.W.Sink.failures c.tell.new.writer) c.lines.number c.answer_at-answer.result c.in-Err.fault (Consumes-trans _ _ _ _ _ p.2 h.0.2) p.3 due c.in-Err.ensures;
+      fault = tell_fault (g.R.Source.remaining c.args.reader.now) (g.R.Source.remaining c.next_line.new.source) (unread c.next_line.new.chunk) (p.0 ++ h.0.0) p.1 (g.W.Sink.written c.args.writer.now) (g.W.Sink.written c.lines.writer) (g.W.Sink.written c.tell.new.writer) (g.W.Sink.failures c.lines.writer) (g.W.Sink.failures c.tell.new.writer) c.lines.number c.answer_at-answer.result c.in-Err.fault (Consumes-trans _ _ _ _ _ p.2 h.0.2) p.3 due c.in-Err.ensures;
       reads = no_more (h.4 ∙ c.lines.invariant.reads) f.0;
       writes = f.1;
     }
@@ -102,11 +103,11 @@ returns-in-Last g c =
     let f1 = g.W.Sink.failures c.tell.new.writer in
     let f2 = g.W.Sink.failures c.finish-in-Last.new.writer in
     let f = finish_failures w1 w2 (g.W.Sink.failures c.args.writer.now) f1 f2 (number + 1) new counts' c.finish-in-Last.result (c.in_default-tell.ensures.2 ∙ c.lines.invariant.writes) c.finish-in-Last.ensures in
-    let ok = finish_ok (g.R.Source.remaining c.args.reader.now) (g.R.Source.remaining c.next_line.new.source) (drop c.next_line.new.chunk.at (take c.next_line.new.chunk.len c.next_line.new.chunk.bytes)) bytes text (g.W.Sink.written c.args.writer.now) w1 w2 f1 f2 (number + 1) new counts' c.finish-in-Last.result took h.1 wrote closed c.finish-in-Last.ensures in
+    let ok = finish_ok (g.R.Source.remaining c.args.reader.now) (g.R.Source.remaining c.next_line.new.source) (unread c.next_line.new.chunk) bytes text (g.W.Sink.written c.args.writer.now) w1 w2 f1 f2 (number + 1) new counts' c.finish-in-Last.result took h.1 wrote closed c.finish-in-Last.ensures in
     record {
       ok = ok;
       balanced = report_balanced c.finish-in-Last.result (g.R.Source.remaining c.args.reader.now) (g.R.Source.remaining c.next_line.new.source) (g.W.Sink.written c.args.writer.now) w2 ok;
-      fault = finish_fault (g.R.Source.remaining c.args.reader.now) (g.R.Source.remaining c.next_line.new.source) (drop c.next_line.new.chunk.at (take c.next_line.new.chunk.len c.next_line.new.chunk.bytes)) bytes text (g.W.Sink.written c.args.writer.now) w1 w2 f1 f2 (number + 1) new counts' c.finish-in-Last.result took h.1 wrote closed c.finish-in-Last.ensures;
+      fault = finish_fault (g.R.Source.remaining c.args.reader.now) (g.R.Source.remaining c.next_line.new.source) (unread c.next_line.new.chunk) bytes text (g.W.Sink.written c.args.writer.now) w1 w2 f1 f2 (number + 1) new counts' c.finish-in-Last.result took h.1 wrote closed c.finish-in-Last.ensures;
       reads = no_more (h.4 ∙ c.lines.invariant.reads) f.0;
       writes = f.1;
     }
@@ -126,7 +127,7 @@ lines-preserved g c =
       position = (
         seen,
         text,
-        subst (λ b. Consumes (g.R.Source.remaining c.args.reader.now) (prepend_known (drop c.next_line.new.chunk.at (take c.next_line.new.chunk.len c.next_line.new.chunk.bytes)) (g.R.Source.remaining c.next_line.new.source)) (p.0 ++ b)) whole (Consumes-trans _ _ _ _ _ p.2 h.0.2),
+        subst (λ b. Consumes (g.R.Source.remaining c.args.reader.now) (prepend_known (unread c.next_line.new.chunk) (g.R.Source.remaining c.next_line.new.source)) (p.0 ++ b)) whole (Consumes-trans _ _ _ _ _ p.2 h.0.2),
         Appends-trans _ _ _ _ _ p.3 c.in_default-tell.ensures.1,
         subst (Position seen (c.lines.number + 1) text c.answer_at-answer.new.machine) (sym c.after-counts.ensures) position,
       );

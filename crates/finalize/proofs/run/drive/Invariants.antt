@@ -1,11 +1,12 @@
-use Rattle.std.proofs.Common.{◌≡◌, ◌<◌, ◌≤◌, ◌^◌, ℕ, ◌+◌, ◌-◌, List, take, drop}
+use Rattle.std.proofs.Common.{◌≡◌, ◌<◌, ◌≤◌, ◌^◌, ℕ, ◌+◌, ◌-◌, List}
+use Rattle.finalize.specs.Lines.{unread}
 use Rattle.std.specs.Io.KnownBytes.{Consumes, Appends, prepend_known}
 use Rattle.finalize.proofs.Runs.{Position}
 use Rattle.finalize.proofs.run.drive.Given as goal
 
 abbrev pub invariant-lines : goal.invariant-lines
 invariant-lines g l = record {
-  position : (seen : List ℕ) × (text : List ℕ) × Consumes (g.R.Source.remaining l.fn.reader) (prepend_known (drop l.chunk.at (take l.chunk.len l.chunk.bytes)) (g.R.Source.remaining l.reader)) seen × Appends (g.W.Sink.written l.fn.writer) (g.W.Sink.written l.writer) text × Position seen l.number text l.machine l.counts;
+  position : (seen : List ℕ) × (text : List ℕ) × Consumes (g.R.Source.remaining l.fn.reader) (prepend_known (unread l.chunk) (g.R.Source.remaining l.reader)) seen × Appends (g.W.Sink.written l.fn.writer) (g.W.Sink.written l.writer) text × Position seen l.number text l.machine l.counts;
   in_time : l.number ≤ 2 ^ 32 + 1;
   steps : l.counts.steps < l.number;
   refused : l.counts.refused < l.number;
