@@ -8,7 +8,7 @@ use Rattle.fz_model.specs.State.{Object}
 use Rattle.fz_model.specs.Allocation.{block_start}
 use Rattle.fz_model.proofs.Maps.{get-mapped}
 use Rattle.fz_blocks.specs.declared.block.Block.{Block}
-use Rattle.fz_blocks.specs.Blocks.{holds, IsBlock}
+use Rattle.fz_blocks.specs.Blocks.{holds, IsBlock, AllSound}
 use Rattle.fz_blocks.specs.Cells.{Cell, blank, blank_object}
 use Rattle.fz_blocks.specs.Layout.{cell_in, cell_at, claimed_in}
 use Rattle.fz_blocks.proofs.Tabulating.{get-tabulated}
@@ -58,7 +58,7 @@ pub record IsAt (blocks : List Block) (a : ℕ) (cell : Cell) : Type 0 where
   pub at : a ≡ block_start block + index * inside.size
   pub is : cell ≡ record { size = inside.size; kind = inside.kind }
 
-pub place_of_cell : (blocks : List Block) → ((b : ℕ) (block : Block) → slice_get blocks b ≡ Some block → IsBlock block) → (a : ℕ) (cell : Cell) → cell_at blocks a ≡ Some cell → IsAt blocks a cell
+pub place_of_cell : (blocks : List Block) → AllSound blocks → (a : ℕ) (cell : Cell) → cell_at blocks a ≡ Some cell → IsAt blocks a cell
 place_of_cell blocks sound a cell e = low (nat_lt a 65536) refl e
   where
     b : ℕ
@@ -100,7 +100,7 @@ pub record IsObjectAt (blocks : List Block) (a : ℕ) (o : Object) : Type 0 wher
   pub at : IsAt blocks a cell
   pub blank_is : o ≡ blank_object cell
 
-module _ (blocks : List Block) (sound : (b : ℕ) (block : Block) → slice_get blocks b ≡ Some block → IsBlock block) where
+module _ (blocks : List Block) (sound : AllSound blocks) where
   pub object_at : (a : ℕ) (o : Object) → get (blank (claimed_in blocks)) a ≡ Some o → IsObjectAt blocks a o
   object_at a o e = back (cell_at blocks a) refl (sym (get-blank blocks a) ∙ e)
     where

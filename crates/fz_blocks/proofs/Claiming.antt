@@ -31,12 +31,12 @@ member_of (Some k) f b on is = (k, refl, sym is ∙ on)
 pub outside_of : (o : Option Block) (f : Block → Bool) (b : Bool) → b ≡ false → b ≡ option_map_or f o false → (k : Block) → o ≡ Some k → f k ≡ false
 outside_of o f b off is k here = ap (λ o. option_map_or f o false) (sym here) ∙ sym is ∙ off
 
-claimed_some : (old new : Block) (index : ℕ) → Claims old new index → is_bare new ≡ false
-claimed_some old new index claims =
+filled_some : {old new : List Block} {room room_now : Blocks} {b start : ℕ} (fills : Fills old new room room_now b start) → is_bare fills.after ≡ false
+filled_some fills =
     ⊎_elim
-    (λ bare. absurd (both_ways _ (bare_holds new bare index) (claims.claimed index ∙ ap (λ t. t || holds old index) (eq-eqb index index refl))))
+    (λ bare. absurd (both_ways _ (bare_holds fills.after bare fills.index) (fills.claims.claimed fills.index ∙ ap (λ t. t || holds fills.before fills.index) (eq-eqb fills.index fills.index refl))))
     (λ off. off)
-    (cases_Bool (is_bare new))
+    (cases_Bool (is_bare fills.after))
 
 room_then : (block : Block) (class : ℕ) → class_of block.size block.kind ≡ class → is_bare block ≡ false → has_room class block ≡ not (is_full block)
 room_then block class same some =
@@ -117,18 +117,15 @@ module _ (blocks : List Block) (bare : Blocks) (rooms : List Blocks) (tied : Are
         class_of_after : class_of fills.after.size fills.after.kind ≡ class
         class_of_after = class_kept fills.before fills.after fills.index fills.claims ∙ class_of_before
 
-        some_after : is_bare fills.after ≡ false
-        some_after = claimed_some fills.before fills.after fills.index fills.claims
-
         bare_kept : (q : ℕ) (t : Bool) → nat_eq q b ≡ t → contains bare q ≡ cond t (is_bare fills.after) (contains bare q)
-        bare_kept q true is = ap (contains bare) (eqb-true q b is) ∙ tied.bare_are b ∙ ap (λ o. option_map_or is_bare o false) fills.here ∙ some ∙ sym some_after
+        bare_kept q true is = ap (contains bare) (eqb-true q b is) ∙ tied.bare_are b ∙ ap (λ o. option_map_or is_bare o false) fills.here ∙ some ∙ sym (filled_some fills)
         bare_kept q false is = refl
 
         all_tied : AreTied (set blocks b fills.after) bare (set rooms class room_now)
         all_tied =
             tied_set blocks bare rooms tied b fills.after room_in_list fills.claims.sound bare (set rooms class room_now) (length-set rooms class room_now ∙ tied.classes) (λ q. bare_kept q (nat_eq q b) refl)
             (λ d q lt. rooms_set rooms class b room_now fills.after in_rooms
-            (λ q. fills.left q ∙ ap (λ t. cond (nat_eq q b) t (contains room q)) (sym (room_then fills.after class class_of_after some_after)))
+            (λ q. fills.left q ∙ ap (λ t. cond (nat_eq q b) t (contains room q)) (sym (room_then fills.after class class_of_after (filled_some fills))))
             (λ d lt ne. other_room fills.after d (λ is. ne (sym is ∙ class_of_after)) ∙ sym (tied.rooms_are d b lt ∙ ap (λ o. option_map_or (has_room d) o false) fills.here ∙ other_room fills.before d (λ is. ne (sym is ∙ class_of_before))))
             d q lt)
 
@@ -207,11 +204,8 @@ module _ (blocks : List Block) (bare : Blocks) (rooms : List Blocks) (tied : Are
                 ∙ ap (λ n. class_of n ready.kind) size_is
                 ∙ ap (class_of size) kind_is
 
-            some_after : is_bare fills.after ≡ false
-            some_after = claimed_some fills.before fills.after fills.index fills.claims
-
             joined : (q : ℕ) (t : Bool) → nat_eq q b ≡ t → cond t (not (is_full fills.after)) (contains room_ready q) ≡ cond t (has_room class fills.after) (contains room q)
-            joined q true is = sym (room_then fills.after class class_of_after some_after)
+            joined q true is = sym (room_then fills.after class class_of_after (filled_some fills))
             joined q false is = ap (λ s. contains s q) inserted ∙ contains-inserted room b q ∙ cond-false (nat_eq q b) true (contains room q) is
 
             no_other : (d : ℕ) → has_room d bared.0 ≡ false
@@ -220,7 +214,7 @@ module _ (blocks : List Block) (bare : Blocks) (rooms : List Blocks) (tied : Are
             all_tied : AreTied (set blocks b fills.after) (sets.remove bare b) (set rooms class room_now)
             all_tied =
                 tied_set blocks bare rooms tied b fills.after bare_in_list fills.claims.sound (sets.remove bare b) (set rooms class room_now) (length-set rooms class room_now ∙ tied.classes)
-                (λ q. contains-removed bare b q ∙ ap (λ t. cond (nat_eq q b) t (contains bare q)) (sym some_after))
+                (λ q. contains-removed bare b q ∙ ap (λ t. cond (nat_eq q b) t (contains bare q)) (sym (filled_some fills)))
                 (λ d q lt. rooms_set rooms class b room_now fills.after in_rooms (λ q. fills.left q ∙ joined q (nat_eq q b) refl)
                 (λ d lt ne. other_room fills.after d (λ is. ne (sym is ∙ class_of_after)) ∙ sym (tied.rooms_are d b lt ∙ ap (λ o. option_map_or (has_room d) o false) bared.1 ∙ no_other d))
                 d q lt)

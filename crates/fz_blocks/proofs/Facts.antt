@@ -7,14 +7,14 @@ use Rattle.std.proofs.lemmas.List.{length-replicate}
 use Rattle.std.specs.FinMap.{get}
 use Rattle.fz_model.specs.Memory.{points}
 use Rattle.fz_blocks.specs.declared.block.Block.{Block}
-use Rattle.fz_blocks.specs.Blocks.{holds, IsBlock}
+use Rattle.fz_blocks.specs.Blocks.{holds, AllSound}
 use Rattle.fz_model.specs.Allocation.{block_of}
 use Rattle.fz_blocks.specs.Cells.{Cell, blank, blank_object, IsCell, AreLaidOut}
 use Rattle.fz_blocks.specs.Layout.{cell_in, cell_at, claimed_in}
 use Rattle.fz_blocks.proofs.Bits.{holds_within}
-use Rattle.fz_model.proofs.Objects.{to_covers}
+use Rattle.fz_model.proofs.Objects.{to_covers, points_at}
 use Rattle.fz_blocks.proofs.Claimed.{get-claimed_in, get-blank, place_of_cell, cell_fits, IsAt}
-use Rattle.fz_blocks.proofs.Words.{points_at}
+use Rattle.fz_blocks.proofs.Words.{covered_once}
 
 module _ (blocks : List Block) where
   pub none_low : (a : ℕ) → a < 65536 → get (claimed_in blocks) a ≡ None
@@ -52,7 +52,7 @@ module _ (blocks : List Block) where
         let none_left : o % 64 % block.size ≡ 0 = omega (arith, same, parts, one.1, mul_comm (o % 64 / block.size) block.size) in
         found ∙ cond-true ((o % 64 % block.size == 0) && holds block (o % 64 / block.size)) (Some (record { size = block.size; kind = block.kind })) None (and_from (o % 64 % block.size == 0) _ (eq-eqb (o % 64 % block.size) 0 none_left) one.0)
 
-  module _ (sound : (b : ℕ) (block : Block) → slice_get blocks b ≡ Some block → IsBlock block) (a : ℕ) (cell : Cell) (at : cell_at blocks a ≡ Some cell) where
+  module _ (sound : AllSound blocks) (a : ℕ) (cell : Cell) (at : cell_at blocks a ≡ Some cell) where
     pub cell_within : (65536 ≤ a) × (a + cell.size ≤ 65536 + 64 * length blocks)
     cell_within =
         let found = place_of_cell blocks sound a cell at in
@@ -65,12 +65,12 @@ module _ (blocks : List Block) where
     pub cell_extent : (i : ℕ) → i < cell.size → points (blank (claimed_in blocks)) (a + i) ≡ Some a
     cell_extent i lt =
         let long : length {A = ℕ} (replicate cell.size 0) ≡ cell.size = length-replicate cell.size 0 in
-        points_at blocks sound a (a + i) (blank_object cell) (get-blank blocks a ∙ ap (option_map blank_object) at)
+        points_at (blank (claimed_in blocks)) (covered_once blocks sound) a (a + i) (blank_object cell) (get-blank blocks a ∙ ap (option_map blank_object) at)
         (to_covers a (a + i) (blank_object cell) (omega arith) (omega (arith, long, lt)))
 
 -- ---- how all cells lie
 
-pub laid_out : (blocks : List Block) → 1 ≤ length blocks → length blocks ≤ 4096 → ((b : ℕ) (block : Block) → slice_get blocks b ≡ Some block → IsBlock block) → AreLaidOut (record { blocks = length blocks; claimed = claimed_in blocks })
+pub laid_out : (blocks : List Block) → 1 ≤ length blocks → length blocks ≤ 4096 → AllSound blocks → AreLaidOut (record { blocks = length blocks; claimed = claimed_in blocks })
 laid_out blocks some few sound = record {
   some = some;
   few = few;

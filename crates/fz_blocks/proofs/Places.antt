@@ -16,7 +16,7 @@ use Rattle.fz_model.proofs.Lists.{any_at}
 use Rattle.fz_model.proofs.MapEntries.{get_at, place_of_key, key_in, at_key}
 use Rattle.fz_model.proofs.Objects.{kind_itself, kinds_same}
 use Rattle.fz_blocks.specs.declared.block.Block.{Block}
-use Rattle.fz_blocks.specs.Blocks.{holds, is_bare, is_full, IsBlock}
+use Rattle.fz_blocks.specs.Blocks.{holds, is_bare, is_full, AllSound}
 use Rattle.fz_blocks.specs.Cells.{blank, blank_object}
 use Rattle.fz_blocks.specs.Layout.{claimed_in, class_of, has_room}
 use Rattle.fz_blocks.proofs.Bits.{bare_holds, full_holds, holds_within, some_holds}
@@ -47,7 +47,7 @@ pub class_within : (s : ℕ) (k : ObjKind) → 1 ≤ s → s ≤ 64 → class_of
 class_within s Scanned s1 s64 = omega arith
 class_within s Atomic s1 s64 = omega arith
 
-module _ (blocks : List Block) (sound : (b : ℕ) (block : Block) → slice_get blocks b ≡ Some block → IsBlock block) where
+module _ (blocks : List Block) (sound : AllSound blocks) where
   abbrev objects : Map Object
   objects = blank (claimed_in blocks)
 

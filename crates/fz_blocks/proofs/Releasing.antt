@@ -11,7 +11,7 @@ use Rattle.std.specs.FinSet.{contains, empty}
 use Rattle.fz_model.specs.Allocation.{block_start}
 use Rattle.fz_blocks.specs.declared.block.Block.{Block}
 use Rattle.fz_blocks.specs.BlockSets.{Blocks}
-use Rattle.fz_blocks.specs.Blocks.{holds, is_bare, is_full, IsBlock, Frees}
+use Rattle.fz_blocks.specs.Blocks.{holds, is_bare, is_full, IsBlock, AllSound, Frees}
 use Rattle.fz_blocks.specs.Cells.{Cell}
 use Rattle.fz_blocks.specs.Layout.{cell_at, claimed_in, class_of, has_room, AreTied}
 use Rattle.fz_blocks.proofs.Bits.{bare_holds, full_holds, holds_within}
@@ -26,7 +26,7 @@ pub record IsFound (blocks : List Block) (start b : ℕ) (old : Block) : Type 0 
   pub held : holds old ((start - 65536) % 64 / old.size) ≡ true
   pub at : start ≡ block_start b + (start - 65536) % 64 / old.size * old.size
 
-module _ (blocks : List Block) (sound : (b : ℕ) (block : Block) → slice_get blocks b ≡ Some block → IsBlock block) (start : ℕ) (claimed : contains_key (claimed_in blocks) start ≡ true) where
+module _ (blocks : List Block) (sound : AllSound blocks) (start : ℕ) (claimed : contains_key (claimed_in blocks) start ≡ true) where
   cell_there : (o : Option Cell) → maps.get (claimed_in blocks) start ≡ o → (cell : Cell) × (cell_at blocks start ≡ Some cell)
   cell_there None is = absurd (both_ways _ (ap is_some is) claimed)
   cell_there (Some cell) is = (cell, sym (get-claimed_in blocks start) ∙ is)

@@ -18,10 +18,10 @@ use Rattle.fz_model.specs.State.{Map}
 use Rattle.fz_blocks.specs.declared.block.Block.{Block}
 use Rattle.fz_blocks.specs.Tabulated.{tabulated}
 use Rattle.fz_blocks.specs.BlockSets.{has_bit}
-use Rattle.fz_blocks.specs.Blocks.{holds, IsBlock}
+use Rattle.fz_blocks.specs.Blocks.{holds, starts_at, IsBlock}
 use Rattle.fz_blocks.specs.Cells.{Cell}
 use Rattle.fz_blocks.specs.Layout.{cell_in, cell_at, claimed_in}
-use Rattle.fz_blocks.specs.Starts.{starts_at, IsFirstStart, starts_from}
+use Rattle.fz_blocks.specs.Starts.{IsFirstStart, starts_from}
 use Rattle.fz_blocks.proofs.Bits.{holds_within, claimed_fits}
 use Rattle.fz_model.proofs.MapEntries.{get_at}
 use Rattle.fz_blocks.proofs.Tabulating.{get-tabulated}

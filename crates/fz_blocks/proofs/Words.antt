@@ -8,9 +8,9 @@ use Rattle.std.specs.FinMap.{get, contains_key}
 use Rattle.fz_model.specs.State.{Map, Object}
 use Rattle.fz_model.specs.Memory.{covers, points}
 use Rattle.fz_model.specs.Allocation.{block_start}
-use Rattle.fz_model.proofs.Objects.{from_covers, to_covers, points_target, points_only}
+use Rattle.fz_model.proofs.Objects.{from_covers, to_covers, points_target, points_at, AreApart}
 use Rattle.fz_blocks.specs.declared.block.Block.{Block}
-use Rattle.fz_blocks.specs.Blocks.{holds, IsBlock}
+use Rattle.fz_blocks.specs.Blocks.{holds, AllSound}
 use Rattle.fz_blocks.specs.Cells.{blank, blank_object}
 use Rattle.fz_blocks.specs.Layout.{claimed_in}
 use Rattle.fz_blocks.proofs.Bits.{holds_within}
@@ -28,7 +28,7 @@ quotient_is p size i r sized at rest =
     (cases_lt i (p / size)))
     (cases_lt (p / size) i)
 
-module _ (blocks : List Block) (sound : (b : ℕ) (block : Block) → slice_get blocks b ≡ Some block → IsBlock block) where
+module _ (blocks : List Block) (sound : AllSound blocks) where
   abbrev objects : Map Object
   objects = blank (claimed_in blocks)
 
@@ -71,10 +71,10 @@ module _ (blocks : List Block) (sound : (b : ℕ) (block : Block) → slice_get 
       at None is = refl
       at (Some a) is = let target = points_target objects w a is in absurd (none a (covered a w target.0 target.1 target.2))
 
-  pub points_at : (a w : ℕ) (o : Object) → get objects a ≡ Some o → covers (a, o) w ≡ true → points objects w ≡ Some a
-  points_at a w o here has = points_only objects w a o here has (λ b p there also. same_cell (covered b w p there also) (covered a w o here has))
+  pub covered_once : AreApart objects
+  covered_once a b w o p here there has also = same_cell (covered a w o here has) (covered b w p there also)
     where
-      same_cell : {b : ℕ} → IsCovered w b → IsCovered w a → b ≡ a
+      same_cell : IsCovered w a → IsCovered w b → a ≡ b
       same_cell one two =
           one.at ∙ ap (λ (k : Block). w - (w - 65536) % 64 + (w - 65536) % 64 / k.size * k.size) (same_Some one.inside two.inside (sym one.here ∙ two.here)) ∙ sym two.at
 
@@ -90,7 +90,7 @@ module _ (blocks : List Block) (sound : (b : ℕ) (block : Block) → slice_get 
       let swap : i * block.size ≡ block.size * i = mul_comm i block.size in
       let start : block_start b + i * block.size ≡ w - p + i * block.size = omega (arith, high) in
       let long : length {A = ℕ} (replicate block.size 0) ≡ block.size = length-replicate block.size 0 in
-      points_at (block_start b + i * block.size) w (blank_object (record { size = block.size; kind = block.kind })) (object_here blocks sound b i block here held)
+      points_at objects covered_once (block_start b + i * block.size) w (blank_object (record { size = block.size; kind = block.kind })) (object_here blocks sound b i block here held)
       (to_covers (block_start b + i * block.size) w (blank_object (record { size = block.size; kind = block.kind })) (omega (arith, high, parts, swap)) (omega (arith, high, parts, swap, long, sized)))
       ∙ ap Some start
 

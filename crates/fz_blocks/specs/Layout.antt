@@ -9,13 +9,13 @@ use Rattle.fz_model.specs.Allocation.{block_start}
 use Rattle.fz_blocks.specs.declared.block.Block.{Block}
 use Rattle.fz_blocks.specs.Tabulated.{tabulated}
 use Rattle.fz_blocks.specs.BlockSets.{Blocks}
-use Rattle.fz_blocks.specs.Blocks.{holds, is_bare, is_full, IsBlock, Claims}
+use Rattle.fz_blocks.specs.Blocks.{starts_at, is_bare, is_full, AllSound, Claims}
 use Rattle.fz_blocks.specs.Cells.{Cell}
 
 -- the cell that starts at a place of the block, if it is claimed
 abbrev pub cell_in : ℕ → Block → Option Cell
 cell_in place block =
-    if (place % block.size == 0) && holds block (place / block.size) then Some (record { size = block.size; kind = block.kind }) else None
+    if starts_at block place then Some (record { size = block.size; kind = block.kind }) else None
 
 -- the claimed cell that starts at an address
 abbrev pub cell_at : List Block → ℕ → Option Cell
@@ -38,7 +38,7 @@ has_room class block = not (is_bare block) && (not (is_full block) && class_of b
 pub record AreTied (blocks : List Block) (bare : Blocks) (rooms : List Blocks) : Type 0 where
   pub some : 1 ≤ length blocks
   pub few : length blocks ≤ 4096
-  pub sound : (b : ℕ) (block : Block) → slice_get blocks b ≡ Some block → IsBlock block
+  pub sound : AllSound blocks
   pub classes : length rooms ≡ 128
   pub bare_are : (b : ℕ) → contains bare b ≡ option_map_or is_bare (slice_get blocks b) false
   pub rooms_are : (class b : ℕ) → class < 128 → contains (slice_index_or rooms class empty) b ≡ option_map_or (has_room class) (slice_get blocks b) false

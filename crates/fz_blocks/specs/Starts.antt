@@ -1,23 +1,16 @@
 -- The starts of the cells claimed in a list of blocks, from an address on.
-use Rattle.std.specs.Prelude.{◌≡◌, ℕ, ◌+◌, ◌-◌, ◌*◌, ◌%◌, ◌/◌, ◌<◌, ◌≤◌, Bool, ◌&&◌, ◌==◌, List, length, filter, Some, slice_get, is_some, IsTrue, IsFalse}
+use Rattle.std.specs.Prelude.{ℕ, ◌+◌, ◌-◌, ◌*◌, ◌<◌, ◌≤◌, List, length, filter, is_some, IsTrue, IsFalse}
 use Rattle.std.specs.List.{range_with_len}
 use Rattle.fz_blocks.specs.declared.block.Block.{Block}
-use Rattle.fz_blocks.specs.Blocks.{holds, IsBlock}
+use Rattle.fz_blocks.specs.Blocks.{starts_at}
 use Rattle.fz_blocks.specs.Layout.{cell_at}
 
--- whether a claimed cell starts at this place of the block
-abbrev pub starts_at : Block → ℕ → Bool
-starts_at block place = (place % block.size == 0) && holds block (place / block.size)
-
--- the least such place from one on
+-- the least place from one on where a claimed cell starts
 pub record IsFirstStart (block : Block) (from first : ℕ) : Type 0 where
   pub after : from ≤ first
   pub within : first < 64
   pub start : IsTrue (starts_at block first)
   pub before : (p : ℕ) → from ≤ p → p < first → IsFalse (starts_at block p)
-
-abbrev pub AllSound : List Block → Type 0
-AllSound blocks = (b : ℕ) (block : Block) → slice_get blocks b ≡ Some block → IsBlock block
 
 abbrev pub starts_from : List Block → ℕ → List ℕ
 starts_from blocks next = filter (λ a. is_some (cell_at blocks a)) (range_with_len next (65536 + 64 * length blocks - next))

@@ -1,8 +1,8 @@
 //! One block: which of its cells are claimed.
 
 ghost use Rattle.std.specs.Prelude.{◌≡◌, ◌≢◌, ◌<◌, ◌≤◌, ◌*◌, ◌/◌, ◌==◌, if◌then◌else◌, IsTrue, IsFalse, Some, None, ℕ, MatchOption};
-ghost use Rattle.fz_blocks.specs.Starts.{starts_at, IsFirstStart};
-ghost use Rattle.fz_blocks.specs.Blocks.{holds, is_bare, is_full, IsBlock, Claims, Frees};
+ghost use Rattle.fz_blocks.specs.Starts.{IsFirstStart};
+ghost use Rattle.fz_blocks.specs.Blocks.{holds, starts_at, is_bare, is_full, IsBlock, Claims, Frees};
 
 use fz_model::{BLOCK_WORDS, ObjKind};
 

@@ -24,6 +24,9 @@ use std::marker::Model;
 const MAX_BLOCKS: u64 = 4096;
 
 /// Up to 4,096 blocks of 64 words each, from address 65,536 on, and the cells claimed in them.
+///
+/// It takes all its memory at `new`, and no other call takes or frees any: 24 bytes for each block, and some 70 KB for the sets by
+/// which a free cell is found. These are 129 of 512 bytes each and 4 KB to hold them, for a map of one block too.
 #[derive(Drop)]
 pub struct BlockMap {
     blocks: Vec<Block>,
@@ -93,6 +96,8 @@ impl Model for BlockMap {
 
 impl BlockMap {
     /// A map of so many blocks (1 to 4,096) without cells. It makes all room that `claim` and `release` need.
+    ///
+    /// `BadCount` for any other number of blocks, and `NoMemory` where the memory for this number isn't to be had.
     pub fn new(alloc: Global, blocks: u64) -> Result<BlockMap, Refusal>
         ensures refused { IfErr result (λ r. IsRefusedFor (bad_count 4096 blocks ∷ []) true r) }
         ensures opened { IfOk result (λ m. (first_cause (bad_count 4096 blocks ∷ []) ≡ None) × (m ≡ record { blocks = blocks; claimed = empty })) }
@@ -120,7 +125,10 @@ impl BlockMap {
         self.blocks.len() as u64
     }
 
-    /// Claims the least free cell of the blocks of this size and kind, or else the first cell of the least block without cells.
+    /// Claims the least free cell of the blocks of this size (1 to 64 words) and kind, or else the first cell of the least block
+    /// without cells, and answers the cell's start.
+    ///
+    /// `BadSize` for any other size, and `NoSpace` where there is no such cell. It takes no memory, and a refused claim changes nothing.
     pub fn claim(&mut self, size: u64, kind: ObjKind) -> Result<Addr, Refusal>
         ensures refused { IfErr result (λ r. first_cause (claim_causes self.old size kind) ≡ Some r) }
         ensures unchanged { OnErr result (self.new ≡ self.old) }
@@ -163,7 +171,7 @@ impl BlockMap {
         }
     }
 
-    /// The start of the claimed cell that the word lies in.
+    /// The start of the claimed cell that the word lies in, if it lies in one.
     pub fn cell_of(&self, word: Word) -> Option<Addr>
         ensures cell { result ≡ points (blank self.now.claimed) word }
         ensures within { IfSome result (λ start. (65536 ≤ start) × (start < 65536 + 64 * self.now.blocks) × IsTrue (contains_key self.now.claimed start)) }
@@ -176,7 +184,7 @@ impl BlockMap {
         Some(word - place + start)
     }
 
-    /// The size and the kind of the claimed cell at a start.
+    /// The size in words and the kind of the claimed cell at a start, if one starts there.
     pub fn facts(&self, start: Addr) -> Option<(u64, ObjKind)>
         ensures facts { result ≡ option_map (λ c. (c.size, c.kind)) (get self.now.claimed start) }
         ensures within { IfSome result (λ f. (65536 ≤ start) × (start + f.0 ≤ 65536 + 64 * self.now.blocks)) }

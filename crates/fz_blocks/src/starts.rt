@@ -20,7 +20,8 @@ impl<'a> Model for Starts<'a> {
 
     ghost Value = { List ℕ };
 
-    ghost use Rattle.fz_blocks.specs.Starts.{starts_from, AllSound};
+    ghost use Rattle.fz_blocks.specs.Blocks.{AllSound};
+    ghost use Rattle.fz_blocks.specs.Starts.{starts_from};
 
     ghost view = { λ s. starts_from s.blocks.now s.next };
 
@@ -29,7 +30,8 @@ impl<'a> Model for Starts<'a> {
 
 impl<'a> Starts<'a> {
     ghost use Rattle.std.specs.Prelude.{◌≡◌, ◌≤◌, length};
-    ghost use Rattle.fz_blocks.specs.Starts.{starts_from, AllSound};
+    ghost use Rattle.fz_blocks.specs.Blocks.{AllSound};
+    ghost use Rattle.fz_blocks.specs.Starts.{starts_from};
 
     /// The starts of the cells claimed in these blocks.
     pub(crate) fn of(blocks: &'a [Block]) -> Starts<'a>

@@ -12,12 +12,11 @@ use Rattle.fz_model.specs.Causes.{first_cause, place_causes, alloc_causes, count
 use Rattle.fz_model.specs.declared.kinds.ObjKind.{ObjKind}
 use Rattle.fz_model.specs.declared.refusal.Refusal.TheVariants.{BadSize, Exhausted, NoSpace, BadCount}
 use Rattle.fz_model.proofs.Maps.{get-insert_same, get-insert_other, get-mapped, mapped_here, mapped_back}
-use Rattle.fz_model.proofs.Objects.{from_covers, to_covers, points_target, points_same}
-use Rattle.fz_blocks.specs.Cells.{Cell, Cells, blank, blank_object, claim_causes}
+use Rattle.fz_model.proofs.Objects.{from_covers, to_covers, points_target, points_at, points_same}
+use Rattle.fz_blocks.specs.Cells.{Cell, Cells, blank, blank_object, claim_causes, AreLaidOut}
 use Rattle.fz_heap.specs.Contents.{Contents}
 use Rattle.fz_heap.specs.Flat.{words_from, object_at, objects_of, IsPlace, IsZeroedAt}
-use Rattle.fz_heap.specs.Layout.{IsLaidOut}
-use Rattle.fz_heap.proofs.Laying.{apart, itself, points_at, within_heap}
+use Rattle.fz_heap.proofs.Laying.{apart, covered_once, itself, in_heap}
 use Rattle.fz_heap.proofs.Placing.{laid_new}
 use Rattle.fz_heap.proofs.Mapped.{has_key, mapped-insert, mapped-mapped, place_for_same, place_causes_same}
 
@@ -106,7 +105,7 @@ spans claimed word start cell here pointed =
 
 -- ---- a place
 
-pub word_read : (cells : Cells) (words births : List ℕ) (word offset place : ℕ) → IsLaidOut cells.blocks (blank cells.claimed) → IsPlace cells word offset place → word_at (objects_of cells.claimed words births) (word + offset) ≡ slice_index words place
+pub word_read : (cells : Cells) (words births : List ℕ) (word offset place : ℕ) → AreLaidOut cells → IsPlace cells word offset place → word_at (objects_of cells.claimed words births) (word + offset) ≡ slice_index words place
 word_read cells words births word offset place laid is =
     ap (λ p. unwrap_or (option_and_then (λ start. option_map (λ (o : Object). slice_index o.words (word + offset - start)) (get (objects_of cells.claimed words births) start)) p) 0) (points_flat cells.claimed words births (word + offset) ∙ pointed)
     ∙ ap (λ g. unwrap_or (option_map (λ (o : Object). slice_index o.words (word + offset - is.start)) g) 0) (mapped_here (object_at words births) cells.claimed is.start is.cell is.here)
@@ -121,20 +120,17 @@ word_read cells words births word offset place laid is =
 
     pointed : points (blank cells.claimed) (word + offset) ≡ Some is.start
     pointed =
-        points_at cells.blocks (blank cells.claimed) laid is.start (word + offset) (blank_object is.cell) (mapped_here (λ a. blank_object) cells.claimed is.start is.cell is.here)
+        points_at (blank cells.claimed) (covered_once cells.blocks cells.claimed laid) is.start (word + offset) (blank_object is.cell) (mapped_here (λ a. blank_object) cells.claimed is.start is.cell is.here)
         (to_covers is.start (word + offset) (blank_object is.cell) low (subst (λ n. word + offset < is.start + n) (sym (zeros_len is.cell.size)) high))
 
     there : (is.start - 65536) + (word + offset - is.start) ≡ place
     there = let at = is.at in let above = is.above in omega (arith, low, at, above)
 
-module _ (blocks : ℕ) (claimed : Map Cell) (laid : IsLaidOut blocks (blank claimed)) where
-  pub in_heap : (a : ℕ) (cell : Cell) → get claimed a ≡ Some cell → (65536 ≤ a) × (a < 65536 + 64 * blocks)
-  in_heap a cell here = within_heap blocks (blank claimed) laid a (blank_object cell) (mapped_here (λ a. blank_object) claimed a cell here)
-
+module _ (blocks : ℕ) (claimed : Map Cell) (laid : AreLaidOut (record { blocks = blocks; claimed = claimed })) where
   pub word_written : (words births : List ℕ) (t place value : ℕ) → t ≡ 65536 + place → place < length words → filled (λ a. a == t) value (objects_of claimed words births) ≡ objects_of claimed (set words place value) births
   word_written words births t place value at lt =
       mapped-mapped (λ start (o : Object). record o { words = fill (λ a. a == t) value start o.words }) (object_at words births) (object_at (set words place value) births) claimed
-      (λ q cell here. let from = (in_heap q cell here).0 in ap (λ ws. record { kind = cell.kind; birth = slice_index births (q - 65536); words = ws }) (fill_words words value t place q (q - 65536) cell.size at (omega (arith, from)) lt))
+      (λ q cell here. let from = (in_heap blocks claimed laid q cell here).0 in ap (λ ws. record { kind = cell.kind; birth = slice_index births (q - 65536); words = ws }) (fill_words words value t place q (q - 65536) cell.size at (omega (arith, from)) lt))
 
   -- ---- a new object
 
@@ -142,29 +138,26 @@ module _ (blocks : ℕ) (claimed : Map Cell) (laid : IsLaidOut blocks (blank cla
     abbrev pub new_cell : Cell
     new_cell = record { size = size; kind = kind }
 
-    pub laid_claimed : IsLaidOut blocks (blank (insert claimed start new_cell))
-    laid_claimed =
-        subst (IsLaidOut blocks) (sym (mapped-insert (λ a. blank_object) (λ a. blank_object) claimed start new_cell (blank_object new_cell) (λ q x ne here. refl) refl))
-        (laid_new blocks size 0 start kind (replicate size 0) (blank claimed) laid sized small refl placed)
+    pub laid_claimed : AreLaidOut (record { blocks = blocks; claimed = insert claimed start new_cell })
+    laid_claimed = laid_new blocks claimed laid size kind sized small start placed
 
-    here_new : get (blank (insert claimed start new_cell)) start ≡ Some (blank_object new_cell)
-    here_new = mapped_here (λ a. blank_object) (insert claimed start new_cell) start new_cell (get-insert_same claimed start new_cell)
+    here_new : get (insert claimed start new_cell) start ≡ Some new_cell
+    here_new = get-insert_same claimed start new_cell
 
-    here_old : (q : ℕ) (cell : Cell) → q ≢ start → get claimed q ≡ Some cell → get (blank (insert claimed start new_cell)) q ≡ Some (blank_object cell)
-    here_old q cell ne here = mapped_here (λ a. blank_object) (insert claimed start new_cell) q cell (get-insert_other claimed start new_cell q ne ∙ here)
+    here_old : (q : ℕ) (cell : Cell) → q ≢ start → get claimed q ≡ Some cell → get (insert claimed start new_cell) q ≡ Some cell
+    here_old q cell ne here = get-insert_other claimed start new_cell q ne ∙ here
 
     -- it points to itself, whatever the words are
     pub new_start : (words births : List ℕ) → points (objects_of (insert claimed start new_cell) words births) start ≡ Some start
-    new_start words births = points_flat (insert claimed start new_cell) words births start ∙ itself blocks _ laid_claimed start (blank_object new_cell) here_new
+    new_start words births = points_flat (insert claimed start new_cell) words births start ∙ itself blocks (insert claimed start new_cell) laid_claimed start new_cell here_new
 
     pub start_within : (65536 ≤ start) × (start + size ≤ 65536 + 64 * blocks)
     start_within =
-        let cell = laid_claimed.placed start (blank_object new_cell) here_new in
-        let at : start ≡ 65536 + 64 * cell.block + cell.index * length (zeros size) = cell.at in
+        let cell = laid_claimed.placed start new_cell here_new in
+        let at : start ≡ 65536 + 64 * cell.block + cell.index * size = cell.at in
         let in_heap : cell.block < blocks = cell.in_heap in
-        let whole : cell.index * size + size ≤ 64 = subst (λ n. cell.index * n + n ≤ 64) (zeros_len size) cell.whole in
-        let from : start ≡ 65536 + 64 * cell.block + cell.index * size = at ∙ ap (λ n. 65536 + 64 * cell.block + cell.index * n) (zeros_len size) in
-        (omega (arith, at), omega (arith, from, in_heap, whole))
+        let whole : cell.index * size + size ≤ 64 = cell.whole in
+        (omega (arith, at), omega (arith, at, in_heap, whole))
 
     pub new_object_made : (words zeroed births : List ℕ) (birth : ℕ) → IsZeroedAt words zeroed (start - 65536) size → start - 65536 < length births → objects_of (insert claimed start new_cell) zeroed (set births (start - 65536) birth) ≡ insert (objects_of claimed words births) start (new_object kind birth size)
     new_object_made words zeroed births birth are lt = mapped-insert (object_at words births) (object_at zeroed (set births (start - 65536) birth)) claimed start new_cell (new_object kind birth size) others own
@@ -174,43 +167,39 @@ module _ (blocks : ℕ) (claimed : Map Cell) (laid : IsLaidOut blocks (blank cla
 
         others : (q : ℕ) (cell : Cell) → q ≢ start → get claimed q ≡ Some cell → object_at zeroed (set births (start - 65536) birth) q cell ≡ object_at words births q cell
         others q cell ne here =
-            let from = (in_heap q cell here).0 in
+            let from = (in_heap blocks claimed laid q cell here).0 in
             let low = start_within.0 in
             let other : q - 65536 ≢ start - 65536 = λ e. ne (omega (arith, e, from, low)) in
             λ i. record { kind = cell.kind; birth = get_or-set_other births (start - 65536) (q - 65536) birth 0 other i; words = words_same zeroed words (q - 65536) cell.size untouched i }
           where
             untouched : (i : ℕ) → q - 65536 ≤ i → i < (q - 65536) + cell.size → slice_index zeroed i ≡ slice_index words i
             untouched i above below =
-                let from = (in_heap q cell here).0 in
+                let from = (in_heap blocks claimed laid q cell here).0 in
                 let low = start_within.0 in
-                let len = zeros_len size in
-                let own_len = zeros_len cell.size in
                 ⊎_elim
                 (λ same. absurd (ne same))
                 (λ other. ⊎_elim
-                (λ (before : q < start). let gap = subst (λ n. q + n ≤ start) own_len (apart blocks _ laid_claimed q start (blank_object cell) (blank_object new_cell) (here_old q cell ne here) here_new before) in are.before i (omega (arith, below, gap, from, low)))
-                (λ (after : start < q). let gap = subst (λ n. start + n ≤ q) len (apart blocks _ laid_claimed start q (blank_object new_cell) (blank_object cell) here_new (here_old q cell ne here) after) in are.after i (omega (arith, above, gap, from, low)))
+                (λ (before : q < start). let gap = apart blocks (insert claimed start new_cell) laid_claimed q start cell new_cell (here_old q cell ne here) here_new before in are.before i (omega (arith, below, gap, from, low)))
+                (λ (after : start < q). let gap = apart blocks (insert claimed start new_cell) laid_claimed start q new_cell cell here_new (here_old q cell ne here) after in are.after i (omega (arith, above, gap, from, low)))
                 other)
                 (cases_order q start)
 
 -- ---- an empty heap
 
-pub few_blocks : (n : ℕ) → first_cause (bad_count 4096 n ∷ []) ≡ None → n ≤ 4096
+few_blocks : (n : ℕ) → first_cause (bad_count 4096 n ∷ []) ≡ None → (1 ≤ n) × (n ≤ 4096)
 few_blocks n e = cases (nat_le 1 n && nat_le n 4096) refl e
   where
-    cases : (b : Bool) → (nat_le 1 n && nat_le n 4096) ≡ b → cond (not b) (Some BadCount) None ≡ None → n ≤ 4096
-    cases true is e = leb-true n 4096 (and_parts (nat_le 1 n) (nat_le n 4096) is).1
+    cases : (b : Bool) → (nat_le 1 n && nat_le n 4096) ≡ b → cond (not b) (Some BadCount) None ≡ None → (1 ≤ n) × (n ≤ 4096)
+    cases true is e = let parts = and_parts (nat_le 1 n) (nat_le n 4096) is in (leb-true 1 n parts.0, leb-true n 4096 parts.1)
     cases false is e = absurd (none-some BadCount (sym e))
 
-pub laid_empty : (blocks : ℕ) → blocks ≤ 4096 → IsLaidOut blocks (blank empty)
-laid_empty blocks few = record {
-  few = few;
-  placed = λ a o here. absurd (none a o here);
-  alike = λ a b o p here there same. absurd (none a o here);
+pub laid_empty : (blocks : ℕ) → first_cause (bad_count 4096 blocks ∷ []) ≡ None → AreLaidOut (record { blocks = blocks; claimed = empty })
+laid_empty blocks accepted = record {
+  some = (few_blocks blocks accepted).0;
+  few = (few_blocks blocks accepted).1;
+  placed = λ a x here. absurd (none-some x (sym (get-empty nat_cmp a) ∙ here));
+  alike = λ a b x y here there same. absurd (none-some x (sym (get-empty nat_cmp a) ∙ here));
 }
-  where
-    none : (a : ℕ) (o : Object) → get (blank empty) a ≡ Some o → ⊥
-    none a o here = let cell = mapped_back (λ a. blank_object) empty a o here in none-some cell.0 (sym (get-empty nat_cmp a) ∙ cell.1)
 
 pub no_objects : (words births : List ℕ) → objects_of empty words births ≡ empty
 no_objects words births = same_map nat_cmp_total nat_cmp-IsAntisymmetric _ _ (λ q. get-mapped (object_at words births) empty q ∙ ap (option_map (object_at words births q)) (get-empty nat_cmp q) ∙ sym (get-empty nat_cmp q))
@@ -241,11 +230,10 @@ module _ (cells : Cells) (words births : List ℕ) (now : Contents) (next_birth 
         key_there : contains_key cells.claimed start ≡ true → contains_key (objects_of cells.claimed words births) start ≡ true
         key_there e = has_key (object_at words births) cells.claimed start ∙ e
 
-    module _ (laid : IsLaidOut cells.blocks (blank cells.claimed)) where
+    module _ (laid : AreLaidOut cells) where
       pub start_here : (a : ℕ) (o : Object) → get now.objects a ≡ Some o → (65536 ≤ a) × (a < 65536 + 64 * now.blocks) × (points now.objects a ≡ Some a)
       start_here a o here =
           let cell = mapped_back (object_at words births) cells.claimed a o (ap (λ (v : Contents). get v.objects a) is ∙ here) in
-          let blank_here = mapped_here (λ a. blank_object) cells.claimed a cell.0 cell.1 in
-          let within = within_heap cells.blocks (blank cells.claimed) laid a (blank_object cell.0) blank_here in
-          let points_here = points_flat cells.claimed words births a ∙ itself cells.blocks (blank cells.claimed) laid a (blank_object cell.0) blank_here in
+          let within = in_heap cells.blocks cells.claimed laid a cell.0 cell.1 in
+          let points_here = points_flat cells.claimed words births a ∙ itself cells.blocks cells.claimed laid a cell.0 cell.1 in
           (within.0, subst (λ (v : Contents). a < 65536 + 64 * v.blocks) is within.1, subst (λ (v : Contents). points v.objects a ≡ Some a) is points_here)

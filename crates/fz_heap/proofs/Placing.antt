@@ -1,5 +1,5 @@
 -- What a search for a place finds.
-use Rattle.std.proofs.Common.{◌≡◌, ℕ, zero, suc, ◌+◌, ◌*◌, ◌/◌, ◌<◌, ◌≤◌, true, ◌&&◌, ◌==◌, List, [], ◌∷◌, filter, flat_map, length, Option, Some, None, option_map, refl, sym, ap, ◌∙◌, subst, ⊎_elim, arith, slice_get, replicate}
+use Rattle.std.proofs.Common.{◌≡◌, ℕ, zero, suc, ◌+◌, ◌*◌, ◌/◌, ◌<◌, ◌≤◌, true, ◌&&◌, ◌==◌, List, [], ◌∷◌, filter, flat_map, length, Option, Some, None, option_map, refl, sym, ap, ◌∙◌, subst, ⊎_elim, arith, slice_get}
 use Rattle.std.proofs.lemmas.Bool.{and_parts, eqb-true, both_ways, not-true, eq-eqb}
 use Rattle.std.proofs.lemmas.Option.{same_Some, none-some}
 use Rattle.std.proofs.lemmas.List.{length-replicate}
@@ -12,11 +12,11 @@ use Rattle.fz_model.specs.Allocation.{block_of, block_start, cells, has_class, s
 use Rattle.fz_model.specs.declared.kinds.ObjKind.{ObjKind}
 use Rattle.fz_model.proofs.Lists.{filter_at, slice_get-cases, find_place, any_at, map_at}
 use Rattle.fz_model.proofs.MapEntries.{get_at, key_in}
+use Rattle.fz_model.proofs.Maps.{mapped_here, mapped_back}
 use Rattle.fz_model.proofs.Objects.{kinds_same}
-use Rattle.fz_blocks.specs.Cells.{IsCell}
+use Rattle.fz_blocks.specs.Cells.{Cell, blank, blank_object, IsCell, AreLaidOut}
 use Rattle.fz_blocks.proofs.Claimed.{cell_fits}
 use Rattle.fz_blocks.proofs.Places.{own_block}
-use Rattle.fz_heap.specs.Layout.{IsLaidOut}
 use Rattle.fz_heap.proofs.Laying.{laid_insert}
 
 -- ---- the place found
@@ -34,32 +34,40 @@ flat_map_at f (x ∷ xs) i y e =
     (λ later. let r = flat_map_at f xs later.0 y later.2 in (suc r.0, r.1, r.2, r.3, r.4))
     (slice_get-cases (f x) (flat_map f xs) i y e)
 
--- every object of the block has this size and kind
-abbrev pub IsOfClass : Map Object → ℕ → ℕ → ObjKind → Type 0
-IsOfClass objects block size kind = (a : ℕ) (o : Object) → get objects a ≡ Some o → block_of a ≡ block → (length o.words ≡ size) × (o.kind ≡ kind)
-
 cell_of_block : (blocks b i size : ℕ) → b < blocks → 1 ≤ size → i < 64 / size → IsCell blocks (block_start b + i * size) size
 cell_of_block blocks b i size in_heap sized in_block = record { block = b; index = i; in_heap = in_heap; at = refl; sized = sized; whole = cell_fits size i in_block }
 
-module _ (blocks : ℕ) (objects : Map Object) (laid : IsLaidOut blocks objects) (size : ℕ) (kind : ObjKind) (sized : 1 ≤ size) (small : size ≤ 64) where
-  class_kept : (b : ℕ) → has_class objects size kind b ≡ true → IsOfClass objects b size kind
-  class_kept b on a o here same =
+module _ (blocks : ℕ) (claimed : Map Cell) (laid : AreLaidOut (record { blocks = blocks; claimed = claimed })) (size : ℕ) (kind : ObjKind) (sized : 1 ≤ size) (small : size ≤ 64) where
+  abbrev objects : Map Object
+  objects = blank claimed
+
+  abbrev new_cell : Cell
+  new_cell = record { size = size; kind = kind }
+
+  -- every cell of the block has this size and kind
+  abbrev pub IsOfClass : ℕ → Type 0
+  IsOfClass block = (a : ℕ) (cell : Cell) → get claimed a ≡ Some cell → block_of a ≡ block → cell ≡ new_cell
+
+  class_kept : (b : ℕ) → has_class objects size kind b ≡ true → IsOfClass b
+  class_kept b on a cell here same =
       let one = any_at (λ (e : ℕ × Object). (block_of e.0 == b) && (length e.1.words == size && same_kind e.1.kind kind)) (entries objects) on in
       let parts = and_parts (block_of one.1.0 == b) (length one.1.1.words == size && same_kind one.1.1.kind kind) one.3 in
       let of_class = and_parts (length one.1.1.words == size) (same_kind one.1.1.kind kind) parts.1 in
-      let alike = laid.alike a one.1.0 o one.1.1 here (get_at objects one.0 one.1 one.2) (same ∙ sym (eqb-true _ _ parts.0)) in
-      (alike.0 ∙ eqb-true _ _ of_class.0, alike.1 ∙ kinds_same one.1.1.kind kind of_class.1)
+      let there = mapped_back (λ a. blank_object) claimed one.1.0 one.1.1 (get_at objects one.0 one.1 one.2) in
+      let size_is : there.0.size ≡ size = sym (length-replicate there.0.size 0) ∙ ap (λ (o : Object). length o.words) there.2 ∙ eqb-true _ _ of_class.0 in
+      let kind_is : there.0.kind ≡ kind = ap (λ (o : Object). o.kind) there.2 ∙ kinds_same one.1.1.kind kind of_class.1 in
+      laid.alike a one.1.0 cell there.0 here there.1 (same ∙ sym (eqb-true _ _ parts.0)) ∙ (λ i. record { size = size_is i; kind = kind_is i })
 
-  bare_kept : (b : ℕ) → is_bare objects b ≡ true → IsOfClass objects b size kind
-  bare_kept b bare a o here same =
-      let key = key_in objects a o here in
+  bare_kept : (b : ℕ) → is_bare objects b ≡ true → IsOfClass b
+  bare_kept b bare a cell here same =
+      let key = key_in objects a (blank_object cell) (mapped_here (λ a. blank_object) claimed a cell here) in
       absurd (both_ways _ (not-true _ bare) (any_passes_from_place (λ start. block_of start == b) (keys objects) key.0 a key.1 (eq-eqb _ _ same)))
 
   -- a place is a cell, in a block of its class
-  pub place_cell : (a : ℕ) → place_for objects blocks size kind ≡ Some a → IsCell blocks a size × ((b : ℕ) → block_of a ≡ b → IsOfClass objects b size kind)
+  place_cell : (a : ℕ) → place_for objects blocks size kind ≡ Some a → IsCell blocks a size × ((b : ℕ) → block_of a ≡ b → IsOfClass b)
   place_cell a e = cases _ refl e
     where
-      bare : (o : Option ℕ) → o ≡ find (is_bare objects) (range_with_len 0 blocks) → option_map block_start o ≡ Some a → IsCell blocks a size × ((b : ℕ) → block_of a ≡ b → IsOfClass objects b size kind)
+      bare : (o : Option ℕ) → o ≡ find (is_bare objects) (range_with_len 0 blocks) → option_map block_start o ≡ Some a → IsCell blocks a size × ((b : ℕ) → block_of a ≡ b → IsOfClass b)
       bare None is e = absurd (none-some a e)
       bare (Some b) is e =
           let at = same_Some _ _ e in
@@ -67,9 +75,9 @@ module _ (blocks : ℕ) (objects : Map Object) (laid : IsLaidOut blocks objects)
           let in_heap = range_at 0 blocks found.0 b found.1 in
           let cell : IsCell blocks a size = record { block = b; index = 0; in_heap = omega (arith, in_heap.1); at = omega (arith, at); sized = sized; whole = omega arith } in
           let own : block_of a ≡ b = omega (arith, at) in
-          (cell, λ c same. subst (λ c. IsOfClass objects c size kind) (sym own ∙ same) (bare_kept b found.2))
+          (cell, λ c same. subst IsOfClass (sym own ∙ same) (bare_kept b found.2))
 
-      cases : (o : Option ℕ) → o ≡ find (is_free objects) (flat_map (cells size) (filter (has_class objects size kind) (range_with_len 0 blocks))) → option_or o (option_map block_start (find (is_bare objects) (range_with_len 0 blocks))) ≡ Some a → IsCell blocks a size × ((b : ℕ) → block_of a ≡ b → IsOfClass objects b size kind)
+      cases : (o : Option ℕ) → o ≡ find (is_free objects) (flat_map (cells size) (filter (has_class objects size kind) (range_with_len 0 blocks))) → option_or o (option_map block_start (find (is_bare objects) (range_with_len 0 blocks))) ≡ Some a → IsCell blocks a size × ((b : ℕ) → block_of a ≡ b → IsOfClass b)
       cases None is e = bare _ refl e
       cases (Some x) is e =
           let found = find_place (is_free objects) _ a (sym is ∙ e) in
@@ -80,12 +88,8 @@ module _ (blocks : ℕ) (objects : Map Object) (laid : IsLaidOut blocks objects)
           let in_block = range_at 0 (64 / size) of_block.2 index.0 index.1 in
           let cell : IsCell blocks a size = subst (λ s. IsCell blocks s size) index.2 (cell_of_block blocks of_block.1 index.0 size (omega (arith, in_heap.1)) sized (omega (arith, in_block.1))) in
           let own : block_of a ≡ of_block.1 = own_block of_block.1 index.0 size a sized (omega (arith, in_block.1)) (sym index.2) in
-          (cell, λ c same. subst (λ c. IsOfClass objects c size kind) (sym own ∙ same) (class_kept of_block.1 block.2))
+          (cell, λ c same. subst IsOfClass (sym own ∙ same) (class_kept of_block.1 block.2))
 
--- a new object in the place found keeps objects laid out
-pub laid_new : (blocks size birth a : ℕ) (kind : ObjKind) (words : List ℕ) (objects : Map Object) → IsLaidOut blocks objects → 1 ≤ size → size ≤ 64 → words ≡ replicate size 0 → place_for objects blocks size kind ≡ Some a → IsLaidOut blocks (insert objects a (record { kind = kind; birth = birth; words = words }))
-laid_new blocks size birth a kind words objects laid sized small are placed =
-    let cell = place_cell blocks objects laid size kind sized small a placed in
-    let len : size ≡ length words = sym (ap length are ∙ length-replicate size 0) in
-    laid_insert blocks objects laid a (record { kind = kind; birth = birth; words = words }) (subst (IsCell blocks a) len cell.0)
-    (λ b p there same. let of_class = cell.1 (block_of b) (sym same) b p there refl in (of_class.0 ∙ len, of_class.1))
+  -- a new cell in the place found keeps cells laid out
+  pub laid_new : (a : ℕ) → place_for objects blocks size kind ≡ Some a → AreLaidOut (record { blocks = blocks; claimed = insert claimed a new_cell })
+  laid_new a placed = let cell = place_cell a placed in laid_insert blocks claimed laid a new_cell cell.0 (λ b x there same. cell.1 (block_of b) (sym same) b x there refl)

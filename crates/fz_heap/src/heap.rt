@@ -7,8 +7,7 @@ ghost use Rattle.fz_model.specs.Allocation.{place_for};
 ghost use Rattle.fz_model.specs.Causes.{IsRefusedFor, first_cause, bad_count, alloc_causes, place_causes};
 
 use crate::places::{place_of, zero};
-use crate::starts::Starts;
-use fz_blocks::BlockMap;
+use fz_blocks::{BlockMap, Starts};
 use fz_model::{Addr, BLOCK_WORDS, COUNT_LIMIT, HEAP_START, ObjKind, Refusal, Word};
 use std::alloc::Global;
 use std::marker::Model;
@@ -16,8 +15,9 @@ use std::marker::Model;
 /// A heap of up to 4,096 blocks of 64 words each, which begins at address 65,536.
 ///
 /// It takes all its memory at `new`, and no other call takes or frees any: 16 bytes for each word, eight for the word and eight
-/// for the birth of an object that may start there, and what the map of its blocks takes. So an object of n words takes 16 n
-/// bytes, and no header. After `new` each call costs the same whatever the heap has, but that `alloc` also writes n words.
+/// for the birth of an object that may start there, and what the map of its blocks takes, some 70 KB and 24 bytes for each block
+/// (`fz_blocks::BlockMap`). So an object of n words takes 16 n bytes, and no header. After `new` each call costs the same whatever
+/// the heap has, but that `alloc` also writes n words.
 #[derive(Drop)]
 pub struct Heap {
     map: BlockMap,
@@ -53,6 +53,8 @@ impl Model for Heap {
 
 impl Heap {
     /// A heap of so many blocks (1 to 4,096) without objects.
+    ///
+    /// `BadCount` for any other number of blocks, and `NoMemory` where the memory for this number isn't to be had.
     pub fn new(alloc: Global, blocks: u64) -> Result<Heap, Refusal>
         ensures refused { IfErr result (λ r. IsRefusedFor (bad_count 4096 blocks ∷ []) true r) }
         ensures opened { IfOk result (λ h. (first_cause (bad_count 4096 blocks ∷ []) ≡ None) × (h ≡ record { blocks = blocks; objects = empty; next_birth = 0 })) }
@@ -76,7 +78,10 @@ impl Heap {
         self.map.blocks()
     }
 
-    /// Makes an object of so many words, all of them zero, and answers its address and its birth.
+    /// Makes an object of so many words (1 to 64), all of them zero, and answers its address and its birth.
+    ///
+    /// `BadSize` for any other size, `Exhausted` once 2^48 births are given out, and `NoSpace` where no cell is free for an object
+    /// of this size and kind, tested in this order. It takes no memory, and a refused call changes nothing.
     pub fn alloc(&mut self, size: u64, kind: ObjKind) -> Result<(Addr, u64), Refusal>
         ensures refused { IfErr result (λ r. first_cause (alloc_causes self.old.objects self.old.blocks self.old.next_birth size kind) ≡ Some r) }
         ensures unchanged { OnErr result (self.new ≡ self.old) }
@@ -101,7 +106,7 @@ impl Heap {
         Ok((start, birth))
     }
 
-    /// The start of the object to which the word points, interior words included.
+    /// The start of the object to which the word points, interior words included, if it points to one.
     pub fn resolve(&self, word: Word) -> Option<Addr>
         ensures points { result ≡ points self.now.objects word }
         ensures within { IfSome result (λ start. (65536 ≤ start) × (start < 65536 + 64 * self.now.blocks) × IsTrue (contains_key self.now.objects start)) }
@@ -110,6 +115,9 @@ impl Heap {
     }
 
     /// The word at an offset, in words, from where `word` points into an object.
+    ///
+    /// `NotPointer` where `word` points to no object, and `OutsideObject` where `word` plus `offset` leaves the object to which
+    /// `word` points.
     pub fn read(&self, word: Word, offset: u64) -> Result<Word, Refusal>
         ensures refused { IfErr result (λ r. first_cause (place_causes self.now.objects word offset) ≡ Some r) }
         ensures read { IfOk result (λ read. (first_cause (place_causes self.now.objects word offset) ≡ None) × (read ≡ word_at self.now.objects (word + offset))) }
@@ -118,7 +126,10 @@ impl Heap {
         Ok(self.words[place])
     }
 
-    /// Writes the value there.
+    /// Writes the value at an offset, in words, from where `word` points into an object.
+    ///
+    /// `NotPointer` where `word` points to no object, and `OutsideObject` where `word` plus `offset` leaves the object to which
+    /// `word` points. A refused write changes nothing.
     pub fn write(&mut self, word: Word, offset: u64, value: Word) -> Result<(), Refusal>
         ensures refused { IfErr result (λ r. first_cause (place_causes self.old.objects word offset) ≡ Some r) }
         ensures unchanged { OnErr result (self.new ≡ self.old) }
@@ -138,7 +149,7 @@ impl Heap {
         self.map.release(start);
     }
 
-    /// The size in words, the kind and the birth of the object at a start.
+    /// The size in words, the kind and the birth of the object at a start, if one starts there.
     pub fn facts(&self, start: Addr) -> Option<(u64, ObjKind, u64)>
         ensures facts { result ≡ option_map (λ o. (length o.words, o.kind, o.birth)) (get self.now.objects start) }
         ensures within { IsSome result → (65536 ≤ start) × (start < 65536 + 64 * self.now.blocks) }
@@ -154,6 +165,6 @@ impl Heap {
         ensures within { All (λ start. (65536 ≤ start) × (start < 65536 + 64 * self.now.blocks)) (keys self.now.objects) }
         ensures themselves { All (λ start. points self.now.objects start ≡ Some start) (keys self.now.objects) }
     {
-        Starts::of(self.map.starts())
+        self.map.starts()
     }
 }

@@ -7,9 +7,8 @@ mod heap;
 mod places;
 #[cfg(test)]
 mod plain;
-mod starts;
 #[cfg(test)]
 mod tests;
 
+pub use fz_blocks::Starts;
 pub use heap::Heap;
-pub use starts::Starts;

@@ -51,13 +51,16 @@ points_target objects w a e = found (find (λ e. covers e w) (entries objects)) 
         let start = same_Some f.0 a e in
         (f.1, subst (λ s. get objects s ≡ Some f.1) start (get_at objects place.0 f place.1), subst (λ s. covers (s, f.1) w ≡ true) start place.2)
 
--- and the one object that has the word is it
-pub points_only : (objects : Map Object) (w a : ℕ) (o : Object) → get objects a ≡ Some o → covers (a, o) w ≡ true → ((b : ℕ) (p : Object) → get objects b ≡ Some p → covers (b, p) w ≡ true → b ≡ a) → points objects w ≡ Some a
-points_only objects w a o here has only =
+-- and where no two objects have one word, the object that has the word is it
+abbrev pub AreApart : Map Object → Type 0
+AreApart objects = (a b w : ℕ) (o p : Object) → get objects a ≡ Some o → get objects b ≡ Some p → covers (a, o) w ≡ true → covers (b, p) w ≡ true → a ≡ b
+
+pub points_at : (objects : Map Object) → AreApart objects → (a w : ℕ) (o : Object) → get objects a ≡ Some o → covers (a, o) w ≡ true → points objects w ≡ Some a
+points_at objects apart a w o here has =
     let at = place_of_key objects a o here in
     let found = found_some (λ e. covers e w) (entries objects) at.0 (a, o) at.1 has in
     let place = find_place (λ e. covers e w) (entries objects) found.0 found.1 in
-    ap (option_map (λ (e : ℕ × Object). e.0)) found.1 ∙ ap Some (only found.0.0 found.0.1 (get_at objects place.0 found.0 place.1) place.2)
+    ap (option_map (λ (e : ℕ × Object). e.0)) found.1 ∙ ap Some (apart found.0.0 a w found.0.1 o (get_at objects place.0 found.0 place.1) here place.2 has)
 
 -- objects made with the same extents are pointed to by the same words
 module _ {X : Type 0} (f g : ℕ → X → Object) (sizes : (a : ℕ) (x : X) → length (f a x).words ≡ length (g a x).words) where

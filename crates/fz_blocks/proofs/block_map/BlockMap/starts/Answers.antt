@@ -1,7 +1,8 @@
 use Rattle.std.proofs.Common.{◌∙◌, ap, sym, subst}
 use Rattle.std.specs.FinMap.{keys}
 use Rattle.fz_blocks.specs.Cells.{Cells}
-use Rattle.fz_blocks.specs.Starts.{AllSound, starts_from}
+use Rattle.fz_blocks.specs.Blocks.{AllSound}
+use Rattle.fz_blocks.specs.Starts.{starts_from}
 use Rattle.fz_blocks.proofs.Starting.{keys-claimed_in}
 use Rattle.fz_blocks.proofs.block_map.BlockMap.starts.Goals as goal
 

@@ -1,5 +1,6 @@
 use Rattle.std.proofs.Common.{◌≡◌, ◌≤◌, ◌+◌, ◌-◌, ◌*◌, length}
-use Rattle.fz_blocks.specs.Starts.{starts_from, AllSound}
+use Rattle.fz_blocks.specs.Blocks.{AllSound}
+use Rattle.fz_blocks.specs.Starts.{starts_from}
 use Rattle.fz_blocks.proofs.starts.StartsIterator.next.Given as goal
 
 -- what is left is as it was

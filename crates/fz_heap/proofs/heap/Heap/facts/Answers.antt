@@ -2,7 +2,8 @@ use Rattle.std.proofs.Common.{◌≡◌, ◌<◌, ◌-◌, ◌∙◌, sym, ap, r
 use Rattle.std.proofs.lemmas.List.{get_or_default}
 use Rattle.fz_model.specs.State.{Object}
 use Rattle.fz_heap.specs.Flat.{object_at}
-use Rattle.fz_heap.proofs.Flat.{cell_with, no_cell, in_heap, length-words_from, nothing_here, object_here, start_here}
+use Rattle.fz_heap.proofs.Laying.{in_heap}
+use Rattle.fz_heap.proofs.Flat.{cell_with, no_cell, length-words_from, nothing_here, object_here, start_here}
 use Rattle.fz_heap.proofs.heap.Heap.facts.Goals as goal
 
 pub returns-in_err-size-clause-facts : goal.returns-in_err-size-clause-facts

@@ -4,7 +4,7 @@ use Rattle.fz_model.specs.State.{Map, Object}
 use Rattle.fz_blocks.specs.Cells.{Cells}
 use Rattle.fz_heap.specs.Flat.{objects_of}
 use Rattle.fz_heap.specs.Layout.{IsHeap}
-use Rattle.fz_heap.proofs.Flat.{zeros_len, few_blocks, laid_empty, no_objects}
+use Rattle.fz_heap.proofs.Flat.{zeros_len, laid_empty, no_objects}
 use Rattle.fz_heap.proofs.heap.Heap.new.Goals as goal
 
 pub returns-in_err-words-clause-refused : goal.returns-in_err-words-clause-refused
@@ -23,7 +23,7 @@ invariant_of-result c =
     let births = c.in_ok-births.births.items in
     subst (λ (m : Cells). IsHeap m words births) (sym c.in_ok-map.ensures.opened.1)
     (record {
-      laid_out = laid_empty c.args.blocks (few_blocks c.args.blocks c.in_ok-map.ensures.opened.0);
+      laid_out = laid_empty c.args.blocks c.in_ok-map.ensures.opened.0;
       words_len = ap (length {A = ℕ}) c.in_ok-words.ensures.made ∙ zeros_len (64 * c.args.blocks);
       births_len = ap (length {A = ℕ}) c.in_ok-births.ensures.made ∙ zeros_len (64 * c.args.blocks);
     })

@@ -11,8 +11,8 @@ use Rattle.fz_heap.proofs.heap.Heap.objects.Goals as goal
 pub returns-clause-starts : goal.returns-clause-starts
 returns-clause-starts c =
     let h = c.self.inside in
-    let all : c.starts.result ≡ keys h.map.claimed = search rules in
-    c.of.ensures ∙ all ∙ sym (keys-mapped (object_at h.words.items h.births.items) h.map.claimed) ∙ ap (λ (v : Contents). keys v.objects) c.self.view_is
+    let all : keys h.map.claimed ≡ keys c.args.self.now.objects = sym (keys-mapped (object_at h.words.items h.births.items) h.map.claimed) ∙ ap (λ (v : Contents). keys v.objects) c.self.view_is in
+    rw (sym all) (search rules)
 
 pub returns-clause-within : goal.returns-clause-within
 returns-clause-within c =

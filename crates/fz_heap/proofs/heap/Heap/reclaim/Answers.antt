@@ -1,10 +1,10 @@
 use Rattle.std.proofs.Common.{◌∙◌, sym, ap, subst}
 use Rattle.std.specs.FinMap.{contains_key, remove}
-use Rattle.fz_blocks.specs.Cells.{Cells, blank, blank_object}
+use Rattle.fz_blocks.specs.Cells.{Cells}
 use Rattle.fz_model.specs.State.{Map, Object}
 use Rattle.fz_heap.specs.Contents.{Contents}
 use Rattle.fz_heap.specs.Flat.{object_at, objects_of}
-use Rattle.fz_heap.specs.Layout.{IsHeap, IsLaidOut}
+use Rattle.fz_heap.specs.Layout.{IsHeap}
 use Rattle.fz_heap.proofs.Mapped.{mapped-remove, has_key}
 use Rattle.fz_heap.proofs.Laying.{laid_remove}
 use Rattle.fz_heap.proofs.heap.Heap.reclaim.Goals as goal
@@ -21,7 +21,7 @@ invariant_of-self c =
     let start = c.args.start in
     subst (λ (m : Cells). IsHeap m h.words.items h.births.items) (sym c.release.ensures)
     (record {
-      laid_out = subst (IsLaidOut h.map.blocks) (sym (mapped-remove (λ a. blank_object) h.map.claimed start)) (laid_remove h.map.blocks (blank h.map.claimed) c.self.invariant.laid_out start);
+      laid_out = laid_remove h.map.blocks h.map.claimed c.self.invariant.laid_out start;
       words_len = c.self.invariant.words_len;
       births_len = c.self.invariant.births_len;
     })
