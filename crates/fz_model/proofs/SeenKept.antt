@@ -138,21 +138,21 @@ module _ (c : Core) (frame slot : ℕ) (whole : All (λ (f : List ℕ). length f
   in_row = let lt = ltb-true slot 16 within.1 in omega (arith, lt, row_size)
 
   -- what a slot's word points to is a root
-  slot_root : (b : ℕ) (objects : Map Object) → points objects (slot_word c frame slot) ≡ Some b → IsReachable (record c { objects = objects }) b
+  slot_root : (b : ℕ) (objects : Map Object) → points objects (slot_word c.frames frame slot) ≡ Some b → IsReachable (record c { objects = objects }) b
   slot_root b objects is =
       record {
         root = b;
-        is_root = IsRoot.Slot (get_or c.frames frame []) (slot_word c frame slot) (Contains-get_or c.frames frame [] in_frames) (Contains-get_or (get_or c.frames frame []) slot 0 in_row) is;
+        is_root = IsRoot.Slot (get_or c.frames frame []) (slot_word c.frames frame slot) (Contains-get_or c.frames frame [] in_frames) (Contains-get_or (get_or c.frames frame []) slot 0 in_row) is;
         leads = Itself;
       }
 
   -- and so is what a word points to that was put into it
-  put_root : (a b : ℕ) (new : Core) → new.frames ≡ with_slot c frame slot a → points new.objects a ≡ Some b → IsReachable new b
+  put_root : (a b : ℕ) (new : Core) → new.frames ≡ with_slot c.frames frame slot a → points new.objects a ≡ Some b → IsReachable new b
   put_root a b new frames is =
       let row = set (get_or c.frames frame []) slot a in
       let lt = length-set c.frames frame row in
       let lr = length-set (get_or c.frames frame []) slot a in
-      let in_new : Contains (with_slot c frame slot a) row = (frame, omega (arith, in_frames, lt), get_or-set_same c.frames frame row row in_frames) in
+      let in_new : Contains (with_slot c.frames frame slot a) row = (frame, omega (arith, in_frames, lt), get_or-set_same c.frames frame row row in_frames) in
       let in_new_row : Contains row a = (slot, omega (arith, in_row, lr), get_or-set_same (get_or c.frames frame []) slot a a in_row) in
       record { root = b; is_root = IsRoot.Slot row a (subst (λ f. Contains f row) (sym frames) in_new) in_new_row is; leads = Itself }
 
@@ -169,8 +169,8 @@ ended s t off moments = record {
 
 pub store_seen : (s t : State) (frame slot offset from_frame from_slot : ℕ) → SeenIsClosed s → FramesWhole s.core → (bad_slot s.core from_frame from_slot).0 ≡ false → Accepts s (Store frame slot offset from_frame from_slot) tt t.core → t.moments ≡ moments_after s t.core → SeenIsClosed t
 store_seen s t frame slot offset from_frame from_slot h whole good a moments =
-    let word = slot_word s.core from_frame from_slot in
-    let at = λ (x : ℕ). x == slot_word s.core frame slot + offset in
+    let word = slot_word s.frames from_frame from_slot in
+    let at = λ (x : ℕ). x == slot_word s.frames frame slot + offset in
     let after = filled at word s.objects in
     seen_kept s t h moments
     (λ x b c.

@@ -40,9 +40,9 @@ pass_keeps : (c : Core) (found : ℕ → Bool) (passed : Passed) (new : Core) �
 pass_keeps c found passed new h roots p = subst Sound (sym p.is) (pass_sound c found passed new h roots p)
 
 -- the object of an accepted registration
-registering : (c : Core) (frame slot : ℕ) (b : Bool) (rest : Causes) → first_cause (bad_slot c frame slot ∷ (if b then [] else (no_object c.objects (slot_word c frame slot) ∷ no_start c.objects (slot_word c frame slot) ∷ rest))) ≡ None → b ≡ false → (o : Object) × (get c.objects (slot_word c frame slot) ≡ Some o)
+registering : (c : Core) (frame slot : ℕ) (b : Bool) (rest : Causes) → first_cause (bad_slot c frame slot ∷ (if b then [] else (no_object c.objects (slot_word c.frames frame slot) ∷ no_start c.objects (slot_word c.frames frame slot) ∷ rest))) ≡ None → b ≡ false → (o : Object) × (get c.objects (slot_word c.frames frame slot) ≡ Some o)
 registering c frame slot b rest none out =
-    let w = slot_word c frame slot in
+    let w = slot_word c.frames frame slot in
     let first = (first_none (bad_slot c frame slot) (if b then [] else (no_object c.objects w ∷ no_start c.objects w ∷ rest)) none).1 in
     let second = subst (λ x. first_cause (if x then [] else (no_object c.objects w ∷ no_start c.objects w ∷ rest)) ≡ None) out first in
     let third = (first_none (no_object c.objects w) (no_start c.objects w ∷ rest) second).1 in
@@ -70,13 +70,13 @@ pub accepted_sound : (s : State) (e : Event) (answer : Answer e) (new : Core) �
 accepted_sound s (Alloc frame slot size kind) answer new h none a =
     subst Sound (sym a.3) (other_objects _ _ _ _ _ _ h (new_sized s.objects a.0 (record { kind = kind; birth = s.next_birth; words = replicate size 0 }) (alloc_sized s.core frame slot size kind none) h.sized) (new_object _ a.0 _ (free_place s.objects s.blocks size a.0 kind a.1)))
 accepted_sound s (Load frame slot offset to_frame to_slot) answer new h none a = subst Sound (sym a.1) h
-accepted_sound s (Store frame slot offset from_frame from_slot) answer new h none a = subst Sound (sym a) (other_objects _ _ _ _ _ _ h (written_sized (λ x. x == slot_word s.core frame slot + offset) (slot_word s.core from_frame from_slot) s.objects h.sized) (written_object (λ x. x == slot_word s.core frame slot + offset) (slot_word s.core from_frame from_slot) s.objects))
+accepted_sound s (Store frame slot offset from_frame from_slot) answer new h none a = subst Sound (sym a) (other_objects _ _ _ _ _ _ h (written_sized (λ x. x == slot_word s.frames frame slot + offset) (slot_word s.frames from_frame from_slot) s.objects h.sized) (written_object (λ x. x == slot_word s.frames frame slot + offset) (slot_word s.frames from_frame from_slot) s.objects))
 accepted_sound s (Set frame slot word) answer new h none a = subst Sound (sym a) h
 accepted_sound s (Copy frame slot to_frame to_slot) answer new h none a = subst Sound (sym a) h
 accepted_sound s (Register frame slot kind proc cd) answer new h none a =
-    let w = slot_word s.core frame slot in
+    let w = slot_word s.frames frame slot in
     registered_sound s.core (is_off_heap s.blocks w) w (record { number = s.next_number; kind = kind; proc = proc; cd = cd }) new h (registering s.core frame slot (is_off_heap s.blocks w) (register_causes s.registrations s.next_number w) none) refl a.1
-accepted_sound s (Unregister frame slot) answer new h none a = unregistered_sound s.core (is_off_heap s.blocks (slot_word s.core frame slot)) (slot_word s.core frame slot) new h a.1
+accepted_sound s (Unregister frame slot) answer new h none a = unregistered_sound s.core (is_off_heap s.blocks (slot_word s.frames frame slot)) (slot_word s.frames frame slot) new h a.1
 accepted_sound s (Link which frame slot offset to_frame to_slot) answer new h none a = subst Sound (sym a.1) (links_sound s.core which _ h)
 accepted_sound s (Unlink which frame slot offset) answer new h none a = subst Sound (sym a.1) (links_sound s.core which _ h)
 accepted_sound s (MoveLink which frame slot offset to_frame to_slot to_offset) answer new h none a = subst Sound (sym a.1) (links_sound s.core which _ h)
@@ -120,10 +120,10 @@ accepted_keeps s (Store frame slot offset from_frame from_slot) answer new other
 accepted_keeps s (Set frame slot word) answer new other a = same s.core _ new _ a refl refl refl
 accepted_keeps s (Copy frame slot to_frame to_slot) answer new other a = same s.core _ new _ a refl refl refl
 accepted_keeps s (Register frame slot kind proc cd) answer new other a =
-    let w = slot_word s.core frame slot in
+    let w = slot_word s.frames frame slot in
     same_either s.core (Register frame slot kind proc cd) new (record s.core { registrations = insert s.registrations w (record { number = s.next_number; kind = kind; proc = proc; cd = cd }); next_number = s.next_number + 1 }) (is_off_heap s.blocks w) a.1 refl refl refl
 accepted_keeps s (Unregister frame slot) answer new other a =
-    let w = slot_word s.core frame slot in
+    let w = slot_word s.frames frame slot in
     same_either s.core (Unregister frame slot) new (record s.core { registrations = remove s.registrations w }) (is_off_heap s.blocks w) a.1 refl refl refl
 accepted_keeps s (Link which frame slot offset to_frame to_slot) answer new other a = same_links s.core _ new which _ a.1
 accepted_keeps s (Unlink which frame slot offset) answer new other a = same_links s.core _ new which _ a.1

@@ -1,10 +1,10 @@
 -- Objects, their words, and what a word points to: the object in whose extent its value lies, interior words included (conservative pointers;
 -- Boehm, Demers and Shenker, "Mostly parallel garbage collection", PLDI 1991).
-use Rattle.std.specs.Prelude.{replicate, ℕ, ◌+◌, ◌-◌, Bool, ◌&&◌, if◌then◌else◌, List, [], ◌∷◌, map, length, Option, nat_le, nat_lt, slice_index, slice_index_or, slice_set, unwrap_or, option_map, option_and_then}
+use Rattle.std.specs.Prelude.{replicate, ℕ, ◌+◌, ◌-◌, Bool, not, ◌&&◌, if◌then◌else◌, List, [], ◌∷◌, map, length, Option, nat_le, nat_lt, slice_index, slice_index_or, slice_set, unwrap_or, option_map, option_and_then}
 use Rattle.std.specs.List.{find}
 use Rattle.std.specs.FinMap.{get, entries, from_sorted}
 use Rattle.fz_model.specs.declared.kinds.ObjKind.{ObjKind}
-use Rattle.fz_model.specs.State.{Map, Object, Core}
+use Rattle.fz_model.specs.State.{Map, Object}
 
 -- all words of a new object are zero
 abbrev pub new_object : ObjKind → ℕ → ℕ → Object
@@ -36,9 +36,13 @@ abbrev pub word_at : Map Object → ℕ → ℕ
 word_at objects address =
     unwrap_or (option_and_then (λ start. option_map (λ (o : Object). slice_index o.words (address - start)) (get objects start)) (points objects address)) 0
 
--- the word of a slot, and the frames after a write to it
-abbrev pub slot_word : Core → ℕ → ℕ → ℕ
-slot_word c frame slot = slice_index (slice_index_or c.frames frame []) slot
+-- there is no such frame, or no such slot of its sixteen
+abbrev pub lacks_slot : List (List ℕ) → ℕ → ℕ → Bool
+lacks_slot frames frame slot = not (nat_lt frame (length frames) && nat_lt slot 16)
 
-abbrev pub with_slot : Core → ℕ → ℕ → ℕ → List (List ℕ)
-with_slot c frame slot word = slice_set c.frames frame (slice_set (slice_index_or c.frames frame []) slot word)
+-- the word of a slot, and the frames after a write to it
+abbrev pub slot_word : List (List ℕ) → ℕ → ℕ → ℕ
+slot_word frames frame slot = slice_index (slice_index_or frames frame []) slot
+
+abbrev pub with_slot : List (List ℕ) → ℕ → ℕ → ℕ → List (List ℕ)
+with_slot frames frame slot word = slice_set frames frame (slice_set (slice_index_or frames frame []) slot word)

@@ -1,6 +1,5 @@
 pub mod Carried
 pub mod Cleared
-pub mod Collected
 pub mod Growth
 pub mod Members
 pub mod Planned

@@ -17,6 +17,8 @@ use std::alloc::Global;
 
 /// Carries out a pass with these found objects: puts the ready registrations into `out`, by rising address, takes them out of the table, reclaims the
 /// objects that aren't kept, and answers their number. Asked only with a found set of as many blocks as the heap has, closed under children.
+///
+/// Refused `NoMemory` where an allocation is refused, and nothing has changed then.
 pub fn decide(
     alloc: Global,
     heap: &mut Heap,

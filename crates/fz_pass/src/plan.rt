@@ -59,14 +59,9 @@ fn candidates(
     ensures all { IfOk result (λ all. all.items ≡ all_candidates heap.now.objects table.now.registrations (has found.now)) }
     ensures in_heap { IfOk result (λ all. All (λ u. (65536 ≤ u.pick.obj) × (u.pick.obj < 65536 + 64 * heap.now.blocks)) all.items) }
 {
-    let mut all = Vec::new(alloc);
-    for start in heap.objects() {
-        let Some(one) = candidate_at(heap, table, found, start) else {
-            continue;
-        };
-        all.push(one)?;
-    }
-    Ok(all)
+    heap.objects()
+        .filter_map(|start| candidate_at(heap, table, found, start))
+        .collect(alloc)
 }
 
 /// The object's registration, if the object wasn't found.

@@ -1,9 +1,9 @@
 //! Sets of objects.
 
-ghost use Rattle.std.specs.Prelude.{◌≡◌, ◌≤◌, ◌<◌, ◌+◌, ◌*◌, ◌==◌, ◌||◌, if◌then◌else◌, ℕ, false, not, length, IfOk};
+ghost use Rattle.std.specs.Prelude.{◌≡◌, ◌≤◌, ◌<◌, ◌+◌, ◌*◌, ◌==◌, ◌||◌, ℕ, false, length, IfOk};
 ghost use Rattle.fz_pass.specs.Sets.{has, vacant};
 
-use fz_model::{Addr, HEAP_START};
+use fz_model::{Addr, BLOCK_WORDS, HEAP_START};
 use std::alloc::{AllocError, Global};
 use std::marker::Model;
 
@@ -23,12 +23,12 @@ impl Model for ObjectSet {
 
 impl ObjectSet {
     /// An empty set of objects of a heap of so many blocks.
-    pub fn new(alloc: Global, blocks: u64) -> Result<ObjectSet, AllocError>
+    pub(crate) fn new(alloc: Global, blocks: u64) -> Result<ObjectSet, AllocError>
         requires { blocks ≤ 4096 }
         ensures size { IfOk result (λ set. length set ≡ 64 * blocks) }
         ensures empty { IfOk result (λ set. (a : ℕ) → has set a ≡ false) }
     {
-        let flags = vec![in alloc; false; (64 * blocks) as usize]?;
+        let flags = vec![in alloc; false; (BLOCK_WORDS * blocks) as usize]?;
         Ok(ObjectSet { flags })
     }
 
@@ -44,17 +44,14 @@ impl ObjectSet {
                 .unwrap_or(false)
     }
 
-    /// Adds the object at the start, and says whether it is new.
-    pub(crate) fn insert(&mut self, start: Addr) -> bool
+    /// Adds the object at the start. Asked only of one that the set hasn't.
+    pub(crate) fn insert(&mut self, start: Addr)
         requires in_heap { (65536 ≤ start) × (start < 65536 + length self.old) }
-        ensures fresh { result ≡ not (has self.old start) }
+        requires new { has self.old start ≡ false }
         ensures size { length self.new ≡ length self.old }
         ensures inserted { (a : ℕ) → has self.new a ≡ (has self.old a || a == start) }
-        ensures vacant { vacant self.new + (if result then 1 else 0) ≡ vacant self.old }
+        ensures vacant { vacant self.new + 1 ≡ vacant self.old }
     {
-        let flag = &mut self.flags[(start - HEAP_START) as usize];
-        let fresh = !*flag;
-        *flag = true;
-        fresh
+        self.flags[(start - HEAP_START) as usize] = true;
     }
 }

@@ -102,7 +102,7 @@ impl Model for Tracer {
 }
 
 impl Tracer {
-    /// An empty set of objects of a heap of so many blocks.
+    /// An empty set of objects of a heap of so many blocks. `AllocError` where an allocation is refused.
     pub fn new(alloc: Global, blocks: u64) -> Result<Tracer, AllocError>
         requires { blocks ≤ 4096 }
         ensures size { IfOk result (λ set. length set ≡ 64 * blocks) }
@@ -115,7 +115,7 @@ impl Tracer {
         })
     }
 
-    /// Adds the object at the start.
+    /// Adds the object at the start. `AllocError` where an allocation is refused, and nothing has changed then.
     pub fn mark(&mut self, start: Addr) -> Result<(), AllocError>
         requires in_heap { (65536 ≤ start) × (start < 65536 + length self.old) }
         ensures size { length self.new ≡ length self.old }
@@ -125,7 +125,8 @@ impl Tracer {
         self.frontier.add(start)
     }
 
-    /// Adds the object to which the word points, if there is one.
+    /// Adds the object to which the word points, if there is one. `AllocError` where an allocation is refused, and nothing has
+    /// changed then.
     pub fn root(&mut self, heap: &Heap, word: Word) -> Result<(), AllocError>
         requires { length self.old ≡ 64 * heap.now.blocks }
         ensures size { length self.new ≡ length self.old }
@@ -156,7 +157,7 @@ impl Tracer {
         }
     }
 
-    /// All that the set leads to, itself included.
+    /// All that the set leads to, itself included. `AllocError` where an allocation is refused, and the set is gone with it then.
     pub fn finish(self, heap: &Heap) -> Result<ObjectSet, AllocError>
         requires { length self ≡ 64 * heap.now.blocks }
         ensures size { IfOk result (λ set. length set ≡ length self) }

@@ -1,4 +1,7 @@
 -- The finite map of a list of entries, as a table keeps it: how many it has, and whether it has room.
+-- A contract sees a table's iterator as the list of what is left. So a loop for (object, registration) in table.iter() keeps the invariant
+-- from_entries (l.yielded ++ l.object-iterator) ≡ l.table.registrations, with no answer, and at its end nothing is left. Then got, listed and
+-- All-got go between such a list and what get answers.
 use Rattle.std.proofs.Common.{◌≡◌, ◌≤◌, ℕ, ◌+◌, ◌-◌, Bool, true, false, cond, not, ◌&&◌, nat_le, is_some, List, [], ◌∷◌, length, Some, None, nat_eq, nat_cmp, refl, sym, ap, subst, ◌∙◌, add-one, arith}
 use Rattle.std.proofs.lemmas.Bool.{eq-eqb, eqb-true}
 use Rattle.std.proofs.lemmas.Bool.Decides.{nat_tests}

@@ -125,10 +125,6 @@ impl Table {
     }
 
     /// All registrations with their objects, each once, in no order that callers may count on.
-    ///
-    /// A contract sees the iterator as the list of what is left. So `for (object, registration) in table.iter()` keeps the invariant
-    /// `from_entries (l.yielded ++ l.object-iterator) ≡ l.table.registrations`, with no answer, and at its end nothing is left.
-    /// In `proofs/Entries.antt`, `got`, `listed` and `All-got` go between such a list and what `get` answers.
     pub fn iter(&self) -> Registrations<'_>
         ensures all { from_entries result ≡ self.now.registrations }
         ensures once { IsDistinct nat_eq (keys_of result) }

@@ -7,7 +7,7 @@ use Rattle.fz_model.specs.declared.answers.Entry.{Entry}
 use Rattle.fz_model.specs.declared.refusal.Refusal.{Refusal}
 use Rattle.fz_model.specs.declared.refusal.Refusal.TheVariants.{NotHeld}
 use Rattle.fz_model.specs.State.{Core}
-use Rattle.fz_model.specs.Memory.{filled, new_object, word_at}
+use Rattle.fz_model.specs.Memory.{filled, new_object, word_at, lacks_slot, slot_word, with_slot}
 use Rattle.fz_model.specs.Allocation.{place_for}
 use Rattle.fz_model.specs.Causes.{Causes, first_cause, IsRefusedFor, alloc_causes, place_causes}
 use Rattle.fz_model.specs.Events.{Event, Alloc, Load, Store, Set, Copy, Finish, Outstanding, Queue, bad_slot, same_entry, causes, may_lack_memory}
@@ -17,7 +17,7 @@ use Rattle.fz_heap.specs.Contents.{Contents}
 use Rattle.fz_table.specs.Registered.{Registered}
 use Rattle.fz_world.specs.Does.{Does}
 use Rattle.fz_world.specs.Ready.{Ready}
-use Rattle.fz_world.specs.Slots.{GivesSlot, lacks_slot, word_of, with_word}
+use Rattle.fz_world.specs.Slots.{GivesSlot}
 use Rattle.fz_world.specs.World.{core_of}
 use Rattle.fz_world.proofs.Queues.{filter_none}
 use Rattle.fz_world.proofs.Stands.{Allowed, refused, first_passes, first_stands, refused_first, refused_later}
@@ -42,35 +42,35 @@ module _ (heap : Contents) (frames : List (List ℕ)) (table : Registered) (read
 
   -- ---- slots
 
-  pub sets : (frame slot word : ℕ) (new : List (List ℕ)) → lacks_slot frames frame slot ≡ false → new ≡ with_word frames frame slot word → Allowed now (Set frame slot word) tt (core_of heap new table ready passes)
+  pub sets : (frame slot word : ℕ) (new : List (List ℕ)) → lacks_slot frames frame slot ≡ false → new ≡ with_slot frames frame slot word → Allowed now (Set frame slot word) tt (core_of heap new table ready passes)
   sets frame slot word new has is = record { none = first_passes (bad_slot now frame slot) [] has; accepts = λ _. ap (λ f. core_of heap f table ready passes) is }
 
-  pub copies : (frame slot to_frame to_slot word : ℕ) (new : List (List ℕ)) → GivesSlot frames frame slot (Ok word) → lacks_slot frames to_frame to_slot ≡ false → new ≡ with_word frames to_frame to_slot word → Allowed now (Copy frame slot to_frame to_slot) tt (core_of heap new table ready passes)
+  pub copies : (frame slot to_frame to_slot word : ℕ) (new : List (List ℕ)) → GivesSlot frames frame slot (Ok word) → lacks_slot frames to_frame to_slot ≡ false → new ≡ with_slot frames to_frame to_slot word → Allowed now (Copy frame slot to_frame to_slot) tt (core_of heap new table ready passes)
   copies frame slot to_frame to_slot word new from has is = record {
     none = first_passes (bad_slot now frame slot) (bad_slot now to_frame to_slot ∷ []) from.0 ∙ first_passes (bad_slot now to_frame to_slot) [] has;
-    accepts = λ _. ap (λ f. core_of heap f table ready passes) (is ∙ ap (with_word frames to_frame to_slot) from.1);
+    accepts = λ _. ap (λ f. core_of heap f table ready passes) (is ∙ ap (with_slot frames to_frame to_slot) from.1);
   }
 
   -- ---- words
 
-  pub loads : (frame slot offset to_frame to_slot word read : ℕ) (new : List (List ℕ)) → GivesSlot frames frame slot (Ok word) → lacks_slot frames to_frame to_slot ≡ false → first_cause (place_causes heap.objects word offset) ≡ None → read ≡ word_at heap.objects (word + offset) → new ≡ with_word frames to_frame to_slot read → Allowed now (Load frame slot offset to_frame to_slot) read (core_of heap new table ready passes)
+  pub loads : (frame slot offset to_frame to_slot word read : ℕ) (new : List (List ℕ)) → GivesSlot frames frame slot (Ok word) → lacks_slot frames to_frame to_slot ≡ false → first_cause (place_causes heap.objects word offset) ≡ None → read ≡ word_at heap.objects (word + offset) → new ≡ with_slot frames to_frame to_slot read → Allowed now (Load frame slot offset to_frame to_slot) read (core_of heap new table ready passes)
   loads frame slot offset to_frame to_slot word read new from has none is put = record {
-    none = first_passes (bad_slot now frame slot) (bad_slot now to_frame to_slot ∷ place_causes heap.objects (word_of frames frame slot) offset) from.0 ∙ first_passes (bad_slot now to_frame to_slot) (place_causes heap.objects (word_of frames frame slot) offset) has ∙ subst (λ w. first_cause (place_causes heap.objects w offset) ≡ None) from.1 none;
+    none = first_passes (bad_slot now frame slot) (bad_slot now to_frame to_slot ∷ place_causes heap.objects (slot_word frames frame slot) offset) from.0 ∙ first_passes (bad_slot now to_frame to_slot) (place_causes heap.objects (slot_word frames frame slot) offset) has ∙ subst (λ w. first_cause (place_causes heap.objects w offset) ≡ None) from.1 none;
     accepts = λ _. (is ∙ ap (λ w. word_at heap.objects (w + offset)) from.1, ap (λ f. core_of heap f table ready passes) put);
   }
 
   -- what a word of the heap is refused for, after two slots that are there
-  pub no_place : (e : Event) (frame slot offset to_frame to_slot word : ℕ) (r : Refusal) → causes now e ≡ bad_slot now frame slot ∷ bad_slot now to_frame to_slot ∷ place_causes heap.objects (word_of frames frame slot) offset → GivesSlot frames frame slot (Ok word) → lacks_slot frames to_frame to_slot ≡ false → first_cause (place_causes heap.objects word offset) ≡ Some r → Does now e (Err r) now
+  pub no_place : (e : Event) (frame slot offset to_frame to_slot word : ℕ) (r : Refusal) → causes now e ≡ bad_slot now frame slot ∷ bad_slot now to_frame to_slot ∷ place_causes heap.objects (slot_word frames frame slot) offset → GivesSlot frames frame slot (Ok word) → lacks_slot frames to_frame to_slot ≡ false → first_cause (place_causes heap.objects word offset) ≡ Some r → Does now e (Err r) now
   no_place e frame slot offset to_frame to_slot word r is from has cause =
-      let place = place_causes heap.objects (word_of frames frame slot) offset in
+      let place = place_causes heap.objects (slot_word frames frame slot) offset in
       let here : first_cause place ≡ Some r = subst (λ w. first_cause (place_causes heap.objects w offset) ≡ Some r) from.1 cause in
       let second = refused_later (bad_slot now to_frame to_slot) place (may_lack_memory e) r has (inl here) in
       refused now e r (subst (λ cs. IsRefusedFor cs (may_lack_memory e) r) (sym is) (refused_later (bad_slot now frame slot) (bad_slot now to_frame to_slot ∷ place) (may_lack_memory e) r from.0 second))
 
   pub stores : (frame slot offset from_frame from_slot word value : ℕ) (new : Contents) → GivesSlot frames frame slot (Ok word) → GivesSlot frames from_frame from_slot (Ok value) → first_cause (place_causes heap.objects word offset) ≡ None → new ≡ record heap { objects = filled (λ a. a == word + offset) value heap.objects } → Allowed now (Store frame slot offset from_frame from_slot) tt (core_of new frames table ready passes)
   stores frame slot offset from_frame from_slot word value new to from none is = record {
-    none = first_passes (bad_slot now frame slot) (bad_slot now from_frame from_slot ∷ place_causes heap.objects (word_of frames frame slot) offset) to.0 ∙ first_passes (bad_slot now from_frame from_slot) (place_causes heap.objects (word_of frames frame slot) offset) from.0 ∙ subst (λ w. first_cause (place_causes heap.objects w offset) ≡ None) to.1 none;
-    accepts = λ _. ap (λ (h : Contents). core_of h frames table ready passes) is ∙ ap (λ w. core_of (record heap { objects = filled (λ a. a == w + offset) value heap.objects }) frames table ready passes) to.1 ∙ ap (λ v. core_of (record heap { objects = filled (λ a. a == word_of frames frame slot + offset) v heap.objects }) frames table ready passes) from.1;
+    none = first_passes (bad_slot now frame slot) (bad_slot now from_frame from_slot ∷ place_causes heap.objects (slot_word frames frame slot) offset) to.0 ∙ first_passes (bad_slot now from_frame from_slot) (place_causes heap.objects (slot_word frames frame slot) offset) from.0 ∙ subst (λ w. first_cause (place_causes heap.objects w offset) ≡ None) to.1 none;
+    accepts = λ _. ap (λ (h : Contents). core_of h frames table ready passes) is ∙ ap (λ w. core_of (record heap { objects = filled (λ a. a == w + offset) value heap.objects }) frames table ready passes) to.1 ∙ ap (λ v. core_of (record heap { objects = filled (λ a. a == slot_word frames frame slot + offset) v heap.objects }) frames table ready passes) from.1;
   }
 
   -- ---- objects
@@ -83,7 +83,7 @@ module _ (heap : Contents) (frames : List (List ℕ)) (table : Registered) (read
   pub cause_made : (frame slot size : ℕ) (kind : ObjKind) (r : Refusal) → lacks_slot frames frame slot ≡ false → first_cause (alloc_causes heap.objects heap.blocks heap.next_birth size kind) ≡ Some r → first_cause (causes now (Alloc frame slot size kind)) ≡ Some r
   cause_made frame slot size kind r has cause = first_passes (bad_slot now frame slot) (alloc_causes heap.objects heap.blocks heap.next_birth size kind) has ∙ cause
 
-  pub makes : (frame slot size : ℕ) (kind : ObjKind) (made : ℕ × ℕ) (new : Contents) (new_frames : List (List ℕ)) → lacks_slot frames frame slot ≡ false → first_cause (alloc_causes heap.objects heap.blocks heap.next_birth size kind) ≡ None → (place_for heap.objects heap.blocks size kind ≡ Some made.0) × (made.1 ≡ heap.next_birth) → new ≡ record heap { objects = insert heap.objects made.0 (new_object kind heap.next_birth size); next_birth = heap.next_birth + 1 } → new_frames ≡ with_word frames frame slot made.0 → Allowed now (Alloc frame slot size kind) made (core_of new new_frames table ready passes)
+  pub makes : (frame slot size : ℕ) (kind : ObjKind) (made : ℕ × ℕ) (new : Contents) (new_frames : List (List ℕ)) → lacks_slot frames frame slot ≡ false → first_cause (alloc_causes heap.objects heap.blocks heap.next_birth size kind) ≡ None → (place_for heap.objects heap.blocks size kind ≡ Some made.0) × (made.1 ≡ heap.next_birth) → new ≡ record heap { objects = insert heap.objects made.0 (new_object kind heap.next_birth size); next_birth = heap.next_birth + 1 } → new_frames ≡ with_slot frames frame slot made.0 → Allowed now (Alloc frame slot size kind) made (core_of new new_frames table ready passes)
   makes frame slot size kind made new new_frames has none at is put = record {
     none = first_passes (bad_slot now frame slot) (alloc_causes heap.objects heap.blocks heap.next_birth size kind) has ∙ none;
     accepts = λ _. (made.0, at.0, ap (λ (b : ℕ). let pair : ℕ × ℕ = (made.0, b) in pair) at.1, ap (λ (h : Contents). core_of h new_frames table ready passes) is ∙ ap (λ f. core_of (record heap { objects = insert heap.objects made.0 (new_object kind heap.next_birth size); next_birth = heap.next_birth + 1 }) f table ready passes) put);

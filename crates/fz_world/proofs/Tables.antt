@@ -18,7 +18,8 @@ use Rattle.fz_heap.specs.Contents.{Contents}
 use Rattle.fz_table.specs.Registered.{Registered}
 use Rattle.fz_world.specs.Does.{Does}
 use Rattle.fz_world.specs.Ready.{Ready}
-use Rattle.fz_world.specs.Slots.{GivesSlot, word_of}
+use Rattle.fz_model.specs.Memory.{slot_word}
+use Rattle.fz_world.specs.Slots.{GivesSlot}
 use Rattle.fz_world.specs.World.{core_of}
 use Rattle.fz_world.proofs.Stands.{Allowed, refused, first_passes, refused_later, first_of_more, none_of_more}
 
@@ -59,7 +60,7 @@ module _ (heap : Contents) (frames : List (List ℕ)) (table : Registered) (read
   now = core_of heap frames table ready passes
 
   abbrev here : ℕ
-  here = word_of frames frame slot
+  here = slot_word frames frame slot
 
   off_here : (b : Bool) → is_off_heap heap.blocks word ≡ b → is_off_heap heap.blocks here ≡ b
   off_here b off = subst (λ w. is_off_heap heap.blocks w ≡ b) from.1 off

@@ -1,7 +1,8 @@
 //! The frames, whose slots are roots.
 
 ghost use Rattle.std.specs.Prelude.{◌≡◌, ◌≤◌, false, IfOk, replicate};
-ghost use Rattle.fz_world.specs.Slots.{GivesSlot, lacks_slot, with_word};
+ghost use Rattle.fz_model.specs.Memory.{lacks_slot, with_slot};
+ghost use Rattle.fz_world.specs.Slots.{GivesSlot};
 
 use fz_model::{Refusal, Word};
 use std::alloc::{AllocError, Global};
@@ -50,7 +51,7 @@ impl Frames {
     /// Puts the word into a slot. Asked only of a slot that is there.
     pub(crate) fn set(&mut self, frame: u64, slot: u64, word: Word)
         requires { lacks_slot self.old frame slot ≡ false }
-        ensures { self.new ≡ with_word self.old frame slot word }
+        ensures { self.new ≡ with_slot self.old frame slot word }
     {
         let row = &mut self.rows[frame as usize];
         row[slot as usize] = word;

@@ -1,10 +1,9 @@
 //! The queue of finalizers that are ready, and those of its entries that are held.
 
 ghost use Rattle.std.specs.Prelude.{◌≡◌, ◌≤◌, ◌<◌, ◌+◌, ◌++◌, [], ◌∷◌, true, false, not, filter, length, MatchOption, OnOk, IfOk};
-ghost use Rattle.std.specs.List.{list_any};
+ghost use Rattle.std.specs.List.{list_any, position_or_len};
 ghost use Rattle.fz_model.specs.Events.{same_entry};
 ghost use Rattle.fz_model.specs.Pass.{entries_of};
-ghost use Rattle.fz_world.specs.Ready.{first_flagged};
 
 use fz_model::{Entry, Pick};
 use std::alloc::{AllocError, Global};
@@ -23,7 +22,8 @@ pub(crate) struct Ready {
 
 impl Model for Ready {
     ghost use Rattle.std.specs.Prelude.{◌≡◌, ◌-◌, min, length, vec_len, vec_capacity};
-    ghost use Rattle.fz_world.specs.Ready.{Ready, ready_code, flagged, first_flagged, AreNumbered};
+    ghost use Rattle.std.specs.List.{position_or_len};
+    ghost use Rattle.fz_world.specs.Ready.{Ready, ready_code, flagged, AreNumbered};
 
     ghost Value = { Ready };
 
@@ -35,20 +35,14 @@ impl Model for Ready {
       room = min (vec_capacity r.queue - vec_len r.queue) (vec_capacity r.is_held - vec_len r.is_held);
     } };
 
-    ghost invariant = { λ r. (length r.is_held.items ≡ length r.queue.items) × AreNumbered 0 r.queue.items × (r.outstanding ≡ length (flagged r.queue.items r.is_held.items)) × (r.first_held ≡ first_flagged r.is_held.items) };
+    ghost invariant = { λ r. (length r.is_held.items ≡ length r.queue.items) × AreNumbered 0 r.queue.items × (r.outstanding ≡ length (flagged r.queue.items r.is_held.items)) × (r.first_held ≡ position_or_len (λ b. b) r.is_held.items) };
 }
 
-/// The place of the first flag that is up, or the number of flags. None before `start` is up.
-fn next_held(is_held: &[bool], start: usize) -> usize
-    requires { start ≤ first_flagged is_held.now }
-    ensures { result ≡ first_flagged is_held.now }
+/// The place of the first flag that is up, or the number of flags.
+fn first_up(flags: &[bool]) -> usize
+    ensures { result ≡ position_or_len (λ b. b) flags.now }
 {
-    for place in start..is_held.len() {
-        if is_held[place] {
-            return place;
-        }
-    }
-    is_held.len()
+    flags.iter().position(|flag| *flag).unwrap_or(flags.len())
 }
 
 impl Ready {
@@ -154,7 +148,7 @@ impl Ready {
             Some(place) => {
                 self.is_held[place] = false;
                 self.outstanding -= 1;
-                self.first_held = next_held(self.is_held.as_slice(), self.first_held);
+                self.first_held += first_up(&self.is_held[self.first_held..]);
                 true
             }
             None => false,

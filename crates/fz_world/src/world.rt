@@ -64,7 +64,9 @@ impl Model for World {
 }
 
 impl World {
-    /// Opens a world without objects, all of whose slots are zero. `BadCount` where blocks or frames are outside their limits.
+    /// Opens a world without objects, all of whose slots are zero.
+    ///
+    /// Refusals, in their order: `BadCount` where blocks or frames are outside their limits, `NoMemory` where there is none for heap and frames.
     pub fn open(alloc: Global, config: Config) -> Result<World, Refusal>
         ensures refused { IfErr result (λ r. IsRefusedFor (open_causes config.blocks config.frames) true r) }
         ensures opened { IfOk result (λ world. (first_cause (open_causes config.blocks config.frames) ≡ None) × StandsFor world (opening config.blocks config.frames)) }
@@ -86,7 +88,8 @@ impl World {
         })
     }
 
-    /// Makes an object of so many words, all of them zero, and puts its address into the slot. Answers the address and the birth.
+    /// Makes an object of so many words, all of them zero, and puts its address into the slot. Answers the address and the birth. An atomic
+    /// object is one of `GC_malloc_atomic`.
     ///
     /// Refusals, in their order: `BadSlot`, `BadSize` outside 1 to 64 words, `Exhausted` after 2^48 births, `NoSpace`.
     pub fn alloc(
@@ -174,7 +177,8 @@ impl World {
         Ok(())
     }
 
-    /// Registers a finalizer of the object that starts at the slot's word. A word that is zero or outside the heap is answered `Outside`, and changes nothing.
+    /// Registers a finalizer of the object that starts at the slot's word, as `GC_register_finalizer` does, or by its kind the `_ignore_self`
+    /// or `_no_order` one. A word that is zero or outside the heap is answered `Outside`, and changes nothing.
     ///
     /// Refusals, in their order: `BadSlot`, `NotPointer`, `NotStart`, `Exhausted` after 2^48 numbers, `TableFull` for a 65,537th object, `NoMemory`.
     pub fn register(
@@ -187,8 +191,8 @@ impl World {
     ) -> Result<RegAnswer, Refusal>
         ensures step { Does self.old (Register frame slot kind proc cd) result self.new }
         // Only the first registration of an object can want memory.
-        ensures inside { IfErr result (λ r. r ≡ Refusal.NoMemory → IsFalse (is_off_heap self.old.blocks (slot_word self.old frame slot))) }
-        ensures growth { IfErr result (λ r. r ≡ Refusal.NoMemory → IsNone (get self.old.registrations (slot_word self.old frame slot))) }
+        ensures inside { IfErr result (λ r. r ≡ Refusal.NoMemory → IsFalse (is_off_heap self.old.blocks (slot_word self.old.frames frame slot))) }
+        ensures growth { IfErr result (λ r. r ≡ Refusal.NoMemory → IsNone (get self.old.registrations (slot_word self.old.frames frame slot))) }
     {
         let word = self.frames.get(frame, slot)?;
         if is_off_heap(&self.heap, word) {
@@ -199,7 +203,7 @@ impl World {
         Ok(RegAnswer::Number(number, old))
     }
 
-    /// Takes the registration of the object that starts at the slot's word away, and answers its pair.
+    /// Takes the registration of the object that starts at the slot's word away, and answers its pair: `GC_register_finalizer` with no procedure.
     ///
     /// Refusals, in their order: `BadSlot`, `NotPointer`, `NotStart`; a word that is zero or outside the heap has no registration.
     pub fn unregister(&mut self, frame: u64, slot: u64) -> Result<Option<Old>, Refusal>
@@ -213,9 +217,10 @@ impl World {
         Ok(self.table.remove(word))
     }
 
-    /// A whole cycle in one step: finds what is reachable, and carries out a pass.
+    /// A whole cycle in one step, as `GC_gcollect`: finds what is reachable, and carries out a pass.
     ///
-    /// Refusals, in their order: `Exhausted` after 2^48 passes, `NoMemory`. A refused call changes nothing.
+    /// Refusals, in their order: `Exhausted` at the 2^48th pass, `NoMemory` where there is none for the pass's sets or for the queue to grow.
+    /// A refused call changes nothing.
     pub fn collect(&mut self) -> Result<Passed, Refusal>
         ensures { Does self.old Collect result self.new }
     {
