@@ -164,14 +164,11 @@ fn tell<W: Sink>(writer: &mut W, number: u64, answer: Answer) -> Result<(), Driv
 {
     match answer {
         Answer::Skipped => Ok(()),
-        Answer::Opened => match write_done(writer) {
-            Ok(()) => Ok(()),
-            Err(_) => Err(fault(Refusal::Output, number)),
-        },
-        Answer::Replied(reply) => match write_reply(writer, reply) {
-            Ok(()) => Ok(()),
-            Err(_) => Err(fault(Refusal::Output, number)),
-        },
+        Answer::Opened => write_done(writer).map_err(|_| fault(Refusal::Output, number)),
+        Answer::Replied(reply) => write_reply(writer, reply).map_err(|_| fault(
+            Refusal::Output,
+            number,
+        )),
         Answer::Ended(refusal) => match write_refused(writer, refusal) {
             Ok(()) => Err(fault(refusal, number)),
             Err(_) => Err(fault(Refusal::Output, number)),
