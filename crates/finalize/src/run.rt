@@ -162,20 +162,18 @@ pub(crate) fn drive<R: Source, W: Sink>(
 fn tell<W: Sink>(writer: &mut W, number: u64, answer: Answer) -> Result<(), DriveFault>
     ensures { TellsAnswer number answer (W.written writer.old) (W.failures writer.old) result (W.written writer.new) (W.failures writer.new) }
 {
+    let failed = fault(Refusal::Output, number);
     match answer {
         Answer::Skipped => Ok(()),
-        Answer::Opened => write_done(writer).map_err(|_| fault(Refusal::Output, number)),
-        Answer::Replied(reply) => write_reply(writer, reply).map_err(|_| fault(
-            Refusal::Output,
-            number,
-        )),
+        Answer::Opened => write_done(writer).map_err(|_| failed),
+        Answer::Replied(reply) => write_reply(writer, reply).map_err(|_| failed),
         Answer::Ended(refusal) => match write_refused(writer, refusal) {
             Ok(()) => Err(fault(refusal, number)),
-            Err(_) => Err(fault(Refusal::Output, number)),
+            Err(_) => Err(failed),
         },
         Answer::Malformed => match write_malformed(writer, number) {
             Ok(()) => Err(fault(Refusal::BadLine, number)),
-            Err(_) => Err(fault(Refusal::Output, number)),
+            Err(_) => Err(failed),
         },
     }
 }
