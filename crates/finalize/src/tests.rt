@@ -1,6 +1,6 @@
 //! Runs of whole scripts.
 
-ghost use Rattle.std.specs.Prelude.{◌≡◌, ◌≤◌, ◌<◌, length};
+ghost use Rattle.std.specs.Prelude.{◌≡◌, ◌≤◌, ◌<◌, ◌^◌, length};
 
 use crate::failures::Failures;
 use crate::memory::{Page, Pieces, Script};
@@ -47,12 +47,6 @@ struct Limits {
 
 const WHOLE: Limits = Limits {
     pieces: Pieces::Whole,
-    reads: u64::MAX,
-    writes: u64::MAX,
-};
-
-const BYTEWISE: Limits = Limits {
-    pieces: Pieces::Single,
     reads: u64::MAX,
     writes: u64::MAX,
 };
@@ -125,7 +119,7 @@ fn first_lines(bytes: &[u8], count: usize) -> &[u8] {
 #[test]
 fn rows_are_reported(rt: HostRuntime) {
     for row in ROWS {
-        for limits in [WHOLE, BYTEWISE] {
+        for limits in [WHOLE, bytewise(usize::MAX, usize::MAX)] {
             let outcome = run(rt.alloc(), row.script, limits);
             assert_eq!(rt; outcome.text.as_slice(), row.report);
             assert_eq!(rt; outcome.result.err(), row.fault);
@@ -150,27 +144,33 @@ fn a_summary_has_the_numbers_of_the_end(rt: HostRuntime) {
     );
 }
 
+/// Devices that hand over and take a byte in a call, and fail after so many.
+fn bytewise(reads: usize, writes: usize) -> Limits {
+    Limits {
+        pieces: Pieces::Single,
+        reads: reads as u64,
+        writes: writes as u64,
+    }
+}
+
+/// Whether a run of the script ends with this fault, in the line behind so many, and has written just this text.
+fn fails(alloc: Global, limits: Limits, refusal: Refusal, lines: usize, text: &[u8]) -> bool
+    requires { lines < 2 ^ 32 }
+{
+    let outcome = run(alloc, ONE_OBJECT_LIFE.script, limits);
+    outcome.result == fault(refusal, lines as u64 + 1) && outcome.text.as_slice() == text
+}
+
 /// Each read of the script fails in turn: whole lines before it are answered, and nothing else.
 #[test]
 fn each_read_fails(rt: HostRuntime) {
-    let row = ONE_OBJECT_LIFE;
-    for reads in 0..row.script.len() + 1 {
-        let outcome = run(
-            rt.alloc(),
-            row.script,
-            Limits {
-                reads: reads as u64,
-                ..BYTEWISE
-            },
-        );
-        let lines = lines_in(&row.script[..reads]);
+    let Row { script, report, .. } = ONE_OBJECT_LIFE;
+    for reads in 0..script.len() + 1 {
+        let lines = lines_in(&script[..reads]);
+        let replies = first_lines(report, lines);
+        let limits = bytewise(reads, usize::MAX);
         assert!(rt;
-            outcome.result == fault(Refusal::Input, lines as u64 + 1),
-            "at read {reads}"
-        );
-        assert_eq!(rt;
-            outcome.text.as_slice(),
-            first_lines(row.report, lines),
+            fails(rt.alloc(), limits, Refusal::Input, lines, replies),
             "at read {reads}"
         );
     }
@@ -179,24 +179,18 @@ fn each_read_fails(rt: HostRuntime) {
 /// Each write of the report fails in turn.
 #[test]
 fn each_write_fails(rt: HostRuntime) {
-    let row = ONE_OBJECT_LIFE;
-    for writes in 0..row.report.len() {
-        let outcome = run(
-            rt.alloc(),
-            row.script,
-            Limits {
-                writes: writes as u64,
-                ..BYTEWISE
-            },
-        );
-        let lines = lines_in(&row.report[..writes]);
+    let Row { report, .. } = ONE_OBJECT_LIFE;
+    for writes in 0..report.len() {
+        let lines = lines_in(&report[..writes]);
+        let limits = bytewise(usize::MAX, writes);
         assert!(rt;
-            outcome.result == fault(Refusal::Output, lines as u64 + 1),
-            "at write {writes}"
-        );
-        assert_eq!(rt;
-            outcome.text.as_slice(),
-            &row.report[..writes],
+            fails(
+                rt.alloc(),
+                limits,
+                Refusal::Output,
+                lines,
+                &report[..writes]
+            ),
             "at write {writes}"
         );
     }
@@ -334,23 +328,9 @@ fn long_lines(rt: HostRuntime) {
     assert!(rt; outcome.result == fault(Refusal::BadLine, 2));
     let outcome = run(rt.alloc(), &bytes, WHOLE);
     assert!(rt; outcome.result == fault(Refusal::BadLine, 1));
-    let outcome = run(
-        rt.alloc(),
-        &bytes,
-        Limits {
-            reads: 201,
-            ..BYTEWISE
-        },
-    );
+    let outcome = run(rt.alloc(), &bytes, bytewise(201, usize::MAX));
     assert!(rt; outcome.result == fault(Refusal::BadLine, 1));
-    let outcome = run(
-        rt.alloc(),
-        &bytes,
-        Limits {
-            reads: 200,
-            ..BYTEWISE
-        },
-    );
+    let outcome = run(rt.alloc(), &bytes, bytewise(200, usize::MAX));
     assert!(rt; outcome.result == fault(Refusal::Input, 1));
 }
 

@@ -1,15 +1,18 @@
 -- Objects whose words stand flat: what words point to, and what a write and a new object make of them.
 use Rattle.std.specs.Cmp.{nat_cmp_total}
-use Rattle.std.proofs.Common.{IfSome, IsTrue, ◌≡◌, ◌≢◌, ℕ, zero, suc, ◌+◌, ◌-◌, ◌*◌, ◌<◌, ◌≤◌, true, false, cond, not, ◌&&◌, ◌==◌, List, [], ◌∷◌, length, Option, Some, None, option_map, option_and_then, unwrap_or, is_none, refl, sym, ap, ◌∙◌, subst, ⊎_elim, arith, slice_index, set, replicate, nat_le, get_or-set_same, get_or-set_other, Bool, nat_cmp}
+use Rattle.std.proofs.Common.{Result, IfErr, IfSome, IsTrue, ◌≡◌, ◌≢◌, ℕ, zero, suc, ◌+◌, ◌-◌, ◌*◌, ◌<◌, ◌≤◌, true, false, cond, not, ◌&&◌, ◌==◌, List, [], ◌∷◌, length, Option, Some, None, option_map, option_and_then, unwrap_or, is_none, refl, sym, ap, ◌∙◌, subst, ⊎_elim, arith, slice_index, set, replicate, nat_le, get_or-set_same, get_or-set_other, Bool, nat_cmp}
 use Rattle.std.proofs.lemmas.Bool.{lt-leb, cases_eq, cases_order, eq-eqb, ne_eqb, leb-true, and_parts}
 use Rattle.std.proofs.lemmas.Option.{same_Some, none-some}
 use Rattle.std.proofs.lemmas.List.{length-replicate}
+use Rattle.std.proofs.lemmas.Result.{err_from_is_err_and}
+use Rattle.std.specs.Result.{IsErrAnd}
 use Rattle.std.specs.FinMap.{get, insert, contains_key, empty, get-empty, same_map, nat_cmp-IsAntisymmetric}
 use Rattle.fz_model.specs.State.{Map, Object}
 use Rattle.fz_model.specs.Memory.{points, fill, filled, word_at, new_object}
 use Rattle.fz_model.specs.Allocation.{place_for}
 use Rattle.fz_model.specs.Causes.{first_cause, place_causes, alloc_causes, count_limit, bad_count}
 use Rattle.fz_model.specs.declared.kinds.ObjKind.{ObjKind}
+use Rattle.fz_model.specs.declared.refusal.Refusal.{Refusal}
 use Rattle.fz_model.specs.declared.refusal.Refusal.TheVariants.{BadSize, Exhausted, NoSpace, BadCount}
 use Rattle.fz_model.proofs.Maps.{get-insert_same, get-insert_other, get-mapped, mapped_here, mapped_back}
 use Rattle.fz_model.proofs.Objects.{from_covers, to_covers, points_target, points_at, points_same}
@@ -213,6 +216,13 @@ module _ (cells : Cells) (words births : List ℕ) (now : Contents) (next_birth 
   module _ (is : contents ≡ now) where
     pub causes_now : (w offset : ℕ) → first_cause (place_causes now.objects w offset) ≡ first_cause (place_causes (blank cells.claimed) w offset)
     causes_now w offset = ap (λ (v : Contents). first_cause (place_causes v.objects w offset)) (sym is) ∙ causes_flat cells.claimed words births w offset
+
+    -- the refusal of a place that `?` hands on
+    pub place_refused : {T : Type 0} (w offset : ℕ) (result : Result T Refusal) (r : Refusal) → IsErrAnd result (λ x. x ≡ r) → first_cause (place_causes (blank cells.claimed) w offset) ≡ Some r
+        → IfErr result (λ q. first_cause (place_causes now.objects w offset) ≡ Some q)
+    place_refused w offset result r given refused =
+        let p = err_from_is_err_and result given in
+        rw (p.1, p.2) (causes_now w offset ∙ refused)
 
     pub alloc_now : (size : ℕ) (kind : ObjKind) → next_birth < count_limit → first_cause (alloc_causes now.objects now.blocks now.next_birth size kind) ≡ first_cause (claim_causes cells size kind)
     alloc_now size kind few = ap (λ (v : Contents). first_cause (alloc_causes v.objects v.blocks v.next_birth size kind)) (sym is) ∙ alloc_flat cells.claimed words births cells.blocks next_birth size kind (lt-leb count_limit next_birth few)

@@ -1,16 +1,14 @@
 use Rattle.std.proofs.Common.{◌+◌, ◌<◌, ◌∙◌, sym, ap, arith, length}
 use Rattle.std.proofs.lemmas.List.{get_or_default}
-use Rattle.std.proofs.lemmas.Result.{err_from_is_err_and}
 use Rattle.fz_model.specs.Memory.{word_at}
 use Rattle.fz_heap.specs.Contents.{Contents}
-use Rattle.fz_heap.proofs.Flat.{causes_now, word_read}
+use Rattle.fz_heap.proofs.Flat.{causes_now, place_refused, word_read}
 use Rattle.fz_heap.proofs.heap.Heap.read.Goals as goal
 
 pub returns-in_err-place-clause-refused : goal.returns-in_err-place-clause-refused
 returns-in_err-place-clause-refused c =
     let h = c.self.inside in
-    let p = err_from_is_err_and c.from_residual.result c.from_residual.ensures.1 in
-    rw (p.1, p.2) (causes_now h.map h.words.items h.births.items c.args.self.now h.next_birth c.self.view_is c.args.word c.args.offset ∙ c.in_err-place.ensures.refused)
+    place_refused h.map h.words.items h.births.items c.args.self.now h.next_birth c.self.view_is c.args.word c.args.offset c.from_residual.result _ c.from_residual.ensures.1 c.in_err-place.ensures.refused
 
 pub returns-clause-read : goal.returns-clause-read
 returns-clause-read c =

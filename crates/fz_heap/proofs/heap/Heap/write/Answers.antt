@@ -1,16 +1,14 @@
 use Rattle.std.proofs.Common.{◌+◌, ◌<◌, ◌==◌, ◌∙◌, sym, ap, arith, length}
-use Rattle.std.proofs.lemmas.Result.{err_from_is_err_and}
 use Rattle.fz_model.specs.State.{Map, Object}
 use Rattle.fz_model.specs.Memory.{filled}
 use Rattle.fz_heap.specs.Contents.{Contents}
-use Rattle.fz_heap.proofs.Flat.{causes_now, word_written}
+use Rattle.fz_heap.proofs.Flat.{causes_now, place_refused, word_written}
 use Rattle.fz_heap.proofs.heap.Heap.write.Goals as goal
 
 pub returns-in_err-place-clause-refused : goal.returns-in_err-place-clause-refused
 returns-in_err-place-clause-refused c =
     let h = c.self.inside in
-    let p = err_from_is_err_and c.from_residual.result c.from_residual.ensures.1 in
-    rw (p.1, p.2) (causes_now h.map h.words.items h.births.items c.args.self.now h.next_birth c.self.view_is c.args.word c.args.offset ∙ c.in_err-place.ensures.refused)
+    place_refused h.map h.words.items h.births.items c.args.self.now h.next_birth c.self.view_is c.args.word c.args.offset c.from_residual.result _ c.from_residual.ensures.1 c.in_err-place.ensures.refused
 
 pub returns-clause-accepted : goal.returns-clause-accepted
 returns-clause-accepted c =
