@@ -1,21 +1,24 @@
 -- Maps by address, and the words of objects.
-use Rattle.std.proofs.Common.{T, is_lt, ◌&&◌, Bool, ◌≡◌, ◌≢◌, ℕ, ◌+◌, ◌<◌, ◌==◌, true, false, cond, ◌||◌, List, [], ◌∷◌, map, length, Option, Some, None, is_some, option_map, refl, sym, ap, ◌∙◌, subst, arith, slice_index, filter, flat_map, nat_cmp, Equal, suc, zero, true≢false, add-zero}
-use Rattle.std.proofs.lemmas.Bool.{eq-eqb, both_ways, cond-true, not-true, or_parts}
+use Rattle.std.proofs.Common.{T, is_lt, nat_le, ◌&&◌, Bool, ◌≡◌, ◌≢◌, ℕ, ◌+◌, ◌-◌, ◌/◌, ◌<◌, ◌==◌, true, false, cond, ◌||◌, List, [], ◌∷◌, map, length, Option, Some, None, is_some, option_map, refl, sym, ap, ◌∙◌, subst, arith, slice_index, filter, flat_map, nat_cmp, Equal, suc, zero, true≢false, add-zero}
+use Rattle.std.proofs.lemmas.Bool.{eq-eqb, both_ways, cond-true, not-true, and_parts}
 use Rattle.std.proofs.lemmas.Option.{same_Some, none-some}
 use Rattle.std.proofs.lemmas.List.{map-id}
 use Rattle.std.specs.FinMap as finmap
 use Rattle.std.specs.FinMap.Entries.{below_all}
-use Rattle.std.specs.FinMap.{same_entries_map, is_sorted, entries_sorted, entries-from_sorted, get-from_sorted, get, insert, remove, retain_keys, entries, keys, get-entries, get-retain_keys, get-insert, get-remove, contains_key-keys}
+use Rattle.std.specs.FinMap.{same_map, nat_cmp-IsAntisymmetric, same_entries_map, is_sorted, entries_sorted, entries-from_sorted, get-from_sorted, get, insert, remove, retain_keys, entries, get-entries, get-retain_keys, get-insert, get-remove}
 use Rattle.std.specs.Cmp.{nat_cmp_total, ranked}
 use Rattle.std.specs.Ordering.{eq_by_cmp}
-use Rattle.std.specs.List.{find, list_any, range_with_len}
+use Rattle.std.specs.List.{find, list_all, range_with_len}
 use Rattle.std.specs.Option.{option_or}
 use Rattle.fz_model.specs.State.{Map, Object}
-use Rattle.fz_model.specs.Memory.{mapped, fill, filled}
-use Rattle.fz_model.specs.Allocation.{place_for, is_free, is_bare, block_of, block_start, cells, has_class}
+use Rattle.fz_model.specs.declared.extent.Extent.{Extent}
+use Rattle.fz_model.specs.Extents.{mapped, covers, extents, extent_of}
+use Rattle.fz_model.specs.Memory.{fill, filled}
+use Rattle.fz_model.specs.Allocation.{place_in, place_for, is_free, is_bare, meets, has_run, blocks_for, block_of, block_start, cells, has_class}
 use Rattle.fz_model.specs.declared.kinds.ObjKind.{ObjKind}
 use Rattle.fz_model.proofs.Lists.{find_place}
-use Rattle.fz_model.proofs.MapEntries.{same_key, other_key, own_key}
+use Rattle.fz_model.proofs.MapEntries.{same_key, other_key, own_key, place_of_key}
+use Rattle.std.proofs.lemmas.Map.Keys.{any_passes_from_place}
 
 module _ {X : Type 0} where
   pub get-insert_same : (m : Map X) (k : ℕ) (v : X) → get (insert m k v) k ≡ Some v
@@ -80,38 +83,72 @@ module _ {X Y : Type 0} where
 pub mapped_same : {X : Type 0} (m : Map X) → mapped (λ a x. x) m ≡ m
 mapped_same m = same_entries_map _ m (entries-mapped (λ a x. x) m ∙ map-id (entries m))
 
-no_key : (t : ℕ → Bool) (q : ℕ) (ks : List ℕ) → t q ≡ true → list_any t ks ≡ false → list_any (eq_by_cmp nat_cmp q) ks ≡ false
-no_key t q [] here none = refl
-no_key t q (k ∷ ks) here none =
-    elim (eq_by_cmp nat_cmp q k) as (λ b. eq_by_cmp nat_cmp q k ≡ b → (b || list_any (eq_by_cmp nat_cmp q) ks) ≡ false) [
-      | true ↦ λ same. absurd (both_ways (t k) (or_parts (t k) _ none).0 (subst (λ x. t x ≡ true) (same_key q k same) here))
-      | false ↦ λ _. no_key t q ks here (or_parts (t k) _ none).1
-    ] refl
-
 not_some : {A : Type 0} (o : Option A) → is_some o ≡ false → o ≡ None
 not_some None e = refl
 not_some (Some x) e = absurd (true≢false e)
-
-own_block : (b : ℕ) → (block_of (block_start b) == b) ≡ true
-own_block b = eq-eqb _ _ (omega arith)
 
 found_of_map : (o : Option ℕ) (a : ℕ) → option_map block_start o ≡ Some a → (b : ℕ) × (o ≡ Some b) × (block_start b ≡ a)
 found_of_map None a e = absurd (none-some a e)
 found_of_map (Some b) a e = (b, refl, same_Some _ _ e)
 
-pub free_place : (objects : Map Object) (blocks size a : ℕ) (kind : ObjKind) → place_for objects blocks size kind ≡ Some a → get objects a ≡ None
-free_place objects blocks size a kind e = cases _ refl e
+-- no extent starts at the start of a bare block
+none_starts : (extents : Map Extent) (b : ℕ) → is_bare extents b ≡ true → (o : Option Extent) → get extents (block_start b) ≡ o → o ≡ None
+none_starts extents b bare None is = refl
+none_starts extents b bare (Some x) is =
+    let at = place_of_key extents (block_start b) x is in
+    let starts : (block_of (block_start b) == b) ≡ true = eq-eqb _ _ (omega arith) in
+    absurd (both_ways _ (not-true _ bare) (any_passes_from_place (meets b) (entries extents) at.0 (block_start b, x) at.1 (ap (λ t. t || covers (block_start b, x) (block_start b)) starts)))
+
+all_first : (p : ℕ → Bool) (b n : ℕ) → list_all p (range_with_len b (n + 1)) ≡ true → p b ≡ true
+all_first p b n on = (and_parts (p b) _ (subst (λ k. list_all p (range_with_len b k) ≡ true) (more n) on)).0
   where
-    bare : (o : Option ℕ) → o ≡ find (is_bare objects) (range_with_len 0 blocks) → option_map block_start o ≡ Some a → get objects a ≡ None
+    more : (n : ℕ) → n + 1 ≡ suc n
+    more n = omega arith
+
+-- no object starts at the place for a new one
+pub free_place_in : (extents : Map Extent) (blocks size a : ℕ) (kind : ObjKind) → place_in extents blocks size kind ≡ Some a → get extents a ≡ None
+free_place_in extents blocks size a kind e = cases _ refl e
+  where
+    bare : (o : Option ℕ) → o ≡ find (has_run extents blocks (blocks_for size)) (range_with_len 0 blocks) → option_map block_start o ≡ Some a → get extents a ≡ None
     bare o is e =
         let at = found_of_map o a e in
-        let none = find_place (is_bare objects) _ at.0 (sym is ∙ at.1) in
-        let apart = no_key (λ start. block_of start == at.0) (block_start at.0) (keys objects) (own_block at.0) (not-true _ none.2) in
-        subst (λ x. get objects x ≡ None) at.2 (not_some _ (contains_key-keys objects (block_start at.0) ∙ apart))
+        let run = find_place (has_run extents blocks (blocks_for size)) _ at.0 (sym is ∙ at.1) in
+        let all = (and_parts (nat_le (at.0 + blocks_for size) blocks) _ run.2).1 in
+        subst (λ x. get extents x ≡ None) at.2 (none_starts extents at.0 (all_first (is_bare extents) at.0 ((size - 1) / 64) all) (get extents (block_start at.0)) refl)
 
-    cases : (o : Option ℕ) → o ≡ find (is_free objects) (flat_map (cells size) (filter (has_class objects size kind) (range_with_len 0 blocks))) → option_or o (option_map block_start (find (is_bare objects) (range_with_len 0 blocks))) ≡ Some a → get objects a ≡ None
+    cases : (o : Option ℕ) → o ≡ find (is_free extents) (flat_map (cells size) (filter (has_class extents size kind) (range_with_len 0 blocks))) → option_or o (option_map block_start (find (has_run extents blocks (blocks_for size)) (range_with_len 0 blocks))) ≡ Some a → get extents a ≡ None
     cases None is e = bare _ refl e
-    cases (Some b) is e = not_some _ (not-true _ (find_place (is_free objects) _ a (sym is ∙ e)).2)
+    cases (Some b) is e = not_some _ (not-true _ (find_place (is_free extents) _ a (sym is ∙ e)).2)
+
+not_there : {X Y : Type 0} (f : X → Y) (o : Option X) → option_map f o ≡ None → o ≡ None
+not_there f None e = refl
+not_there f (Some x) e = absurd (none-some _ (sym e))
+
+pub get-extents : (objects : Map Object) (a : ℕ) → get (extents objects) a ≡ option_map extent_of (get objects a)
+get-extents objects a = get-mapped (λ start. extent_of) objects a
+
+pub free_place : (objects : Map Object) (blocks size a : ℕ) (kind : ObjKind) → place_for objects blocks size kind ≡ Some a → get objects a ≡ None
+free_place objects blocks size a kind e = not_there extent_of (get objects a) (sym (get-extents objects a) ∙ free_place_in (extents objects) blocks size a kind e)
+
+-- ---- the extents of changed objects
+
+pub extents-insert : (objects : Map Object) (a : ℕ) (o : Object) → extents (insert objects a o) ≡ insert (extents objects) a (extent_of o)
+extents-insert objects a o =
+    same_map nat_cmp_total nat_cmp-IsAntisymmetric _ _ (λ q.
+    get-extents (insert objects a o) q
+    ∙ ap (option_map extent_of) (get-insert nat_cmp_total objects a o q)
+    ∙ elim (eq_by_cmp nat_cmp q a) as (λ t. option_map extent_of (cond t (Some o) (get objects q)) ≡ cond t (Some (extent_of o)) (option_map extent_of (get objects q))) [ true ↦ refl | false ↦ refl ]
+    ∙ ap (cond (eq_by_cmp nat_cmp q a) (Some (extent_of o))) (sym (get-extents objects q))
+    ∙ sym (get-insert nat_cmp_total (extents objects) a (extent_of o) q))
+
+pub extents-remove : (objects : Map Object) (a : ℕ) → extents (remove objects a) ≡ remove (extents objects) a
+extents-remove objects a =
+    same_map nat_cmp_total nat_cmp-IsAntisymmetric _ _ (λ q.
+    get-extents (remove objects a) q
+    ∙ ap (option_map extent_of) (get-remove nat_cmp_total objects a q)
+    ∙ elim (eq_by_cmp nat_cmp q a) as (λ t. option_map extent_of (cond t None (get objects q)) ≡ cond t None (option_map extent_of (get objects q))) [ true ↦ refl | false ↦ refl ]
+    ∙ ap (cond (eq_by_cmp nat_cmp q a) None) (sym (get-extents objects q))
+    ∙ sym (get-remove nat_cmp_total (extents objects) a q))
 
 -- the words after a fill
 pub length-fill : (test : ℕ → Bool) (value a : ℕ) (ws : List ℕ) → length (fill test value a ws) ≡ length ws
@@ -139,3 +176,24 @@ filled_here test value = mapped_here (filling test value)
 
 pub filled_back : (test : ℕ → Bool) (value : ℕ) (objects : Map Object) (a : ℕ) (o : Object) → get (filled test value objects) a ≡ Some o → (old : Object) × (get objects a ≡ Some old) × (o ≡ record old { words = fill test value a old.words })
 filled_back test value objects a o e = let old = mapped_back (filling test value) objects a o e in (old.0, old.1, sym old.2)
+
+pub extents-filled : (test : ℕ → Bool) (value : ℕ) (objects : Map Object) → extents (filled test value objects) ≡ extents objects
+extents-filled test value objects =
+    same_map nat_cmp_total nat_cmp-IsAntisymmetric _ _ (λ q.
+    get-extents (filled test value objects) q
+    ∙ ap (option_map extent_of) (get-mapped (filling test value) objects q)
+    ∙ same q (get objects q)
+    ∙ sym (get-extents objects q))
+  where
+    same : (q : ℕ) (o : Option Object) → option_map extent_of (option_map (filling test value q) o) ≡ option_map extent_of o
+    same q None = refl
+    same q (Some o) = ap (λ n. Some (record { size = n; kind = o.kind })) (length-fill test value q o.words)
+
+-- objects made of extents have those extents
+pub extents-made : (f : ℕ → Extent → Object) → ((a : ℕ) (x : Extent) → extent_of (f a x) ≡ x) → (m : Map Extent) → extents (mapped f m) ≡ m
+extents-made f same m =
+    same_map nat_cmp_total nat_cmp-IsAntisymmetric _ _ (λ q. get-extents (mapped f m) q ∙ ap (option_map extent_of) (get-mapped f m q) ∙ back q (get m q))
+  where
+    back : (q : ℕ) (o : Option Extent) → option_map extent_of (option_map (f q) o) ≡ o
+    back q None = refl
+    back q (Some x) = ap Some (same q x)

@@ -9,51 +9,52 @@ use Rattle.std.specs.FinMap as finmap
 use Rattle.std.specs.FinMap.Entries.{put, by_order}
 use Rattle.std.specs.FinMap.{get, insert, entries, entries-insert, get-entries}
 use Rattle.fz_model.specs.State.{Map, Object, Core, State}
-use Rattle.fz_model.specs.Memory.{covers, points, fill, filled, slot_word, with_slot}
+use Rattle.fz_model.specs.declared.extent.Extent.{Extent}
+use Rattle.fz_model.specs.Extents.{covers, points_in, extents, extent_of}
+use Rattle.fz_model.specs.Memory.{written, points, fill, filled, lacks_slot, slot_word, with_slot}
 use Rattle.fz_model.specs.Reachability.{IsRoot, Itself, Child, OneMore, IsReachable, WasSeen}
 use Rattle.fz_model.specs.Seen.{SeenIsClosed}
 use Rattle.fz_model.specs.declared.kinds.ObjKind.{ObjKind}
-use Rattle.fz_model.specs.Events.{Store, Alloc, Begin, bad_slot}
+use Rattle.fz_model.specs.Events.{Store, Alloc, Begin}
 use Rattle.fz_model.specs.Steps.{moments_after, Accepts}
 use Rattle.std.proofs.lemmas.List.Elements.{Contains-get_or}
-use Rattle.fz_model.proofs.Objects.{points_same}
-use Rattle.fz_model.proofs.Maps.{free_place, filling, mapped_same, length-fill, filled_back, get-insert_other}
+use Rattle.fz_model.proofs.Maps.{free_place, extents-filled, extents-insert, get-extents, filled_back, get-insert_other}
 use Rattle.fz_model.proofs.Lists.{place_of, contains_at}
 
 -- ---- what words point to, after a write and with a new object
 
 pub points-filled : (test : ℕ → Bool) (value : ℕ) (objects : Map Object) (w : ℕ) → points (filled test value objects) w ≡ points objects w
 points-filled test value objects w =
-    points_same (filling test value) (λ a o. o) (λ a o. length-fill test value a o.words) objects w ∙ ap (λ m. points m w) (mapped_same objects)
+    ap (λ m. points_in m w) (extents-filled test value objects)
 
-find-put : (a w b : ℕ) (o : Object) (es : List (ℕ × Object)) → finmap.find nat_cmp a es ≡ None → option_map (λ (e : ℕ × Object). e.0) (find (λ e. covers e w) (put nat_cmp a o es)) ≡ Some b → (b ≡ a) ⊎ (option_map (λ (e : ℕ × Object). e.0) (find (λ e. covers e w) es) ≡ Some b)
+find-put : (a w b : ℕ) (o : Extent) (es : List (ℕ × Extent)) → finmap.find nat_cmp a es ≡ None → option_map (λ (e : ℕ × Extent). e.0) (find (λ e. covers e w) (put nat_cmp a o es)) ≡ Some b → (b ≡ a) ⊎ (option_map (λ (e : ℕ × Extent). e.0) (find (λ e. covers e w) es) ≡ Some b)
 find-put a w b o [] fresh is =
-    elim (covers (a, o) w) as (λ t. option_map (λ (e : ℕ × Object). e.0) (cond t (Some (a, o)) None) ≡ Some b → (b ≡ a) ⊎ (◌≡◌ {A = Option ℕ} None (Some b))) [
+    elim (covers (a, o) w) as (λ t. option_map (λ (e : ℕ × Extent). e.0) (cond t (Some (a, o)) None) ≡ Some b → (b ≡ a) ⊎ (◌≡◌ {A = Option ℕ} None (Some b))) [
       | true ↦ λ is. inl (sym (same_Some a b is))
       | false ↦ λ is. inr is
     ] is
 find-put a w b o (e ∷ es) fresh is =
     elim (nat_cmp a e.0) as (λ r. cond (is_eq r) (Some e.1) (finmap.find nat_cmp a es) ≡ None → first_of_list (by_order r ((a, o) ∷ e ∷ es) ((e.0, o) ∷ es) (e ∷ put nat_cmp a o es)) ≡ Some b → (b ≡ a) ⊎ (first_of_list (e ∷ es) ≡ Some b)) [
       | Less ↦ λ _ is.
-          elim (covers (a, o) w) as (λ t. option_map (λ (e : ℕ × Object). e.0) (cond t (Some (a, o)) (find (λ e. covers e w) (e ∷ es))) ≡ Some b → (b ≡ a) ⊎ (first_of_list (e ∷ es) ≡ Some b)) [
+          elim (covers (a, o) w) as (λ t. option_map (λ (e : ℕ × Extent). e.0) (cond t (Some (a, o)) (find (λ e. covers e w) (e ∷ es))) ≡ Some b → (b ≡ a) ⊎ (first_of_list (e ∷ es) ≡ Some b)) [
             | true ↦ λ is. inl (sym (same_Some a b is))
             | false ↦ λ is. inr is
           ] is
       | Equal ↦ λ fresh is. absurd (none-some e.1 (sym fresh))
       | Greater ↦ λ fresh is.
-          elim (covers e w) as (λ t. option_map (λ (e : ℕ × Object). e.0) (cond t (Some e) (find (λ e. covers e w) (put nat_cmp a o es))) ≡ Some b → (b ≡ a) ⊎ (option_map (λ (e : ℕ × Object). e.0) (cond t (Some e) (find (λ e. covers e w) es)) ≡ Some b)) [
+          elim (covers e w) as (λ t. option_map (λ (e : ℕ × Extent). e.0) (cond t (Some e) (find (λ e. covers e w) (put nat_cmp a o es))) ≡ Some b → (b ≡ a) ⊎ (option_map (λ (e : ℕ × Extent). e.0) (cond t (Some e) (find (λ e. covers e w) es)) ≡ Some b)) [
             | true ↦ λ is. inr is
             | false ↦ λ is. find-put a w b o es fresh is
           ] is
     ] fresh is
   where
-    first_of_list : List (ℕ × Object) → Option ℕ
-    first_of_list es = option_map (λ (e : ℕ × Object). e.0) (find (λ e. covers e w) es)
+    first_of_list : List (ℕ × Extent) → Option ℕ
+    first_of_list es = option_map (λ (e : ℕ × Extent). e.0) (find (λ e. covers e w) es)
 
 pub points-insert : (objects : Map Object) (a : ℕ) (o : Object) (w b : ℕ) → get objects a ≡ None → points (insert objects a o) w ≡ Some b → (b ≡ a) ⊎ (points objects w ≡ Some b)
 points-insert objects a o w b fresh is =
-    find-put a w b o (entries objects) (sym (get-entries objects a) ∙ fresh)
-    (ap (λ es. option_map (λ (e : ℕ × Object). e.0) (find (λ e. covers e w) es)) (sym (entries-insert nat_cmp_total objects a o)) ∙ is)
+    find-put a w b (extent_of o) (entries (extents objects)) (sym (get-entries (extents objects) a) ∙ get-extents objects a ∙ ap (option_map extent_of) fresh)
+    (ap (λ es. option_map (λ (e : ℕ × Extent). e.0) (find (λ e. covers e w) es)) (sym (entries-insert nat_cmp_total (extents objects) a (extent_of o))) ∙ ap (λ m. points_in m w) (sym (extents-insert objects a o)) ∙ is)
 
 -- ---- children, after a write and with a new object
 
@@ -83,10 +84,10 @@ Child-insert objects new o a b fresh c =
 
 -- ---- one more moment
 
-now_seen : (c : Core) (ms : List Core) (a : ℕ) → IsReachable c a → Any (λ c. IsReachable c a) (c ∷ ms)
+pub now_seen : (c : Core) (ms : List Core) (a : ℕ) → IsReachable c a → Any (λ c. IsReachable c a) (c ∷ ms)
 now_seen c ms a r = (0, c, omega arith, refl, r)
 
-still_seen : (c : Core) (ms : List Core) (a : ℕ) → Any (λ c. IsReachable c a) ms → Any (λ c. IsReachable c a) (c ∷ ms)
+pub still_seen : (c : Core) (ms : List Core) (a : ℕ) → Any (λ c. IsReachable c a) ms → Any (λ c. IsReachable c a) (c ∷ ms)
 still_seen c ms a (k, x, l, e, r) = (suc k, x, omega arith, e, r)
 
 pub nothing_seen : {a : ℕ} → Any (λ c. IsReachable c a) [] → ⊥
@@ -124,7 +125,7 @@ seen_kept s t h moments edges opened = record {
 abbrev pub FramesWhole : Core → Type 0
 FramesWhole c = All (λ (f : List ℕ). length f ≡ 16) c.frames
 
-module _ (c : Core) (frame slot : ℕ) (whole : All (λ (f : List ℕ). length f ≡ 16) c.frames) (good : (bad_slot c frame slot).0 ≡ false) where
+module _ (c : Core) (frame slot : ℕ) (whole : All (λ (f : List ℕ). length f ≡ 16) c.frames) (good : lacks_slot c.frames frame slot ≡ false) where
   within : (nat_lt frame (length c.frames) ≡ true) × (nat_lt slot 16 ≡ true)
   within = and_parts (nat_lt frame (length c.frames)) (nat_lt slot 16) (not-false (nat_lt frame (length c.frames) && nat_lt slot 16) good)
 
@@ -156,18 +157,19 @@ module _ (c : Core) (frame slot : ℕ) (whole : All (λ (f : List ℕ). length f
       let in_new_row : Contains row a = (slot, omega (arith, in_row, lr), get_or-set_same (get_or c.frames frame []) slot a a in_row) in
       record { root = b; is_root = IsRoot.Slot row a (subst (λ f. Contains f row) (sym frames) in_new) in_new_row is; leads = Itself }
 
-same_heap : (s t : State) → SeenIsClosed s → t.objects ≡ s.objects → t.cycle ≡ s.cycle → t.moments ≡ moments_after s t.core → SeenIsClosed t
+pub same_heap : (s t : State) → SeenIsClosed s → t.objects ≡ s.objects → t.cycle ≡ s.cycle → t.moments ≡ moments_after s t.core → SeenIsClosed t
 same_heap s t h objects cycle moments =
     seen_kept s t h moments (λ a b c. inl (subst (λ o. Child o a b) objects c)) (λ on. inl (sym cycle ∙ on))
 
-ended : (s t : State) → t.cycle ≡ false → t.moments ≡ moments_after s t.core → SeenIsClosed t
+pub ended : (s t : State) → t.cycle ≡ false → t.moments ≡ moments_after s t.core → SeenIsClosed t
 ended s t off moments = record {
   outside = λ _. moments ∙ cond-false t.cycle (t.core ∷ s.moments) [] off;
   reachable = λ on. absurd (both_ways t.cycle off on);
   closed = λ on. absurd (both_ways t.cycle off on);
 }
 
-pub store_seen : (s t : State) (frame slot offset from_frame from_slot : ℕ) → SeenIsClosed s → FramesWhole s.core → (bad_slot s.core from_frame from_slot).0 ≡ false → Accepts s (Store frame slot offset from_frame from_slot) tt t.core → t.moments ≡ moments_after s t.core → SeenIsClosed t
+pub store_seen : (s t : State) (frame slot offset from_frame from_slot : ℕ) → SeenIsClosed s → FramesWhole s.core → lacks_slot s.frames from_frame from_slot ≡ false → Accepts s (Store frame slot offset from_frame from_slot) tt t.core → t.moments ≡ moments_after s t.core → SeenIsClosed t
+unfolding written
 store_seen s t frame slot offset from_frame from_slot h whole good a moments =
     let word = slot_word s.frames from_frame from_slot in
     let at = λ (x : ℕ). x == slot_word s.frames frame slot + offset in
@@ -179,7 +181,7 @@ store_seen s t frame slot offset from_frame from_slot h whole good a moments =
     (Child-filled at word s.objects x b (subst (λ (k : Core). Child k.objects x b) a c)))
     (λ on. inl (sym (ap (λ (k : Core). k.cycle) a) ∙ on))
 
-pub alloc_seen : (s t : State) (frame slot size : ℕ) (kind : ObjKind) (answer : ℕ × ℕ) → SeenIsClosed s → FramesWhole s.core → (bad_slot s.core frame slot).0 ≡ false → points t.objects answer.0 ≡ Some answer.0 → Accepts s (Alloc frame slot size kind) answer t.core → t.moments ≡ moments_after s t.core → SeenIsClosed t
+pub alloc_seen : (s t : State) (frame slot size : ℕ) (kind : ObjKind) (answer : ℕ × ℕ) → SeenIsClosed s → FramesWhole s.core → lacks_slot s.frames frame slot ≡ false → points t.objects answer.0 ≡ Some answer.0 → Accepts s (Alloc frame slot size kind) answer t.core → t.moments ≡ moments_after s t.core → SeenIsClosed t
 alloc_seen s t frame slot size kind answer h whole good start a moments =
     let new = a.0 in
     let is_new : answer.0 ≡ new = ap (λ (p : ℕ × ℕ). p.0) a.2 in

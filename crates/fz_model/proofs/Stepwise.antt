@@ -1,23 +1,24 @@
 -- What each step of a world keeps, and what it adds to the queue.
 use Rattle.std.proofs.lemmas.List.{length-replicate}
-use Rattle.fz_model.specs.Allocation.{place_for}
 use Rattle.fz_model.specs.declared.kinds.ObjKind.{ObjKind}
-use Rattle.std.proofs.Common.{◌≤◌, not, ◌&&◌, replicate, is_none, ◌<◌, ◌≡◌, ℕ, ◌+◌, ◌==◌, Bool, true, false, if◌then◌else◌, List, [], ◌∷◌, ◌++◌, length, Some, None, Result, Ok, Err, refl, sym, ap, ◌∙◌, subst, ⊎_elim, arith, All, IsTrue, IsFalse, append-nil, true≢false, nat_le}
+use Rattle.std.proofs.Common.{◌≤◌, not, ◌&&◌, replicate, ◌<◌, ◌≡◌, ℕ, ◌+◌, ◌==◌, Bool, true, false, if◌then◌else◌, List, [], ◌∷◌, ◌++◌, length, Some, None, Result, Ok, Err, refl, sym, ap, ◌∙◌, subst, ⊎_elim, arith, All, IsTrue, IsFalse, append-nil, true≢false, nat_le}
 use Rattle.std.proofs.lemmas.Bool.{not-false, not-true, leb-true, and_parts, both_ways, cases_Bool}
 use Rattle.std.specs.FinMap.{get, insert, remove, contains_key}
 use Rattle.fz_model.specs.declared.answers.Pick.{Pick}
 use Rattle.fz_model.specs.declared.answers.Passed.{Passed}
 use Rattle.fz_model.specs.declared.refusal.Refusal.{Refusal}
-use Rattle.fz_model.specs.declared.refusal.Refusal.TheVariants.{Exhausted, BadSize, NoSpace}
+use Rattle.fz_model.specs.declared.refusal.Refusal.TheVariants.{BadSlot}
 use Rattle.fz_model.specs.declared.kinds.LinkKind.{LinkKind}
 use Rattle.fz_model.specs.declared.kinds.LinkKind.TheVariants.{Short, Long}
 use Rattle.fz_model.specs.State.{Map, Object, Core, State}
 use Rattle.fz_model.specs.declared.answers.Registration.{Registration}
-use Rattle.fz_model.specs.Memory.{slot_word}
+use Rattle.fz_model.specs.declared.limits.TheConstants.{MAX_OBJECT_WORDS}
+use Rattle.fz_model.specs.Extents.{extents}
+use Rattle.fz_model.specs.Memory.{written, lacks_slot, slot_word}
 use Rattle.fz_model.specs.Reachability.{IsRoot, Itself, IsReachable, Computes}
 use Rattle.fz_model.specs.Pass.{IsFinding, IsPicked, entries_of, Passes}
-use Rattle.fz_model.specs.Events.{Event, Alloc, Load, Store, Set, Copy, Register, Unregister, Link, Unlink, MoveLink, Begin, Mark, Pause, Collect, Hold, Finish, Close, Outstanding, Queue, Answer, bad_slot, causes}
-use Rattle.fz_model.specs.Causes.{Causes, is_off_heap, no_object, no_start, register_causes, count_limit, first_cause}
+use Rattle.fz_model.specs.Events.{Event, Alloc, Load, Store, Set, Copy, Register, Unregister, Link, Unlink, MoveLink, Begin, Mark, Pause, Collect, Hold, Finish, Close, Outstanding, Queue, Answer, causes}
+use Rattle.fz_model.specs.Causes.{Causes, slot_causes, is_off_heap, no_object, no_start, register_causes, exhausted, bad_size, no_space, first_cause}
 use Rattle.fz_model.specs.Steps.{Accepts, Step, with_links}
 use Rattle.fz_model.specs.Joint.{is_finish}
 use Rattle.fz_model.specs.Headline.{is_pass}
@@ -40,10 +41,10 @@ pass_keeps : (c : Core) (found : ℕ → Bool) (passed : Passed) (new : Core) �
 pass_keeps c found passed new h roots p = subst Sound (sym p.is) (pass_sound c found passed new h roots p)
 
 -- the object of an accepted registration
-registering : (c : Core) (frame slot : ℕ) (b : Bool) (rest : Causes) → first_cause (bad_slot c frame slot ∷ (if b then [] else (no_object c.objects (slot_word c.frames frame slot) ∷ no_start c.objects (slot_word c.frames frame slot) ∷ rest))) ≡ None → b ≡ false → (o : Object) × (get c.objects (slot_word c.frames frame slot) ≡ Some o)
+registering : (c : Core) (frame slot : ℕ) (b : Bool) (rest : Causes) → first_cause (slot_causes c.frames frame slot ++ (if b then [] else (no_object c.objects (slot_word c.frames frame slot) ∷ no_start c.objects (slot_word c.frames frame slot) ∷ rest))) ≡ None → b ≡ false → (o : Object) × (get c.objects (slot_word c.frames frame slot) ≡ Some o)
 registering c frame slot b rest none out =
     let w = slot_word c.frames frame slot in
-    let first = (first_none (bad_slot c frame slot) (if b then [] else (no_object c.objects w ∷ no_start c.objects w ∷ rest)) none).1 in
+    let first = (first_none (lacks_slot c.frames frame slot, BadSlot) (if b then [] else (no_object c.objects w ∷ no_start c.objects w ∷ rest)) none).1 in
     let second = subst (λ x. first_cause (if x then [] else (no_object c.objects w ∷ no_start c.objects w ∷ rest)) ≡ None) out first in
     let third = (first_none (no_object c.objects w) (no_start c.objects w ∷ rest) second).1 in
     is_some_of (get c.objects w) (first_none (no_start c.objects w) rest third).0
@@ -57,16 +58,17 @@ unregistered_sound c true w new h e = subst Sound (sym e) h
 unregistered_sound c false w new h e = subst Sound (sym e) (fewer_regs c.objects c.registrations (remove c.registrations w) c.next_number c.queue c.held (λ a r l. (removed_back c.registrations w a r l).1) h)
 
 -- an accepted allocation asks for a word or more
-alloc_sized : (c : Core) (frame slot size : ℕ) (kind : ObjKind) → first_cause (causes c (Alloc frame slot size kind)) ≡ None → 0 < length {A = ℕ} (replicate size 0)
+pub alloc_sized : (c : Core) (frame slot size : ℕ) (kind : ObjKind) → first_cause (causes c (Alloc frame slot size kind)) ≡ None → 0 < length {A = ℕ} (replicate size 0)
 alloc_sized c frame slot size kind none =
-    let rest = (nat_le count_limit c.next_birth, Exhausted) ∷ (is_none (place_for c.objects c.blocks size kind), NoSpace) ∷ [] in
-    let second = (first_none (bad_slot c frame slot) ((not (nat_le 1 size && nat_le size 64), BadSize) ∷ rest) none).1 in
-    let fits = not-false (nat_le 1 size && nat_le size 64) (first_none (not (nat_le 1 size && nat_le size 64), BadSize) rest second).0 in
-    let least : 1 ≤ size = leb-true 1 size (and_parts (nat_le 1 size) (nat_le size 64) fits).0 in
+    let rest = exhausted c.next_birth ∷ no_space (extents c.objects) c.blocks size kind ∷ [] in
+    let second = (first_none (lacks_slot c.frames frame slot, BadSlot) (bad_size size ∷ rest) none).1 in
+    let fits = not-false (nat_le 1 size && nat_le size MAX_OBJECT_WORDS) (first_none (bad_size size) rest second).0 in
+    let least : 1 ≤ size = leb-true 1 size (and_parts (nat_le 1 size) (nat_le size MAX_OBJECT_WORDS) fits).0 in
     let n : length {A = ℕ} (replicate size 0) ≡ size = length-replicate {A = ℕ} size 0 in
     omega (arith, least, n)
 
 pub accepted_sound : (s : State) (e : Event) (answer : Answer e) (new : Core) → Sound s.core → first_cause (causes s.core e) ≡ None → Accepts s e answer new → Sound new
+unfolding written
 accepted_sound s (Alloc frame slot size kind) answer new h none a =
     subst Sound (sym a.3) (other_objects _ _ _ _ _ _ h (new_sized s.objects a.0 (record { kind = kind; birth = s.next_birth; words = replicate size 0 }) (alloc_sized s.core frame slot size kind none) h.sized) (new_object _ a.0 _ (free_place s.objects s.blocks size a.0 kind a.1)))
 accepted_sound s (Load frame slot offset to_frame to_slot) answer new h none a = subst Sound (sym a.1) h

@@ -1,11 +1,14 @@
--- Where a new object goes: into a block of 64 words that has objects of its size and kind, or into one without objects.
-use Rattle.std.specs.Prelude.{ℕ, ◌+◌, ◌-◌, ◌*◌, ◌/◌, Bool, ◌&&◌, not, ◌==◌, List, map, length, Option, is_none, option_map, flat_map, filter}
-use Rattle.std.specs.List.{find, list_any, range_with_len}
+-- Where a new object goes: into a block of 64 words that has objects of its size and kind, or into neighbouring blocks without objects.
+use Rattle.std.specs.Prelude.{ℕ, ◌+◌, ◌-◌, ◌*◌, ◌/◌, Bool, ◌&&◌, ◌||◌, not, ◌==◌, nat_le, List, map, Option, is_none, option_map, flat_map, filter}
+use Rattle.std.specs.List.{find, list_any, list_all, range_with_len}
 use Rattle.std.specs.Option.{option_or}
-use Rattle.std.specs.FinMap.{get, entries, keys}
+use Rattle.std.specs.FinMap.{get, entries}
 use Rattle.fz_model.specs.declared.kinds.ObjKind.{ObjKind}
 use Rattle.fz_model.specs.declared.kinds.ObjKind.TheVariants.{Scanned, Atomic}
+use Rattle.fz_model.specs.declared.extent.Extent.{Extent}
+use Rattle.fz_model.specs.declared.limits.TheConstants.{HEAP_START, BLOCK_WORDS}
 use Rattle.fz_model.specs.State.{Map, Object}
+use Rattle.fz_model.specs.Extents.{covers, extents}
 
 abbrev pub same_kind : ObjKind → ObjKind → Bool
 same_kind Scanned Scanned = Bool.true
@@ -14,29 +17,45 @@ same_kind Atomic Scanned = Bool.false
 same_kind Atomic Atomic = Bool.true
 
 abbrev pub block_start : ℕ → ℕ
-block_start b = 65536 + 64 * b
+block_start b = HEAP_START + BLOCK_WORDS * b
 
 abbrev pub block_of : ℕ → ℕ
-block_of address = (address - 65536) / 64
+block_of address = (address - HEAP_START) / BLOCK_WORDS
 
 -- whether an object of this size and kind starts in the block
-abbrev pub has_class : Map Object → ℕ → ObjKind → ℕ → Bool
-has_class objects size kind b =
-    list_any (λ e. (block_of e.0 == b) && (length e.1.words == size && same_kind e.1.kind kind)) (entries objects)
+abbrev pub has_class : Map Extent → ℕ → ObjKind → ℕ → Bool
+has_class extents size kind b =
+    list_any (λ e. (block_of e.0 == b) && (e.1.size == size && same_kind e.1.kind kind)) (entries extents)
 
-abbrev pub is_free : Map Object → ℕ → Bool
-is_free objects a = is_none (get objects a)
+-- whether no object starts at the address
+abbrev pub is_free : Map Extent → ℕ → Bool
+is_free extents a = is_none (get extents a)
 
--- whether no object starts in the block
-abbrev pub is_bare : Map Object → ℕ → Bool
-is_bare objects b = not (list_any (λ start. block_of start == b) (keys objects))
+-- whether an extent meets the block: it starts there, or has the block's first word
+abbrev pub meets : ℕ → ℕ × Extent → Bool
+meets b (start, extent) = (block_of start == b) || covers (start, extent) (block_start b)
 
--- its cells, as many as fit whole
+-- whether no object meets the block
+abbrev pub is_bare : Map Extent → ℕ → Bool
+is_bare extents b = not (list_any (meets b) (entries extents))
+
+-- a block's cells, as many as fit whole: none of a size that no block can hold
 abbrev pub cells : ℕ → ℕ → List ℕ
-cells size b = map (λ i. block_start b + i * size) (range_with_len 0 (64 / size))
+cells size b = map (λ i. block_start b + i * size) (range_with_len 0 (BLOCK_WORDS / size))
 
--- the least free cell of the blocks of this class, or else the first cell of the least block with no object
+-- the blocks that the first object of its size and kind takes
+abbrev pub blocks_for : ℕ → ℕ
+blocks_for size = (size - 1) / BLOCK_WORDS + 1
+
+-- whether a run of `count` blocks without objects begins with block `b`
+abbrev pub has_run : Map Extent → ℕ → ℕ → ℕ → Bool
+has_run extents blocks count b = nat_le (b + count) blocks && list_all (is_bare extents) (range_with_len b count)
+
+-- the least free cell of the blocks of this class, or else the start of the least run of blocks with no object
+abbrev pub place_in : Map Extent → ℕ → ℕ → ObjKind → Option ℕ
+place_in extents blocks size kind =
+    option_or (find (is_free extents) (flat_map (cells size) (filter (has_class extents size kind) (range_with_len 0 blocks))))
+    (option_map block_start (find (has_run extents blocks (blocks_for size)) (range_with_len 0 blocks)))
+
 abbrev pub place_for : Map Object → ℕ → ℕ → ObjKind → Option ℕ
-place_for objects blocks size kind =
-    option_or (find (is_free objects) (flat_map (cells size) (filter (has_class objects size kind) (range_with_len 0 blocks))))
-    (option_map block_start (find (is_bare objects) (range_with_len 0 blocks)))
+place_for objects blocks size kind = place_in (extents objects) blocks size kind

@@ -1,14 +1,17 @@
 -- Why a call is refused: its causes of refusal as one list in their order, of which the first that stands is answered.
-use Rattle.std.specs.Prelude.{◌≡◌, ℕ, ◌+◌, ◌*◌, ◌^◌, Bool, false, ◌||◌, ◌&&◌, not, nat_le, nat_lt, if◌then◌else◌, ◌⊎◌, List, [], ◌∷◌, Option, Some, None, is_none, IsTrue}
+use Rattle.std.specs.Prelude.{◌≡◌, ℕ, ◌+◌, Bool, true, false, ◌||◌, ◌&&◌, not, nat_le, nat_lt, if◌then◌else◌, ◌⊎◌, List, [], ◌∷◌, Option, Some, None, is_none, IsTrue, Result, Ok, Err}
 use Rattle.std.specs.Option.{option_map_or}
 use Rattle.std.specs.FinMap.{get, len, contains_key}
 use Rattle.fz_model.specs.declared.kinds.ObjKind.{ObjKind}
 use Rattle.fz_model.specs.declared.answers.Registration.{Registration}
 use Rattle.fz_model.specs.declared.refusal.Refusal.{Refusal}
-use Rattle.fz_model.specs.declared.refusal.Refusal.TheVariants.{NotPointer, OutsideObject, BadSize, NoSpace, NotStart, BadCount, NoMemory, Exhausted, TableFull}
+use Rattle.fz_model.specs.declared.refusal.Refusal.TheVariants.{BadSlot, NotPointer, OutsideObject, BadSize, NoSpace, NotStart, BadCount, NoMemory, Exhausted, TableFull}
+use Rattle.fz_model.specs.declared.limits.TheConstants.{HEAP_START, MAX_OBJECT_WORDS, TABLE_LIMIT, COUNT_LIMIT}
 use Rattle.fz_model.specs.State.{Map, Object}
-use Rattle.fz_model.specs.Memory.{covers, points}
-use Rattle.fz_model.specs.Allocation.{place_for}
+use Rattle.fz_model.specs.declared.extent.Extent.{Extent}
+use Rattle.fz_model.specs.Extents.{heap_end, covers, extents, points_in}
+use Rattle.fz_model.specs.Memory.{lacks_slot}
+use Rattle.fz_model.specs.Allocation.{place_in}
 
 -- a cause: whether it stands, and the refusal
 abbrev pub Causes : Type 0
@@ -24,30 +27,43 @@ abbrev pub IsRefusedFor : Causes → Bool → Refusal → Type 0
 IsRefusedFor causes takes_memory r =
     (first_cause causes ≡ Some r) ⊎ ((first_cause causes ≡ None) × (r ≡ NoMemory) × IsTrue takes_memory)
 
--- births, registration numbers and passes stay below this
-abbrev pub count_limit : ℕ
-count_limit = 2 ^ 48
+-- accepted where no cause stands, and refused for the first that stands
+abbrev pub IsJudgedBy : {A : Type 0} → Causes → Result A Refusal → Type 0
+IsJudgedBy causes (Ok x) = first_cause causes ≡ None
+IsJudgedBy causes (Err r) = first_cause causes ≡ Some r
 
--- registrations, and links of each kind, at one time
-abbrev pub table_limit : ℕ
-table_limit = 65536
+-- the same of a call that takes memory, which it may lack where no cause stands
+abbrev pub IsJudgedOrLacks : {A : Type 0} → Causes → Result A Refusal → Type 0
+IsJudgedOrLacks causes (Ok x) = first_cause causes ≡ None
+IsJudgedOrLacks causes (Err r) = IsRefusedFor causes true r
+
+-- a slot that has to be there
+abbrev pub slot_causes : List (List ℕ) → ℕ → ℕ → Causes
+slot_causes frames frame slot = (lacks_slot frames frame slot, BadSlot) ∷ []
+
+-- a count that has come to its end
+abbrev pub exhausted : ℕ → Bool × Refusal
+exhausted count = (nat_le COUNT_LIMIT count, Exhausted)
 
 -- a count that has to be from 1 to a limit
 abbrev pub bad_count : ℕ → ℕ → Bool × Refusal
 bad_count limit count = (not (nat_le 1 count && nat_le count limit), BadCount)
 
--- zero, or a word outside a heap of so many blocks
+-- zero, or a word outside a heap of `blocks` blocks
 abbrev pub is_off_heap : ℕ → ℕ → Bool
-is_off_heap blocks word = nat_lt word 65536 || nat_le (65536 + 64 * blocks) word
+is_off_heap blocks word = nat_lt word HEAP_START || nat_le (heap_end blocks) word
 
--- the word points to no object
+-- the word points into no extent
+abbrev pub no_extent : Map Extent → ℕ → Bool × Refusal
+no_extent extents word = (is_none (points_in extents word), NotPointer)
+
 abbrev pub no_object : Map Object → ℕ → Bool × Refusal
-no_object objects word = (is_none (points objects word), NotPointer)
+no_object objects word = no_extent (extents objects) word
 
--- the address lies outside the object to which the word points
-abbrev pub other_object : Map Object → ℕ → ℕ → Bool × Refusal
-other_object objects word address =
-    (not (option_map_or (λ start. option_map_or (λ (o : Object). covers (start, o) address) (get objects start) false) (points objects word) false), OutsideObject)
+-- the address lies outside the extent to which the word points
+abbrev pub other_extent : Map Extent → ℕ → ℕ → Bool × Refusal
+other_extent extents word address =
+    (not (option_map_or (λ start. option_map_or (λ (x : Extent). covers (start, x) address) (get extents start) false) (points_in extents word) false), OutsideObject)
 
 -- the word is the start of no object
 abbrev pub no_start : Map Object → ℕ → Bool × Refusal
@@ -58,18 +74,27 @@ abbrev pub start_causes : Map Object → ℕ → Causes
 start_causes objects word = no_object objects word ∷ no_start objects word ∷ []
 
 -- the place at a word plus an offset
+abbrev pub place_causes_in : Map Extent → ℕ → ℕ → Causes
+place_causes_in extents word offset = no_extent extents word ∷ other_extent extents word (word + offset) ∷ []
+
 abbrev pub place_causes : Map Object → ℕ → ℕ → Causes
-place_causes objects word offset = no_object objects word ∷ other_object objects word (word + offset) ∷ []
+place_causes objects word offset = place_causes_in (extents objects) word offset
 
 -- a new key for a full table
 abbrev pub full : {X : Type 0} → Map X → ℕ → Bool × Refusal
-full table key = (not (contains_key table key) && nat_le table_limit (len table), TableFull)
+full table key = (not (contains_key table key) && nat_le TABLE_LIMIT (len table), TableFull)
+
+abbrev pub bad_size : ℕ → Bool × Refusal
+bad_size size = (not (nat_le 1 size && nat_le size MAX_OBJECT_WORDS), BadSize)
+
+abbrev pub no_space : Map Extent → ℕ → ℕ → ObjKind → Bool × Refusal
+no_space extents blocks size kind = (is_none (place_in extents blocks size kind), NoSpace)
 
 -- a new object
 abbrev pub alloc_causes : Map Object → ℕ → ℕ → ℕ → ObjKind → Causes
 alloc_causes objects blocks next_birth size kind =
-    (not (nat_le 1 size && nat_le size 64), BadSize) ∷ (nat_le count_limit next_birth, Exhausted) ∷ (is_none (place_for objects blocks size kind), NoSpace) ∷ []
+    bad_size size ∷ exhausted next_birth ∷ no_space (extents objects) blocks size kind ∷ []
 
 -- a registration of an object
 abbrev pub register_causes : Map Registration → ℕ → ℕ → Causes
-register_causes registrations next_number object = (nat_le count_limit next_number, Exhausted) ∷ full registrations object ∷ []
+register_causes registrations next_number object = exhausted next_number ∷ full registrations object ∷ []

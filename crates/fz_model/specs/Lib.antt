@@ -1,4 +1,6 @@
+-- the model
 pub mod State
+pub mod Extents
 pub mod Memory
 pub mod Reachability
 pub mod Pass
@@ -7,8 +9,15 @@ pub mod Causes
 pub mod Events
 pub mod Steps
 pub mod Joint
-pub mod Headline
-pub mod Codes
-pub mod Seen
 pub mod Refusals
+-- what is promised
+pub mod Headline
+-- laws that test the model
+pub mod CallLaws
+pub mod PassLaws
+pub mod CycleLaws
+pub mod Seen
+-- means only
+pub mod Codes
 pub mod Sound
+pub mod Parts

@@ -1,26 +1,18 @@
--- Objects, their words, and what a word points to: the object in whose extent its value lies, interior words included (conservative pointers;
--- Boehm, Demers and Shenker, "Mostly parallel garbage collection", PLDI 1991).
-use Rattle.std.specs.Prelude.{replicate, ℕ, ◌+◌, ◌-◌, Bool, not, ◌&&◌, if◌then◌else◌, List, [], ◌∷◌, map, length, Option, nat_le, nat_lt, slice_index, slice_index_or, slice_set, unwrap_or, option_map, option_and_then}
-use Rattle.std.specs.List.{find}
-use Rattle.std.specs.FinMap.{get, entries, from_sorted}
+-- Objects, their words, and what a word points to.
+use Rattle.std.specs.Prelude.{replicate, ℕ, ◌==◌, ◌+◌, ◌-◌, Bool, not, ◌&&◌, if◌then◌else◌, List, [], ◌∷◌, length, Option, nat_lt, slice_index, slice_index_or, slice_set, unwrap_or, option_map, option_and_then}
+use Rattle.std.specs.FinMap.{get}
 use Rattle.fz_model.specs.declared.kinds.ObjKind.{ObjKind}
+use Rattle.fz_model.specs.declared.limits.TheConstants.{SLOTS}
 use Rattle.fz_model.specs.State.{Map, Object}
+use Rattle.fz_model.specs.Extents.{mapped, extents, points_in}
 
 -- all words of a new object are zero
 abbrev pub new_object : ObjKind → ℕ → ℕ → Object
 new_object kind birth size = record { kind = kind; birth = birth; words = replicate size 0 }
 
--- what a map has, with each value made anew
-abbrev pub mapped : {X Y : Type 0} → (ℕ → X → Y) → Map X → Map Y
-mapped f m = from_sorted (map (λ e. (e.0, f e.0 e.1)) (entries m))
-
--- the address stands in the object
-abbrev pub covers : ℕ × Object → ℕ → Bool
-covers (start, object) address = nat_le start address && nat_lt address (start + length object.words)
-
 -- the object whose extent has the word, if there is one
 abbrev pub points : Map Object → ℕ → Option ℕ
-points objects word = option_map (λ e. e.0) (find (λ e. covers e word) (entries objects))
+points objects word = points_in (extents objects) word
 
 -- these words, the first of them at the address, with the value at each address that passes
 abbrev pub fill : (ℕ → Bool) → ℕ → ℕ → List ℕ → List ℕ
@@ -31,14 +23,18 @@ fill test value address (w ∷ ws) = (if test address then value else w) ∷ fil
 abbrev pub filled : (ℕ → Bool) → ℕ → Map Object → Map Object
 filled test value objects = mapped (λ start (o : Object). record o { words = fill test value start o.words }) objects
 
+-- the objects, with the value at one address
+unfoldable pub written : ℕ → ℕ → Map Object → Map Object
+written address value objects = filled (λ a. a == address) value objects
+
 -- the word at an address
 abbrev pub word_at : Map Object → ℕ → ℕ
 word_at objects address =
     unwrap_or (option_and_then (λ start. option_map (λ (o : Object). slice_index o.words (address - start)) (get objects start)) (points objects address)) 0
 
--- there is no such frame, or no such slot of its sixteen
+-- there is no such frame, or no such slot in a frame
 abbrev pub lacks_slot : List (List ℕ) → ℕ → ℕ → Bool
-lacks_slot frames frame slot = not (nat_lt frame (length frames) && nat_lt slot 16)
+lacks_slot frames frame slot = not (nat_lt frame (length frames) && nat_lt slot SLOTS)
 
 -- the word of a slot, and the frames after a write to it
 abbrev pub slot_word : List (List ℕ) → ℕ → ℕ → ℕ

@@ -4,17 +4,24 @@
 #![tactic(auto)]
 
 mod answers;
+mod extent;
 mod headline;
 mod kinds;
+mod laws;
 mod limits;
 mod refusal;
 
 pub use answers::{
     Entry, LinkAnswer, MoveAnswer, Old, Passed, Pick, Progress, RegAnswer, Registration,
 };
+pub use extent::Extent;
 pub use headline::every_run;
 pub use kinds::{LinkKind, ObjKind, RegKind};
-pub use limits::{BLOCK_WORDS, COUNT_LIMIT, HEAP_START};
+pub use laws::every_call;
+pub use limits::{
+    BLOCK_WORDS, COUNT_LIMIT, HEAP_START, MAX_BLOCKS, MAX_FRAMES, MAX_OBJECT_WORDS, MAX_WORKERS,
+    SLOTS, TABLE_LIMIT,
+};
 pub use refusal::Refusal;
 
 /// A word number of the heap.

@@ -1,0 +1,181 @@
+-- Links that are made and moved, and entries that are held on to.
+use Rattle.std.proofs.Common.{◌≡◌, ◌≢◌, ℕ, ◌+◌, ◌-◌, ◌≤◌, ◌==◌, ◌&&◌, Bool, true, false, cond, if◌then◌else◌, List, [], ◌∷◌, length, Option, Some, None, is_some, refl, sym, ap, ◌∙◌, subst, arith, get_or, set, All, nat_lt, true≢false, get_or-set_same, Contains}
+use Rattle.std.proofs.lemmas.Bool.{not-false, and_parts, eqb-true, eq-eqb, ltb-true}
+use Rattle.std.proofs.lemmas.Option.{slice_get_within}
+use Rattle.std.specs.List.{list_any}
+use Rattle.std.specs.Cmp.{nat_cmp_total}
+use Rattle.std.specs.FinMap.{get, len, insert, remove, contains_key, len-insert, len-remove, len-entries, entries}
+use Rattle.fz_model.specs.declared.answers.Entry.{Entry}
+use Rattle.fz_model.specs.declared.answers.LinkAnswer.{LinkAnswer}
+use Rattle.fz_model.specs.declared.answers.LinkAnswer.TheVariants as linking
+use Rattle.fz_model.specs.declared.answers.MoveAnswer.{MoveAnswer}
+use Rattle.fz_model.specs.declared.answers.MoveAnswer.TheVariants as moving
+use Rattle.fz_model.specs.State.{Map, Core, State}
+use Rattle.fz_model.specs.Memory.{slot_word, with_slot, lacks_slot}
+use Rattle.fz_model.specs.Events.{same_entry, not_held}
+use Rattle.fz_model.specs.Causes.{slot_causes}
+use Rattle.fz_model.specs.Steps.{IsReached, move_answer, moved_to}
+use Rattle.fz_model.specs.CallLaws.{HasLink, IsLinked, LinksAreMade, IsMoved, LinksAreMoved, HoldGivesTheObject}
+use Rattle.fz_model.proofs.Lists.{contains_at, any_at}
+use Rattle.fz_model.proofs.MapEntries.{place_of_key}
+use Rattle.fz_model.proofs.Maps.{get-insert_same, get-insert_other, get-remove_same, get-remove_other}
+use Rattle.fz_model.proofs.Sound.{first_none}
+use Rattle.fz_model.proofs.Standing.{none_left, none_right, reached_standing}
+use Rattle.fz_model.proofs.Runs.{reached_sound}
+
+-- ---- a link is made
+
+abbrev is_duplicate : LinkAnswer → Bool
+is_duplicate linking.Duplicate = true
+is_duplicate linking.Success = false
+
+made : (old : Map ℕ) (place target : ℕ) → IsLinked old place target (if contains_key old place then linking.Duplicate else linking.Success) (insert old place target)
+made old place target = record {
+  linked = get-insert_same old place target;
+  others = λ p ne. get-insert_other old place target p ne;
+  duplicate = (λ is. there (get old place) refl is, λ had. ap (λ g. if is_some g then linking.Duplicate else linking.Success) had.1);
+}
+  where
+    there : (g : Option ℕ) → get old place ≡ g → (if is_some g then linking.Duplicate else linking.Success) ≡ linking.Duplicate → HasLink old place
+    there None is e = absurd (true≢false (sym (ap is_duplicate e)))
+    there (Some target) is e = (target, is)
+
+linked_as : (old new : Map ℕ) (place target : ℕ) (answer : LinkAnswer) → answer ≡ (if contains_key old place then linking.Duplicate else linking.Success) → new ≡ insert old place target → IsLinked old place target answer new
+linked_as old new place target answer is becomes =
+    subst (IsLinked old place target answer) (sym becomes) (subst (λ r. IsLinked old place target r (insert old place target)) (sym is) (made old place target))
+
+pub links_are_made : (s : State) (frame slot offset to_frame to_slot : ℕ) → LinksAreMade s frame slot offset to_frame to_slot
+links_are_made s frame slot offset to_frame to_slot = record {
+  short = λ answer new step. (linked_as s.short new.short _ _ answer step.1.0 (ap (λ (c : Core). c.short) step.1.1), ap (λ (c : Core). c.long) step.1.1);
+  long = λ answer new step. (linked_as s.long new.long _ _ answer step.1.0 (ap (λ (c : Core). c.long) step.1.1), ap (λ (c : Core). c.short) step.1.1);
+}
+
+-- ---- a link is moved
+
+abbrev is_success : MoveAnswer → Bool
+is_success moving.Success = true
+is_success moving.Duplicate = false
+is_success moving.NotFound = false
+
+-- nothing changes
+unchanged : (old : Map ℕ) (from to : ℕ) (answer : MoveAnswer) → is_success answer ≡ false → IsMoved old from to answer old
+unchanged old from to answer not_success = record {
+  number = refl;
+  moved = λ is. absurd (true≢false (sym (ap is_success is) ∙ not_success));
+  others = λ p _ _. refl;
+  unmoved = λ _. refl;
+}
+
+-- a link stands in the table, so there is one
+some_links : (links : Map ℕ) (place target : ℕ) → get links place ≡ Some target → 1 ≤ len links
+some_links links place target here =
+    let at = place_of_key links place target here in
+    let within = slice_get_within (entries links) at.0 (place, target) at.1 in
+    omega (arith, within, len-entries links)
+
+module _ (old : Map ℕ) (from to target : ℕ) (here : get old from ≡ Some target) (apart : from ≢ to) (free : get old to ≡ None) where
+  abbrev moved : Map ℕ
+  moved = insert (remove old from) to target
+
+  other_place : to ≢ from
+  other_place same = apart (sym same)
+
+  number : len moved ≡ len old
+  number =
+      let some = some_links old from target here in
+      let fewer : len (remove old from) ≡ len old - 1 = len-remove nat_cmp_total old from ∙ ap (λ g. cond (is_some g) (len old - 1) (len old)) here in
+      let more : len moved ≡ len (remove old from) + 1 =
+      len-insert nat_cmp_total (remove old from) to target ∙ ap (λ g. cond (is_some g) (len (remove old from)) (len (remove old from) + 1)) (get-remove_other old from to other_place ∙ free) in
+      omega (arith, some, fewer, more)
+
+  moved_there : IsMoved old from to moving.Success moved
+  moved_there = record {
+    number = number;
+    moved = λ _. ((target, here), get-insert_same (remove old from) to target ∙ sym here, λ _. get-insert_other (remove old from) to target from apart ∙ get-remove_same old from);
+    others = λ p not_from not_to. get-insert_other (remove old from) to target p not_to ∙ get-remove_other old from p not_from;
+    unmoved = λ not_success. absurd (not_success refl);
+  }
+
+moves : (old : Map ℕ) (from to : ℕ) → IsMoved old from to (move_answer old from to) (moved_to old from to (get old from))
+moves old from to = at (get old from) refl
+  where
+    apart_case : (target : ℕ) → get old from ≡ Some target → from ≢ to → (g : Option ℕ) → get old to ≡ g → IsMoved old from to (if is_some g then moving.Duplicate else moving.Success) (if is_some g then old else insert (remove old from) to target)
+    apart_case target here apart None free = moved_there old from to target here apart free
+    apart_case target here apart (Some other) taken = unchanged old from to moving.Duplicate refl
+
+    same_case : (target : ℕ) → get old from ≡ Some target → from ≡ to → IsMoved old from to moving.Success old
+    same_case target here same = record {
+      number = refl;
+      moved = λ _. ((target, here), ap (get old) (sym same), λ apart. absurd (apart same));
+      others = λ p _ _. refl;
+      unmoved = λ _. refl;
+    }
+
+    -- the same place has this very link
+    same_new : (target : ℕ) → get old from ≡ Some target → from ≡ to → (if contains_key old to then old else insert (remove old from) to target) ≡ old
+    same_new target here same = ap (λ g. if is_some g then old else insert (remove old from) to target) (ap (get old) (sym same) ∙ here)
+
+    both : (target : ℕ) → get old from ≡ Some target → (b : Bool) → (from == to) ≡ b → IsMoved old from to (if b then moving.Success else (if contains_key old to then moving.Duplicate else moving.Success)) (if contains_key old to then old else insert (remove old from) to target)
+    both target here true is = let same = eqb-true from to is in subst (IsMoved old from to moving.Success) (sym (same_new target here same)) (same_case target here same)
+    both target here false is = apart_case target here (λ same. true≢false (sym (eq-eqb from to same) ∙ is)) (get old to) refl
+
+    at : (g : Option ℕ) → get old from ≡ g → IsMoved old from to (if is_some g then (if from == to then moving.Success else (if contains_key old to then moving.Duplicate else moving.Success)) else moving.NotFound) (moved_to old from to g)
+    at None is = unchanged old from to moving.NotFound refl
+    at (Some target) is = both target is (from == to) refl
+
+moved_as : (old new : Map ℕ) (from to : ℕ) (answer : MoveAnswer) → answer ≡ move_answer old from to → new ≡ moved_to old from to (get old from) → IsMoved old from to answer new
+moved_as old new from to answer is becomes =
+    subst (IsMoved old from to answer) (sym becomes) (subst (λ r. IsMoved old from to r (moved_to old from to (get old from))) (sym is) (moves old from to))
+
+pub links_are_moved : (s : State) (frame slot offset to_frame to_slot to_offset : ℕ) → LinksAreMoved s frame slot offset to_frame to_slot to_offset
+links_are_moved s frame slot offset to_frame to_slot to_offset = record {
+  short = λ answer new step. (moved_as s.short new.short _ _ answer step.1.0 (ap (λ (c : Core). c.short) step.1.1), ap (λ (c : Core). c.long) step.1.1);
+  long = λ answer new step. (moved_as s.long new.long _ _ answer step.1.0 (ap (λ (c : Core). c.long) step.1.1), ap (λ (c : Core). c.short) step.1.1);
+}
+
+-- ---- a hold
+
+-- entries that agree in all fields are one
+one_entry : (d e : Entry) → same_entry d e ≡ true → d ≡ e
+one_entry d e h =
+    let seq = and_parts (d.seq == e.seq) _ h in
+    let pass = and_parts (d.pass == e.pass) _ seq.1 in
+    let reg = and_parts (d.reg == e.reg) _ pass.1 in
+    let obj = and_parts (d.obj == e.obj) _ reg.1 in
+    let birth = and_parts (d.birth == e.birth) _ obj.1 in
+    let last = and_parts (d.proc == e.proc) (d.cd == e.cd) birth.1 in
+    λ i. record {
+      seq = eqb-true d.seq e.seq seq.0 i;
+      pass = eqb-true d.pass e.pass pass.0 i;
+      reg = eqb-true d.reg e.reg reg.0 i;
+      obj = eqb-true d.obj e.obj obj.0 i;
+      birth = eqb-true d.birth e.birth birth.0 i;
+      proc = eqb-true d.proc e.proc last.0 i;
+      cd = eqb-true d.cd e.cd last.1 i;
+    }
+
+held_one : (held : List Entry) (e : Entry) → list_any (same_entry e) held ≡ true → Contains held e
+held_one held e h =
+    let some = any_at (same_entry e) held h in
+    subst (Contains held) (sym (one_entry e some.1 some.3)) (contains_at held some.0 some.1 some.2)
+
+-- a slot that isn't lacking has what was put into it
+slot_gets : (frames : List (List ℕ)) (frame slot word : ℕ) → All (λ (f : List ℕ). length f ≡ 16) frames → lacks_slot frames frame slot ≡ false → slot_word (with_slot frames frame slot word) frame slot ≡ word
+slot_gets frames frame slot word whole good =
+    let both = and_parts (nat_lt frame (length frames)) (nat_lt slot 16) (not-false (nat_lt frame (length frames) && nat_lt slot 16) good) in
+    let in_frames = ltb-true frame (length frames) both.0 in
+    let below = ltb-true slot 16 both.1 in
+    let old = get_or frames frame [] in
+    let size : length old ≡ 16 = whole frame [] in_frames in
+    ap (λ f. get_or f slot 0) (get_or-set_same frames frame (set old slot word) [] in_frames) ∙ get_or-set_same old slot word 0 (omega (arith, below, size))
+
+pub hold_gives_the_object : (s : State) → IsReached s → HoldGivesTheObject s
+hold_gives_the_object s r frame slot e answer new step =
+    let good = (first_none _ [] (none_left (slot_causes s.frames frame slot) (not_held s.held e ∷ []) step.0)).0 in
+    let known = not-false _ (first_none (not_held s.held e) [] (none_right (slot_causes s.frames frame slot) (not_held s.held e ∷ []) step.0)).0 in
+    let held = held_one s.held e known in
+    let stands = (reached_sound s r).held_object e held in (
+      held,
+      ap (λ (c : Core). slot_word c.frames frame slot) step.1 ∙ slot_gets s.frames frame slot e.obj (reached_standing s r).whole good,
+      (stands.0, ap (λ (c : Core). get c.objects e.obj) step.1 ∙ stands.1, stands.2),
+    )

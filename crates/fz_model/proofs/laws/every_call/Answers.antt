@@ -1,0 +1,45 @@
+use Rattle.fz_model.proofs.Seen.{seen_is_closed}
+use Rattle.fz_model.specs.Extents.{extents}
+use Rattle.fz_model.proofs.Allocation.{laid_apart, reached_laid}
+use Rattle.fz_model.proofs.Standing.{reached_standing, links_stand}
+use Rattle.fz_model.proofs.CallLaws.{links_are_made, links_are_moved, hold_gives_the_object}
+use Rattle.fz_model.proofs.PassLaws.{each_pass_is_lawful}
+use Rattle.fz_model.proofs.CycleLaws.{seen_in_this_cycle}
+use Rattle.fz_model.proofs.HasStep.{each_call_has_step, each_event_has_step}
+use Rattle.fz_model.proofs.laws.every_call.Goals as goal
+
+pub returns-clause-each_has_step : goal.returns-clause-each_has_step
+returns-clause-each_has_step c = each_call_has_step
+
+pub returns-clause-each_event_has_step : goal.returns-clause-each_event_has_step
+returns-clause-each_event_has_step c = each_event_has_step
+
+pub returns-clause-short_links_stand : goal.returns-clause-short_links_stand
+returns-clause-short_links_stand c s r = links_stand s.objects s.short (reached_standing s r).short
+
+pub returns-clause-long_links_stand : goal.returns-clause-long_links_stand
+returns-clause-long_links_stand c s r = links_stand s.objects s.long (reached_standing s r).long
+
+pub returns-clause-links_are_made : goal.returns-clause-links_are_made
+returns-clause-links_are_made c s r = links_are_made s
+
+pub returns-clause-links_are_moved : goal.returns-clause-links_are_moved
+returns-clause-links_are_moved c s r = links_are_moved s
+
+pub returns-clause-passes : goal.returns-clause-passes
+returns-clause-passes c = each_pass_is_lawful
+
+pub returns-clause-seen : goal.returns-clause-seen
+returns-clause-seen c = seen_in_this_cycle
+
+pub returns-clause-holds : goal.returns-clause-holds
+returns-clause-holds c = hold_gives_the_object
+
+pub returns-clause-apart : goal.returns-clause-apart
+returns-clause-apart c s r = laid_apart s.blocks (extents s.objects) (reached_laid s r)
+
+pub returns-clause-within : goal.returns-clause-within
+returns-clause-within c s r = (reached_laid s r).within
+
+pub returns-clause-seen_is_closed : goal.returns-clause-seen_is_closed
+returns-clause-seen_is_closed c = seen_is_closed

@@ -1,0 +1,96 @@
+-- Laws that test the definitions of the calls: what is expected of each, in words that don't repeat how it is defined.
+use Rattle.std.specs.Prelude.{◌≡◌, ◌≢◌, ℕ, ◌+◌, ◌<◌, Bool, false, length, None, Some, Contains, Result, Ok, Err, IsTrue, IsFalse, ◌↔◌}
+use Rattle.std.specs.FinMap.{get, len}
+use Rattle.fz_model.specs.declared.kinds.LinkKind.TheVariants.{Short, Long}
+use Rattle.fz_model.specs.declared.answers.Entry.{Entry}
+use Rattle.fz_model.specs.declared.answers.LinkAnswer.{LinkAnswer}
+use Rattle.fz_model.specs.declared.answers.LinkAnswer.TheVariants.{Duplicate}
+use Rattle.fz_model.specs.declared.answers.MoveAnswer.{MoveAnswer}
+use Rattle.fz_model.specs.declared.answers.MoveAnswer.TheVariants.{Success}
+use Rattle.fz_model.specs.declared.refusal.Refusal.{Refusal}
+use Rattle.fz_model.specs.declared.refusal.Refusal.TheVariants.{NotHeld, Closed}
+use Rattle.fz_model.specs.State.{Map, Object, State}
+use Rattle.fz_model.specs.Memory.{points, slot_word}
+use Rattle.fz_model.specs.Events.{Event, Link, MoveLink, Hold, Close, Answer, causes}
+use Rattle.fz_model.specs.Causes.{first_cause}
+use Rattle.fz_model.specs.Steps.{Step}
+use Rattle.fz_model.specs.Joint.{Joint, JointEvent, Call, HoldOwn, JointAnswer, worker_at, is_finish, JointStep}
+
+-- an object starts at the address
+abbrev pub Stands : Map Object → ℕ → Type 0
+Stands objects a = (o : Object) × (get objects a ≡ Some o)
+
+-- the table has a link at the place
+abbrev pub HasLink : Map ℕ → ℕ → Type 0
+HasLink links place = (target : ℕ) × (get links place ≡ Some target)
+
+-- ---- each call has a step
+
+-- a call that no cause refuses can be accepted, and any other is refused for its first cause
+pub record EachCallHasStep (s : State) : Type 0 where
+  pub accepted : (e : Event) → first_cause (causes s.core e) ≡ None → (answer : Answer e) × (new : State) × Step s e (Ok answer) new
+  pub refused : (e : Event) (r : Refusal) → first_cause (causes s.core e) ≡ Some r → Step s e (Err r) s
+
+-- a finish by no worker, which is no event of a joint run
+abbrev pub is_free_finish : JointEvent → Bool
+is_free_finish (Call e) = is_finish e
+is_free_finish _ = false
+
+abbrev pub EachJointEventHasStep : Joint → Type 0
+EachJointEventHasStep j =
+    (e : JointEvent) → IsFalse (is_free_finish e) → (reply : Result (JointAnswer e) Refusal) × (new : Joint) × JointStep j e reply new
+
+-- ---- links
+
+-- each link's target starts an object, and its word lies in one
+abbrev pub LinksStand : Map Object → Map ℕ → Type 0
+LinksStand objects links =
+    (place target : ℕ) → get links place ≡ Some target → Stands objects target × ((container : ℕ) × (points objects place ≡ Some container))
+
+-- a link is made: it has this target, whatever stood at its place, and no other changes
+pub record IsLinked (old : Map ℕ) (place target : ℕ) (answer : LinkAnswer) (new : Map ℕ) : Type 0 where
+  pub linked : get new place ≡ Some target
+  pub others : (p : ℕ) → p ≢ place → get new p ≡ get old p
+  pub duplicate : answer ≡ Duplicate ↔ HasLink old place
+
+-- each kind goes into its own table
+pub record LinksAreMade (s : State) (frame slot offset to_frame to_slot : ℕ) : Type 0 where
+  pub short : (answer : LinkAnswer) (new : State) → Step s (Link Short frame slot offset to_frame to_slot) (Ok answer) new → IsLinked s.short (slot_word s.frames frame slot + offset) (slot_word s.frames to_frame to_slot) answer new.short × (new.long ≡ s.long)
+  pub long : (answer : LinkAnswer) (new : State) → Step s (Link Long frame slot offset to_frame to_slot) (Ok answer) new → IsLinked s.long (slot_word s.frames frame slot + offset) (slot_word s.frames to_frame to_slot) answer new.long × (new.short ≡ s.short)
+
+-- a move keeps the number of links; one that succeeds keeps the link's target and leaves nothing at the old place, and any other changes nothing
+pub record IsMoved (old : Map ℕ) (from to : ℕ) (answer : MoveAnswer) (new : Map ℕ) : Type 0 where
+  pub number : len new ≡ len old
+  pub moved : answer ≡ Success → HasLink old from × (get new to ≡ get old from) × (from ≢ to → get new from ≡ None)
+  pub others : (p : ℕ) → p ≢ from → p ≢ to → get new p ≡ get old p
+  pub unmoved : answer ≢ Success → new ≡ old
+
+pub record LinksAreMoved (s : State) (frame slot offset to_frame to_slot to_offset : ℕ) : Type 0 where
+  pub short : (answer : MoveAnswer) (new : State) → Step s (MoveLink Short frame slot offset to_frame to_slot to_offset) (Ok answer) new → IsMoved s.short (slot_word s.frames frame slot + offset) (slot_word s.frames to_frame to_slot + to_offset) answer new.short × (new.long ≡ s.long)
+  pub long : (answer : MoveAnswer) (new : State) → Step s (MoveLink Long frame slot offset to_frame to_slot to_offset) (Ok answer) new → IsMoved s.long (slot_word s.frames frame slot + offset) (slot_word s.frames to_frame to_slot + to_offset) answer new.long × (new.short ≡ s.short)
+
+-- ---- entries
+
+-- the held object of an entry, with the birth that the entry names
+abbrev pub StandsAsHeld : State → Entry → Type 0
+StandsAsHeld s e = (o : Object) × (get s.objects e.obj ≡ Some o) × (o.birth ≡ e.birth)
+
+-- only a held entry can be held on to, and the slot gets its object
+abbrev pub HoldGivesTheObject : State → Type 0
+HoldGivesTheObject s =
+    (frame slot : ℕ) (e : Entry) (answer : Unit {0}) (new : State) → Step s (Hold frame slot e) (Ok answer) new
+    → Contains s.held e × (slot_word new.frames frame slot ≡ e.obj) × StandsAsHeld new e
+
+-- a worker whose hand is empty is refused, and nothing changes
+abbrev pub EmptyHandIsRefused : Joint → Type 0
+EmptyHandIsRefused j =
+    (w frame slot : ℕ) (reply : Result (Unit {0}) Refusal) (new : Joint) → w < length j.workers → (worker_at j w).hand ≡ None
+    → JointStep j (HoldOwn w frame slot) reply new ↔ (reply ≡ Err NotHeld) × (new ≡ j)
+
+-- ---- close
+
+-- once closed, a world stays closed, and is closed no second time
+pub record ClosesOnce (s : State) : Type 0 where
+  pub second : (reply : Result (Unit {0}) Refusal) (new : State) → IsTrue s.closed → Step s Close reply new → reply ≡ Err Closed
+  pub stays : (e : Event) (reply : Result (Answer e) Refusal) (new : State) → IsTrue s.closed → Step s e reply new → IsTrue new.closed
+  pub closes : (answer : Unit {0}) (new : State) → Step s Close (Ok answer) new → IsTrue new.closed

@@ -1,0 +1,41 @@
+//! Laws that test the definitions.
+
+ghost use Rattle.std.specs.Prelude.{ℕ, List};
+ghost use Rattle.fz_model.specs.State.{State};
+ghost use Rattle.fz_model.specs.Extents.{extents, AreApart, AreWithin};
+ghost use Rattle.fz_model.specs.Seen.{SeenIsClosed};
+ghost use Rattle.fz_model.specs.Steps.{IsReached};
+ghost use Rattle.fz_model.specs.Joint.{Joint, Move, IsRun};
+ghost use Rattle.fz_model.specs.CallLaws.{EachCallHasStep, EachJointEventHasStep, LinksStand, LinksAreMade, LinksAreMoved, HoldGivesTheObject, EmptyHandIsRefused, ClosesOnce};
+ghost use Rattle.fz_model.specs.PassLaws.{EachPassIsLawful};
+ghost use Rattle.fz_model.specs.CycleLaws.{SeenInThisCycle};
+
+/// Does nothing. Its contract says of every reached state what is expected of each call and of each pass, in words of their own: so it tests the
+/// definitions by which all other contracts speak.
+pub fn every_call()
+    // Each call has a step: it can be accepted, or it is refused for its first cause. So has each event of a joint run.
+    ensures each_has_step { (s : State) → IsReached s → EachCallHasStep s }
+    ensures each_event_has_step { (moves : List Move) (end : Joint) → IsRun moves end → EachJointEventHasStep end }
+    // No word lies in two objects, and each object lies in the heap.
+    ensures apart { (s : State) → IsReached s → AreApart (extents s.objects) }
+    ensures within { (s : State) → IsReached s → AreWithin s.blocks (extents s.objects) }
+    // Each link's target starts an object, and its word lies in one.
+    ensures short_links_stand { (s : State) → IsReached s → LinksStand s.objects s.short }
+    ensures long_links_stand { (s : State) → IsReached s → LinksStand s.objects s.long }
+    // A link has the target that was named last; a move keeps the target, and the number of links.
+    ensures links_are_made { (s : State) → IsReached s → (frame slot offset to_frame to_slot : ℕ) → LinksAreMade s frame slot offset to_frame to_slot }
+    ensures links_are_moved { (s : State) → IsReached s → (frame slot offset to_frame to_slot to_offset : ℕ) → LinksAreMoved s frame slot offset to_frame to_slot to_offset }
+    // A pass keeps all that is reachable and all that is registered, as it was but for the words of lost links; it keeps no more than what was seen and
+    // what registered objects lead to; no word that stays leads to what went; each link that stays leads to an object that stays, from one that
+    // stays; the answer counts the entries that the queue gained and the starts that went; and no cycle is open afterwards.
+    ensures passes { (s : State) → IsReached s → EachPassIsLawful s }
+    // What was seen was reachable in a state of this cycle.
+    ensures seen { (s : State) → IsReached s → SeenInThisCycle s }
+    // In an open cycle what was seen is closed under children, and has what is reachable now; so a pause may find all of it.
+    ensures seen_is_closed { (s : State) → IsReached s → SeenIsClosed s }
+    // A hold puts the held object's start into the slot; a worker with an empty hand is refused.
+    ensures holds { (s : State) → IsReached s → HoldGivesTheObject s }
+    ensures empty_hand { (moves : List Move) (end : Joint) → IsRun moves end → EmptyHandIsRefused end }
+    // A world is closed once.
+    ensures closes { (s : State) → IsReached s → ClosesOnce s }
+{}
