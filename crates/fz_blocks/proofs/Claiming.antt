@@ -1,242 +1,161 @@
--- A claim: where it finds its block, and what it leaves.
-use Rattle.std.proofs.Common.{◌≡◌, ℕ, ◌+◌, ◌*◌, ◌<◌, ◌≤◌, Bool, true, false, cond, not, ◌&&◌, ◌||◌, ◌==◌, List, length, Option, Some, None, slice_get, slice_index_or, get_or, set, is_none, nat_le, nat_eq, refl, sym, ap, ◌∙◌, subst, ⊎_elim, arith, length-set}
-use Rattle.std.proofs.Math.Nat.{zero-mul}
-use Rattle.std.proofs.lemmas.Nat.{le-div}
-use Rattle.std.proofs.lemmas.Bool.{cases_lt, cases_Bool, and_parts, and_from, and_left, le-leb, eq-eqb, eqb-true, both_ways, not-true, not_from_true, cond-true, cond-false}
+-- A claim in a block with room, and in a run of bare ones.
+use Rattle.std.proofs.Common.{suc, zero, Bool, ◌≢◌, ◌-◌, ◌≡◌, ℕ, ◌+◌, ◌%◌, ◌<◌, ◌≤◌, true, false, not, ◌||◌, ◌&&◌, ◌==◌, nat_le, nat_eq, List, length, set, Some, None, slice_get, refl, sym, ap, ◌∙◌, subst, ⊎_elim, arith, length-set}
+use Rattle.std.proofs.Math.Nat.{zero-mod}
+use Rattle.std.proofs.lemmas.Bool.{cases_eq, cond-true, cond-false, cases_Bool, cases_lt, and_parts, and_from, eq-eqb, ne_eqb, eqb-true, eqb-false, leb-true, le-leb, both_ways, not-true}
 use Rattle.std.proofs.lemmas.Option.{same_Some, slice_get_within}
-use Rattle.std.proofs.lemmas.List.{set-set, get_or_read, get_or-set_same}
-use Rattle.std.specs.Ordering.{nat_cmp}
-use Rattle.std.specs.Option.{option_map_or}
-use Rattle.std.specs.FinMap as maps
-use Rattle.std.specs.FinSet as sets
-use Rattle.std.specs.FinSet.{contains, empty, contains-empty}
+use Rattle.std.specs.FinMap.{insert}
+use Rattle.std.specs.List.{list_all, range_with_len}
 use Rattle.fz_model.specs.declared.kinds.ObjKind.{ObjKind}
-use Rattle.fz_model.specs.Allocation.{block_start, place_for}
+use Rattle.fz_model.specs.Allocation as allocation
+use Rattle.fz_model.specs.Allocation.{block_start, block_of, has_run, blocks_for, place_in}
 use Rattle.fz_blocks.specs.declared.block.Block.{Block}
-use Rattle.fz_blocks.specs.BlockSets.{Blocks, IsLeast}
-use Rattle.fz_blocks.specs.Blocks.{holds, is_bare, is_full, IsBlock, Claims}
-use Rattle.fz_model.specs.declared.refusal.Refusal.TheVariants.{BadSize, NoSpace}
-use Rattle.fz_model.specs.Causes.{first_cause}
-use Rattle.fz_blocks.specs.Cells.{Cells, blank, claim_causes}
-use Rattle.fz_blocks.specs.Layout.{claimed_in, class_of, has_room, AreTied, Fills}
-use Rattle.fz_blocks.proofs.Bits.{bare_holds, full_holds}
-use Rattle.fz_blocks.proofs.Places.{one_class, class_within, place_in_room, place_in_bare, no_place}
-use Rattle.fz_blocks.proofs.Changes.{slice_get-set, claimed_inserted, claimed_same, tied_set, rooms_set, other_room, contains-inserted, contains-removed}
+use Rattle.fz_blocks.specs.BlockSets.{has_bit}
+use Rattle.fz_blocks.specs.Classes.{class_of}
+use Rattle.fz_blocks.specs.Cells.{is_cell}
+use Rattle.fz_blocks.specs.Blocks.{starts_at, is_full, extent_of, Claims}
+use Rattle.fz_blocks.specs.Layout.{extents_in, condemned_in, has_room, AreRuns}
+use Rattle.fz_blocks.specs.Claimed.{swept}
+use Rattle.fz_blocks.specs.Runs.{IsRun, IsFirstRun, TakesRun, WritesRun}
+use Rattle.fz_blocks.specs.Tables.{IsFirst}
+use Rattle.fz_blocks.specs.Claims.{IsClaimed}
+use Rattle.fz_blocks.proofs.Bits.{no_bits, cell_fits}
+use Rattle.fz_blocks.proofs.Condemned.{swept_is}
+use Rattle.fz_blocks.proofs.Places.{one_class, no_place, place_in_room, place_in_run, no_room, no_cells, is_bare-block, item_at, IsNowhere}
+use Rattle.fz_blocks.proofs.Runs.{run_runs, run_extents}
+use Rattle.fz_blocks.proofs.Tables.{slice_get-set}
+use Rattle.fz_blocks.proofs.Changes.{claim_extents, same_runs}
 
--- a block's entry in a set, by a test of the block
-pub member_of : (o : Option Block) (f : Block → Bool) (b : Bool) → b ≡ true → b ≡ option_map_or f o false → (k : Block) × (o ≡ Some k) × (f k ≡ true)
-member_of None f b on is = absurd (both_ways b is on)
-member_of (Some k) f b on is = (k, refl, sym is ∙ on)
+module _ (blocks now : List Block) (runs : AreRuns blocks) (size : ℕ) (kind : ObjKind) (sized : 1 ≤ size) (small : size ≤ 64) (at place : ℕ) (old new : Block) (claims : Claims old new place) (is : now ≡ set blocks at new) where
+  pub room_claimed : slice_get blocks at ≡ Some old → IsFirst (has_room (class_of size kind)) blocks at → IsClaimed blocks now size kind (block_start at + place)
+  room_claimed here first = record {
+    long = ap length is ∙ length-set blocks at new;
+    runs = subst AreRuns (sym is) (same_runs blocks at old new here runs own (λ _. short) (claims.alike.back ∙ own) (λ _. let same = claims.alike.size in omega (arith, same, short)));
+    place = place_in_room blocks runs size kind sized small at place old here room first.before claims.cell claims.free claims.least;
+    extents = ap extents_in is ∙ claim_extents blocks at old new here place claims ∙ ap (λ x. insert (extents_in blocks) (block_start at + place) x) extent;
+    swept =
+        let fits = cell_fits old.size place old.sized claims.cell in
+        let block_is : block_of (block_start at + place) ≡ at = omega (arith, fits) in
+        let one_block : blocks_for size ≡ 1 = omega (arith, sized, small) in
+        swept_is blocks now at 1 (λ c out. ap (λ bs. slice_get bs c) is ∙ slice_get-set blocks at new lt c ∙ cond-false (nat_eq c at) (Some new) (slice_get blocks c) (ne_eqb c at (λ same. ⊎_elim (λ less. omega (arith, same, less)) (λ past. omega (arith, same, past)) out)))
+        (λ c block low high there.
+        let c_is : c ≡ at = omega (arith, low, high) in
+        ap (λ (k : Block). k.condemned) (same_Some block new (sym there ∙ ap (λ bs. slice_get bs c) is ∙ slice_get-set blocks at new lt c ∙ cond-true (nat_eq c at) (Some new) (slice_get blocks c) (eq-eqb c at c_is))) ∙ claims.swept)
+        ∙ ap (λ n. swept (condemned_in blocks) at n) (sym one_block) ∙ ap (λ b. swept (condemned_in blocks) b (blocks_for size)) (sym block_is);
+  }
+    where
+      lt : at < length blocks
+      lt = slice_get_within blocks at old here
 
-pub outside_of : (o : Option Block) (f : Block → Bool) (b : Bool) → b ≡ false → b ≡ option_map_or f o false → (k : Block) → o ≡ Some k → f k ≡ false
-outside_of o f b off is k here = ap (λ o. option_map_or f o false) (sym here) ∙ sym is ∙ off
+      room : has_room (class_of size kind) old ≡ true
+      room = subst (λ k. has_room (class_of size kind) k ≡ true) (same_Some first.block old (sym first.here ∙ here)) first.passes
 
-filled_some : {old new : List Block} {room room_now : Blocks} {b start : ℕ} (fills : Fills old new room room_now b start) → is_bare fills.after ≡ false
-filled_some fills =
-    ⊎_elim
-    (λ bare. absurd (both_ways _ (bare_holds fills.after bare fills.index) (fills.claims.claimed fills.index ∙ ap (λ t. t || holds fills.before fills.index) (eq-eqb fills.index fills.index refl))))
-    (λ off. off)
-    (cases_Bool (is_bare fills.after))
+      parts : (not (old.objects == 0) ≡ true) × ((not (is_full old) && (nat_le old.size 64 && class_of old.size old.kind == class_of size kind)) ≡ true)
+      parts = and_parts (not (old.objects == 0)) _ room
 
-room_then : (block : Block) (class : ℕ) → class_of block.size block.kind ≡ class → is_bare block ≡ false → has_room class block ≡ not (is_full block)
-room_then block class same some =
-    ap (λ t. not t && (not (is_full block) && class_of block.size block.kind == class)) some
-    ∙ ap (λ t. not (is_full block) && t) (eq-eqb (class_of block.size block.kind) class same)
-    ∙ elim (not (is_full block)) as (λ t. (t && true) ≡ t) [ true ↦ refl | false ↦ refl ]
+      tests : (nat_le old.size 64 ≡ true) × ((class_of old.size old.kind == class_of size kind) ≡ true)
+      tests = and_parts (nat_le old.size 64) _ (and_parts (not (is_full old)) _ parts.1).1
 
-class_kept : (old new : Block) (index : ℕ) → Claims old new index → class_of new.size new.kind ≡ class_of old.size old.kind
-class_kept old new index claims = ap (λ n. class_of n new.kind) claims.alike.size ∙ ap (class_of old.size) claims.alike.kind
+      short : old.size ≤ 64
+      short = leb-true old.size 64 tests.0
 
--- a claim is done: what it leaves, and where it was
-pub record IsDone (blocks now : List Block) (bare_now : Blocks) (rooms_now : List Blocks) (size : ℕ) (kind : ObjKind) (start : ℕ) : Type 0 where
-  pub tied : AreTied now bare_now rooms_now
-  pub long : length now ≡ length blocks
-  pub place : place_for (blank (claimed_in blocks)) (length blocks) size kind ≡ Some start
-  pub claimed : claimed_in now ≡ maps.insert (claimed_in blocks) start (record { size = size; kind = kind })
+      class_is : (old.size ≡ size) × (old.kind ≡ kind)
+      class_is = one_class old.size size old.kind kind old.sized short sized small (eqb-true _ _ tests.1)
 
-module _ (blocks : List Block) (bare : Blocks) (rooms : List Blocks) (tied : AreTied blocks bare rooms) (size : ℕ) (kind : ObjKind) (sized : 1 ≤ size) (small : size ≤ 64) where
-  abbrev class : ℕ
-  class = class_of size kind
+      own : old.back ≡ 0
+      own = ⊎_elim (λ (later : 0 < old.back). absurd (eqb-false old.objects 0 (not-true _ parts.0) (old.none_later later))) (λ (none : old.back ≤ 0). omega (arith, none)) (cases_lt 0 old.back)
 
-  abbrev room : Blocks
-  room = slice_index_or rooms class empty
+      extent : extent_of old ≡ record { size = size; kind = kind }
+      extent = ap (λ n. record { size = n; kind = old.kind }) class_is.0 ∙ ap (λ k. record { size = size; kind = k }) class_is.1
 
-  within : class < 128
-  within = class_within size kind sized small
+-- ---- runs of bare blocks
 
-  in_rooms : class < length rooms
-  in_rooms = subst (λ n. class < n) (sym tied.classes) within
+all_from : (p : ℕ → Bool) (a n : ℕ) → ((i : ℕ) → a ≤ i → i < a + n → p i ≡ true) → list_all p (range_with_len a n) ≡ true
+all_from p a zero on = refl
+all_from p a (suc n) on = and_from (p a) (list_all p (range_with_len (a + 1) n)) (on a (omega arith) (omega arith)) (all_from p (a + 1) n (λ i low lt. on i (omega arith) (omega (arith, lt))))
 
-  -- ---- in a block with room
+all_to : (p : ℕ → Bool) (a n : ℕ) → list_all p (range_with_len a n) ≡ true → (i : ℕ) → a ≤ i → i < a + n → p i ≡ true
+all_to p a zero on i low lt = absurd (omega (arith, low, lt))
+all_to p a (suc n) on i low lt =
+    let parts = and_parts (p a) (list_all p (range_with_len (a + 1) n)) on in
+    ⊎_elim (λ (is : i ≡ a). ap p is ∙ parts.0) (λ (ne : i ≢ a). all_to p (a + 1) n parts.1 i (omega (arith, low, ne)) (omega (arith, lt))) (cases_eq i a)
 
-  module _ (b : ℕ) (least : IsLeast room b) where
-    roomy : (k : Block) × (slice_get blocks b ≡ Some k) × (has_room class k ≡ true)
-    roomy = member_of (slice_get blocks b) (has_room class) (contains room b) least.member (tied.rooms_are class b within)
+pub run_within : (blocks : List Block) (count b : ℕ) → 1 ≤ count → IsRun blocks count b → b + count ≤ length blocks
+run_within blocks count b some run =
+    let last = run (count - 1) (omega (arith, some)) in
+    let within = slice_get_within blocks (b + (count - 1)) last.0 last.1 in
+    omega (arith, within, some)
 
-    pub room_in_list : b < length blocks
-    room_in_list = slice_get_within blocks b roomy.0 roomy.1
+module _ (blocks : List Block) (runs : AreRuns blocks) (count : ℕ) (some : 1 ≤ count) where
+  run_is : (b : ℕ) → IsRun blocks count b → has_run (extents_in blocks) (length blocks) count b ≡ true
+  run_is b run =
+      and_from (nat_le (b + count) (length blocks)) _ (le-leb (b + count) (length blocks) (run_within blocks count b some run))
+      (all_from (allocation.is_bare (extents_in blocks)) b count (λ i low lt.
+      let one = run (i - b) (omega (arith, low, lt)) in
+      let at : b + (i - b) ≡ i = omega (arith, low) in
+      is_bare-block blocks runs i one.0 (ap (slice_get blocks) (sym at) ∙ one.1) ∙ one.2))
 
-    pub room_ready : (k : Block) → slice_get blocks b ≡ Some k → IsBlock k × (is_full k ≡ false)
-    room_ready k here =
-        let same : roomy.0 ≡ k = same_Some _ _ (sym roomy.1 ∙ here) in
-        let on : has_room class k ≡ true = subst (λ k. has_room class k ≡ true) same roomy.2 in
-        (tied.sound b k here, not-true _ (and_parts (not (is_full k)) _ (and_parts (not (is_bare k)) _ on).1).0)
+  is_run : (b : ℕ) → has_run (extents_in blocks) (length blocks) count b ≡ true → IsRun blocks count b
+  is_run b on k lt =
+      let parts = and_parts (nat_le (b + count) (length blocks)) (list_all (allocation.is_bare (extents_in blocks)) (range_with_len b count)) on in
+      let within = leb-true (b + count) (length blocks) parts.0 in
+      let found = item_at blocks (b + k) (omega (arith, within, lt)) in
+      (found.0, found.1, sym (is_bare-block blocks runs (b + k) found.0 found.1) ∙ all_to (allocation.is_bare (extents_in blocks)) b count parts.1 (b + k) (omega arith) (omega (arith, lt)))
 
-    pub room_filled : (now : List Block) (room_now : Blocks) (start : ℕ) → Fills blocks now room room_now b start → IsDone blocks now bare (set rooms class room_now) size kind start
-    room_filled now room_now start fills = record {
-      tied = subst (λ bs. AreTied bs bare (set rooms class room_now)) (sym fills.is) all_tied;
-      long = ap length fills.is ∙ length-set blocks b fills.after;
-      place = place_in_room blocks tied.sound size kind sized small b fills.index fills.before fills.here on before (fills.claims.within) fills.claims.free fills.claims.least ∙ ap Some (sym start_is);
-      claimed = ap claimed_in fills.is ∙ claimed_inserted blocks b fills.before fills.after fills.here fills.index sound fills.claims
-          ∙ ap (λ a. maps.insert (claimed_in blocks) a (record { size = fills.before.size; kind = fills.before.kind })) (sym fills.at)
-          ∙ ap (λ n. maps.insert (claimed_in blocks) start (record { size = n; kind = fills.before.kind })) class_is.0
-          ∙ ap (λ k. maps.insert (claimed_in blocks) start (record { size = size; kind = k })) class_is.1;
+  no_run : (b : ℕ) → (IsRun blocks count b → ⊥) → has_run (extents_in blocks) (length blocks) count b ≡ false
+  no_run b none = ⊎_elim (λ on. absurd (none (is_run b on))) (λ off. off) (cases_Bool (has_run (extents_in blocks) (length blocks) count b))
+
+module _ (blocks : List Block) (runs : AreRuns blocks) (size : ℕ) (kind : ObjKind) (sized : 1 ≤ size) (no_rooms : size ≤ 64 → (b : ℕ) (block : Block) → slice_get blocks b ≡ Some block → has_room (class_of size kind) block ≡ false) where
+  no_cell : IsNowhere blocks runs size kind sized
+  no_cell = ⊎_elim (λ (short : size < 65). let small : size ≤ 64 = omega (arith, short) in no_room blocks runs size kind sized small (no_rooms small)) (λ (long : 65 ≤ size). no_cells blocks runs size kind sized (omega (arith, long))) (cases_lt size 65)
+
+  pub nowhere : ((b : ℕ) → IsRun blocks (blocks_for size) b → ⊥) → place_in (extents_in blocks) (length blocks) size kind ≡ None
+  nowhere none = no_place blocks runs size kind sized no_cell (λ b. no_run blocks runs (blocks_for size) (omega arith) b (none b))
+
+  module _ (now : List Block) (at place : ℕ) (old new : Block) (claims : Claims old new place) (none : old.objects ≡ 0) (own : old.back ≡ 0) (size_is : old.size ≡ size) (kind_is : old.kind ≡ kind) (first : IsFirstRun blocks (blocks_for size) at) (writes : WritesRun blocks now at (blocks_for size) new) where
+    bits_none : (p : ℕ) → starts_at old p ≡ false
+    bits_none p = ap (λ n. has_bit n p) none ∙ no_bits p
+
+    first_cell : is_cell old.size 0 ≡ true
+    first_cell = and_from (0 % old.size == 0) true (eq-eqb (0 % old.size) 0 (zero-mod old.size)) refl
+
+    zero_place : place ≡ 0
+    zero_place = ⊎_elim (λ (more : 0 < place). absurd (both_ways _ (bits_none 0) (claims.least 0 more first_cell))) (λ (le : place ≤ 0). omega (arith, le)) (cases_lt 0 place)
+
+    extent : extent_of new ≡ record { size = size; kind = kind }
+    extent = ap (λ n. record { size = n; kind = new.kind }) (claims.alike.size ∙ size_is) ∙ ap (λ k. record { size = size; kind = k }) (claims.alike.kind ∙ kind_is)
+
+    takes : TakesRun blocks now at (blocks_for size) new
+    takes = record {
+      long = writes.long;
+      bare = first.run;
+      here = writes.here;
+      one = λ p. claims.claimed p ∙ ap (λ t. (p == place) || t) (bits_none p) ∙ ap (λ n. (p == n) || false) zero_place ∙ elim (p == 0) as (λ t. (t || false) ≡ t) [ true ↦ refl | false ↦ refl ];
+      own = claims.alike.back ∙ own;
+      enough = let same = claims.alike.size in omega (arith, same, size_is);
+      few = let same = claims.alike.size in omega (arith, same, size_is, sized);
+      later = writes.later;
+      others = writes.others;
     }
-      where
-        sound : IsBlock fills.before
-        sound = tied.sound b fills.before fills.here
 
-        on : has_room class fills.before ≡ true
-        on = subst (λ k. has_room class k ≡ true) (same_Some _ _ (sym roomy.1 ∙ fills.here)) roomy.2
+    clean : (c : ℕ) (block : Block) → at ≤ c → c < at + blocks_for size → slice_get now c ≡ Some block → block.condemned ≡ 0
+    clean c block low high here =
+        ⊎_elim
+        (λ (is : c ≡ at). ap (λ (k : Block). k.condemned) (same_Some block new (sym here ∙ ap (slice_get now) is ∙ writes.here)) ∙ claims.swept)
+        (λ (ne : c ≢ at).
+        let later = writes.later (c - at) (omega (arith, low, ne)) (omega (arith, low, high)) in
+        let c_is : at + (c - at) ≡ c = omega (arith, low) in
+        ap (λ (k : Block). k.condemned) (same_Some block later.0 (sym here ∙ ap (slice_get now) (sym c_is) ∙ later.1)) ∙ later.3)
+        (cases_eq c at)
 
-        some : is_bare fills.before ≡ false
-        some = not-true _ (and_parts (not (is_bare fills.before)) _ on).0
-
-        class_of_before : class_of fills.before.size fills.before.kind ≡ class
-        class_of_before = eqb-true _ _ (and_parts (not (is_full fills.before)) _ (and_parts (not (is_bare fills.before)) _ on).1).1
-
-        class_is : (fills.before.size ≡ size) × (fills.before.kind ≡ kind)
-        class_is = one_class fills.before.size size fills.before.kind kind sound.sized sound.small sized small class_of_before
-
-        start_is : start ≡ block_start b + fills.index * size
-        start_is = fills.at ∙ ap (λ n. block_start b + fills.index * n) class_is.0
-
-        before : (c : ℕ) (other : Block) → c < b → slice_get blocks c ≡ Some other → has_room class other ≡ false
-        before c other lt here = outside_of (slice_get blocks c) (has_room class) (contains room c) (least.before c lt) (tied.rooms_are class c within) other here
-
-        class_of_after : class_of fills.after.size fills.after.kind ≡ class
-        class_of_after = class_kept fills.before fills.after fills.index fills.claims ∙ class_of_before
-
-        bare_kept : (q : ℕ) (t : Bool) → nat_eq q b ≡ t → contains bare q ≡ cond t (is_bare fills.after) (contains bare q)
-        bare_kept q true is = ap (contains bare) (eqb-true q b is) ∙ tied.bare_are b ∙ ap (λ o. option_map_or is_bare o false) fills.here ∙ some ∙ sym (filled_some fills)
-        bare_kept q false is = refl
-
-        all_tied : AreTied (set blocks b fills.after) bare (set rooms class room_now)
-        all_tied =
-            tied_set blocks bare rooms tied b fills.after room_in_list fills.claims.sound bare (set rooms class room_now) (length-set rooms class room_now ∙ tied.classes) (λ q. bare_kept q (nat_eq q b) refl)
-            (λ d q lt. rooms_set rooms class b room_now fills.after in_rooms
-            (λ q. fills.left q ∙ ap (λ t. cond (nat_eq q b) t (contains room q)) (sym (room_then fills.after class class_of_after (filled_some fills))))
-            (λ d lt ne. other_room fills.after d (λ is. ne (sym is ∙ class_of_after)) ∙ sym (tied.rooms_are d b lt ∙ ap (λ o. option_map_or (has_room d) o false) fills.here ∙ other_room fills.before d (λ is. ne (sym is ∙ class_of_before))))
-            d q lt)
-
-  -- ---- in a block without cells
-
-  module _ (none : room ≡ empty) where
-    no_room : (c : ℕ) (other : Block) → slice_get blocks c ≡ Some other → has_room class other ≡ false
-    no_room c other here = outside_of (slice_get blocks c) (has_room class) (contains room c) (ap (λ s. contains s c) none ∙ contains-empty nat_cmp c) (tied.rooms_are class c within) other here
-
-    pub nowhere : bare ≡ empty → place_for (blank (claimed_in blocks)) (length blocks) size kind ≡ None
-    nowhere no_bare =
-        no_place blocks tied.sound size kind sized small no_room (λ c other here. outside_of (slice_get blocks c) is_bare (contains bare c) (ap (λ s. contains s c) no_bare ∙ contains-empty nat_cmp c) (tied.bare_are c) other here)
-
-    module _ (b : ℕ) (least : IsLeast bare b) where
-      bared : (k : Block) × (slice_get blocks b ≡ Some k) × (is_bare k ≡ true)
-      bared = member_of (slice_get blocks b) is_bare (contains bare b) least.member (tied.bare_are b)
-
-      pub bare_in_list : b < length blocks
-      bare_in_list = slice_get_within blocks b bared.0 bared.1
-
-      pub bare_low : b < 4096
-      bare_low = omega (arith, bare_in_list, tied.few)
-
-      module _ (ready : Block) (sound : IsBlock ready) (is_ready : ready.claimed ≡ 0) (size_is : ready.size ≡ size) (kind_is : ready.kind ≡ kind) where
-        here_ready : slice_get (set blocks b ready) b ≡ Some ready
-        here_ready = slice_get-set blocks b ready bare_in_list b ∙ cond-true (nat_eq b b) _ _ (eq-eqb b b refl)
-
-        bare_ready : is_bare ready ≡ true
-        bare_ready = eq-eqb ready.claimed 0 is_ready
-
-        pub bare_ready_then : (k : Block) → slice_get (set blocks b ready) b ≡ Some k → IsBlock k × (is_full k ≡ false)
-        bare_ready_then k here = subst (λ k. IsBlock k × (is_full k ≡ false)) (same_Some ready k (sym here_ready ∙ here)) (sound, not_full)
-          where
-            not_full : is_full ready ≡ false
-            not_full =
-                ⊎_elim
-                (λ full. absurd (both_ways _ (bare_holds ready bare_ready 0) (full_holds ready sound full 0 (le-div 1 64 ready.size sound.sized (let limit = sound.small in omega (arith, limit))))))
-                (λ off. off)
-                (cases_Bool (is_full ready))
-
-        pub bare_filled : (now : List Block) (room_ready room_now : Blocks) (start : ℕ) → room_ready ≡ sets.insert room b → Fills (set blocks b ready) now room_ready room_now b start → IsDone blocks now (sets.remove bare b) (set rooms class room_now) size kind start
-        bare_filled now room_ready room_now start inserted fills = record {
-          tied = subst (λ bs. AreTied bs (sets.remove bare b) (set rooms class room_now)) (sym now_is) all_tied;
-          long = ap length now_is ∙ length-set blocks b fills.after;
-          place = place_in_bare blocks tied.sound size kind sized small no_room b bared.0 bared.1 bared.2 before ∙ ap Some (sym start_is);
-          claimed = ap claimed_in fills.is ∙ claimed_inserted (set blocks b ready) b fills.before fills.after fills.here fills.index (subst IsBlock ready_is sound) fills.claims
-              ∙ ap (λ a. maps.insert (claimed_in (set blocks b ready)) a (record { size = fills.before.size; kind = fills.before.kind })) (sym fills.at)
-              ∙ ap (λ m. maps.insert m start (record { size = fills.before.size; kind = fills.before.kind })) (claimed_same blocks b bared.0 ready bared.1 bared.2 bare_ready)
-              ∙ ap (λ n. maps.insert (claimed_in blocks) start (record { size = n; kind = fills.before.kind })) (ap (λ (k : Block). k.size) (sym ready_is) ∙ size_is)
-              ∙ ap (λ k. maps.insert (claimed_in blocks) start (record { size = size; kind = k })) (ap (λ (k : Block). k.kind) (sym ready_is) ∙ kind_is);
-        }
-          where
-            ready_is : ready ≡ fills.before
-            ready_is = same_Some ready fills.before (sym here_ready ∙ fills.here)
-
-            now_is : now ≡ set blocks b fills.after
-            now_is = fills.is ∙ set-set blocks b ready fills.after
-
-            first : fills.index ≡ 0
-            first =
-                ⊎_elim
-                (λ (more : 0 < fills.index). absurd (both_ways _ (bare_holds fills.before (subst (λ k. is_bare k ≡ true) ready_is bare_ready) 0) (fills.claims.least 0 more)))
-                (λ (le : fills.index ≤ 0). omega (arith, le))
-                (cases_lt 0 fills.index)
-
-            start_is : start ≡ block_start b
-            start_is = let none_before : fills.index * fills.before.size ≡ 0 = ap (λ i. i * fills.before.size) first ∙ zero-mul fills.before.size in let at = fills.at in omega (arith, at, none_before)
-
-            before : (c : ℕ) (other : Block) → c < b → slice_get blocks c ≡ Some other → is_bare other ≡ false
-            before c other lt here = outside_of (slice_get blocks c) is_bare (contains bare c) (least.before c lt) (tied.bare_are c) other here
-
-            class_of_after : class_of fills.after.size fills.after.kind ≡ class
-            class_of_after =
-                class_kept fills.before fills.after fills.index fills.claims
-                ∙ ap (λ (k : Block). class_of k.size k.kind) (sym ready_is)
-                ∙ ap (λ n. class_of n ready.kind) size_is
-                ∙ ap (class_of size) kind_is
-
-            joined : (q : ℕ) (t : Bool) → nat_eq q b ≡ t → cond t (not (is_full fills.after)) (contains room_ready q) ≡ cond t (has_room class fills.after) (contains room q)
-            joined q true is = sym (room_then fills.after class class_of_after (filled_some fills))
-            joined q false is = ap (λ s. contains s q) inserted ∙ contains-inserted room b q ∙ cond-false (nat_eq q b) true (contains room q) is
-
-            no_other : (d : ℕ) → has_room d bared.0 ≡ false
-            no_other d = and_left (not (is_bare bared.0)) _ (not_from_true _ bared.2)
-
-            all_tied : AreTied (set blocks b fills.after) (sets.remove bare b) (set rooms class room_now)
-            all_tied =
-                tied_set blocks bare rooms tied b fills.after bare_in_list fills.claims.sound (sets.remove bare b) (set rooms class room_now) (length-set rooms class room_now ∙ tied.classes)
-                (λ q. contains-removed bare b q ∙ ap (λ t. cond (nat_eq q b) t (contains bare q)) (sym (filled_some fills)))
-                (λ d q lt. rooms_set rooms class b room_now fills.after in_rooms (λ q. fills.left q ∙ joined q (nat_eq q b) refl)
-                (λ d lt ne. other_room fills.after d (λ is. ne (sym is ∙ class_of_after)) ∙ sym (tied.rooms_are d b lt ∙ ap (λ o. option_map_or (has_room d) o false) bared.1 ∙ no_other d))
-                d q lt)
-
--- ---- as the code reads it
-
-pub as_room : (rooms : List Blocks) (size : ℕ) (kind : ObjKind) (i : ℕ) (read : Blocks) → length rooms ≡ 128 → 1 ≤ size → size ≤ 64 → i ≡ class_of size kind → read ≡ get_or rooms i read → read ≡ slice_index_or rooms (class_of size kind) empty
-as_room rooms size kind i read len sized small is at =
-    let lt = class_within size kind sized small in
-    get_or_read rooms i read (omega (arith, is, lt, len)) at empty ∙ ap (λ j. get_or rooms j empty) is
-
-pub causes_none : (cells : Cells) (size start : ℕ) (kind : ObjKind) → 1 ≤ size → size ≤ 64 → place_for (blank cells.claimed) cells.blocks size kind ≡ Some start → first_cause (claim_causes cells size kind) ≡ None
-causes_none cells size start kind sized small placed =
-    ap (λ t. cond (not t) (Some BadSize) (cond (is_none (place_for (blank cells.claimed) cells.blocks size kind)) (Some NoSpace) None)) (and_from (nat_le 1 size) (nat_le size 64) (le-leb 1 size sized) (le-leb size 64 small))
-    ∙ ap (λ o. cond (is_none o) (Some NoSpace) None) placed
-
-pub causes_space : (cells : Cells) (size : ℕ) (kind : ObjKind) → 1 ≤ size → size ≤ 64 → place_for (blank cells.claimed) cells.blocks size kind ≡ None → first_cause (claim_causes cells size kind) ≡ Some NoSpace
-causes_space cells size kind sized small placed =
-    ap (λ t. cond (not t) (Some BadSize) (cond (is_none (place_for (blank cells.claimed) cells.blocks size kind)) (Some NoSpace) None)) (and_from (nat_le 1 size) (nat_le size 64) (le-leb 1 size sized) (le-leb size 64 small))
-    ∙ ap (λ o. cond (is_none o) (Some NoSpace) None) placed
-
-pub as_ready : (rooms : List Blocks) (size : ℕ) (kind : ObjKind) (b i : ℕ) (read new again : Blocks) → length rooms ≡ 128 → 1 ≤ size → size ≤ 64 → i ≡ class_of size kind → read ≡ get_or rooms i read → new ≡ sets.insert read b → again ≡ get_or (set rooms i new) i again → again ≡ sets.insert (slice_index_or rooms (class_of size kind) empty) b
-as_ready rooms size kind b i read new again len sized small is at inserted at_again =
-    let lt = class_within size kind sized small in
-    at_again ∙ get_or-set_same rooms i new again (omega (arith, is, lt, len)) ∙ inserted ∙ ap (λ s. sets.insert s b) (as_room rooms size kind i read len sized small is at)
+    pub run_claimed : IsClaimed blocks now size kind (block_start at)
+    run_claimed = record {
+      long = writes.long;
+      runs = run_runs blocks now at (blocks_for size) new takes runs;
+      place =
+          let start = first.run 0 (omega arith) in
+          let at_is : at + 0 ≡ at = omega arith in
+          let within = slice_get_within blocks (at + 0) start.0 start.1 in
+          place_in_run blocks runs size kind sized no_cell at (omega (arith, within)) (run_is blocks runs (blocks_for size) (omega arith) at first.run) (λ c less. no_run blocks runs (blocks_for size) (omega arith) c (first.before c less));
+      extents = run_extents blocks now at (blocks_for size) new takes ∙ ap (λ x. insert (extents_in blocks) (block_start at) x) extent;
+      swept = let block_is : block_of (block_start at) ≡ at = omega arith in swept_is blocks now at (blocks_for size) writes.others clean ∙ ap (λ b. swept (condemned_in blocks) b (blocks_for size)) (sym block_is);
+    }

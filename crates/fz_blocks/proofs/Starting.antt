@@ -1,9 +1,7 @@
--- The starts of claimed cells, by rising address.
-use Rattle.std.proofs.Common.{◌≡◌, ◌≢◌, ℕ, zero, suc, ◌+◌, ◌-◌, ◌*◌, ◌/◌, ◌%◌, ◌^◌, ◌<◌, ◌≤◌, Bool, true, false, cond, ◌==◌, List, [], ◌∷◌, ◌++◌, map, filter, length, Option, Some, None, is_some, option_and_then, slice_get, nat_lt, nat_eq, nat_cmp, Greater, refl, sym, ap, ◌∙◌, subst, ⊎_elim, arith, w64}
-use Rattle.std.proofs.Math.Nat.{div-lt_iff_lt-mul, lt-div-mul-add, mul-mod_left, mul-div_cancel, div-add-mod, mul_comm, mul-le-mul_right}
+-- The starts of objects, by rising address.
+use Rattle.std.proofs.Common.{◌≡◌, ◌≢◌, ℕ, zero, suc, ◌+◌, ◌-◌, ◌*◌, ◌/◌, ◌%◌, ◌^◌, ◌<◌, ◌≤◌, Bool, true, false, cond, List, [], ◌∷◌, ◌++◌, map, filter, length, Option, Some, None, is_some, option_and_then, slice_get, nat_lt, nat_eq, nat_cmp, Greater, refl, sym, ap, ◌∙◌, ⊎_elim, arith, w64}
 use Rattle.std.proofs.lemmas.Nat.{shr-shr, shr_le}
-use Rattle.std.proofs.lemmas.Nat.Bits.{bit_at-zero, bit_at-trailing_zeros}
-use Rattle.std.proofs.lemmas.Bool.{cond-true, cond-false, cases_lt, cases_Bool, and_parts, and_from, eq-eqb, eqb-true, lt-ltb, le-ltb, both_ways}
+use Rattle.std.proofs.lemmas.Bool.{cond-true, cond-false, cases_lt, lt-ltb, le-ltb}
 use Rattle.std.proofs.lemmas.Option.{none-some, slice_get_within}
 use Rattle.std.proofs.lemmas.List.{map_push, append-nil, nil_from_length}
 use Rattle.std.proofs.lemmas.List.Elements.{filter-append}
@@ -14,105 +12,62 @@ use Rattle.std.specs.Option.{option_map_or}
 use Rattle.std.specs.FinMap as maps
 use Rattle.std.specs.FinMap.{keys, entries, entries-insert, len-entries, len-empty}
 use Rattle.std.specs.FinMap.Entries.{put, by_order}
+use Rattle.fz_model.specs.declared.extent.Extent.{Extent}
 use Rattle.fz_model.specs.State.{Map}
+use Rattle.fz_model.proofs.MapEntries.{get_at}
 use Rattle.fz_blocks.specs.declared.block.Block.{Block}
 use Rattle.fz_blocks.specs.Tabulated.{tabulated}
 use Rattle.fz_blocks.specs.BlockSets.{has_bit}
-use Rattle.fz_blocks.specs.Blocks.{holds, starts_at, IsBlock}
-use Rattle.fz_blocks.specs.Cells.{Cell}
-use Rattle.fz_blocks.specs.Layout.{cell_in, cell_at, claimed_in}
+use Rattle.fz_blocks.specs.Blocks.{starts_at, extent_of, extent_in}
+use Rattle.fz_blocks.specs.Layout.{extent_at, extents_in}
 use Rattle.fz_blocks.specs.Starts.{IsFirstStart, starts_from}
-use Rattle.fz_blocks.proofs.Bits.{holds_within, claimed_fits}
-use Rattle.fz_model.proofs.MapEntries.{get_at}
+use Rattle.fz_blocks.proofs.Bits.{no_bits, lowest}
+use Rattle.fz_blocks.proofs.Blocks.{objects_fit, start_within}
 use Rattle.fz_blocks.proofs.Tabulating.{get-tabulated}
-use Rattle.fz_blocks.proofs.Claimed.{cell_fits}
 
 -- ---- within a block
 
 bit_at_shifted : (n k j : ℕ) → bit_at (n / 2 ^ k) j ≡ bit_at n (k + j)
 bit_at_shifted n k j = ap (λ x. x % 2) (shr-shr n k j)
 
-module _ (block : Block) (is : IsBlock block) (place index rest : ℕ) (small : place < 64) (index_is : index ≡ (place + block.size - 1) / block.size) (rest_is : rest ≡ block.claimed / 2 ^ index) where
-  -- a start from the place on is a cell from the index on
-  start_index : (p : ℕ) → place ≤ p → starts_at block p ≡ true → (index ≤ p / block.size) × (holds block (p / block.size) ≡ true) × (p ≡ p / block.size * block.size)
-  start_index p low on =
-      let parts = and_parts (p % block.size == 0) (holds block (p / block.size)) on in
-      let none_left = eqb-true (p % block.size) 0 parts.0 in
-      let whole : block.size * (p / block.size) + p % block.size ≡ p = div-add-mod p block.size in
-      let sized = is.sized in
-      let at : p ≡ p / block.size * block.size = omega (arith, none_left, whole, mul_comm (p / block.size) block.size) in
-      let more : place + block.size - 1 < (p / block.size + 1) * block.size = omega (arith, at, low, sized) in
-      let lt = (div-lt_iff_lt-mul {x = place + block.size - 1} {y = p / block.size + 1} sized).1 more in
-      (omega (arith, index_is, lt), parts.1, at)
-
-  held_bit : (i : ℕ) → index ≤ i → holds block i ≡ has_bit rest (i - index)
-  held_bit i low =
-      let at : index + (i - index) ≡ i = omega arith in
-      ap (λ n. nat_eq n 1) (ap (bit_at block.claimed) (sym at) ∙ sym (bit_at_shifted block.claimed index (i - index)) ∙ ap (λ n. bit_at n (i - index)) (sym rest_is))
+module _ (block : Block) (place rest : ℕ) (small : place < 64) (rest_is : rest ≡ block.objects / 2 ^ place) where
+  rest_bit : (p : ℕ) → place ≤ p → starts_at block p ≡ has_bit rest (p - place)
+  rest_bit p low =
+      let at : place + (p - place) ≡ p = omega arith in
+      ap (λ n. nat_eq n 1) (ap (bit_at block.objects) (sym at) ∙ sym (bit_at_shifted block.objects place (p - place)) ∙ ap (λ n. bit_at n (p - place)) (sym rest_is))
 
   pub no_start : rest ≡ 0 → (p : ℕ) → place ≤ p → p < 64 → starts_at block p ≡ false
-  no_start none p low lt =
-      ⊎_elim
-      (λ on. let found = start_index p low on in
-      absurd (both_ways _ (held_bit (p / block.size) found.0 ∙ ap (λ n. has_bit n (p / block.size - index)) none ∙ ap (λ n. nat_eq n 1) (bit_at-zero (p / block.size - index))) found.1))
-      (λ off. off)
-      (cases_Bool (starts_at block p))
+  no_start none p low lt = rest_bit p low ∙ ap (λ n. has_bit n (p - place)) none ∙ no_bits (p - place)
 
-  pub first_start : (first : ℕ) → rest ≢ 0 → first ≡ (index + trailing_zeros w64 rest) * block.size → IsFirstStart block place first
-  first_start first some first_is = record {
-    after = omega (arith, first_is, index_low, sum, index_is);
-    within = omega (arith, first_is, fits, is.sized);
-    start = ap (starts_at block) first_is ∙ and_from (i * block.size % block.size == 0) _ (eq-eqb _ 0 (mul-mod_left i block.size)) (ap (holds block) (mul-div_cancel i is.sized) ∙ held);
-    before = λ p low lt. ⊎_elim
-        (λ on. let found = start_index p low on in
-        let below : p / block.size < i = smaller (p / block.size) (subst (λ n. n < i * block.size) found.2 (subst (λ n. p < n) first_is lt)) in
-        let in_rest : p / block.size - index < t = omega (arith, below, found.0) in
-        absurd (both_ways _ (held_bit (p / block.size) found.0 ∙ ap (λ n. nat_eq n 1) (lowest.2 (p / block.size - index) in_rest)) found.1))
-        (λ off. off)
-        (cases_Bool (starts_at block p));
-  }
-    where
-      t : ℕ
-      t = trailing_zeros w64 rest
+  rest_fits : rest < 2 ^ 64
+  rest_fits = let le = shr_le block.objects place in let fits = objects_fit block in omega (arith, le, fits, rest_is)
 
-      i : ℕ
-      i = index + t
-
-      lowest : (t < 64) × (bit_at rest t ≡ 1) × ((j : ℕ) → j < t → bit_at rest j ≡ 0)
-      lowest = bit_at-trailing_zeros w64 rest (omega (arith, some)) (let limit = claimed_fits block is in omega (arith, limit, rest_is, shr_le block.claimed index))
-
-      held : holds block i ≡ true
-      held = let low : index ≤ i = omega arith in let at : i - index ≡ t = omega arith in held_bit i low ∙ ap (has_bit rest) at ∙ eq-eqb _ 1 lowest.1
-
-      fits : i * block.size + block.size ≤ 64
-      fits = cell_fits block.size i (holds_within block is i held)
-
-      index_low : place + block.size - 1 < (place + block.size - 1) / block.size * block.size + block.size
-      index_low = lt-div-mul-add is.sized
-
-      sum : (place + block.size - 1) / block.size * block.size ≤ i * block.size
-      sum = mul-le-mul_right block.size (omega (arith, index_is))
-
-      smaller : (q : ℕ) → q * block.size < i * block.size → q < i
-      smaller q lt =
-          ⊎_elim (λ less. less)
-          (λ (more : i ≤ q). let rows : i * block.size ≤ q * block.size = mul-le-mul_right block.size more in absurd (omega (arith, rows, lt)))
-          (cases_lt q i)
+  pub first_start : (first : ℕ) → rest ≢ 0 → first ≡ place + trailing_zeros w64 rest → IsFirstStart block place first
+  first_start first some is =
+      let low = lowest rest (trailing_zeros w64 rest) some rest_fits refl in
+      let gap : first - place ≡ trailing_zeros w64 rest = omega (arith, is) in
+      let on : starts_at block first ≡ true = rest_bit first (omega (arith, is)) ∙ ap (has_bit rest) gap ∙ low.1 in
+      record {
+        after = omega (arith, is);
+        within = start_within block first on;
+        start = on;
+        before = λ p from lt. rest_bit p from ∙ low.2 (p - place) (omega (arith, from, lt, gap));
+      }
 
 -- ---- within all blocks
 
-claimed_then : (t : Bool) (cell : Cell) → is_some (cond t (Some cell) None) ≡ t
-claimed_then true cell = refl
-claimed_then false cell = refl
+claimed_then : (t : Bool) (x : Extent) → is_some (cond t (Some x) None) ≡ t
+claimed_then true x = refl
+claimed_then false x = refl
 
 module _ (blocks : List Block) where
   abbrev starts : ℕ → Bool
-  starts a = is_some (cell_at blocks a)
+  starts a = is_some (extent_at blocks a)
 
   starts_in : (a b : ℕ) (block : Block) → 65536 ≤ a → (a - 65536) / 64 ≡ b → slice_get blocks b ≡ Some block → starts a ≡ starts_at block ((a - 65536) % 64)
   starts_in a b block high at here =
-      ap is_some (cond-false (nat_lt a 65536) None (option_and_then (cell_in ((a - 65536) % 64)) (slice_get blocks ((a - 65536) / 64))) (le-ltb a 65536 high) ∙ ap (option_and_then (cell_in ((a - 65536) % 64))) (ap (slice_get blocks) at ∙ here))
-      ∙ claimed_then (starts_at block ((a - 65536) % 64)) (record { size = block.size; kind = block.kind })
+      ap is_some (cond-false (nat_lt a 65536) None (option_and_then (extent_in ((a - 65536) % 64)) (slice_get blocks ((a - 65536) / 64))) (le-ltb a 65536 high) ∙ ap (option_and_then (extent_in ((a - 65536) % 64))) (ap (slice_get blocks) at ∙ here))
+      ∙ claimed_then (starts_at block ((a - 65536) % 64)) (extent_of block)
 
   skip : (d n k : ℕ) → ((a : ℕ) → n ≤ a → a < n + d → starts a ≡ false) → filter starts (range_with_len n (d + k)) ≡ filter starts (range_with_len (n + d) k)
   skip zero n k off = let at : n ≡ n + 0 = omega arith in let len : 0 + k ≡ k = omega arith in ap (λ m. filter starts (range_with_len n m)) len ∙ ap (λ m. filter starts (range_with_len m k)) at
@@ -204,9 +159,9 @@ module _ {X : Type 0} (f : ℕ → Option X) where
       zero_more : (n : ℕ) → 0 + n ≡ n
       zero_more n = omega arith
 
-pub keys-claimed_in : (blocks : List Block) → keys (claimed_in blocks) ≡ starts_from blocks 65536
-keys-claimed_in blocks =
+pub keys-extents_in : (blocks : List Block) → keys (extents_in blocks) ≡ starts_from blocks 65536
+keys-extents_in blocks =
     let all : 65536 + 64 * length blocks ≡ 65536 + 64 * length blocks - 0 = omega arith in
-    keys-tabulated (cell_at blocks) (65536 + 64 * length blocks)
-    ∙ ap (λ n. filter (λ a. is_some (cell_at blocks a)) (range_with_len 0 n)) all
-    ∙ skip_to blocks 0 65536 (omega arith) (omega arith) (λ a low lt. ap is_some (cond-true (nat_lt a 65536) None (option_and_then (cell_in ((a - 65536) % 64)) (slice_get blocks ((a - 65536) / 64))) (lt-ltb a 65536 lt)))
+    keys-tabulated (extent_at blocks) (65536 + 64 * length blocks)
+    ∙ ap (λ n. filter (λ a. is_some (extent_at blocks a)) (range_with_len 0 n)) all
+    ∙ skip_to blocks 0 65536 (omega arith) (omega arith) (λ a low lt. ap is_some (cond-true (nat_lt a 65536) None (option_and_then (extent_in ((a - 65536) % 64)) (slice_get blocks ((a - 65536) / 64))) (lt-ltb a 65536 lt)))

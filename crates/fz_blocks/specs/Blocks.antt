@@ -1,52 +1,73 @@
--- One block of 64 words: its cells, all of one size and kind, and which of them are claimed.
-use Rattle.std.specs.Prelude.{◌≡◌, ℕ, ◌-◌, ◌/◌, ◌%◌, ◌^◌, ◌<◌, ◌≤◌, Bool, ◌||◌, ◌&&◌, not, ◌==◌, List, Some, slice_get, IsTrue, IsFalse}
-use Rattle.std.specs.Int.{bit_at}
+-- One block of 64 words: where objects start in it.
+use Rattle.std.specs.Prelude.{◌≡◌, ℕ, ◌+◌, ◌<◌, ◌≤◌, Bool, ◌||◌, ◌&&◌, not, ◌==◌, nat_le, if◌then◌else◌, Option, Some, None, IsTrue, IsFalse}
+use Rattle.fz_model.specs.declared.limits.TheConstants.{BLOCK_WORDS}
+use Rattle.fz_model.specs.declared.extent.Extent.{Extent}
 use Rattle.fz_blocks.specs.declared.block.Block.{Block}
 use Rattle.fz_blocks.specs.BlockSets.{has_bit}
+use Rattle.fz_blocks.specs.Cells.{is_cell}
 
--- whether the cell is claimed
-abbrev pub holds : Block → ℕ → Bool
-holds block index = has_bit block.claimed index
-
--- whether a claimed cell starts at this place of the block
+-- whether an object starts at this place of the block
 abbrev pub starts_at : Block → ℕ → Bool
-starts_at block place = (place % block.size == 0) && holds block (place / block.size)
+starts_at block place = has_bit block.objects place
 
--- whether no cell is claimed, and whether all are
+-- whether no object meets the block, and whether one starts in each of its cells
 abbrev pub is_bare : Block → Bool
-is_bare block = block.claimed == 0
+is_bare block = (block.objects == 0) && (block.back == 0)
 
 abbrev pub is_full : Block → Bool
-is_full block = block.claimed == block.whole
+is_full block = block.objects == block.cells
 
--- cells of 1 to 64 words, as many as fit whole, and no other bit
-pub record IsBlock (block : Block) : Type 0 where
-  pub sized : 1 ≤ block.size
-  pub small : block.size ≤ 64
-  pub all : block.whole ≡ 2 ^ (64 / block.size) - 1
-  pub none_past : (i : ℕ) → 64 / block.size ≤ i → bit_at block.claimed i ≡ 0
+-- whether objects start in it, and one of its cells is free
+abbrev pub has_free_cell : Block → Bool
+has_free_cell block = not (block.objects == 0) && (not (is_full block) && nat_le block.size BLOCK_WORDS)
 
--- each of a list of blocks is such a block
-abbrev pub AllSound : List Block → Type 0
-AllSound blocks = (b : ℕ) (block : Block) → slice_get blocks b ≡ Some block → IsBlock block
+-- the extent of an object that starts in the block
+abbrev pub extent_of : Block → Extent
+extent_of block = record { size = block.size; kind = block.kind }
 
--- the cells are as they were, but which are claimed
+-- the extent that starts at a place of the block
+abbrev pub extent_in : ℕ → Block → Option Extent
+extent_in place block =
+    if starts_at block place then Some (extent_of block) else None
+
+-- an object starts at one place of the block and has the word at another
+pub record IsCellOf (block : Block) (place start : ℕ) : Type 0 where
+  pub starts : IsTrue (starts_at block start)
+  pub first : start ≤ place
+  pub inside : place < start + block.size
+
+-- all but the objects and the condemned cells is as it was
 pub record IsAlike (old new : Block) : Type 0 where
+  pub cells : new.cells ≡ old.cells
   pub size : new.size ≡ old.size
+  pub back : new.back ≡ old.back
   pub kind : new.kind ≡ old.kind
-  pub whole : new.whole ≡ old.whole
 
 -- the least free cell is claimed, and no other
-pub record Claims (old new : Block) (index : ℕ) : Type 0 where
+pub record Claims (old new : Block) (start : ℕ) : Type 0 where
   pub alike : IsAlike old new
-  pub sound : IsBlock new
-  pub within : index < 64 / old.size
-  pub free : IsFalse (holds old index)
-  pub least : (i : ℕ) → i < index → IsTrue (holds old i)
-  pub claimed : (i : ℕ) → holds new i ≡ (i == index || holds old i)
+  pub swept : new.condemned ≡ 0
+  pub cell : IsTrue (is_cell old.size start)
+  pub free : IsFalse (starts_at old start)
+  pub least : (place : ℕ) → place < start → IsTrue (is_cell old.size place) → IsTrue (starts_at old place)
+  pub claimed : (place : ℕ) → starts_at new place ≡ (place == start || starts_at old place)
 
--- the cell is free, and no other changes
-pub record Frees (old new : Block) (index : ℕ) : Type 0 where
+-- the cell is condemned, and no other changes
+pub record Condemns (old new : Block) (start : ℕ) : Type 0 where
   pub alike : IsAlike old new
-  pub sound : IsBlock new
-  pub freed : (i : ℕ) → holds new i ≡ (not (i == index) && holds old i)
+  pub gone : (place : ℕ) → starts_at new place ≡ (not (place == start) && starts_at old place)
+  pub condemned : (place : ℕ) → has_bit new.condemned place ≡ (place == start || has_bit old.condemned place)
+
+-- the cells at these places at which objects start are condemned, and no other changes
+pub record CondemnsAll (old new : Block) (places : ℕ) : Type 0 where
+  pub alike : IsAlike old new
+  pub gone : (place : ℕ) → starts_at new place ≡ (not (has_bit places place) && starts_at old place)
+  pub condemned : (place : ℕ) → has_bit new.condemned place ≡ (has_bit places place && starts_at old place || has_bit old.condemned place)
+
+-- the block is part of no run, and all else is as it was
+pub record Detaches (old new : Block) : Type 0 where
+  pub objects : new.objects ≡ old.objects
+  pub condemned : new.condemned ≡ old.condemned
+  pub size : new.size ≡ old.size
+  pub kind : new.kind ≡ old.kind
+  pub own : new.back ≡ 0

@@ -1,55 +1,58 @@
--- How a list of blocks holds the claimed cells, and the sets by which the least free one is found.
-use Rattle.std.specs.Prelude.{◌≡◌, ℕ, ◌+◌, ◌-◌, ◌*◌, ◌/◌, ◌%◌, ◌<◌, ◌≤◌, Bool, false, ◌&&◌, not, ◌==◌, nat_lt, if◌then◌else◌, List, length, Option, Some, None, slice_get, slice_index_or, slice_set, option_and_then}
-use Rattle.std.specs.Option.{option_map_or}
-use Rattle.std.specs.FinSet.{contains, empty}
-use Rattle.fz_model.specs.declared.kinds.ObjKind.{ObjKind}
-use Rattle.fz_model.specs.declared.kinds.ObjKind.TheVariants.{Scanned, Atomic}
+-- How a list of blocks holds extents, and the runs of blocks that longer objects take.
+use Rattle.std.specs.Prelude.{◌≡◌, ℕ, ◌+◌, ◌-◌, ◌*◌, ◌%◌, ◌<◌, ◌≤◌, Bool, false, not, ◌&&◌, ◌==◌, nat_lt, nat_le, if◌then◌else◌, List, length, Option, Some, None, slice_get, option_and_then, IsTrue}
+use Rattle.fz_model.specs.declared.extent.Extent.{Extent}
+use Rattle.fz_model.specs.declared.limits.TheConstants.{HEAP_START, BLOCK_WORDS, MAX_BLOCKS}
+use Rattle.fz_model.specs.Extents.{heap_end}
+use Rattle.fz_model.specs.Allocation.{block_of}
 use Rattle.fz_model.specs.State.{Map}
-use Rattle.fz_model.specs.Allocation.{block_start}
 use Rattle.fz_blocks.specs.declared.block.Block.{Block}
-use Rattle.fz_blocks.specs.Tabulated.{tabulated}
-use Rattle.fz_blocks.specs.BlockSets.{Blocks}
-use Rattle.fz_blocks.specs.Blocks.{starts_at, is_bare, is_full, AllSound, Claims}
-use Rattle.fz_blocks.specs.Cells.{Cell}
+use Rattle.fz_blocks.specs.Tabulated.{tabulated, Addresses, gathered}
+use Rattle.fz_blocks.specs.BlockSets.{has_bit}
+use Rattle.std.specs.Int.Count.{ones}
+use Rattle.std.specs.List.{sum_by}
+use Rattle.std.specs.Option.{option_map_or}
+use Rattle.fz_blocks.specs.Classes.{class_of}
+use Rattle.fz_blocks.specs.Blocks.{starts_at, is_full, extent_in}
 
--- the cell that starts at a place of the block, if it is claimed
-abbrev pub cell_in : ℕ → Block → Option Cell
-cell_in place block =
-    if starts_at block place then Some (record { size = block.size; kind = block.kind }) else None
+-- the extent that starts at an address
+abbrev pub extent_at : List Block → ℕ → Option Extent
+extent_at blocks address =
+    if nat_lt address HEAP_START then None else option_and_then (extent_in ((address - HEAP_START) % BLOCK_WORDS)) (slice_get blocks (block_of address))
 
--- the claimed cell that starts at an address
-abbrev pub cell_at : List Block → ℕ → Option Cell
-cell_at blocks address =
-    if nat_lt address 65536 then None else option_and_then (cell_in ((address - 65536) % 64)) (slice_get blocks ((address - 65536) / 64))
+abbrev pub extents_in : List Block → Map Extent
+extents_in blocks = tabulated (extent_at blocks) (heap_end (length blocks))
 
-abbrev pub claimed_in : List Block → Map Cell
-claimed_in blocks = tabulated (cell_at blocks) (65536 + 64 * length blocks)
+-- a block into which an object reaches from an earlier one
+pub record IsLater (blocks : List Block) (b back : ℕ) : Type 0 where
+  pub within : back ≤ b
+  pub first : Block
+  pub here : slice_get blocks (b - back) ≡ Some first
+  pub starts : IsTrue (starts_at first 0)
+  pub reaches : BLOCK_WORDS * back < first.size
 
--- the place of a size and kind among the 128 of them
-abbrev pub class_of : ℕ → ObjKind → ℕ
-class_of size Scanned = size - 1
-class_of size Atomic = size + 63
+-- a block says how far back the object starts that reaches into it, if one does
+pub record AreRuns (blocks : List Block) : Type 0 where
+  pub ahead : (b k : ℕ) (first : Block) → slice_get blocks b ≡ Some first → IsTrue (starts_at first 0) → 0 < k → BLOCK_WORDS * k < first.size → (later : Block) × (slice_get blocks (b + k) ≡ Some later) × (later.back ≡ k)
+  pub behind : (b : ℕ) (later : Block) → slice_get blocks b ≡ Some later → 0 < later.back → IsLater blocks b later.back
 
--- whether the block has cells of the class, and a free one among them
+-- whether objects of the class start in the block, and one of its cells is free
 abbrev pub has_room : ℕ → Block → Bool
-has_room class block = not (is_bare block) && (not (is_full block) && class_of block.size block.kind == class)
+has_room class block = not (block.objects == 0) && (not (is_full block) && (nat_le block.size BLOCK_WORDS && class_of block.size block.kind == class))
 
--- sets of the blocks without cells, and for each class of those with room
-pub record AreTied (blocks : List Block) (bare : Blocks) (rooms : List Blocks) : Type 0 where
+-- whether a condemned cell starts at an address
+abbrev pub is_condemned : List Block → ℕ → Bool
+is_condemned blocks address =
+    if nat_lt address HEAP_START then false else option_map_or (λ (block : Block). has_bit block.condemned ((address - HEAP_START) % BLOCK_WORDS)) (slice_get blocks (block_of address)) false
+
+abbrev pub condemned_in : List Block → Addresses
+condemned_in blocks = gathered (is_condemned blocks) (heap_end (length blocks))
+
+-- how many condemned cells the blocks have
+abbrev pub waiting_in : List Block → ℕ
+waiting_in blocks = sum_by (λ (block : Block). ones block.condemned) blocks
+
+-- as many blocks as a heap may have, in which runs lie whole
+pub record IsMap (blocks : List Block) : Type 0 where
   pub some : 1 ≤ length blocks
-  pub few : length blocks ≤ 4096
-  pub sound : AllSound blocks
-  pub classes : length rooms ≡ 128
-  pub bare_are : (b : ℕ) → contains bare b ≡ option_map_or is_bare (slice_get blocks b) false
-  pub rooms_are : (class b : ℕ) → class < 128 → contains (slice_index_or rooms class empty) b ≡ option_map_or (has_room class) (slice_get blocks b) false
-
--- the least free cell of a block with room is claimed: where it starts, and the set that the block leaves if it is full then
-pub record Fills (old new : List Block) (room room_now : Blocks) (b start : ℕ) : Type 0 where
-  pub before : Block
-  pub after : Block
-  pub index : ℕ
-  pub here : slice_get old b ≡ Some before
-  pub is : new ≡ slice_set old b after
-  pub claims : Claims before after index
-  pub at : start ≡ block_start b + index * before.size
-  pub left : (q : ℕ) → contains room_now q ≡ (if q == b then not (is_full after) else contains room q)
+  pub few : length blocks ≤ MAX_BLOCKS
+  pub runs : AreRuns blocks

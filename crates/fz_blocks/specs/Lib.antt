@@ -1,6 +1,11 @@
 pub mod Tabulated
 pub mod BlockSets
-pub mod Blocks
 pub mod Cells
+pub mod Blocks
 pub mod Layout
+pub mod Classes
+pub mod Claimed
+pub mod Runs
+pub mod Tables
+pub mod Claims
 pub mod Starts

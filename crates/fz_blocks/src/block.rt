@@ -1,102 +1,202 @@
-//! One block: which of its cells are claimed.
+//! One block: in which of its cells objects start.
 
-ghost use Rattle.std.specs.Prelude.{◌≡◌, ◌≢◌, ◌<◌, ◌≤◌, ◌*◌, ◌/◌, ◌==◌, if◌then◌else◌, IsTrue, IsFalse, Some, None, ℕ, MatchOption};
-ghost use Rattle.fz_blocks.specs.Starts.{IsFirstStart};
-ghost use Rattle.fz_blocks.specs.Blocks.{holds, starts_at, is_bare, is_full, IsBlock, Claims, Frees};
+ghost use Rattle.std.specs.Prelude.{◌≡◌, ◌≤◌, ◌<◌, ◌+◌, ℕ, IsTrue, IsFalse, MatchOption};
+ghost use Rattle.fz_model.specs.declared.limits.TheConstants.{BLOCK_WORDS, MAX_OBJECT_WORDS};
+ghost use Rattle.fz_blocks.specs.Cells.{AreCells, AreAmong, AreSeparate};
 
-use fz_model::{BLOCK_WORDS, ObjKind};
+use fz_model::{BLOCK_WORDS, Extent, ObjKind};
 
-/// A block of 64 words, whose cells have one size and one kind. Both say nothing while no cell is claimed.
+/// A block of 64 words, whose cells have one size and one kind. Size and kind say nothing while no object starts in it.
 #[derive(Clone, Copy)]
 pub(crate) struct Block {
-    /// A bit for each claimed cell, the first cell's lowest.
-    pub(crate) claimed: u64,
-    /// The bits of all cells.
-    pub(crate) whole: u64,
+    /// A bit at each place where an object starts.
+    pub(crate) objects: u64,
+    /// A bit at each place where a condemned cell starts: its object is gone, and it waits to be swept.
+    pub(crate) condemned: u64,
+    /// A bit at each place where a cell starts.
+    pub(crate) cells: u64,
     /// The words of a cell.
     pub(crate) size: u32,
+    /// How many blocks before this one the object starts that reaches into it; 0 where none does.
+    pub(crate) back: u32,
     pub(crate) kind: ObjKind,
+    pub(crate) ghost sized: { 1 ≤ size },
+    pub(crate) ghost cells_are: { AreCells cells size },
+    pub(crate) ghost objects_are: { AreAmong objects cells },
+    pub(crate) ghost condemned_are: { AreAmong condemned cells },
+    pub(crate) ghost separate: { AreSeparate objects condemned },
+    pub(crate) ghost none_later: { 0 < back → objects ≡ 0 },
 }
 
 impl Block {
-    /// A block without cells, ready for this size and kind.
+    ghost use Rattle.fz_blocks.specs.Starts.{IsFirstStart};
+    ghost use Rattle.fz_blocks.specs.Blocks.{starts_at, is_bare, is_full, has_free_cell, extent_of, IsCellOf, IsAlike, Claims, Condemns, CondemnsAll, Detaches};
+    ghost use Rattle.fz_model.specs.Allocation.{blocks_for};
+    ghost use Rattle.std.specs.Int.Count.{ones};
+
+    /// A block without objects, ready for this size and kind.
     pub(crate) fn of(size: u64, kind: ObjKind) -> Block
         requires sized { 1 ≤ size }
-        requires small { size ≤ 64 }
-        ensures sound { IsBlock result }
-        ensures bare { result.claimed ≡ 0 }
+        requires small { size ≤ MAX_OBJECT_WORDS }
+        ensures bare { (result.objects ≡ 0) × (result.back ≡ 0) × (result.condemned ≡ 0) }
         ensures size { result.size ≡ size }
         ensures kind { result.kind ≡ kind }
     {
+        let mut cells = 1u64;
+        let mut place = size;
+        while place + size <= BLOCK_WORDS {
+            cells |= 1 << place;
+            place += size;
+        }
         Block {
-            claimed: 0,
-            whole: u64::MAX >> (BLOCK_WORDS - BLOCK_WORDS / size),
+            objects: 0,
+            condemned: 0,
+            cells,
             size: size as u32,
+            back: 0,
             kind,
         }
     }
 
-    /// Whether no cell is claimed.
+    /// A block into which an object reaches that starts `back` blocks before.
+    pub(crate) fn later(back: u64) -> Block
+        requires some { 1 ≤ back }
+        requires few { back ≤ 15 }
+        ensures { (result.back ≡ back) × (result.condemned ≡ 0) }
+    {
+        let mut block = Block::of(BLOCK_WORDS, ObjKind::Scanned);
+        block.back = back as u32;
+        block
+    }
+
+    /// The extent of an object that starts in it.
+    pub(crate) fn extent(&self) -> Extent
+        ensures { result ≡ extent_of self.now }
+    {
+        Extent {
+            size: u64::from(self.size),
+            kind: self.kind,
+        }
+    }
+
+    /// Whether no object meets the block.
     pub(crate) fn is_bare(&self) -> bool
         ensures { result ≡ is_bare self.now }
     {
-        self.claimed == 0
+        self.objects == 0 && self.back == 0
     }
 
-    /// Whether all cells are claimed.
+    /// Whether an object starts in each cell.
     pub(crate) fn is_full(&self) -> bool
         ensures { result ≡ is_full self.now }
     {
-        self.claimed == self.whole
+        self.objects == self.cells
     }
 
-    /// Claims the least free cell, and answers its place among the cells.
+    /// Whether objects start in it, and one of its cells is free.
+    pub(crate) fn has_room(&self) -> bool
+        ensures { result ≡ has_free_cell self.now }
+    {
+        self.objects != 0 && !self.is_full() && u64::from(self.size) <= BLOCK_WORDS
+    }
+
+    /// Whether an object starts at this place.
+    pub(crate) fn starts_at(&self, place: u64) -> bool
+        requires { place < BLOCK_WORDS }
+        ensures { result ≡ starts_at self.now place }
+    {
+        self.objects >> place & 1 == 1
+    }
+
+    /// Sweeps the block, claims the least cell at which no object starts, and returns its place.
     pub(crate) fn claim_least(&mut self) -> u64
-        requires sound { IsBlock self.old }
+        requires own { self.old.back ≡ 0 }
         requires room { IsFalse (is_full self.old) }
         ensures { Claims self.old self.new result }
     {
-        let index = self.claimed.trailing_ones();
-        self.claimed |= 1 << index;
-        u64::from(index)
+        let place = (self.cells & !self.objects).trailing_zeros();
+        self.condemned = 0;
+        self.objects |= 1 << place;
+        u64::from(place)
     }
 
-    /// Frees the cell in which the word at this place of the block lies.
-    pub(crate) fn release(&mut self, place: u64)
-        requires sound { IsBlock self.old }
-        requires within { place < 64 }
-        ensures { Frees self.old self.new (place / self.old.size) }
+    /// Condemns the cell that starts at this place.
+    pub(crate) fn condemn(&mut self, place: u64)
+        requires { IsTrue (starts_at self.old place) }
+        ensures { Condemns self.old self.new place }
     {
-        self.claimed &= !(1 << (place as u32 / self.size));
+        self.objects &= !(1 << place);
+        self.condemned |= 1 << place;
     }
 
-    /// The place in the block where the claimed cell begins in which the word at this place lies.
+    /// Condemns the cells at these places at which objects start; returns their number.
+    pub(crate) fn condemn_all(&mut self, places: u64) -> u64
+        ensures condemns { CondemnsAll self.old self.new places }
+        ensures count { ones self.new.condemned ≡ ones self.old.condemned + result }
+        ensures none { result ≡ 0 → self.new.objects ≡ self.old.objects }
+        ensures some { 0 < result → (place : ℕ) × IsTrue (starts_at self.old place) × IsFalse (starts_at self.new place) }
+    {
+        let gone = self.objects & places;
+        self.objects &= !gone;
+        self.condemned |= gone;
+        u64::from(gone.count_ones())
+    }
+
+    /// How many blocks an object that starts in it takes.
+    pub(crate) fn span(&self) -> u64
+        ensures { result ≡ blocks_for self.now.size }
+    {
+        (u64::from(self.size) - 1) / BLOCK_WORDS + 1
+    }
+
+    /// The number of condemned cells.
+    pub(crate) fn waiting(&self) -> u64
+        ensures { result ≡ ones self.now.condemned }
+    {
+        u64::from(self.condemned.count_ones())
+    }
+
+    /// Takes the block out of a run.
+    pub(crate) fn detach(&mut self)
+        ensures { Detaches self.old self.new }
+    {
+        self.back = 0;
+    }
+
+    /// Frees the condemned cells.
+    pub(crate) fn sweep(&mut self)
+        ensures alike { IsAlike self.old self.new }
+        ensures objects { self.new.objects ≡ self.old.objects }
+        ensures swept { self.new.condemned ≡ 0 }
+    {
+        self.condemned = 0;
+    }
+
+    /// The place where the object starts that starts in this block and has the word at this place, if one does.
     pub(crate) fn cell_start(&self, place: u64) -> Option<u64>
-        requires sound { IsBlock self.now }
-        requires within { place < 64 }
-        ensures { result ≡ (if holds self.now (place / self.now.size) then Some (place / self.now.size * self.now.size) else None) }
+        requires { place < BLOCK_WORDS }
+        ensures { MatchOption result ((start : ℕ) → IsTrue (starts_at self.now start) → start ≤ place → start + self.now.size ≤ place) (λ start. IsCellOf self.now place start) }
     {
-        let index = place as u32 / self.size;
-        if self.claimed >> index & 1 == 0 {
+        let below = self.objects & (u64::MAX >> (63 - place));
+        if below == 0 {
             return None;
         }
-        Some(u64::from(index * self.size))
+        let start = 63 - u64::from(below.leading_zeros());
+        if place - start >= u64::from(self.size) {
+            return None;
+        }
+        Some(start)
     }
 
-    /// The least place from this one on where a claimed cell starts.
+    /// The least place from this one on where an object starts.
     pub(crate) fn first_start(&self, place: u64) -> Option<u64>
-        requires sound { IsBlock self.now }
-        requires within { place < 64 }
-        ensures { MatchOption result ((p : ℕ) → place ≤ p → p < 64 → IsFalse (starts_at self.now p)) (λ first. IsFirstStart self.now place first) }
+        requires { place < BLOCK_WORDS }
+        ensures { MatchOption result ((p : ℕ) → place ≤ p → p < BLOCK_WORDS → IsFalse (starts_at self.now p)) (λ first. IsFirstStart self.now place first) }
     {
-        let index = (place as u32 + self.size - 1) / self.size;
-        if index >= 64 {
-            return None;
-        }
-        let rest = self.claimed >> index;
+        let rest = self.objects >> place;
         if rest == 0 {
             return None;
         }
-        Some(u64::from((index + rest.trailing_zeros()) * self.size))
+        Some(place + u64::from(rest.trailing_zeros()))
     }
 }

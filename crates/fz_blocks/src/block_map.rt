@@ -1,209 +1,195 @@
 //! The map of a heap's blocks.
 
-ghost use Rattle.std.specs.Prelude.{◌∷◌, [], ◌≡◌, ◌≤◌, ◌<◌, ◌+◌, ◌*◌, ℕ, true, All, nat_lt, length, slice_get, IsTrue, IsFalse, IsSome, IfSome, IfOk, IfErr, OnOk, OnErr, option_map};
-ghost use Rattle.std.specs.FinMap.{keys, get, insert, remove, contains_key, empty};
-ghost use Rattle.std.specs.FinSet.{contains};
-ghost use Rattle.std.specs.FinSet as sets;
-ghost use Rattle.fz_model.specs.Memory.{points};
-ghost use Rattle.fz_model.specs.Allocation.{place_for, block_start};
-ghost use Rattle.fz_model.specs.Causes.{IsRefusedFor, first_cause, bad_count};
-ghost use Rattle.fz_blocks.specs.declared.block.Block.{Block};
-ghost use Rattle.fz_blocks.specs.Blocks.{is_full, IsBlock};
-ghost use Rattle.fz_blocks.specs.Cells.{blank, claim_causes, AreLaidOut};
-ghost use Rattle.fz_blocks.specs.Layout.{Fills};
-
-use crate::block::Block;
-use crate::block_set::BlockSet;
-use crate::class::{CLASSES, class_of};
+use crate::claims::{claim_place, free_later};
 use crate::starts::Starts;
-use fz_model::{Addr, BLOCK_WORDS, HEAP_START, ObjKind, Refusal, Word};
+use crate::table::Table;
+use fz_model::{
+    Addr, BLOCK_WORDS, Extent, HEAP_START, MAX_BLOCKS, MAX_OBJECT_WORDS, ObjKind, Refusal, Word,
+};
 use std::alloc::Global;
 use std::marker::Model;
 
-/// A heap has at least one block, and at most these.
-const MAX_BLOCKS: u64 = 4096;
-
-/// Up to 4,096 blocks of 64 words each, from address 65,536 on, and the cells claimed in them.
+/// Up to 4,096 blocks of 64 words each, from address 65,536 on, and the extents of the objects in them.
 ///
-/// It takes all its memory at `new`, and no other call takes or frees any: 24 bytes for each block, and some 70 KB for the sets by
-/// which a free cell is found. These are 129 of 512 bytes each and 4 KB to hold them, for a map of one block too.
+/// It takes all its memory at `new`, and no other call takes or frees any: 40 bytes for each block, and 129 sets by which a place is
+/// found, each of 32 bytes and 8 for every 64 blocks begun. So a map of one block takes some 5 KB, and one of 4,096 blocks 240 KB.
+///
+/// An object that is condemned is out of the map; its cell stays condemned until it is swept, or claimed again.
 #[derive(Drop)]
 pub struct BlockMap {
-    blocks: Vec<Block>,
-    /// The blocks without cells.
-    bare: BlockSet,
-    /// For each size and kind, the blocks that have cells of it and a free one.
-    rooms: Vec<BlockSet>,
-}
-
-/// Claims the least free cell of a block with room, which leaves the set if it is full then, and answers the cell's start.
-fn claim_in(blocks: &mut [Block], room: &mut BlockSet, block: u64) -> Addr
-    requires few { length blocks.old ≤ 4096 }
-    requires within { block < length blocks.old }
-    requires ready { (k : Block) → slice_get blocks.old block ≡ Some k → IsBlock k × IsFalse (is_full k) }
-    requires member { IsTrue (contains room.old block) }
-    ensures { Fills blocks.old blocks.new room.old room.new block result }
-{
-    let place = &mut blocks[block as usize];
-    let index = place.claim_least();
-    if place.is_full() {
-        room.remove(block);
-    }
-    HEAP_START + BLOCK_WORDS * block + index * u64::from(place.size)
-}
-
-/// The set of so many blocks.
-fn all_blocks(alloc: Global, blocks: u64) -> Result<BlockSet, Refusal>
-    requires { blocks ≤ 4096 }
-    ensures refused { IfErr result (λ r. r ≡ Refusal.NoMemory) }
-    ensures made { IfOk result (λ s. (b : ℕ) → contains s b ≡ nat_lt b blocks) }
-{
-    let mut all = BlockSet::new(alloc)?;
-    for block in 0..blocks {
-        all.insert(block);
-    }
-    Ok(all)
-}
-
-/// An empty set for each class.
-fn no_rooms(alloc: Global) -> Result<Vec<BlockSet>, Refusal>
-    ensures refused { IfErr result (λ r. r ≡ Refusal.NoMemory) }
-    ensures long { IfOk result (λ rooms. length rooms.items ≡ 128) }
-    ensures made { IfOk result (λ rooms. All (λ s. s ≡ sets.empty) rooms.items) }
-{
-    let mut rooms = Vec::new(alloc);
-    while rooms.len() < CLASSES {
-        let room = BlockSet::new(alloc)?;
-        rooms.push(room).map_err(|_| Refusal::NoMemory)?;
-    }
-    Ok(rooms)
+    table: Table,
 }
 
 impl Model for BlockMap {
     ghost use Rattle.std.specs.Prelude.{length};
-    ghost use Rattle.fz_blocks.specs.Cells.{Cells, cells_code};
+    ghost use Rattle.fz_blocks.specs.Claimed.{Claimed, claimed_code};
 
-    ghost Value = { Cells };
+    ghost Value = { Claimed };
 
-    ghost coded = { cells_code };
+    ghost coded = { claimed_code };
 
-    ghost use Rattle.fz_blocks.specs.Layout.{claimed_in, AreTied};
+    ghost use Rattle.fz_blocks.specs.Layout.{extents_in, condemned_in, IsMap};
 
-    ghost view = { λ m. record { blocks = length m.blocks.items; claimed = claimed_in m.blocks.items } };
+    ghost view = { λ m. record { blocks = length m.table; extents = extents_in m.table; condemned = condemned_in m.table } };
 
-    ghost invariant = { λ m. AreTied m.blocks.items m.bare m.rooms.items };
+    ghost invariant = { λ m. IsMap m.table };
 }
 
 impl BlockMap {
-    /// A map of so many blocks (1 to 4,096) without cells. It makes all room that `claim` and `release` need.
+    ghost use Rattle.std.specs.Prelude.{◌∷◌, [], ◌≡◌, ◌≤◌, ◌<◌, ◌+◌, None, Some, ℕ, MatchOption, not, ◌&&◌, ◌||◌, IsTrue, IfOk, OnOk, OnErr};
+    ghost use Rattle.std.specs.FinMap.{get, keys, insert, remove, retain_keys, contains_key, empty};
+    ghost use Rattle.std.specs.FinSet as sets;
+    ghost use Rattle.fz_model.specs.declared.limits.TheConstants.{BLOCK_WORDS, MAX_BLOCKS};
+    ghost use Rattle.fz_model.specs.Extents.{points_in, AreApart, AreWithin};
+    ghost use Rattle.fz_model.specs.Allocation.{block_start, block_of, blocks_for, place_in};
+    ghost use Rattle.fz_model.specs.Causes.{IsJudgedBy, IsJudgedOrLacks, bad_count};
+    ghost use Rattle.fz_blocks.specs.BlockSets.{has_bit};
+    ghost use Rattle.fz_blocks.specs.Claimed.{claim_causes, stands_at, swept, AreGone};
+
+    /// A map of 1 to 4,096 blocks without objects. It makes all the room that other calls need.
     ///
-    /// `BadCount` for any other number of blocks, and `NoMemory` where the memory for this number isn't to be had.
+    /// `BadCount` for any other number of blocks, and `NoMemory` where an allocation failed.
     pub fn new(alloc: Global, blocks: u64) -> Result<BlockMap, Refusal>
-        ensures refused { IfErr result (λ r. IsRefusedFor (bad_count 4096 blocks ∷ []) true r) }
-        ensures opened { IfOk result (λ m. (first_cause (bad_count 4096 blocks ∷ []) ≡ None) × (m ≡ record { blocks = blocks; claimed = empty })) }
+        ensures judged { IsJudgedOrLacks (bad_count MAX_BLOCKS blocks ∷ []) result }
+        ensures opened { IfOk result (λ map. map ≡ record { blocks = blocks; extents = empty; condemned = sets.empty }) }
     {
         if blocks == 0 || blocks > MAX_BLOCKS {
             return Err(Refusal::BadCount);
         }
-        let bare = all_blocks(alloc, blocks)?;
-        let rooms = no_rooms(alloc)?;
-        let block = Block::of(BLOCK_WORDS, ObjKind::Scanned);
-        let blocks = vec![in alloc; block; blocks as usize].map_err(|_| Refusal::NoMemory)?;
-        Ok(BlockMap {
-            blocks,
-            bare,
-            rooms,
-        })
+        let table = Table::new(alloc, blocks)?;
+        Ok(BlockMap { table })
     }
 
     /// The number of blocks.
     pub fn blocks(&self) -> u64
         ensures blocks { result ≡ self.now.blocks }
-        ensures few { (1 ≤ self.now.blocks) × (self.now.blocks ≤ 4096) }
-        ensures laid_out { AreLaidOut self.now }
+        ensures few { (1 ≤ self.now.blocks) × (self.now.blocks ≤ MAX_BLOCKS) }
+        ensures apart { AreApart self.now.extents }
+        ensures within { AreWithin self.now.blocks self.now.extents }
     {
-        self.blocks.len() as u64
+        self.table.as_slice().len() as u64
     }
 
-    /// Claims the least free cell of the blocks of this size (1 to 64 words) and kind, or else the first cell of the least block
-    /// without cells, and answers the cell's start.
+    /// Claims the least free cell of the blocks of this size (1 to 1,024 words) and kind, or else the least run of blocks that no
+    /// object meets, one for each 64 words begun; returns the start. The blocks of the new object are swept.
     ///
-    /// `BadSize` for any other size, and `NoSpace` where there is no such cell. It takes no memory, and a refused claim changes nothing.
+    /// `BadSize` for any other size, and `NoSpace` where there is no such place. It takes no memory, and a refused claim changes nothing.
     pub fn claim(&mut self, size: u64, kind: ObjKind) -> Result<Addr, Refusal>
-        ensures refused { IfErr result (λ r. first_cause (claim_causes self.old size kind) ≡ Some r) }
+        ensures judged { IsJudgedBy (claim_causes self.old size kind) result }
         ensures unchanged { OnErr result (self.new ≡ self.old) }
-        ensures accepted { OnOk result (first_cause (claim_causes self.old size kind) ≡ None) }
-        ensures place { IfOk result (λ start. place_for (blank self.old.claimed) self.old.blocks size kind ≡ Some start) }
-        ensures claimed { IfOk result (λ start. self.new ≡ record self.old { claimed = insert self.old.claimed start (record { size = size; kind = kind }) }) }
+        ensures place { IfOk result (λ start. place_in self.old.extents self.old.blocks size kind ≡ Some start) }
+        ensures claimed { IfOk result (λ start. self.new ≡ record self.old { extents = insert self.old.extents start (record { size = size; kind = kind }); condemned = swept self.old.condemned (block_of start) (blocks_for size) }) }
+        ensures apart { OnOk result (AreApart self.new.extents) }
+        ensures within { OnOk result (AreWithin self.new.blocks self.new.extents) }
     {
-        if size == 0 || size > BLOCK_WORDS {
+        if size == 0 || size > MAX_OBJECT_WORDS {
             return Err(Refusal::BadSize);
         }
-        let class = class_of(size, kind);
-        if let Some(block) = self.rooms[class].first() {
-            return Ok(claim_in(&mut self.blocks, &mut self.rooms[class], block));
-        }
-        let Some(block) = self.bare.first() else {
-            return Err(Refusal::NoSpace);
-        };
-        self.bare.remove(block);
-        self.rooms[class].insert(block);
-        self.blocks[block as usize] = Block::of(size, kind);
-        Ok(claim_in(&mut self.blocks, &mut self.rooms[class], block))
+        claim_place(&mut self.table, size, kind).ok_or(Refusal::NoSpace)
     }
 
-    /// Gives a cell back. Asked only of a claimed start.
-    pub fn release(&mut self, start: Addr)
-        requires { IsTrue (contains_key self.old.claimed start) }
-        ensures { self.new ≡ record self.old { claimed = remove self.old.claimed start } }
+    /// Takes an object out of the map; its cell, or its whole run, waits to be swept. Asked only of a start.
+    pub fn condemn(&mut self, start: Addr)
+        requires { IsTrue (contains_key self.old.extents start) }
+        ensures { self.new ≡ record self.old { extents = remove self.old.extents start; condemned = sets.insert self.old.condemned start } }
     {
-        let all = &mut self.blocks;
+        let table = &mut self.table;
         let offset = start - HEAP_START;
-        let block = offset / BLOCK_WORDS;
-        let place = &mut all[block as usize];
-        let class = class_of(u64::from(place.size), place.kind);
-        place.release(offset % BLOCK_WORDS);
-        if place.is_bare() {
-            self.rooms[class].remove(block);
-            self.bare.insert(block);
-        } else {
-            self.rooms[class].insert(block);
+        let at = offset / BLOCK_WORDS;
+        let mut block = table.get(at);
+        block.condemn(offset % BLOCK_WORDS);
+        table.put(at, block);
+        free_later(table, at, block.span());
+    }
+
+    /// Condemns each object that starts in a block at one of these places, a bit each, the first place's lowest; returns their
+    /// number. Asked only of a block of the heap.
+    pub fn condemn_in(&mut self, block: u64, places: u64) -> u64
+        requires { block < self.old.blocks }
+        ensures blocks { self.new.blocks ≡ self.old.blocks }
+        ensures extents { self.new.extents ≡ retain_keys self.old.extents (λ a. not (stands_at block places a)) }
+        ensures condemned { (a : ℕ) → sets.contains self.new.condemned a ≡ (contains_key self.old.extents a && stands_at block places a || sets.contains self.old.condemned a) }
+        ensures count { sets.len self.new.condemned ≡ sets.len self.old.condemned + result }
+    {
+        let table = &mut self.table;
+        let mut left = table.get(block);
+        let count = left.condemn_all(places);
+        if count == 0 {
+            return 0;
         }
+        table.put(block, left);
+        free_later(table, block, left.span());
+        count
     }
 
-    /// The start of the claimed cell that the word lies in, if it lies in one.
-    pub fn cell_of(&self, word: Word) -> Option<Addr>
-        ensures cell { result ≡ points (blank self.now.claimed) word }
-        ensures within { IfSome result (λ start. (65536 ≤ start) × (start < 65536 + 64 * self.now.blocks) × IsTrue (contains_key self.now.claimed start)) }
+    /// Frees the condemned cells of a block, or the condemned run that starts there. Asked only of a block of the heap.
+    pub fn sweep(&mut self, block: u64)
+        requires { block < self.old.blocks }
+        ensures { self.new ≡ record self.old { condemned = swept self.old.condemned block 1 } }
     {
-        let all = &self.blocks;
+        let table = &mut self.table;
+        let mut clean = table.get(block);
+        clean.sweep();
+        table.put(block, clean);
+    }
+
+    /// The number of condemned cells, a run counted once.
+    pub fn condemned(&self) -> u64
+        ensures count { result ≡ sets.len self.now.condemned }
+        ensures gone { AreGone self.now }
+    {
+        self.table.condemned()
+    }
+
+    /// The start and the extent of the object in which the word lies, interior words included, if it lies in one.
+    pub fn cell_of(&self, word: Word) -> Option<(Addr, Extent)>
+        ensures { MatchOption result (points_in self.now.extents word ≡ None) (λ found. (points_in self.now.extents word ≡ Some found.0) × (get self.now.extents found.0 ≡ Some found.1)) }
+    {
+        let all = self.table.as_slice();
         let offset = word.checked_sub(HEAP_START)?;
-        let block = all.get((offset / BLOCK_WORDS) as usize)?;
+        let index = offset / BLOCK_WORDS;
+        let block = all.get(index as usize)?;
         let place = offset % BLOCK_WORDS;
-        let start = block.cell_start(place)?;
-        Some(word - place + start)
-    }
-
-    /// The size in words and the kind of the claimed cell at a start, if one starts there.
-    pub fn facts(&self, start: Addr) -> Option<(u64, ObjKind)>
-        ensures facts { result ≡ option_map (λ c. (c.size, c.kind)) (get self.now.claimed start) }
-        ensures within { IfSome result (λ f. (65536 ≤ start) × (start + f.0 ≤ 65536 + 64 * self.now.blocks)) }
-        ensures extent { IfSome result (λ f. (i : ℕ) → i < f.0 → points (blank self.now.claimed) (start + i) ≡ Some start) }
-    {
-        let all = &self.blocks;
-        let offset = start.checked_sub(HEAP_START)?;
-        let block = all.get((offset / BLOCK_WORDS) as usize)?;
-        let place = offset % BLOCK_WORDS;
-        if block.cell_start(place)? != place {
+        if let Some(start) = block.cell_start(place) {
+            return Some((word - place + start, block.extent()));
+        }
+        if block.back == 0 {
             return None;
         }
-        Some((u64::from(block.size), block.kind))
+        let back = u64::from(block.back);
+        let first = all.get((index - back) as usize)?;
+        let start = word - place - BLOCK_WORDS * back;
+        if word - start >= u64::from(first.size) {
+            return None;
+        }
+        Some((start, first.extent()))
     }
 
-    /// The starts of all claimed cells, by rising address.
-    pub fn starts(&self) -> Starts<'_>
-        ensures { result ≡ keys self.now.claimed }
+    /// The extent of the object that starts at the word, if one starts there.
+    pub fn extent_at(&self, start: Word) -> Option<Extent>
+        ensures { result ≡ get self.now.extents start }
     {
-        Starts::of(&self.blocks)
+        let all = self.table.as_slice();
+        let offset = start.checked_sub(HEAP_START)?;
+        let block = all.get((offset / BLOCK_WORDS) as usize)?;
+        if !block.starts_at(offset % BLOCK_WORDS) {
+            return None;
+        }
+        Some(block.extent())
+    }
+
+    /// The places of a block where objects start, a bit each, the first place's lowest. Asked only of a block of the heap.
+    pub fn starts_in(&self, block: u64) -> u64
+        requires { block < self.now.blocks }
+        ensures { (place : ℕ) → place < BLOCK_WORDS → has_bit result place ≡ contains_key self.now.extents (block_start block + place) }
+    {
+        self.table.get(block).objects
+    }
+
+    /// The starts of all objects, by rising address.
+    pub fn starts(&self) -> Starts<'_>
+        ensures { result ≡ keys self.now.extents }
+    {
+        Starts::of(self.table.as_slice())
     }
 }

@@ -1,7 +1,8 @@
 //! The classes of cells: a size and a kind each.
 
 ghost use Rattle.std.specs.Prelude.{◌≡◌, ◌≤◌};
-ghost use Rattle.fz_blocks.specs.Layout.{class_of};
+ghost use Rattle.fz_model.specs.declared.limits.TheConstants.{BLOCK_WORDS};
+ghost use Rattle.fz_blocks.specs.Classes.{class_of};
 
 use fz_model::ObjKind;
 
@@ -11,7 +12,7 @@ pub(crate) const CLASSES: usize = 128;
 /// The place of a size and kind among the classes.
 pub(crate) fn class_of(size: u64, kind: ObjKind) -> usize
     requires sized { 1 ≤ size }
-    requires small { size ≤ 64 }
+    requires small { size ≤ BLOCK_WORDS }
     ensures { result ≡ class_of size kind }
 {
     match kind {

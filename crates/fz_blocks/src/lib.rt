@@ -4,8 +4,10 @@
 mod block;
 mod block_map;
 mod block_set;
+mod claims;
 mod class;
 mod starts;
+mod table;
 #[cfg(test)]
 mod tests;
 

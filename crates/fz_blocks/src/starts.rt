@@ -1,4 +1,4 @@
-//! The starts of a map's cells, in order.
+//! The starts of a map's objects, in order.
 
 ghost use Rattle.std.specs.Prelude.{◌≡◌};
 ghost use Rattle.std.specs.Iterator.{YieldsFirst, item_count};
@@ -7,7 +7,7 @@ use crate::block::Block;
 use fz_model::{Addr, BLOCK_WORDS, HEAP_START};
 use std::marker::Model;
 
-/// An iterator of the starts of all claimed cells, by rising address. A contract sees it as the list of those that are still to come.
+/// An iterator over the starts of all objects, by rising address. A contract sees it as the list of those still to come.
 #[derive(Drop)]
 pub struct Starts<'a> {
     blocks: &'a [Block],
@@ -20,24 +20,24 @@ impl<'a> Model for Starts<'a> {
 
     ghost Value = { List ℕ };
 
-    ghost use Rattle.fz_blocks.specs.Blocks.{AllSound};
+    ghost use Rattle.fz_model.specs.declared.limits.TheConstants.{HEAP_START, MAX_BLOCKS};
+    ghost use Rattle.fz_model.specs.Extents.{heap_end};
     ghost use Rattle.fz_blocks.specs.Starts.{starts_from};
 
     ghost view = { λ s. starts_from s.blocks.now s.next };
 
-    ghost invariant = { λ s. AllSound s.blocks.now × (65536 ≤ s.next) × (s.next ≤ 65536 + 64 * length s.blocks.now) × (length s.blocks.now ≤ 4096) };
+    ghost invariant = { λ s. (HEAP_START ≤ s.next) × (s.next ≤ heap_end (length s.blocks.now)) × (length s.blocks.now ≤ MAX_BLOCKS) };
 }
 
 impl<'a> Starts<'a> {
     ghost use Rattle.std.specs.Prelude.{◌≡◌, ◌≤◌, length};
-    ghost use Rattle.fz_blocks.specs.Blocks.{AllSound};
+    ghost use Rattle.fz_model.specs.declared.limits.TheConstants.{HEAP_START, MAX_BLOCKS};
     ghost use Rattle.fz_blocks.specs.Starts.{starts_from};
 
-    /// The starts of the cells claimed in these blocks.
+    /// The starts of the objects in these blocks.
     pub(crate) fn of(blocks: &'a [Block]) -> Starts<'a>
-        requires sound { AllSound blocks.now }
-        requires few { length blocks.now ≤ 4096 }
-        ensures { result ≡ starts_from blocks.now 65536 }
+        requires { length blocks.now ≤ MAX_BLOCKS }
+        ensures { result ≡ starts_from blocks.now HEAP_START }
     {
         Starts {
             blocks,

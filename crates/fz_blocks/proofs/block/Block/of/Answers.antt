@@ -1,11 +1,19 @@
-use Rattle.std.proofs.lemmas.Nat.Bits.{bit_at-zero}
-use Rattle.fz_blocks.proofs.Bits.{whole_is}
+use Rattle.std.proofs.Common.{◌∙◌, arith}
+use Rattle.std.proofs.Math.Nat.{mod_self, add-mod_right}
+use Rattle.fz_blocks.proofs.Blocks.{first_cell, next_cell}
 use Rattle.fz_blocks.proofs.block.Block.of.Goals as goal
 
-pub returns-clause-sound : goal.returns-clause-sound
-returns-clause-sound c = record {
-  sized = c.requires.sized;
-  small = c.requires.small;
-  all = whole_is c.args.size c.requires.sized c.requires.small;
-  none_past = λ i _. bit_at-zero i;
-}
+pub loop-place-init : goal.loop-place-init
+loop-place-init c = (omega arith, c.requires.small, mod_self c.args.size, first_cell c.args.size c.requires.sized)
+
+pub loop-place-preserved : goal.loop-place-preserved
+loop-place-preserved c =
+    let inv = c.loop-place.invariant in
+    let low = inv.0 in
+    let sized = c.requires.sized in
+    let fits = c.loop-place-test.true in (
+      omega (arith, low),
+      omega (arith, fits),
+      add-mod_right c.loop-place.place c.args.size ∙ inv.2,
+      next_cell c.loop-place.cells c.args.size c.loop-place.place sized inv.2 (λ is. omega (arith, is, low, sized)) fits inv.3,
+    )

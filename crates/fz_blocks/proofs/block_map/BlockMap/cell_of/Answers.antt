@@ -1,42 +1,77 @@
-use Rattle.std.proofs.Common.{◌∙◌, ◌≡◌, ◌/◌, ◌-◌, ◌+◌, ◌*◌, ◌%◌, ◌≤◌, ◌<◌, true, subst, ap, sym, arith, Some, slice_get}
-use Rattle.std.specs.FinMap.{contains_key}
-use Rattle.fz_model.specs.Memory.{points}
-use Rattle.fz_blocks.specs.Cells.{Cells, blank}
-use Rattle.fz_blocks.proofs.Words.{points_low, points_outside, points_missed, points_read, target_within, read_block, read_none}
+use Rattle.std.proofs.Common.{◌≡◌, ◌/◌, ◌-◌, ◌+◌, ◌*◌, ◌%◌, ℕ, Option, Some, None, MatchOption, subst, sym, arith, slice_get}
+use Rattle.std.specs.FinMap.{get}
+use Rattle.fz_model.specs.declared.extent.Extent.{Extent}
+use Rattle.fz_model.specs.Extents.{points_in}
+use Rattle.fz_model.specs.State.{Map}
+use Rattle.fz_blocks.specs.Claimed.{Claimed}
+use Rattle.fz_blocks.specs.Layout.{extents_in}
+use Rattle.fz_blocks.proofs.Extents.{points_low, points_past, points_here, points_free, points_back, points_rest}
+use Rattle.fz_blocks.proofs.Reading.{read_block, read_none}
 use Rattle.fz_blocks.proofs.block_map.BlockMap.cell_of.Goals as goal
 
-pub returns-in_err-offset-clause-cell : goal.returns-in_err-offset-clause-cell
-returns-in_err-offset-clause-cell c =
-    c.from_residual.ensures
-    ∙ sym (points_low c.self.inside.blocks.items c.self.invariant.sound c.args.word (omega (arith, c.in_err-offset.ensures)))
-    ∙ ap (λ (v : Cells). points (blank v.claimed) c.args.word) c.self.view_is
+abbrev Answer : ℕ → Option (ℕ × Extent) → Map Extent → Type 0
+Answer w r extents = MatchOption r (points_in extents w ≡ None) (λ found. (points_in extents w ≡ Some found.0) × (get extents found.0 ≡ Some found.1))
 
-pub returns-in_err-block-clause-cell : goal.returns-in_err-block-clause-cell
-returns-in_err-block-clause-cell c =
-    c.from_residual-in_err-block.ensures
-    ∙ sym (points_outside c.self.inside.blocks.items c.self.invariant.sound c.args.word c.in_ok-offset.offset c.in_ok-offset.ensures.1 (read_none c.self.inside.blocks.items c.deref.result.now (c.in_ok-offset.offset / 64) c.deref.ensures.value c.in_err-block.ensures.lookup.0))
-    ∙ ap (λ (v : Cells). points (blank v.claimed) c.args.word) c.self.view_is
+pub returns-in_err-offset : goal.returns-in_err-offset
+returns-in_err-offset c =
+    subst (λ (v : Claimed). Answer c.args.word c.from_residual.result v.extents) c.self.view_is
+    (subst (λ r. Answer c.args.word r (extents_in c.self.inside.table)) (sym c.from_residual.ensures) (points_low c.self.inside.table c.self.invariant.runs c.args.word (omega (arith, c.in_err-offset.ensures))))
 
-pub cell_start-requires-clause-sound : goal.cell_start-requires-clause-sound
-cell_start-requires-clause-sound c =
-    c.self.invariant.sound (c.in_ok-offset.offset / 64) c.in_ok-block.block.now (read_block c.self.inside.blocks.items c.deref.result.now (c.in_ok-offset.offset / 64) c.in_ok-block.block.now c.deref.ensures.value c.in_ok-block.ensures.lookup.0 c.in_ok-block.ensures.lookup.1)
+pub returns-in_err-block : goal.returns-in_err-block
+returns-in_err-block c =
+    subst (λ (v : Claimed). Answer c.args.word c.from_residual-in_err-block.result v.extents) c.self.view_is
+    (subst (λ r. Answer c.args.word r (extents_in c.self.inside.table)) (sym c.from_residual-in_err-block.ensures)
+    (points_past c.self.inside.table c.self.invariant.runs c.args.word c.in_ok-offset.offset c.in_ok-offset.ensures.0 c.in_ok-offset.ensures.1 (read_none c.self.inside.table c.as_slice-all.result.now (c.in_ok-offset.offset / 64) c.as_slice-all.ensures c.in_err-block.ensures.lookup.0)))
 
-pub returns-in_err-start-clause-cell : goal.returns-in_err-start-clause-cell
-returns-in_err-start-clause-cell c =
-    let here : slice_get c.self.inside.blocks.items (c.in_ok-offset.offset / 64) ≡ Some c.in_ok-block.block.now = read_block c.self.inside.blocks.items c.deref.result.now (c.in_ok-offset.offset / 64) c.in_ok-block.block.now c.deref.ensures.value c.in_ok-block.ensures.lookup.0 c.in_ok-block.ensures.lookup.1 in
-    c.from_residual-in_err-start.ensures
-    ∙ points_missed c.self.inside.blocks.items c.self.invariant.sound c.args.word c.in_ok-offset.offset c.in_ok-block.block.now c.in_ok-offset.ensures.1 here c.in_err-start.ensures
-    ∙ ap (λ (v : Cells). points (blank v.claimed) c.args.word) c.self.view_is
+pub returns-in-Some : goal.returns-in-Some
+returns-in-Some c =
+    let here = read_block c.self.inside.table c.as_slice-all.result.now (c.in_ok-offset.offset / 64) c.in_ok-block.block.now c.as_slice-all.ensures c.in_ok-block.ensures.lookup.0 c.in_ok-block.ensures.lookup.1 in
+    let found = points_here c.self.inside.table c.self.invariant.runs c.args.word c.in_ok-offset.offset c.in_ok-offset.ensures.0 c.in_ok-offset.ensures.1 c.in_ok-block.block.now here c.in-Some.start c.in-Some.ensures in
+    subst (λ (v : Claimed). Answer c.args.word (Some (c.args.word - c.in_ok-offset.offset % 64 + c.in-Some.start, c.extent.result)) v.extents) c.self.view_is (found.0, subst (λ x. get (extents_in c.self.inside.table) (c.args.word - c.in_ok-offset.offset % 64 + c.in-Some.start) ≡ Some x) (sym c.extent.ensures) found.1)
 
-pub returns-clause-cell : goal.returns-clause-cell
-returns-clause-cell c =
-    let here : slice_get c.self.inside.blocks.items (c.in_ok-offset.offset / 64) ≡ Some c.in_ok-block.block.now = read_block c.self.inside.blocks.items c.deref.result.now (c.in_ok-offset.offset / 64) c.in_ok-block.block.now c.deref.ensures.value c.in_ok-block.ensures.lookup.0 c.in_ok-block.ensures.lookup.1 in
-    points_read c.self.inside.blocks.items c.self.invariant.sound c.args.word c.in_ok-offset.offset c.in_ok-start.start c.in_ok-block.block.now c.in_ok-offset.ensures.0 c.in_ok-offset.ensures.1 here c.in_ok-start.ensures
-    ∙ ap (λ (v : Cells). points (blank v.claimed) c.args.word) c.self.view_is
+pub returns-then-block-eq0 : goal.returns-then-block-eq0
+returns-then-block-eq0 c =
+    let here = read_block c.self.inside.table c.as_slice-all.result.now (c.in_ok-offset.offset / 64) c.in_ok-block.block.now c.as_slice-all.ensures c.in_ok-block.ensures.lookup.0 c.in_ok-block.ensures.lookup.1 in
+    subst (λ (v : Claimed). Answer c.args.word None v.extents) c.self.view_is (points_free c.self.inside.table c.self.invariant.runs c.args.word c.in_ok-offset.offset c.in_ok-offset.ensures.0 c.in_ok-offset.ensures.1 c.in_ok-block.block.now here c.in_default.ensures c.if-block-eq0.true)
 
-pub returns-clause-within : goal.returns-clause-within
-returns-clause-within c =
-    let here : slice_get c.self.inside.blocks.items (c.in_ok-offset.offset / 64) ≡ Some c.in_ok-block.block.now = read_block c.self.inside.blocks.items c.deref.result.now (c.in_ok-offset.offset / 64) c.in_ok-block.block.now c.deref.ensures.value c.in_ok-block.ensures.lookup.0 c.in_ok-block.ensures.lookup.1 in
-    let start = c.args.word - c.in_ok-offset.offset % 64 + c.in_ok-start.start in
-    let pointed = points_read c.self.inside.blocks.items c.self.invariant.sound c.args.word c.in_ok-offset.offset c.in_ok-start.start c.in_ok-block.block.now c.in_ok-offset.ensures.0 c.in_ok-offset.ensures.1 here c.in_ok-start.ensures in
-    subst (λ (v : Cells). (65536 ≤ start) × (start < 65536 + 64 * v.blocks) × (contains_key v.claimed start ≡ true)) c.self.view_is (target_within c.self.inside.blocks.items c.self.invariant.sound c.args.word start pointed)
+pub overflow_sub-index : goal.overflow_sub-index
+overflow_sub-index c =
+    let here = read_block c.self.inside.table c.as_slice-all.result.now (c.in_ok-offset.offset / 64) c.in_ok-block.block.now c.as_slice-all.ensures c.in_ok-block.ensures.lookup.0 c.in_ok-block.ensures.lookup.1 in
+    let later = c.self.invariant.runs.behind (c.in_ok-offset.offset / 64) c.in_ok-block.block.now here (omega (arith, c.if-block-eq0.false)) in
+    let low = later.within in
+    let back = c.from-back.ensures in
+    omega (arith, low, back)
+
+pub overflow_sub-start-2 : goal.overflow_sub-start-2
+overflow_sub-start-2 c =
+    let here = read_block c.self.inside.table c.as_slice-all.result.now (c.in_ok-offset.offset / 64) c.in_ok-block.block.now c.as_slice-all.ensures c.in_ok-block.ensures.lookup.0 c.in_ok-block.ensures.lookup.1 in
+    let later = c.self.invariant.runs.behind (c.in_ok-offset.offset / 64) c.in_ok-block.block.now here (omega (arith, c.if-block-eq0.false)) in
+    let low = later.within in
+    let back = c.from-back.ensures in
+    let high = c.in_ok-offset.ensures.0 in
+    let offset = c.in_ok-offset.ensures.1 in
+    omega (arith, low, back, high, offset)
+
+pub returns-then-word-start : goal.returns-then-word-start
+returns-then-word-start c =
+    let blocks = c.self.inside.table in
+    let here = read_block c.self.inside.table c.as_slice-all.result.now (c.in_ok-offset.offset / 64) c.in_ok-block.block.now c.as_slice-all.ensures c.in_ok-block.ensures.lookup.0 c.in_ok-block.ensures.lookup.1 in
+    let there = read_block c.self.inside.table c.as_slice-all.result.now (c.in_ok-offset.offset / 64 - c.from-back.result) c.in_ok-first.first.now c.as_slice-all.ensures c.in_ok-first.ensures.lookup.0 c.in_ok-first.ensures.lookup.1 in
+    let far = c.if-word-start.true in
+    let size = c.from.ensures in
+    let back = c.from-back.ensures in
+    subst (λ (v : Claimed). Answer c.args.word None v.extents) c.self.view_is
+    (points_rest c.self.inside.table c.self.invariant.runs c.args.word c.in_ok-offset.offset c.in_ok-offset.ensures.0 c.in_ok-offset.ensures.1 c.in_ok-block.block.now here c.in_default.ensures c.if-block-eq0.false c.in_ok-first.first.now
+    (subst (λ k. slice_get c.self.inside.table (c.in_ok-offset.offset / 64 - k) ≡ Some c.in_ok-first.first.now) back there) (omega (arith, far, size, back)))
+
+pub returns : goal.returns
+returns c =
+    let here = read_block c.self.inside.table c.as_slice-all.result.now (c.in_ok-offset.offset / 64) c.in_ok-block.block.now c.as_slice-all.ensures c.in_ok-block.ensures.lookup.0 c.in_ok-block.ensures.lookup.1 in
+    let there = read_block c.self.inside.table c.as_slice-all.result.now (c.in_ok-offset.offset / 64 - c.from-back.result) c.in_ok-first.first.now c.as_slice-all.ensures c.in_ok-first.ensures.lookup.0 c.in_ok-first.ensures.lookup.1 in
+    let near = c.if-word-start.false in
+    let size = c.from.ensures in
+    let back = c.from-back.ensures in
+    let found = points_back c.self.inside.table c.self.invariant.runs c.args.word c.in_ok-offset.offset c.in_ok-offset.ensures.0 c.in_ok-offset.ensures.1 c.in_ok-block.block.now here c.in_default.ensures c.if-block-eq0.false c.in_ok-first.first.now
+    (subst (λ k. slice_get c.self.inside.table (c.in_ok-offset.offset / 64 - k) ≡ Some c.in_ok-first.first.now) back there) (omega (arith, near, size, back)) in
+    subst (λ k. (points_in c.args.self.now.extents c.args.word ≡ Some (c.args.word - c.in_ok-offset.offset % 64 - 64 * k)) × (get c.args.self.now.extents (c.args.word - c.in_ok-offset.offset % 64 - 64 * k) ≡ Some c.extent-2.result)) (sym back)
+    (subst (λ (v : Claimed). Answer c.args.word (Some (c.args.word - c.in_ok-offset.offset % 64 - 64 * c.in_ok-block.block.now.back, c.extent-2.result)) v.extents) c.self.view_is (found.0, subst (λ x. get (extents_in c.self.inside.table) (c.args.word - c.in_ok-offset.offset % 64 - 64 * c.in_ok-block.block.now.back) ≡ Some x) (sym c.extent-2.ensures) found.1))

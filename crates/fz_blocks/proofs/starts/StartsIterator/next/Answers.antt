@@ -1,12 +1,7 @@
 use Rattle.std.proofs.Common.{◌∙◌, ◌-◌, ◌/◌, sym, refl, arith, rules}
-use Rattle.fz_blocks.proofs.Words.{read_block}
+use Rattle.fz_blocks.proofs.Reading.{read_block}
 use Rattle.fz_blocks.proofs.Starting.{step_over, step_to}
 use Rattle.fz_blocks.proofs.starts.StartsIterator.next.Goals as goal
-
-pub first_start-requires-clause-sound : goal.first_start-requires-clause-sound
-first_start-requires-clause-sound c =
-    let list = c.loop-block.self-inside.blocks.now in
-    c.loop-block.invariant.sound ((c.loop-block.self-inside.next - 65536) / 64) c.in-Some.block.now (read_block list list ((c.loop-block.self-inside.next - 65536) / 64) c.in-Some.block.now refl c.in-Some.ensures.lookup.0 c.in-Some.ensures.lookup.1)
 
 pub returns-in-Some-first_start-clause-steps : goal.returns-in-Some-first_start-clause-steps
 returns-in-Some-first_start-clause-steps c =
@@ -23,7 +18,6 @@ loop-block-preserved c =
     let here = read_block list list ((c.loop-block.self-inside.next - 65536) / 64) c.in-Some.block.now refl c.in-Some.ensures.lookup.0 c.in-Some.ensures.lookup.1 in
     let over = step_over list c.loop-block.self-inside.next c.in-Some.block.now c.loop-block.invariant.low here c.in_default-first_start.ensures in
     record {
-      sound = c.loop-block.invariant.sound;
       low = omega (arith, c.loop-block.invariant.low);
       high = search rules;
       few = c.loop-block.invariant.few;

@@ -1,12 +1,10 @@
 use Rattle.std.proofs.Common.{◌≡◌, ◌≤◌, ◌+◌, ◌-◌, ◌*◌, length}
-use Rattle.fz_blocks.specs.Blocks.{AllSound}
 use Rattle.fz_blocks.specs.Starts.{starts_from}
 use Rattle.fz_blocks.proofs.starts.StartsIterator.next.Given as goal
 
 -- what is left is as it was
 abbrev pub invariant-loop-block : goal.invariant-loop-block
 invariant-loop-block l = record {
-  sound : AllSound l.self-inside.blocks.now;
   low : 65536 ≤ l.self-inside.next;
   high : l.self-inside.next ≤ 65536 + 64 * length l.self-inside.blocks.now;
   few : length l.self-inside.blocks.now ≤ 4096;

@@ -1,0 +1,178 @@
+-- A list of blocks and its sets, as one block changes.
+use Rattle.std.proofs.Common.{◌≡◌, ◌≢◌, ℕ, suc, zero, ◌<◌, ◌≤◌, Bool, true, false, cond, not, ◌||◌, ◌&&◌, ◌==◌, List, [], ◌∷◌, length, Option, Some, None, MatchOption, slice_get, slice_index_or, set, nat_le, nat_eq, nat_cmp, refl, sym, ap, ◌∙◌, subst, ⊎_elim, arith, length-set}
+use Rattle.std.proofs.lemmas.Bool.{cases_eq, eq-eqb, ne_eqb, eqb-true, and_parts, leb-true, cond-true, cond-false, both_ways}
+use Rattle.std.proofs.lemmas.List.{get_or-set_same, get_or-set_other}
+use Rattle.std.specs.Cmp.{nat_cmp_total, unsigned_tied}
+use Rattle.std.specs.Option.{option_map_or}
+use Rattle.std.specs.FinSet as sets
+use Rattle.std.specs.FinSet.{contains, empty, contains-insert, contains-remove, contains-empty}
+use Rattle.fz_model.specs.declared.kinds.ObjKind.{ObjKind}
+use Rattle.fz_model.specs.declared.kinds.ObjKind.TheVariants.{Scanned, Atomic}
+use Rattle.fz_blocks.specs.declared.block.Block.{Block}
+use Rattle.fz_blocks.specs.BlockSets.{Blocks, Roomed, no_room, members_at, room_at, IsLeast}
+use Rattle.fz_blocks.specs.Classes.{class_of}
+use Rattle.fz_blocks.specs.Blocks.{is_full, has_free_cell, is_bare}
+use Rattle.fz_blocks.specs.Layout.{has_room}
+use Rattle.fz_blocks.specs.Tables.{AreListed, IsFirst, Leaves, Joins}
+
+-- ---- one element of a list
+
+module _ {X : Type 0} where
+  slice_get-set_same : (xs : List X) (i : ℕ) (x : X) → i < length xs → slice_get (set xs i x) i ≡ Some x
+  slice_get-set_same [] i x lt = absurd (omega (arith, lt))
+  slice_get-set_same (y ∷ xs) zero x lt = refl
+  slice_get-set_same (y ∷ xs) (suc i) x lt = slice_get-set_same xs i x (omega (arith, lt))
+
+  slice_get-set_other : (xs : List X) (i j : ℕ) (x : X) → j ≢ i → slice_get (set xs i x) j ≡ slice_get xs j
+  slice_get-set_other [] i j x ne = refl
+  slice_get-set_other (y ∷ xs) zero zero x ne = absurd (ne refl)
+  slice_get-set_other (y ∷ xs) zero (suc j) x ne = refl
+  slice_get-set_other (y ∷ xs) (suc i) zero x ne = refl
+  slice_get-set_other (y ∷ xs) (suc i) (suc j) x ne = slice_get-set_other xs i j x (λ e. ne (ap suc e))
+
+  pub slice_get-set : (xs : List X) (i : ℕ) (x : X) → i < length xs → (j : ℕ) → slice_get (set xs i x) j ≡ cond (nat_eq j i) (Some x) (slice_get xs j)
+  slice_get-set xs i x lt j =
+      ⊎_elim
+      (λ (is : j ≡ i). ap (slice_get (set xs i x)) is ∙ slice_get-set_same xs i x lt ∙ sym (cond-true (nat_eq j i) (Some x) (slice_get xs j) (eq-eqb j i is)))
+      (λ (ne : j ≢ i). slice_get-set_other xs i j x ne ∙ sym (cond-false (nat_eq j i) (Some x) (slice_get xs j) (ne_eqb j i ne)))
+      (cases_eq j i)
+
+-- ---- sets
+
+pub contains-inserted : (s : Blocks) (b q : ℕ) → contains (sets.insert s b) q ≡ cond (nat_eq q b) true (contains s q)
+contains-inserted s b q = contains-insert nat_cmp_total s b q ∙ ap (λ t. t || contains s q) (unsigned_tied q b) ∙ elim (nat_eq q b) as (λ t. (t || contains s q) ≡ cond t true (contains s q)) [ true ↦ refl | false ↦ refl ]
+
+pub contains-removed : (s : Blocks) (b q : ℕ) → contains (sets.remove s b) q ≡ cond (nat_eq q b) false (contains s q)
+contains-removed s b q = contains-remove nat_cmp_total s b q ∙ ap (λ t. not t && contains s q) (unsigned_tied q b) ∙ elim (nat_eq q b) as (λ t. (not t && contains s q) ≡ cond t false (contains s q)) [ true ↦ refl | false ↦ refl ]
+
+-- ---- the set of a block's class
+
+pub room_is : (class : ℕ) (block : Block) → has_room class block ≡ (has_free_cell block && (class_of block.size block.kind == class))
+room_is class block = parts (not (block.objects == 0)) (not (is_full block)) (nat_le block.size 64) (class_of block.size block.kind == class)
+  where
+    parts : (x y z t : Bool) → (x && (y && (z && t))) ≡ ((x && (y && z)) && t)
+    parts false y z t = refl
+    parts true false z t = refl
+    parts true true z t = refl
+
+pub class_small : (block : Block) → has_free_cell block ≡ true → block.size ≤ 64
+class_small block on = leb-true block.size 64 (and_parts (not (is_full block)) _ (and_parts (not (block.objects == 0)) _ on).1).1
+
+pub class_below : (block : Block) → has_free_cell block ≡ true → class_of block.size block.kind < 128
+class_below block on = at block.size block.kind block.sized (class_small block on)
+  where
+    at : (size : ℕ) (kind : ObjKind) → 1 ≤ size → size ≤ 64 → class_of size kind < 128
+    at size Scanned sized small = omega arith
+    at size Atomic sized small = omega arith
+
+module _ (rooms : List Roomed) (block : Block) (at : ℕ) where
+  class : ℕ
+  class = class_of block.size block.kind
+
+  pub leaves_none : has_free_cell block ≡ false → Leaves rooms rooms block at
+  leaves_none off = record { long = refl; room = λ d. refl; are = λ d q. sym (ap (λ t. not (t && q == at) && contains (members_at rooms d) q) (room_is d block ∙ ap (λ t. t && (class_of block.size block.kind == d)) off)) }
+
+  pub joins_none : has_free_cell block ≡ false → Joins rooms rooms block at
+  joins_none off = record { long = refl; room = λ d. refl; are = λ d q. sym (ap (λ t. t && q == at || contains (members_at rooms d) q) (room_is d block ∙ ap (λ t. t && (class_of block.size block.kind == d)) off)) }
+
+  module _ (on : has_free_cell block ≡ true) (i : ℕ) (read : Roomed) (is : i ≡ class_of block.size block.kind) (lt : i < length rooms) (read_is : read ≡ slice_index_or rooms i no_room) where
+    own : (d : ℕ) → d ≡ i → has_room d block ≡ true
+    own d same = room_is d block ∙ ap (λ t. t && (class_of block.size block.kind == d)) on ∙ eq-eqb _ d (sym (same ∙ is))
+
+    other : (d : ℕ) → d ≢ i → has_room d block ≡ false
+    other d ne = room_is d block ∙ ap (λ t. t && (class_of block.size block.kind == d)) on ∙ ne_eqb _ d (λ e. ne (sym e ∙ sym is))
+
+    pub leaves_room : Leaves rooms (set rooms i (record read { members = sets.remove read.members at })) block at
+    leaves_room = record {
+      long = length-set rooms i (record read { members = sets.remove read.members at });
+      room = λ d.
+          ⊎_elim
+          (λ (same : d ≡ i). ap (λ j. room_at (set rooms i (record read { members = sets.remove read.members at })) j) same ∙ ap (λ (s : Roomed). s.room) (get_or-set_same rooms i (record read { members = sets.remove read.members at }) no_room lt) ∙ ap (λ (s : Roomed). s.room) (read_is ∙ ap (λ j. slice_index_or rooms j no_room) (sym same)))
+          (λ (ne : d ≢ i). ap (λ (s : Roomed). s.room) (get_or-set_other rooms i d (record read { members = sets.remove read.members at }) no_room ne))
+          (cases_eq d i);
+      are = λ d q.
+          ⊎_elim
+          (λ (same : d ≡ i). ap (λ j. contains (members_at (set rooms i (record read { members = sets.remove read.members at })) j) q) same ∙ ap (λ (s : Roomed). contains s.members q) (get_or-set_same rooms i (record read { members = sets.remove read.members at }) no_room lt) ∙ contains-removed read.members at q ∙ ap (λ (s : Roomed). cond (nat_eq q at) false (contains s.members q)) (read_is ∙ ap (λ j. slice_index_or rooms j no_room) (sym same))
+          ∙ flip (nat_eq q at) (contains (members_at rooms d) q) ∙ sym (ap (λ t. not (t && q == at) && contains (members_at rooms d) q) (own d same)))
+          (λ (ne : d ≢ i). ap (λ (s : Roomed). contains s.members q) (get_or-set_other rooms i d (record read { members = sets.remove read.members at }) no_room ne) ∙ sym (ap (λ t. not (t && q == at) && contains (members_at rooms d) q) (other d ne)))
+          (cases_eq d i);
+    }
+      where
+        flip : (t u : Bool) → cond t false u ≡ (not t && u)
+        flip true u = refl
+        flip false u = refl
+
+    pub joins_room : Joins rooms (set rooms i (record read { members = sets.insert read.members at })) block at
+    joins_room = record {
+      long = length-set rooms i (record read { members = sets.insert read.members at });
+      room = λ d.
+          ⊎_elim
+          (λ (same : d ≡ i). ap (λ j. room_at (set rooms i (record read { members = sets.insert read.members at })) j) same ∙ ap (λ (s : Roomed). s.room) (get_or-set_same rooms i (record read { members = sets.insert read.members at }) no_room lt) ∙ ap (λ (s : Roomed). s.room) (read_is ∙ ap (λ j. slice_index_or rooms j no_room) (sym same)))
+          (λ (ne : d ≢ i). ap (λ (s : Roomed). s.room) (get_or-set_other rooms i d (record read { members = sets.insert read.members at }) no_room ne))
+          (cases_eq d i);
+      are = λ d q.
+          ⊎_elim
+          (λ (same : d ≡ i). ap (λ j. contains (members_at (set rooms i (record read { members = sets.insert read.members at })) j) q) same ∙ ap (λ (s : Roomed). contains s.members q) (get_or-set_same rooms i (record read { members = sets.insert read.members at }) no_room lt) ∙ contains-inserted read.members at q ∙ ap (λ (s : Roomed). cond (nat_eq q at) true (contains s.members q)) (read_is ∙ ap (λ j. slice_index_or rooms j no_room) (sym same))
+          ∙ either (nat_eq q at) (contains (members_at rooms d) q) ∙ sym (ap (λ t. t && q == at || contains (members_at rooms d) q) (own d same)))
+          (λ (ne : d ≢ i). ap (λ (s : Roomed). contains s.members q) (get_or-set_other rooms i d (record read { members = sets.insert read.members at }) no_room ne) ∙ sym (ap (λ t. t && q == at || contains (members_at rooms d) q) (other d ne)))
+          (cases_eq d i);
+    }
+      where
+        either : (t u : Bool) → cond t true u ≡ (t || u)
+        either true u = refl
+        either false u = refl
+
+-- ---- a block becomes another
+
+pub put_listed : (blocks : List Block) (bare bare_now : Roomed) (rooms left joined : List Roomed) (at : ℕ) (old new : Block) → AreListed blocks bare rooms → at < length blocks → slice_get blocks at ≡ Some old → Leaves rooms left old at → Joins left joined new at → bare_now.room ≡ bare.room → ((b : ℕ) → contains bare_now.members b ≡ cond (b == at) (is_bare new) (contains bare.members b)) → AreListed (set blocks at new) bare_now joined
+put_listed blocks bare bare_now rooms left joined at old new listed lt here leaves joins room_is bare_is = record {
+  few = subst (λ n. n ≤ 4096) (sym (length-set blocks at new)) listed.few;
+  classes = joins.long ∙ leaves.long ∙ listed.classes;
+  bare_room = let long = length-set blocks at new in let was = listed.bare_room in omega (arith, long, was, room_is);
+  rooms_room = λ class small. let long = length-set blocks at new in let was = listed.rooms_room class small in let one = leaves.room class in let two = joins.room class in omega (arith, long, was, one, two);
+  bare_are = λ b. bare_is b ∙ ap (cond (b == at) (is_bare new)) (listed.bare_are b) ∙ sym (set_at (slice_get blocks b) is_bare (b == at)) ∙ ap (λ o. option_map_or is_bare o false) (sym (slice_get-set blocks at new lt b));
+  rooms_are = λ class b small. joins.are class b ∙ ap (λ t. has_room class new && b == at || t) (leaves.are class b) ∙ changed class b small (b == at) refl ∙ sym (set_at (slice_get blocks b) (has_room class) (b == at)) ∙ ap (λ o. option_map_or (has_room class) o false) (sym (slice_get-set blocks at new lt b));
+}
+  where
+    set_at : (o : Option Block) (f : Block → Bool) (t : Bool) → option_map_or f (cond t (Some new) o) false ≡ cond t (f new) (option_map_or f o false)
+    set_at o f true = refl
+    set_at o f false = refl
+
+    settle : (x y : Bool) → ((x && true) || (not (y && true) && y)) ≡ x
+    settle true y = refl
+    settle false true = refl
+    settle false false = refl
+
+    keep : (x y z : Bool) → ((x && false) || (not (y && false) && z)) ≡ z
+    keep true true z = refl
+    keep true false z = refl
+    keep false true z = refl
+    keep false false z = refl
+
+    changed : (class b : ℕ) → class < 128 → (t : Bool) → (b == at) ≡ t → ((has_room class new && t) || (not (has_room class old && t) && contains (members_at rooms class) b)) ≡ cond t (has_room class new) (option_map_or (has_room class) (slice_get blocks b) false)
+    changed class b small true is =
+        ap (λ u. (has_room class new && true) || (not (has_room class old && true) && u)) (listed.rooms_are class b small ∙ ap (λ o. option_map_or (has_room class) o false) (ap (slice_get blocks) (eqb-true b at is) ∙ here))
+        ∙ settle (has_room class new) (has_room class old)
+    changed class b small false is = keep (has_room class new) (has_room class old) (contains (members_at rooms class) b) ∙ listed.rooms_are class b small
+
+-- ---- the least of a set
+
+pub first_of : (blocks : List Block) (members : Blocks) (test : Block → Bool) → ((b : ℕ) → contains members b ≡ option_map_or test (slice_get blocks b) false) → (b : ℕ) → IsLeast members b → IsFirst test blocks b
+first_of blocks members test are b least =
+    let found = member (slice_get blocks b) refl (sym (are b) ∙ least.member) in
+    record { block = found.0; here = found.1; passes = found.2; before = λ c other lt here. ap (λ o. option_map_or test o false) (sym here) ∙ sym (are c) ∙ least.before c lt }
+  where
+    member : (o : Option Block) → slice_get blocks b ≡ o → option_map_or test o false ≡ true → (k : Block) × (slice_get blocks b ≡ Some k) × (test k ≡ true)
+    member None is on = absurd (both_ways _ refl on)
+    member (Some k) is on = (k, is, on)
+
+pub none_of : (blocks : List Block) (members : Blocks) (test : Block → Bool) → ((b : ℕ) → contains members b ≡ option_map_or test (slice_get blocks b) false) → members ≡ empty → (b : ℕ) (block : Block) → slice_get blocks b ≡ Some block → test block ≡ false
+none_of blocks members test are none b block here = ap (λ o. option_map_or test o false) (sym here) ∙ sym (are b) ∙ ap (λ s. contains s b) none ∙ contains-empty nat_cmp b
+
+pub first_found : (blocks : List Block) (members : Blocks) (test : Block → Bool) → ((b : ℕ) → contains members b ≡ option_map_or test (slice_get blocks b) false) → (r : Option ℕ) → MatchOption r (members ≡ empty) (λ b. IsLeast members b) → MatchOption r ((b : ℕ) (block : Block) → slice_get blocks b ≡ Some block → test block ≡ false) (λ b. IsFirst test blocks b)
+first_found blocks members test are None none = none_of blocks members test are none
+first_found blocks members test are (Some b) least = first_of blocks members test are b least
+
+pub small_found : (blocks : List Block) (test : Block → Bool) (size : ℕ) → size ≤ 64 → (r : Option ℕ) → MatchOption r ((b : ℕ) (block : Block) → slice_get blocks b ≡ Some block → test block ≡ false) (λ b. IsFirst test blocks b) → MatchOption r (size ≤ 64 → (b : ℕ) (block : Block) → slice_get blocks b ≡ Some block → test block ≡ false) (λ b. (size ≤ 64) × IsFirst test blocks b)
+small_found blocks test size small None none = λ _. none
+small_found blocks test size small (Some b) first = (small, first)

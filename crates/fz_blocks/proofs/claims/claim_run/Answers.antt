@@ -1,0 +1,31 @@
+use Rattle.std.proofs.Common.{◌≡◌, ◌∙◌, ap, subst, arith}
+use Rattle.fz_model.specs.Allocation.{blocks_for}
+use Rattle.fz_blocks.specs.Runs.{WritesRun}
+use Rattle.fz_blocks.proofs.Claiming.{run_claimed, run_within}
+use Rattle.fz_blocks.proofs.claims.claim_run.Goals as goal
+
+pub write_run-requires-clause-within : goal.write_run-requires-clause-within
+write_run-requires-clause-within c =
+    let within = run_within c.args.table.now (blocks_for c.args.size) c.args.at (omega arith) c.requires.first.run in
+    let same = c.claim_least.ensures.alike.size in
+    let size = c.of-first.ensures.size in
+    let span = c.span.ensures in
+    omega (arith, within, same, size, span)
+
+pub overflow_mul-result : goal.overflow_mul-result
+overflow_mul-result c =
+    let within = run_within c.args.table.now (blocks_for c.args.size) c.args.at (omega arith) c.requires.first.run in
+    let few = c.requires.few in
+    omega (arith, within, few)
+
+pub overflow_add-result : goal.overflow_add-result
+overflow_add-result c =
+    let within = run_within c.args.table.now (blocks_for c.args.size) c.args.at (omega arith) c.requires.first.run in
+    let few = c.requires.few in
+    omega (arith, within, few)
+
+pub returns : goal.returns
+returns c =
+    let count_is : c.span.result ≡ blocks_for c.args.size = c.span.ensures ∙ ap blocks_for (c.claim_least.ensures.alike.size ∙ c.of-first.ensures.size) in
+    run_claimed c.args.table.now c.requires.runs c.args.size c.args.kind c.requires.sized c.requires.no_room c.write_run.new.table c.args.at c.claim_least.result c.of-first.result c.claim_least.new.self c.claim_least.ensures c.of-first.ensures.bare.0 c.of-first.ensures.bare.1 c.of-first.ensures.size c.of-first.ensures.kind c.requires.first
+    (subst (λ n. WritesRun c.args.table.now c.write_run.new.table c.args.at n c.claim_least.new.self) count_is c.write_run.ensures)
