@@ -1,35 +1,22 @@
--- Objects whose words stand flat: what words point to, and what a write and a new object make of them.
-use Rattle.std.specs.Cmp.{nat_cmp_total}
-use Rattle.std.proofs.Common.{Result, IfErr, IfSome, IsTrue, ◌≡◌, ◌≢◌, ℕ, zero, suc, ◌+◌, ◌-◌, ◌*◌, ◌<◌, ◌≤◌, true, false, cond, not, ◌&&◌, ◌==◌, List, [], ◌∷◌, length, Option, Some, None, option_map, option_and_then, unwrap_or, is_none, refl, sym, ap, ◌∙◌, subst, ⊎_elim, arith, slice_index, set, replicate, nat_le, get_or-set_same, get_or-set_other, Bool, nat_cmp}
-use Rattle.std.proofs.lemmas.Bool.{lt-leb, cases_eq, cases_order, eq-eqb, ne_eqb, leb-true, and_parts}
-use Rattle.std.proofs.lemmas.Option.{same_Some, none-some}
-use Rattle.std.proofs.lemmas.List.{length-replicate}
-use Rattle.std.proofs.lemmas.Result.{err_from_is_err_and}
-use Rattle.std.specs.Result.{IsErrAnd}
-use Rattle.std.specs.FinMap.{get, insert, contains_key, empty, get-empty, same_map, nat_cmp-IsAntisymmetric}
+-- Objects whose words stand flat: their extents, and what a write and a new object make of them.
+use Rattle.std.proofs.Common.{◌≡◌, ◌≢◌, ℕ, zero, suc, ◌+◌, ◌-◌, ◌*◌, ◌<◌, ◌≤◌, cond, ◌==◌, List, ◌∷◌, length, Some, option_map, option_and_then, unwrap_or, refl, sym, ap, ◌∙◌, ⊎_elim, arith, slice_index, set, replicate, get_or-set_same, get_or-set_other}
+use Rattle.std.proofs.lemmas.Bool.{cases_eq, cases_lt, eq-eqb, ne_eqb}
+use Rattle.std.specs.FinMap.{get, insert}
 use Rattle.fz_model.specs.State.{Map, Object}
-use Rattle.fz_model.specs.Memory.{points, fill, filled, word_at, new_object}
-use Rattle.fz_model.specs.Allocation.{place_for}
-use Rattle.fz_model.specs.Causes.{first_cause, place_causes, alloc_causes, count_limit, bad_count}
-use Rattle.fz_model.specs.declared.kinds.ObjKind.{ObjKind}
-use Rattle.fz_model.specs.declared.refusal.Refusal.{Refusal}
-use Rattle.fz_model.specs.declared.refusal.Refusal.TheVariants.{BadSize, Exhausted, NoSpace, BadCount}
-use Rattle.fz_model.proofs.Maps.{get-insert_same, get-insert_other, get-mapped, mapped_here, mapped_back}
-use Rattle.fz_model.proofs.Objects.{from_covers, to_covers, points_target, points_at, points_same}
-use Rattle.fz_blocks.specs.Cells.{Cell, Cells, blank, blank_object, claim_causes, AreLaidOut}
-use Rattle.fz_heap.specs.Contents.{Contents}
+use Rattle.fz_model.specs.declared.extent.Extent.{Extent}
+use Rattle.fz_model.specs.Extents.{extents, points_in, AreApart, AreWithin}
+use Rattle.fz_model.specs.Memory.{fill, written, word_at, new_object}
+use Rattle.fz_model.proofs.Maps.{get-insert_same, get-insert_other, mapped_here, extents-made}
+use Rattle.fz_model.proofs.Objects.{from_covers, to_covers, points_at}
+use Rattle.fz_model.specs.Allocation.{block_of, blocks_for}
+use Rattle.fz_blocks.specs.Claimed.{Claimed, swept}
+use Rattle.fz_heap.specs.Layout.{IsHeap}
 use Rattle.fz_heap.specs.Flat.{words_from, object_at, objects_of, IsPlace, IsZeroedAt}
-use Rattle.fz_heap.proofs.Laying.{apart, covered_once, itself, in_heap}
-use Rattle.fz_heap.proofs.Placing.{laid_new}
-use Rattle.fz_heap.proofs.Mapped.{has_key, mapped-insert, mapped-mapped, place_for_same, place_causes_same}
+use Rattle.fz_heap.proofs.Extents.{points_itself}
+use Rattle.fz_heap.proofs.Swept.{swept-empty}
+use Rattle.fz_heap.proofs.Mapped.{mapped-insert, mapped-mapped}
 
 -- ---- words
-
-abbrev zeros : ℕ → List ℕ
-zeros n = replicate n 0
-
-pub zeros_len : (n : ℕ) → length (zeros n) ≡ n
-zeros_len n = length-replicate n 0
 
 pub length-words_from : (words : List ℕ) (first n : ℕ) → length (words_from words first n) ≡ n
 length-words_from words first zero = refl
@@ -66,184 +53,86 @@ fill_words words value t place a first (suc n) at from lt =
         (λ (ne : first ≢ place). ap (λ b. cond b value (slice_index words first)) (ne_eqb a t (λ e. ne (omega (arith, at, from, e)))) ∙ sym (get_or-set_other words place first value 0 ne))
         (cases_eq first place)
 
--- ---- objects as blank ones
+-- ---- objects
 
-module _ (claimed : Map Cell) (words births : List ℕ) where
-  sizes : (a : ℕ) (cell : Cell) → length (object_at words births a cell).words ≡ length (blank_object cell).words
-  sizes a cell = length-words_from words (a - 65536) cell.size ∙ sym (zeros_len cell.size)
+pub extents_flat : (m : Map Extent) (words births : List ℕ) → extents (objects_of m words births) ≡ m
+extents_flat m words births = extents-made (object_at words births) (λ a x i. record { size = length-words_from words (a - 65536) x.size i; kind = x.kind }) m
 
-  pub points_flat : (w : ℕ) → points (objects_of claimed words births) w ≡ points (blank claimed) w
-  points_flat = points_same (object_at words births) (λ a. blank_object) sizes claimed
+module _ (blocks : ℕ) (m : Map Extent) (apart : AreApart m) (within : AreWithin blocks m) where
+  pub word_read : (words births : List ℕ) (word offset place : ℕ) → IsPlace m word offset place → word_at (objects_of m words births) (word + offset) ≡ slice_index words place
+  word_read words births word offset place is =
+      ap (λ e. unwrap_or (option_and_then (λ start. option_map (λ (o : Object). slice_index o.words (word + offset - start)) (get (objects_of m words births) start)) (points_in e (word + offset))) 0) (extents_flat m words births)
+      ∙ ap (λ p. unwrap_or (option_and_then (λ start. option_map (λ (o : Object). slice_index o.words (word + offset - start)) (get (objects_of m words births) start)) p) 0) (points_at m apart is.start (word + offset) is.extent is.here is.inside)
+      ∙ ap (λ g. unwrap_or (option_map (λ (o : Object). slice_index o.words (word + offset - is.start)) g) 0) (mapped_here (object_at words births) m is.start is.extent is.here)
+      ∙ word_of words (is.start - 65536) is.extent.size (word + offset - is.start) (omega (arith, inside))
+      ∙ ap (slice_index words) there
+    where
+      inside : (is.start ≤ word + offset) × (word + offset < is.start + is.extent.size)
+      inside = from_covers is.start (word + offset) is.extent is.inside
 
-  pub place_flat : (blocks size : ℕ) (kind : ObjKind) → place_for (objects_of claimed words births) blocks size kind ≡ place_for (blank claimed) blocks size kind
-  place_flat = place_for_same (object_at words births) (λ a. blank_object) sizes (λ a cell. refl) claimed
+      there : (is.start - 65536) + (word + offset - is.start) ≡ place
+      there = let at = is.at in let above = within is.start is.extent is.here in omega (arith, inside, at, above)
 
-  pub causes_flat : (w offset : ℕ) → first_cause (place_causes (objects_of claimed words births) w offset) ≡ first_cause (place_causes (blank claimed) w offset)
-  causes_flat = place_causes_same (object_at words births) (λ a. blank_object) sizes (λ a cell. refl) claimed
+  pub word_written : (words births : List ℕ) (address place value : ℕ) → address ≡ 65536 + place → place < length words → written address value (objects_of m words births) ≡ objects_of m (set words place value) births
+  unfolding written
+  word_written words births address place value at lt =
+      mapped-mapped (λ start (o : Object). record o { words = fill (λ a. a == address) value start o.words }) (object_at words births) (object_at (set words place value) births) m
+      (λ q x here. let from = (within q x here).0 in ap (λ ws. record { kind = x.kind; birth = slice_index births (q - 65536); words = ws }) (fill_words words value address place q (q - 65536) x.size at (omega (arith, from)) lt))
 
-  pub alloc_flat : (blocks next_birth size : ℕ) (kind : ObjKind) → nat_le count_limit next_birth ≡ false → first_cause (alloc_causes (objects_of claimed words births) blocks next_birth size kind) ≡ first_cause (claim_causes (record { blocks = blocks; claimed = claimed }) size kind)
-  alloc_flat blocks next_birth size kind few =
-      ap (λ b. cond (not (nat_le 1 size && nat_le size 64)) (Some BadSize) (cond b (Some Exhausted) (cond (is_none (place_for (objects_of claimed words births) blocks size kind)) (Some NoSpace) None))) few
-      ∙ ap (λ p. cond (not (nat_le 1 size && nat_le size 64)) (Some BadSize) (cond (is_none p) (Some NoSpace) None)) (place_flat blocks size kind)
+-- ---- a new object, whose extent is apart from all others
 
--- ---- a cell
+module _ (old new : Claimed) (start : ℕ) (x : Extent) (is : new ≡ record old { extents = insert old.extents start x; condemned = swept old.condemned (block_of start) (blocks_for x.size) }) (apart : AreApart new.extents) (within : AreWithin new.blocks new.extents) where
+  here_new : get new.extents start ≡ Some x
+  here_new = ap (λ (m : Claimed). get m.extents start) is ∙ get-insert_same old.extents start x
 
-abbrev pub size_and_kind : Cell → ℕ × ObjKind
-size_and_kind c = (c.size, c.kind)
+  here_old : (q : ℕ) (y : Extent) → q ≢ start → get old.extents q ≡ Some y → get new.extents q ≡ Some y
+  here_old q y ne here = ap (λ (m : Claimed). get m.extents q) is ∙ get-insert_other old.extents start x q ne ∙ here
 
-pub no_cell : (o : Option Cell) → None ≡ option_map size_and_kind o → o ≡ None
-no_cell None e = refl
-no_cell (Some cell) e = absurd (none-some (cell.size, cell.kind) e)
+  same_blocks : new.blocks ≡ old.blocks
+  same_blocks = ap (λ (m : Claimed). m.blocks) is
 
-pub cell_with : (o : Option Cell) (size : ℕ) (kind : ObjKind) → option_map size_and_kind o ≡ Some (size, kind) → (cell : Cell) × (o ≡ Some cell) × (cell.size ≡ size) × (cell.kind ≡ kind)
-cell_with None size kind e = absurd (none-some (size, kind) e)
-cell_with (Some cell) size kind e = let is = same_Some (cell.size, cell.kind) (size, kind) e in (cell, refl, ap (λ (p : ℕ × ObjKind). p.0) is, ap (λ (p : ℕ × ObjKind). p.1) is)
+  pub new_within : (65536 ≤ start) × (1 ≤ x.size) × (start + x.size ≤ 65536 + 64 * old.blocks)
+  new_within = let at = within start x here_new in (at.0, at.1, omega (arith, at, same_blocks))
 
-pub spans : (claimed : Map Cell) (word start : ℕ) (cell : Cell) → get claimed start ≡ Some cell → points (blank claimed) word ≡ Some start → (start ≤ word) × (word < start + cell.size)
-spans claimed word start cell here pointed =
-    let target = points_target (blank claimed) word start pointed in
-    let is = same_Some (blank_object cell) target.0 (sym (mapped_here (λ a. blank_object) claimed start cell here) ∙ target.1) in
-    let inside = from_covers start word target.0 target.2 in
-    (inside.0, subst (λ n. word < start + n) (ap (λ (o : Object). length o.words) (sym is) ∙ zeros_len cell.size) inside.1)
+  pub new_start : points_in new.extents start ≡ Some start
+  new_start = points_itself new.blocks new.extents apart within start x here_new
 
--- ---- a place
+  pub still_heap : (ws bs words births : List ℕ) → IsHeap old ws bs → length words ≡ length ws → length births ≡ length bs → IsHeap new words births
+  still_heap ws bs words births h same same_births = record {
+    few = omega (arith, same_blocks, h.few);
+    apart = apart;
+    within = within;
+    clean = ap (λ (m : Claimed). m.condemned) is ∙ ap (λ s. swept s (block_of start) (blocks_for x.size)) h.clean ∙ swept-empty (block_of start) (blocks_for x.size);
+    words_len = omega (arith, same, same_blocks, h.words_len);
+    births_len = omega (arith, same_births, same_blocks, h.births_len);
+  }
 
-pub word_read : (cells : Cells) (words births : List ℕ) (word offset place : ℕ) → AreLaidOut cells → IsPlace cells word offset place → word_at (objects_of cells.claimed words births) (word + offset) ≡ slice_index words place
-word_read cells words births word offset place laid is =
-    ap (λ p. unwrap_or (option_and_then (λ start. option_map (λ (o : Object). slice_index o.words (word + offset - start)) (get (objects_of cells.claimed words births) start)) p) 0) (points_flat cells.claimed words births (word + offset) ∙ pointed)
-    ∙ ap (λ g. unwrap_or (option_map (λ (o : Object). slice_index o.words (word + offset - is.start)) g) 0) (mapped_here (object_at words births) cells.claimed is.start is.cell is.here)
-    ∙ word_of words (is.start - 65536) is.cell.size (word + offset - is.start) (omega (arith, low, high))
-    ∙ ap (slice_index words) there
-  where
-    low : is.start ≤ word + offset
-    low = is.first
+  pub new_object_made : (words zeroed births : List ℕ) (birth : ℕ) → IsZeroedAt words zeroed (start - 65536) x.size → start - 65536 < length births → objects_of new.extents zeroed (set births (start - 65536) birth) ≡ insert (objects_of old.extents words births) start (new_object x.kind birth x.size)
+  new_object_made words zeroed births birth are lt =
+      ap (λ (m : Claimed). objects_of m.extents zeroed (set births (start - 65536) birth)) is
+      ∙ mapped-insert (object_at words births) (object_at zeroed (set births (start - 65536) birth)) old.extents start x (new_object x.kind birth x.size) others own
+    where
+      own : object_at zeroed (set births (start - 65536) birth) start x ≡ new_object x.kind birth x.size
+      own = λ i. record { kind = x.kind; birth = get_or-set_same births (start - 65536) birth 0 lt i; words = words_zero zeroed (start - 65536) x.size are.zeroed i }
 
-    high : word + offset < is.start + is.cell.size
-    high = is.inside
+      others : (q : ℕ) (y : Extent) → q ≢ start → get old.extents q ≡ Some y → object_at zeroed (set births (start - 65536) birth) q y ≡ object_at words births q y
+      others q y ne here =
+          let other : q - 65536 ≢ start - 65536 = λ e. ne (omega (arith, e, from, new_within.0)) in
+          λ i. record { kind = y.kind; birth = get_or-set_other births (start - 65536) (q - 65536) birth 0 other i; words = words_same zeroed words (q - 65536) y.size untouched i }
+        where
+          from : 65536 ≤ q
+          from = (within q y (here_old q y ne here)).0
 
-    pointed : points (blank cells.claimed) (word + offset) ≡ Some is.start
-    pointed =
-        points_at (blank cells.claimed) (covered_once cells.blocks cells.claimed laid) is.start (word + offset) (blank_object is.cell) (mapped_here (λ a. blank_object) cells.claimed is.start is.cell is.here)
-        (to_covers is.start (word + offset) (blank_object is.cell) low (subst (λ n. word + offset < is.start + n) (sym (zeros_len is.cell.size)) high))
-
-    there : (is.start - 65536) + (word + offset - is.start) ≡ place
-    there = let at = is.at in let above = is.above in omega (arith, low, at, above)
-
-module _ (blocks : ℕ) (claimed : Map Cell) (laid : AreLaidOut (record { blocks = blocks; claimed = claimed })) where
-  pub word_written : (words births : List ℕ) (t place value : ℕ) → t ≡ 65536 + place → place < length words → filled (λ a. a == t) value (objects_of claimed words births) ≡ objects_of claimed (set words place value) births
-  word_written words births t place value at lt =
-      mapped-mapped (λ start (o : Object). record o { words = fill (λ a. a == t) value start o.words }) (object_at words births) (object_at (set words place value) births) claimed
-      (λ q cell here. let from = (in_heap blocks claimed laid q cell here).0 in ap (λ ws. record { kind = cell.kind; birth = slice_index births (q - 65536); words = ws }) (fill_words words value t place q (q - 65536) cell.size at (omega (arith, from)) lt))
-
-  -- ---- a new object
-
-  module _ (size start : ℕ) (kind : ObjKind) (sized : 1 ≤ size) (small : size ≤ 64) (placed : place_for (blank claimed) blocks size kind ≡ Some start) where
-    abbrev pub new_cell : Cell
-    new_cell = record { size = size; kind = kind }
-
-    pub laid_claimed : AreLaidOut (record { blocks = blocks; claimed = insert claimed start new_cell })
-    laid_claimed = laid_new blocks claimed laid size kind sized small start placed
-
-    here_new : get (insert claimed start new_cell) start ≡ Some new_cell
-    here_new = get-insert_same claimed start new_cell
-
-    here_old : (q : ℕ) (cell : Cell) → q ≢ start → get claimed q ≡ Some cell → get (insert claimed start new_cell) q ≡ Some cell
-    here_old q cell ne here = get-insert_other claimed start new_cell q ne ∙ here
-
-    -- it points to itself, whatever the words are
-    pub new_start : (words births : List ℕ) → points (objects_of (insert claimed start new_cell) words births) start ≡ Some start
-    new_start words births = points_flat (insert claimed start new_cell) words births start ∙ itself blocks (insert claimed start new_cell) laid_claimed start new_cell here_new
-
-    pub start_within : (65536 ≤ start) × (start + size ≤ 65536 + 64 * blocks)
-    start_within =
-        let cell = laid_claimed.placed start new_cell here_new in
-        let at : start ≡ 65536 + 64 * cell.block + cell.index * size = cell.at in
-        let in_heap : cell.block < blocks = cell.in_heap in
-        let whole : cell.index * size + size ≤ 64 = cell.whole in
-        (omega (arith, at), omega (arith, at, in_heap, whole))
-
-    pub new_object_made : (words zeroed births : List ℕ) (birth : ℕ) → IsZeroedAt words zeroed (start - 65536) size → start - 65536 < length births → objects_of (insert claimed start new_cell) zeroed (set births (start - 65536) birth) ≡ insert (objects_of claimed words births) start (new_object kind birth size)
-    new_object_made words zeroed births birth are lt = mapped-insert (object_at words births) (object_at zeroed (set births (start - 65536) birth)) claimed start new_cell (new_object kind birth size) others own
-      where
-        own : object_at zeroed (set births (start - 65536) birth) start new_cell ≡ new_object kind birth size
-        own = λ i. record { kind = kind; birth = get_or-set_same births (start - 65536) birth 0 lt i; words = words_zero zeroed (start - 65536) size are.zeroed i }
-
-        others : (q : ℕ) (cell : Cell) → q ≢ start → get claimed q ≡ Some cell → object_at zeroed (set births (start - 65536) birth) q cell ≡ object_at words births q cell
-        others q cell ne here =
-            let from = (in_heap blocks claimed laid q cell here).0 in
-            let low = start_within.0 in
-            let other : q - 65536 ≢ start - 65536 = λ e. ne (omega (arith, e, from, low)) in
-            λ i. record { kind = cell.kind; birth = get_or-set_other births (start - 65536) (q - 65536) birth 0 other i; words = words_same zeroed words (q - 65536) cell.size untouched i }
-          where
-            untouched : (i : ℕ) → q - 65536 ≤ i → i < (q - 65536) + cell.size → slice_index zeroed i ≡ slice_index words i
-            untouched i above below =
-                let from = (in_heap blocks claimed laid q cell here).0 in
-                let low = start_within.0 in
-                ⊎_elim
-                (λ same. absurd (ne same))
-                (λ other. ⊎_elim
-                (λ (before : q < start). let gap = apart blocks (insert claimed start new_cell) laid_claimed q start cell new_cell (here_old q cell ne here) here_new before in are.before i (omega (arith, below, gap, from, low)))
-                (λ (after : start < q). let gap = apart blocks (insert claimed start new_cell) laid_claimed start q new_cell cell here_new (here_old q cell ne here) after in are.after i (omega (arith, above, gap, from, low)))
-                other)
-                (cases_order q start)
-
--- ---- an empty heap
-
-few_blocks : (n : ℕ) → first_cause (bad_count 4096 n ∷ []) ≡ None → (1 ≤ n) × (n ≤ 4096)
-few_blocks n e = cases (nat_le 1 n && nat_le n 4096) refl e
-  where
-    cases : (b : Bool) → (nat_le 1 n && nat_le n 4096) ≡ b → cond (not b) (Some BadCount) None ≡ None → (1 ≤ n) × (n ≤ 4096)
-    cases true is e = let parts = and_parts (nat_le 1 n) (nat_le n 4096) is in (leb-true 1 n parts.0, leb-true n 4096 parts.1)
-    cases false is e = absurd (none-some BadCount (sym e))
-
-pub laid_empty : (blocks : ℕ) → first_cause (bad_count 4096 blocks ∷ []) ≡ None → AreLaidOut (record { blocks = blocks; claimed = empty })
-laid_empty blocks accepted = record {
-  some = (few_blocks blocks accepted).0;
-  few = (few_blocks blocks accepted).1;
-  placed = λ a x here. absurd (none-some x (sym (get-empty nat_cmp a) ∙ here));
-  alike = λ a b x y here there same. absurd (none-some x (sym (get-empty nat_cmp a) ∙ here));
-}
-
-pub no_objects : (words births : List ℕ) → objects_of empty words births ≡ empty
-no_objects words births = same_map nat_cmp_total nat_cmp-IsAntisymmetric _ _ (λ q. get-mapped (object_at words births) empty q ∙ ap (option_map (object_at words births q)) (get-empty nat_cmp q) ∙ sym (get-empty nat_cmp q))
-
--- ---- a heap's contents
-
-module _ (cells : Cells) (words births : List ℕ) (now : Contents) (next_birth : ℕ) where
-  abbrev contents : Contents
-  contents = record { blocks = cells.blocks; objects = objects_of cells.claimed words births; next_birth = next_birth }
-
-  module _ (is : contents ≡ now) where
-    pub causes_now : (w offset : ℕ) → first_cause (place_causes now.objects w offset) ≡ first_cause (place_causes (blank cells.claimed) w offset)
-    causes_now w offset = ap (λ (v : Contents). first_cause (place_causes v.objects w offset)) (sym is) ∙ causes_flat cells.claimed words births w offset
-
-    -- the refusal of a place that `?` hands on
-    pub place_refused : {T : Type 0} (w offset : ℕ) (result : Result T Refusal) (r : Refusal) → IsErrAnd result (λ x. x ≡ r) → first_cause (place_causes (blank cells.claimed) w offset) ≡ Some r
-        → IfErr result (λ q. first_cause (place_causes now.objects w offset) ≡ Some q)
-    place_refused w offset result r given refused =
-        let p = err_from_is_err_and result given in
-        rw (p.1, p.2) (causes_now w offset ∙ refused)
-
-    pub alloc_now : (size : ℕ) (kind : ObjKind) → next_birth < count_limit → first_cause (alloc_causes now.objects now.blocks now.next_birth size kind) ≡ first_cause (claim_causes cells size kind)
-    alloc_now size kind few = ap (λ (v : Contents). first_cause (alloc_causes v.objects v.blocks v.next_birth size kind)) (sym is) ∙ alloc_flat cells.claimed words births cells.blocks next_birth size kind (lt-leb count_limit next_birth few)
-
-    pub object_here : (a : ℕ) (cell : Cell) → get cells.claimed a ≡ Some cell → get now.objects a ≡ Some (object_at words births a cell)
-    object_here a cell here = ap (λ (v : Contents). get v.objects a) (sym is) ∙ mapped_here (object_at words births) cells.claimed a cell here
-
-    pub nothing_here : (a : ℕ) → get cells.claimed a ≡ None → get now.objects a ≡ None
-    nothing_here a none = ap (λ (v : Contents). get v.objects a) (sym is) ∙ get-mapped (object_at words births) cells.claimed a ∙ ap (option_map (object_at words births a)) none
-
-    pub target_within : (found : Option ℕ) → IfSome found (λ start. (65536 ≤ start) × (start < 65536 + 64 * cells.blocks) × IsTrue (contains_key cells.claimed start)) → IfSome found (λ start. (65536 ≤ start) × (start < 65536 + 64 * now.blocks) × IsTrue (contains_key now.objects start))
-    target_within None h = h
-    target_within (Some start) h = (h.0, subst (λ (v : Contents). start < 65536 + 64 * v.blocks) is h.1, subst (λ (v : Contents). contains_key v.objects start ≡ true) is (key_there h.2))
-      where
-        key_there : contains_key cells.claimed start ≡ true → contains_key (objects_of cells.claimed words births) start ≡ true
-        key_there e = has_key (object_at words births) cells.claimed start ∙ e
-
-    module _ (laid : AreLaidOut cells) where
-      pub start_here : (a : ℕ) (o : Object) → get now.objects a ≡ Some o → (65536 ≤ a) × (a < 65536 + 64 * now.blocks) × (points now.objects a ≡ Some a)
-      start_here a o here =
-          let cell = mapped_back (object_at words births) cells.claimed a o (ap (λ (v : Contents). get v.objects a) is ∙ here) in
-          let within = in_heap cells.blocks cells.claimed laid a cell.0 cell.1 in
-          let points_here = points_flat cells.claimed words births a ∙ itself cells.blocks cells.claimed laid a cell.0 cell.1 in
-          (within.0, subst (λ (v : Contents). a < 65536 + 64 * v.blocks) is within.1, subst (λ (v : Contents). points v.objects a ≡ Some a) is points_here)
+          untouched : (i : ℕ) → q - 65536 ≤ i → i < (q - 65536) + y.size → slice_index zeroed i ≡ slice_index words i
+          untouched i above below =
+              ⊎_elim
+              (λ before. are.before i before)
+              (λ reached.
+              ⊎_elim
+              (λ under.
+              let in_new = to_covers start (65536 + i) x (omega (arith, reached, new_within.0)) (omega (arith, under, new_within.0)) in
+              let in_old = to_covers q (65536 + i) y (omega (arith, above, from)) (omega (arith, below, from)) in
+              absurd (ne (apart q start (65536 + i) y x (here_old q y ne here) here_new in_old in_new)))
+              (λ past. are.after i past)
+              (cases_lt i ((start - 65536) + x.size)))
+              (cases_lt i (start - 65536))

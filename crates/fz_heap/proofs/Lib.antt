@@ -1,4 +1,4 @@
-pub mod Laying
-pub mod Placing
 pub mod Mapped
 pub mod Flat
+pub mod Extents
+pub mod Swept

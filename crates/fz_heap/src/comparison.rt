@@ -1,12 +1,13 @@
 //! The heap against the plain list of its objects, over random calls.
 
 ghost use Rattle.std.specs.Prelude.{◌<◌, ◌≤◌};
+ghost use Rattle.fz_model.specs.declared.limits.TheConstants.{MAX_BLOCKS};
 
 use crate::Heap;
 use crate::plain::PlainHeap;
 use crate::tests::free;
 use fz_model::ObjKind::{Atomic, Scanned};
-use fz_model::{Addr, ObjKind, Word};
+use fz_model::{Addr, BLOCK_WORDS, HEAP_START, MAX_OBJECT_WORDS, ObjKind, Word};
 use std::alloc::Global;
 use std::process::Abort;
 use std::test::Fail;
@@ -32,12 +33,12 @@ impl Random {
         self.next() % bound
     }
 
-    /// Mostly a few words, at times up to 66, so that bad sizes come too.
+    /// Mostly a few words, at times up to 200, which take up to four blocks; now and then none, or about as many as an object may have.
     fn size(&mut self) -> u64 {
-        if self.below(4) == 0 {
-            self.below(67)
-        } else {
-            1 + self.below(8)
+        match self.below(32) {
+            0 => MAX_OBJECT_WORDS + self.below(3) - 1,
+            1..=8 => self.below(201),
+            _ => 1 + self.below(8),
         }
     }
 
@@ -45,14 +46,14 @@ impl Random {
         if self.below(2) == 0 { Scanned } else { Atomic }
     }
 
-    /// Mostly an address in a heap of so many blocks or close to it, at times any word.
+    /// Mostly an address in the heap or close to it, at times any word.
     fn word(&mut self, blocks: u64) -> Word
-        requires { blocks ≤ 4096 }
+        requires { blocks ≤ MAX_BLOCKS }
     {
         if self.below(16) == 0 {
             self.next()
         } else {
-            65_530 + self.below(64 * blocks + 12)
+            HEAP_START - 6 + self.below(BLOCK_WORDS * blocks + 12)
         }
     }
 

@@ -1,29 +1,31 @@
 //! Where the words of objects stand among the flat words of a heap.
 
-ghost use Rattle.std.specs.Prelude.{◌≡◌, ◌≤◌, ◌<◌, ◌+◌, ◌*◌, IfOk, IfErr, length};
-ghost use Rattle.fz_model.specs.Causes.{first_cause, place_causes};
-ghost use Rattle.fz_blocks.specs.Cells.{blank};
+ghost use Rattle.std.specs.Prelude.{◌≤◌, ◌<◌, ◌+◌, ◌*◌, IfOk, length};
+ghost use Rattle.fz_model.specs.declared.limits.TheConstants.{BLOCK_WORDS, MAX_BLOCKS};
+ghost use Rattle.fz_model.specs.Extents.{AreWithin};
+ghost use Rattle.fz_model.specs.Causes.{IsJudgedBy, place_causes_in};
 ghost use Rattle.fz_heap.specs.Flat.{IsPlace, IsZeroedAt};
 
 use fz_blocks::BlockMap;
-use fz_model::{Addr, HEAP_START, Refusal, Word};
+use fz_model::{HEAP_START, Refusal, Word};
 
-/// The place of the word at an offset from where a word points into a claimed cell.
+/// The place of the word at an offset from where a word points into an object.
 pub(crate) fn place_of(map: &BlockMap, word: Word, offset: u64) -> Result<usize, Refusal>
-    requires { map.now.blocks ≤ 4096 }
-    ensures refused { IfErr result (λ r. first_cause (place_causes (blank map.now.claimed) word offset) ≡ Some r) }
-    ensures found { IfOk result (λ place. IsPlace map.now word offset place) }
+    requires few { map.now.blocks ≤ MAX_BLOCKS }
+    requires within { AreWithin map.now.blocks map.now.extents }
+    ensures judged { IsJudgedBy (place_causes_in map.now.extents word offset) result }
+    ensures found { IfOk result (λ place. IsPlace map.now.extents word offset place) }
+    ensures in_heap { IfOk result (λ place. place < BLOCK_WORDS * map.now.blocks) }
 {
-    let start = map.cell_of(word).ok_or(Refusal::NotPointer)?;
-    let (size, _) = map.facts(start).ok_or(Refusal::NotPointer)?;
+    let (start, extent) = map.cell_of(word).ok_or(Refusal::NotPointer)?;
     let before = word - start;
-    if offset >= size - before {
+    if offset >= extent.size - before {
         return Err(Refusal::OutsideObject);
     }
     Ok((word + offset - HEAP_START) as usize)
 }
 
-/// Makes so many words zero, from a place on.
+/// Makes `size` words zero, from a place on.
 pub(crate) fn zero(words: &mut [Word], first: usize, size: usize)
     requires { first + size ≤ length words.old }
     ensures { IsZeroedAt words.old words.new first size }

@@ -3,17 +3,11 @@
 
 ghost use Rattle.std.specs.Prelude.{◌≡◌, ◌<◌, ◌+◌, ◌*◌};
 
-use fz_model::{Addr, ObjKind, Refusal, Word};
+use fz_model::{
+    Addr, BLOCK_WORDS, COUNT_LIMIT, HEAP_START, MAX_BLOCKS, MAX_OBJECT_WORDS, ObjKind, Refusal,
+    Word,
+};
 use std::alloc::{AllocError, Global};
-
-/// The first address of the heap.
-const HEAP_START: Addr = 65_536;
-
-/// The words of a block.
-const BLOCK_WORDS: u64 = 64;
-
-/// Births stay below this.
-const MAX_BIRTHS: u64 = 1 << 48;
 
 /// An object: the words from a start on.
 #[derive(Drop)]
@@ -24,7 +18,7 @@ struct Object {
     words: Vec<Word>,
 }
 
-/// The objects by rising start, in so many blocks.
+/// The objects by rising start, and the number of blocks.
 #[derive(Drop)]
 pub(crate) struct PlainHeap {
     alloc: Global,
@@ -49,9 +43,14 @@ impl Object {
         self.start <= address && address - self.start < self.size()
     }
 
-    fn is_in(&self, block: u16) -> bool {
+    fn starts_in(&self, block: u16) -> bool {
         let first = block_start(block);
         first <= self.start && self.start - first < BLOCK_WORDS
+    }
+
+    /// Whether the object has a word in the block.
+    fn meets(&self, block: u16) -> bool {
+        self.starts_in(block) || self.covers(block_start(block))
     }
 
     /// The place, among its words, of the word at an offset from a word that points into it.
@@ -63,7 +62,7 @@ impl Object {
 
 impl PlainHeap {
     pub(crate) fn new(alloc: Global, blocks: u64) -> Result<PlainHeap, Refusal> {
-        if blocks == 0 || blocks > 4096 {
+        if blocks == 0 || blocks > MAX_BLOCKS {
             return Err(Refusal::BadCount);
         }
         Ok(PlainHeap {
@@ -92,7 +91,7 @@ impl PlainHeap {
         requires { 0 < size }
     {
         for block in 0..self.blocks {
-            let of_class = self.objects.iter().any(|object| object.is_in(block)
+            let of_class = self.objects.iter().any(|object| object.starts_in(block)
                 && object.size() == size
                 && object.kind == kind);
             if of_class {
@@ -105,10 +104,24 @@ impl PlainHeap {
         None
     }
 
-    /// The first cell of the least block without objects.
-    fn place_in_bare(&self) -> Option<Addr> {
+    fn is_bare(&self, block: u16) -> bool {
+        !self.objects.iter().any(|object| object.meets(block))
+    }
+
+    /// Whether a run of `count` blocks without objects begins with this one.
+    fn has_run(&self, block: u16, count: u64) -> bool {
+        let bare = (block..self.blocks)
+            .take(count as usize)
+            .filter(|each| self.is_bare(*each))
+            .count();
+        bare as u64 == count
+    }
+
+    /// The start of the least run of blocks without objects in which the words fit.
+    fn place_in_bare(&self, size: u64) -> Option<Addr> {
+        let count = size.div_ceil(BLOCK_WORDS);
         for block in 0..self.blocks {
-            if !self.objects.iter().any(|object| object.is_in(block)) {
+            if self.has_run(block, count) {
                 return Some(block_start(block));
             }
         }
@@ -116,18 +129,18 @@ impl PlainHeap {
     }
 
     pub(crate) fn alloc(&mut self, size: u64, kind: ObjKind) -> Result<(Addr, u64), Refusal> {
-        if size == 0 || size > BLOCK_WORDS {
+        if size == 0 || size > MAX_OBJECT_WORDS {
             return Err(Refusal::BadSize);
         }
-        if self.next_birth >= MAX_BIRTHS {
+        if self.next_birth >= COUNT_LIMIT {
             return Err(Refusal::Exhausted);
         }
         let start = match self.place_in_class(size, kind) {
             Some(start) => start,
-            None => self.place_in_bare().ok_or(Refusal::NoSpace)?,
+            None => self.place_in_bare(size).ok_or(Refusal::NoSpace)?,
         };
         let birth = self.next_birth;
-        let words = vec![in self.alloc; 0; size as usize].map_err(|_| Refusal::NoMemory)?;
+        let words = vec![in self.alloc; 0; size as usize]?;
         let object = Object {
             start,
             kind,
@@ -140,9 +153,7 @@ impl PlainHeap {
             .iter()
             .position(|object| start < object.start)
             .unwrap_or(end);
-        self.objects
-            .insert(index, object)
-            .map_err(|_| Refusal::NoMemory)?;
+        self.objects.insert(index, object)?;
         self.next_birth += 1;
         Ok((start, birth))
     }

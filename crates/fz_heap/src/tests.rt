@@ -1,11 +1,11 @@
-//! Worked examples of a heap: births, the words of objects, and which refusal comes first. Where cells go, `fz_blocks` tests.
+//! Worked examples of a heap: births, the words of objects, and which refusal comes first. Where objects go, `fz_blocks` tests.
 
 use crate::Heap;
 use fz_model::ObjKind::{Atomic, Scanned};
-use fz_model::{Addr, Refusal};
+use fz_model::{Addr, BLOCK_WORDS, MAX_BLOCKS, MAX_OBJECT_WORDS, Refusal};
 use std::test::Fail;
 
-/// Takes an object away, if one starts there.
+/// Reclaims the object at the start, if one starts there.
 pub(crate) fn free(heap: &mut Heap, start: Addr) -> bool {
     if heap.facts(start).is_none() {
         return false;
@@ -21,7 +21,7 @@ fn births_count_the_objects(rt: HostRuntime) -> Result<(), Fail> {
     assert_eq!(rt; heap.alloc(3, Atomic), Ok((65_600, 1)));
     assert_eq!(rt; heap.alloc(4, Scanned), Err(Refusal::NoSpace));
     assert_eq!(rt;
-        heap.alloc(65, Scanned),
+        heap.alloc(MAX_OBJECT_WORDS + 1, Scanned),
         Err(Refusal::BadSize),
         "tested before the room"
     );
@@ -48,6 +48,27 @@ fn one_object_fills_a_block(rt: HostRuntime) -> Result<(), Fail> {
     assert!(rt; free(&mut heap, 65_536));
     assert!(rt; !free(&mut heap, 65_536), "it is gone");
     assert_eq!(rt; heap.read(65_536, 0), Err(Refusal::NotPointer));
+    Ok(())
+}
+
+#[test]
+fn an_object_takes_neighbouring_blocks(rt: HostRuntime) -> Result<(), Fail> {
+    let mut heap = Heap::new(rt.alloc(), 3)?;
+    assert_eq!(rt; heap.alloc(65, Scanned), Ok((65_536, 0)));
+    assert_eq!(rt; heap.write(65_600, 0, 7), Ok(()), "from its second block");
+    assert_eq!(rt; heap.read(65_536, 64), Ok(7));
+    assert_eq!(rt; heap.read(65_536, 65), Err(Refusal::OutsideObject));
+    assert_eq!(rt; heap.resolve(65_601), None, "the rest of its last block");
+    assert_eq!(rt; heap.alloc(65, Scanned), Err(Refusal::NoSpace));
+    assert_eq!(rt;
+        heap.alloc(1, Scanned),
+        Ok((65_664, 1)),
+        "no other object shares its blocks"
+    );
+    assert!(rt; free(&mut heap, 65_536));
+    assert_eq!(rt; heap.resolve(65_600), None);
+    assert_eq!(rt; heap.alloc(128, Atomic), Ok((65_536, 2)));
+    assert_eq!(rt; heap.read(65_600, 0), Ok(0), "zero where a 7 was");
     Ok(())
 }
 
@@ -132,11 +153,42 @@ fn objects_come_by_address(rt: HostRuntime) -> Result<(), Fail> {
 }
 
 #[test]
-fn a_heap_begins_without_objects(rt: HostRuntime) -> Result<(), Fail> {
-    assert_eq!(rt; Heap::new(rt.alloc(), 0).err(), Some(Refusal::BadCount));
-    let mut heap = Heap::new(rt.alloc(), 4_096)?;
-    assert_eq!(rt; heap.blocks(), 4_096);
+fn the_largest_heap_begins_without_objects(rt: HostRuntime) -> Result<(), Fail> {
+    for blocks in [0, MAX_BLOCKS + 1] {
+        assert_eq!(rt;
+            Heap::new(rt.alloc(), blocks).err(),
+            Some(Refusal::BadCount)
+        );
+    }
+    let mut heap = Heap::new(rt.alloc(), MAX_BLOCKS)?;
+    assert_eq!(rt; heap.blocks(), MAX_BLOCKS);
     assert_eq!(rt; heap.objects().next(), None);
-    assert_eq!(rt; heap.alloc(64, Atomic), Ok((65_536, 0)));
+    assert_eq!(rt; heap.alloc(MAX_OBJECT_WORDS, Atomic), Ok((65_536, 0)));
+    assert_eq!(rt; heap.read(65_536, MAX_OBJECT_WORDS - 1), Ok(0));
+    assert_eq!(rt;
+        heap.read(65_536, MAX_OBJECT_WORDS),
+        Err(Refusal::OutsideObject)
+    );
+    Ok(())
+}
+
+#[test]
+fn an_object_stands_in_each_block(rt: HostRuntime) -> Result<(), Fail> {
+    let mut heap = Heap::new(rt.alloc(), MAX_BLOCKS)?;
+    for block in 0..MAX_BLOCKS {
+        let (start, birth) = heap.alloc(BLOCK_WORDS, Scanned)?;
+        assert_eq!(rt; birth, block);
+        heap.write(start, BLOCK_WORDS - 1, birth)?;
+    }
+    assert_eq!(rt; heap.alloc(1, Scanned), Err(Refusal::NoSpace));
+    let last = 65_536 + BLOCK_WORDS * MAX_BLOCKS - 1;
+    assert_eq!(rt;
+        heap.read(last, 0),
+        Ok(MAX_BLOCKS - 1),
+        "the heap's last word"
+    );
+    assert_eq!(rt; heap.resolve(last + 1), None);
+    let starts: Vec<Addr> = heap.objects().collect(rt.alloc())?;
+    assert_eq!(rt; starts.len() as u64, MAX_BLOCKS);
     Ok(())
 }

@@ -1,15 +1,18 @@
-use Rattle.std.proofs.Common.{◌∙◌, sym, ap}
-use Rattle.fz_model.specs.Memory.{points}
-use Rattle.fz_heap.specs.Contents.{Contents}
-use Rattle.fz_heap.proofs.Flat.{points_flat, target_within}
+use Rattle.std.proofs.Common.{◌∙◌, sym, ap, arith, is_some}
+use Rattle.fz_heap.specs.Flat.{object_at}
+use Rattle.fz_heap.proofs.Mapped.{has_key}
+use Rattle.fz_heap.proofs.Flat.{extents_flat}
 use Rattle.fz_heap.proofs.heap.Heap.resolve.Goals as goal
 
+pub returns-in_err-start-clause-points : goal.returns-in_err-start-clause-points
+returns-in_err-start-clause-points c = rw (← c.self.view_is, extents_flat) (c.from_residual.ensures ∙ sym c.in_err-start.ensures)
+
 pub returns-clause-points : goal.returns-clause-points
-returns-clause-points c =
-    let h = c.self.inside in
-    c.cell_of.ensures.cell ∙ sym (points_flat h.map.claimed h.words.items h.births.items c.args.word) ∙ ap (λ (v : Contents). points v.objects c.args.word) c.self.view_is
+returns-clause-points c = rw (← c.self.view_is, extents_flat) (sym c.in_ok-start.ensures.0)
 
 pub returns-clause-within : goal.returns-clause-within
 returns-clause-within c =
     let h = c.self.inside in
-    target_within h.map h.words.items h.births.items c.args.self.now h.next_birth c.self.view_is c.cell_of.result c.cell_of.ensures.within
+    let here = c.in_ok-start.ensures.1 in
+    let within = c.self.invariant.within _ _ here in
+    rw (← c.self.view_is) ((within.0, omega (arith, within)), has_key (object_at h.words.items h.births.items) h.map.extents c.in_ok-start.start ∙ ap is_some here)
