@@ -15,7 +15,8 @@ use Rattle.std.specs.FinMap.{get, len, empty, insert, remove, contains_key, from
 use Rattle.fz_model.specs.declared.answers.Old.{Old}
 use Rattle.fz_model.specs.declared.answers.Registration.{Registration}
 use Rattle.fz_model.specs.State.{Map}
-use Rattle.fz_model.specs.Causes.{full, table_limit}
+use Rattle.fz_model.specs.declared.limits.TheConstants.{TABLE_LIMIT}
+use Rattle.fz_model.specs.Causes.{full}
 use Rattle.fz_model.proofs.Tables.{get_made}
 
 -- what is answered of a registration that goes
@@ -61,17 +62,17 @@ module _ {X : Type 0} where
       cc
 
   -- a table that isn't full for a key stays within its limit when the key comes
-  pub limit_inserted : (m : Map X) (k : ℕ) (x : X) → (full m k).0 ≡ false → len m ≤ table_limit → len (insert m k x) ≤ table_limit
-  limit_inserted m k x free h = subst (λ n. n ≤ table_limit) (sym (len-insert nat_cmp_total m k x)) (by (contains_key m k) free)
+  pub limit_inserted : (m : Map X) (k : ℕ) (x : X) → (full m k).0 ≡ false → len m ≤ TABLE_LIMIT → len (insert m k x) ≤ TABLE_LIMIT
+  limit_inserted m k x free h = subst (λ n. n ≤ TABLE_LIMIT) (sym (len-insert nat_cmp_total m k x)) (by (contains_key m k) free)
     where
-      by : (b : Bool) → (not b && nat_le table_limit (len m)) ≡ false → cond b (len m) (len m + 1) ≤ table_limit
+      by : (b : Bool) → (not b && nat_le TABLE_LIMIT (len m)) ≡ false → cond b (len m) (len m + 1) ≤ TABLE_LIMIT
       by true e = h
       by false e = grind (arith, nat_tests)
 
   -- and each table does when a key goes
-  pub limit_removed : (m : Map X) (k : ℕ) → len m ≤ table_limit → len (remove m k) ≤ table_limit
-  limit_removed m k h = subst (λ n. n ≤ table_limit) (sym (len-remove nat_cmp_total m k)) (by (contains_key m k))
+  pub limit_removed : (m : Map X) (k : ℕ) → len m ≤ TABLE_LIMIT → len (remove m k) ≤ TABLE_LIMIT
+  limit_removed m k h = subst (λ n. n ≤ TABLE_LIMIT) (sym (len-remove nat_cmp_total m k)) (by (contains_key m k))
     where
-      by : (b : Bool) → cond b (len m - 1) (len m) ≤ table_limit
+      by : (b : Bool) → cond b (len m - 1) (len m) ≤ TABLE_LIMIT
       by true = omega arith
       by false = h

@@ -1,21 +1,20 @@
 //! The table and its calls.
 
-ghost use Rattle.std.specs.Prelude.{◌≡◌, ◌+◌, ◌≤◌, ◌↔◌, true, nat_eq, length, IsTrue, IsSome, None, IfOk, IfErr, OnOk, OnErr};
+ghost use Rattle.std.specs.Prelude.{◌≡◌, ◌+◌, ◌≤◌, ◌↔◌, nat_eq, length, IsTrue, IfOk, IfErr, OnOk, OnErr};
+ghost use Rattle.std.specs.Option.{IsNone};
 ghost use Rattle.std.specs.FinMap.{get, insert, remove, len, empty, from_entries};
 ghost use Rattle.std.specs.List.{IsDistinct};
 ghost use Rattle.std.specs.Map.{keys_of};
-ghost use Rattle.fz_model.specs.Causes.{IsRefusedFor, first_cause, full, register_causes, table_limit};
+ghost use Rattle.fz_model.specs.declared.limits.TheConstants.{TABLE_LIMIT};
+ghost use Rattle.fz_model.specs.declared.refusal.Refusal.TheVariants.{NoMemory};
+ghost use Rattle.fz_model.specs.Causes.{IsJudgedOrLacks, full, register_causes};
 ghost use Rattle.fz_model.specs.Steps.{old_of};
-ghost use Rattle.fz_model.specs.declared.refusal.Refusal.TheVariants.{Exhausted};
 
 use crate::registrations::Registrations;
-use fz_model::{Addr, COUNT_LIMIT, Old, Refusal, RegKind, Registration, Word};
+use fz_model::{Addr, COUNT_LIMIT, Old, Refusal, RegKind, Registration, TABLE_LIMIT, Word};
 use indexmap::IndexMap;
 use std::alloc::Global;
 use std::marker::Model;
-
-/// How many objects may be registered at one time.
-const TABLE_LIMIT: usize = 65_536;
 
 /// The registrations by the starts of their objects, at most 65,536 at one time. Each gets a number, counted from 0.
 #[derive(Drop)]
@@ -28,7 +27,7 @@ impl Model for Table {
     ghost use Rattle.std.specs.Prelude.{◌≤◌};
     ghost use Rattle.std.specs.Ordering.{nat_cmp};
     ghost use Rattle.std.specs.FinMap.{len, from_entries};
-    ghost use Rattle.fz_model.specs.Causes.{table_limit};
+    ghost use Rattle.fz_model.specs.declared.limits.TheConstants.{TABLE_LIMIT};
     ghost use Rattle.fz_table.specs.Registered.{Registered, registered_code};
 
     ghost Value = { Registered };
@@ -37,7 +36,7 @@ impl Model for Table {
 
     ghost view = { λ t. record { registrations = from_entries t.entries.entries; next_number = t.next_number } };
 
-    ghost invariant = { λ t. len (from_entries {R = nat_cmp} t.entries.entries) ≤ table_limit };
+    ghost invariant = { λ t. len (from_entries {R = nat_cmp} t.entries.entries) ≤ TABLE_LIMIT };
 }
 
 impl Table {
@@ -51,7 +50,7 @@ impl Table {
         }
     }
 
-    /// Registers the object, with a new number, and answers the number and the pair that was replaced.
+    /// Registers the object, with a new number; returns the number and what was replaced.
     ///
     /// The refusals, in this order: `Exhausted` once 2^48 numbers are given out, `TableFull` when 65,536 other objects are registered,
     /// and `NoMemory` when the table has to grow for a new object and can't. A replacement takes no memory.
@@ -62,12 +61,12 @@ impl Table {
         proc: u64,
         cd: Word,
     ) -> Result<(u64, Option<Old>), Refusal>
-        // The first cause that stands is answered; only a new object can want memory.
-        ensures refused { IfErr result (λ r. IsRefusedFor (register_causes self.old.registrations self.old.next_number object) true r) }
-        ensures replacement { IsSome (get self.old.registrations object) → IfErr result (λ r. r ≡ Exhausted) }
+        ensures judged { IsJudgedOrLacks (register_causes self.old.registrations self.old.next_number object) result }
+        // Only an object's first registration can lack memory.
+        ensures growth { IfErr result (λ r. r ≡ NoMemory → IsNone (get self.old.registrations object)) }
         ensures unchanged { OnErr result (self.new ≡ self.old) }
-        ensures accepted { OnOk result (first_cause (register_causes self.old.registrations self.old.next_number object) ≡ None) }
-        ensures answer { IfOk result (λ answer. answer ≡ (self.old.next_number, old_of self.old.registrations object)) }
+        ensures number { IfOk result (λ answer. answer.0 ≡ self.old.next_number) }
+        ensures replaced { IfOk result (λ answer. answer.1 ≡ old_of self.old.registrations object) }
         ensures registered { OnOk result (self.new ≡ record {
           registrations = insert self.old.registrations object (record { number = self.old.next_number; kind = kind; proc = proc; cd = cd });
           next_number = self.old.next_number + 1;
@@ -87,14 +86,12 @@ impl Table {
             cd,
         };
         // A refused insertion leaves the entries as they were.
-        let Ok(replaced) = self.entries.insert(object, registration) else {
-            return Err(Refusal::NoMemory);
-        };
+        let replaced = self.entries.insert(object, registration)?;
         self.next_number = number + 1;
         Ok((number, replaced.map(pair_of)))
     }
 
-    /// Takes the object's registration away, and answers its pair.
+    /// Removes the object's registration; returns its procedure and client data.
     pub fn remove(&mut self, object: Addr) -> Option<Old>
         ensures answer { result ≡ old_of self.old.registrations object }
         ensures removed { self.new ≡ record self.old { registrations = remove self.old.registrations object } }
@@ -112,7 +109,7 @@ impl Table {
     /// How many objects are registered.
     pub fn len(&self) -> usize
         ensures count { result ≡ len self.now.registrations }
-        ensures limit { result ≤ table_limit }
+        ensures limit { result ≤ TABLE_LIMIT }
     {
         self.entries.len()
     }
@@ -129,7 +126,7 @@ impl Table {
         ensures all { from_entries result ≡ self.now.registrations }
         ensures once { IsDistinct nat_eq (keys_of result) }
         ensures count { length result ≡ len self.now.registrations }
-        ensures limit { length result ≤ table_limit }
+        ensures limit { length result ≤ TABLE_LIMIT }
     {
         Registrations {
             entries: self.entries.iter(),
@@ -140,7 +137,7 @@ impl Table {
     fn is_full_for(&self, object: Addr) -> bool
         ensures { result ≡ (full self.now.registrations object).0 }
     {
-        self.len() >= TABLE_LIMIT && self.get(object).is_none()
+        self.len() as u64 >= TABLE_LIMIT && self.get(object).is_none()
     }
 }
 

@@ -1,4 +1,4 @@
-//! What no clause says: that calls succeed, and what they answer once memory is wanting.
+//! What no clause says: that calls succeed, and what they return when an allocation failed.
 
 use crate::Table;
 use fz_model::{Old, Refusal, RegKind, Registration};

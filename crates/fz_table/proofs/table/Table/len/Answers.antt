@@ -1,6 +1,6 @@
 use Rattle.std.proofs.Common.{◌≤◌, ◌∙◌, ap, sym, subst}
 use Rattle.std.specs.FinMap.{len}
-use Rattle.fz_model.specs.Causes.{table_limit}
+use Rattle.fz_model.specs.declared.limits.TheConstants.{TABLE_LIMIT}
 use Rattle.fz_table.specs.Registered.{Registered}
 use Rattle.fz_table.proofs.Entries.{len_made}
 use Rattle.fz_table.proofs.table.Table.len.Goals as goal
@@ -11,4 +11,4 @@ returns-clause-count c =
 
 pub returns-clause-limit : goal.returns-clause-limit
 returns-clause-limit c =
-    subst (λ n. n ≤ table_limit) (len_made c.self.inside.entries.entries c.len.ensures.unique ∙ sym c.len.ensures.len) c.self.invariant
+    subst (λ n. n ≤ TABLE_LIMIT) (len_made c.self.inside.entries.entries c.len.ensures.unique ∙ sym c.len.ensures.len) c.self.invariant

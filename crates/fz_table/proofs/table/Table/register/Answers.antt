@@ -1,36 +1,39 @@
-use Rattle.std.proofs.Common.{◌≡◌, ◌+◌, ◌≤◌, None, ◌∙◌, ap, sym, subst, rules}
-use Rattle.std.specs.Option.{option_map, IsSome}
+use Rattle.std.proofs.Common.{Result, Ok, Err, ◌≡◌, ◌+◌, ◌≤◌, None, ◌∙◌, ap, sym, subst, rules}
+use Rattle.std.specs.Option.{option_map, IsNone}
+use Rattle.std.specs.Result.{IfErr}
 use Rattle.std.specs.FinMap.{get, len, insert}
-use Rattle.fz_model.specs.Causes.{full, table_limit}
+use Rattle.fz_model.specs.declared.limits.TheConstants.{TABLE_LIMIT}
+use Rattle.fz_model.specs.Causes.{full}
 use Rattle.fz_model.specs.Steps.{old_of}
 use Rattle.fz_model.proofs.Tables.{get_made, made_inserted}
 use Rattle.fz_table.specs.Registered.{Registered}
 use Rattle.fz_table.proofs.Entries.{pair_of, limit_inserted}
 use Rattle.fz_table.proofs.table.Table.register.Goals as goal
 
-pub returns-in_default-clause-replacement : goal.returns-in_default-clause-replacement
-returns-in_default-clause-replacement c =
+IfErr-always : {A E : Type 0} {P : E → Type 0} (result : Result A E) → ((e : E) → P e) → IfErr result P
+IfErr-always (Ok x) h = tt
+IfErr-always (Err e) h = h e
+
+pub returns-in_err-replaced-clause-growth : goal.returns-in_err-replaced-clause-growth
+returns-in_err-replaced-clause-growth c =
     let absent : get c.args.self.now.registrations c.args.object ≡ None = ap (λ (t : Registered). get t.registrations c.args.object) (sym c.self.view_is)
-    ∙ get_made c.self.inside.entries.entries c.args.object ∙ c.in_default.ensures.absent in
-    λ present. let h = subst IsSome absent present in cc
+    ∙ get_made c.self.inside.entries.entries c.args.object ∙ c.in_err-replaced.ensures.absent in
+    IfErr-always c.from_residual.result (λ _ _. subst IsNone (sym absent) (search rules))
 
 pub invariant_of-self-2 : goal.invariant_of-self-2
 invariant_of-self-2 c =
     let free = ap (λ (t : Registered). (full t.registrations c.args.object).0) c.self.view_is ∙ sym c.is_full_for.ensures ∙ c.if-is_full_for.false in
-    subst (λ m. len m ≤ table_limit) (sym (made_inserted c.self.inside.entries.entries _ c.args.object _ c.in-Ok.ensures.updates.0)) (limit_inserted _ c.args.object _ free c.self.invariant)
+    subst (λ m. len m ≤ TABLE_LIMIT) (sym (made_inserted c.self.inside.entries.entries _ c.args.object _ c.in_ok-replaced.ensures.updates.0)) (limit_inserted _ c.args.object _ free c.self.invariant)
 
-pub returns-clause-answer : goal.returns-clause-answer
-returns-clause-answer c =
-    let mapped : c.map.result ≡ option_map pair_of c.in-Ok.replaced = search rules in
-    let replaced : c.map.result ≡ old_of c.args.self.now.registrations c.args.object = mapped
-    ∙ ap (option_map pair_of) (c.in-Ok.ensures.old ∙ sym (get_made c.self.inside.entries.entries c.args.object))
-    ∙ ap (λ (t : Registered). old_of t.registrations c.args.object) c.self.view_is in
-    let number = ap (λ (t : Registered). t.next_number) c.self.view_is in
-    cc
+pub returns-clause-replaced : goal.returns-clause-replaced
+returns-clause-replaced c =
+    let mapped : c.map.result ≡ option_map pair_of c.in_ok-replaced.replaced = search rules in
+    mapped ∙ ap (option_map pair_of) (c.in_ok-replaced.ensures.old ∙ sym (get_made c.self.inside.entries.entries c.args.object))
+    ∙ ap (λ (t : Registered). old_of t.registrations c.args.object) c.self.view_is
 
 pub returns-clause-registered : goal.returns-clause-registered
 returns-clause-registered c =
-    ap (λ m. record { registrations = m; next_number = c.self.inside.next_number + 1 }) (made_inserted c.self.inside.entries.entries _ c.args.object _ c.in-Ok.ensures.updates.0)
+    ap (λ m. record { registrations = m; next_number = c.self.inside.next_number + 1 }) (made_inserted c.self.inside.entries.entries _ c.args.object _ c.in_ok-replaced.ensures.updates.0)
     ∙ ap (λ (t : Registered). record {
       registrations = insert t.registrations c.args.object (record { number = t.next_number; kind = c.args.kind; proc = c.args.proc; cd = c.args.cd });
       next_number = t.next_number + 1;

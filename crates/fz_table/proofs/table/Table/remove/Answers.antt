@@ -1,7 +1,7 @@
 use Rattle.std.proofs.Common.{◌≡◌, ◌≤◌, ◌∙◌, ap, sym, subst, rules}
 use Rattle.std.specs.Option.{option_map}
 use Rattle.std.specs.FinMap.{len, remove}
-use Rattle.fz_model.specs.Causes.{table_limit}
+use Rattle.fz_model.specs.declared.limits.TheConstants.{TABLE_LIMIT}
 use Rattle.fz_model.specs.Steps.{old_of}
 use Rattle.fz_model.proofs.Tables.{get_made, made_removed}
 use Rattle.fz_table.specs.Registered.{Registered}
@@ -10,7 +10,7 @@ use Rattle.fz_table.proofs.table.Table.remove.Goals as goal
 
 pub invariant_of-self : goal.invariant_of-self
 invariant_of-self c =
-    subst (λ m. len m ≤ table_limit) (sym (made_removed c.self.inside.entries.entries _ c.args.object c.swap_remove.ensures.updates.0)) (limit_removed _ c.args.object c.self.invariant)
+    subst (λ m. len m ≤ TABLE_LIMIT) (sym (made_removed c.self.inside.entries.entries _ c.args.object c.swap_remove.ensures.updates.0)) (limit_removed _ c.args.object c.self.invariant)
 
 pub returns-clause-answer : goal.returns-clause-answer
 returns-clause-answer c =
