@@ -1,17 +1,13 @@
 -- The keys of a map rise.
-use Rattle.std.proofs.Common.{◌≡◌, ℕ, ◌<◌, T, List, [], ◌∷◌, map, Some, is_lt, nat_cmp, arith, AllPairs, All}
-use Rattle.std.specs.FinMap as finmap
+use Rattle.std.proofs.Common.{ℕ, ◌<◌, T, List, [], ◌∷◌, map, is_lt, nat_cmp, arith, AllPairs, All}
 use Rattle.std.specs.FinMap.{is_sorted, entries_sorted, entries, keys}
 use Rattle.std.specs.FinMap.Entries.{below_all}
 use Rattle.std.proofs.lemmas.List.Elements.{All-cons, All-nil}
 use Rattle.std.proofs.lemmas.List.Kept.{AllPairs-cons}
 use Rattle.fz_model.specs.State.{Map}
-use Rattle.fz_model.proofs.MapEntries.{less_key, T-first, T-second, below_at, found_entry}
+use Rattle.fz_model.proofs.MapEntries.{less_key, T-first, T-second}
 
 module _ {X : Type 0} where
-  pub below_found : (k q : ℕ) (v : X) (es : List (ℕ × X)) → T (below_all nat_cmp k es) → finmap.find nat_cmp q es ≡ Some v → k < q
-  below_found k q v es h e = let at = found_entry es q v e in below_at k es at.0 (q, v) h at.1
-
   below_each : (k : ℕ) (es : List (ℕ × X)) → T (below_all nat_cmp k es) → All (λ x. k < x) (map (λ e. e.0) es)
   below_each k [] h = All-nil (λ x. k < x)
   below_each k (e ∷ es) h = All-cons (λ x. k < x) e.0 (map (λ e. e.0) es) (less_key k e.0 (T-first (is_lt (nat_cmp k e.0)) (below_all nat_cmp k es) h)) (below_each k es (T-second (is_lt (nat_cmp k e.0)) (below_all nat_cmp k es) h))

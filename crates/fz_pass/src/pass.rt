@@ -15,8 +15,8 @@ use fz_model::{Addr, Pick, Refusal};
 use fz_table::Table;
 use std::alloc::Global;
 
-/// Carries out a pass with these found objects: puts the ready registrations into `out`, by rising address, takes them out of the table, reclaims the
-/// objects that aren't kept, and answers their number. Asked only with a found set of as many blocks as the heap has, closed under children.
+/// Carries out a pass with these found objects: puts the ready registrations into `out`, by rising address, removes them from the table, reclaims the
+/// objects that aren't kept, and returns their number. Asked only with a found set of as many blocks as the heap has, closed under children.
 ///
 /// Refused `NoMemory` where an allocation is refused, and nothing has changed then.
 pub fn decide(
@@ -32,19 +32,15 @@ pub fn decide(
     ensures unchanged { OnErr result ((heap.new ≡ heap.old) × (table.new ≡ table.old) × (out.new.items ≡ out.old.items)) }
     ensures decided { IfOk result (λ reclaimed. Decides heap.old table.old (has found.now) out.old.items reclaimed heap.new table.new out.new.items) }
 {
-    let Ok(plan) = Plan::new(alloc, heap, table, found) else {
-        return Err(Refusal::NoMemory);
-    };
-    if out.extend_from_slice(&plan.picks).is_err() {
-        return Err(Refusal::NoMemory);
-    }
+    let plan = Plan::new(alloc, heap, table, found)?;
+    out.extend_from_slice(&plan.picks)?;
     // From here on nothing fails.
     take_out(table, &plan.picks);
     reclaim_all(heap, &plan.garbage);
     Ok(plan.garbage.len() as u64)
 }
 
-/// Takes the registrations of the picks out of the table.
+/// Removes the registrations of the picks from the table.
 fn take_out(table: &mut Table, picks: &[Pick])
     ensures { table.new ≡ record table.old { registrations = without_picks table.old.registrations picks.now } }
 {
@@ -53,7 +49,7 @@ fn take_out(table: &mut Table, picks: &[Pick])
     }
 }
 
-/// Takes the objects at the starts away. Asked only of starts, by rising address.
+/// Reclaims the objects at the starts. Asked only of starts, by rising address.
 fn reclaim_all(heap: &mut Heap, starts: &[Addr])
     requires objects { All (λ a. IsTrue (contains_key heap.old.objects a)) starts.now }
     requires rising { AllPairs (λ a b. a < b) starts.now }

@@ -22,7 +22,7 @@ impl Model for ObjectSet {
 }
 
 impl ObjectSet {
-    /// An empty set of objects of a heap of so many blocks.
+    /// An empty set of objects, for a heap of `blocks` blocks.
     pub(crate) fn new(alloc: Global, blocks: u64) -> Result<ObjectSet, AllocError>
         requires { blocks ≤ 4096 }
         ensures size { IfOk result (λ set. length set ≡ 64 * blocks) }

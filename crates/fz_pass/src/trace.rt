@@ -102,7 +102,7 @@ impl Model for Tracer {
 }
 
 impl Tracer {
-    /// An empty set of objects of a heap of so many blocks. `AllocError` where an allocation is refused.
+    /// An empty set of objects, for a heap of `blocks` blocks. `AllocError` where an allocation is refused.
     pub fn new(alloc: Global, blocks: u64) -> Result<Tracer, AllocError>
         requires { blocks ≤ 4096 }
         ensures size { IfOk result (λ set. length set ≡ 64 * blocks) }

@@ -1,5 +1,5 @@
 -- The children are what all the words point to.
-use Rattle.std.proofs.Common.{arith, refl, subst, ◌↔◌, ◌⊎◌, IsTrue, ◌≡◌, ℕ}
+use Rattle.std.proofs.Common.{arith, subst, ◌↔◌, ◌⊎◌, IsTrue, ◌≡◌, ℕ}
 use Rattle.fz_pass.specs.Sets.{has}
 use Rattle.fz_pass.proofs.Growth.{grows_on}
 use Rattle.fz_pass.proofs.Words.{pointed_more, pointed_all, IsPointedBelow}
@@ -18,5 +18,5 @@ pub returns-clause-added : goal.returns-clause-added
 returns-clause-added c =
     let arm = c.in-Some-default-Scanned-default in
     let all : c.loop-offset.offset ≡ arm.size = omega (arith, c.loop-offset-test.false) in
-    pointed_all c.args.heap.now.objects c.args.start arm.size arm.field-0-2 arm.field-0-1 c.args.left_out c.args.self.now.set c.loop-offset.self.set arm.ensures.facts arm.field-0-1-is (arm.ensures.itself refl)
+    pointed_all c.args.heap.now.objects c.args.start arm.size arm.field-0-2 arm.field-0-1 c.args.left_out c.args.self.now.set c.loop-offset.self.set arm.ensures.facts arm.field-0-1-is c.facts.ensures.apart
     (subst (λ n. (a : ℕ) → IsTrue (has c.loop-offset.self.set a) ↔ (IsTrue (has c.args.self.now.set a) ⊎ IsPointedBelow c.args.heap.now.objects c.args.start c.args.left_out n a)) all c.loop-offset.invariant.added)
