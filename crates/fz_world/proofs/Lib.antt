@@ -1,6 +1,4 @@
-pub mod Stands
-pub mod Calls
-pub mod Tables
+pub mod Does
 pub mod Marking
 pub mod Reaching
 pub mod Passing

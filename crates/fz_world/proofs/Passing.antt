@@ -1,20 +1,22 @@
 -- A pass of a world without links, by what it does to its parts.
-use Rattle.std.proofs.Common.{◌≡◌, ◌≢◌, ℕ, ◌+◌, ◌-◌, ◌<◌, ◌≤◌, Bool, true, false, cond, List, [], ◌∷◌, ◌++◌, length, Option, None, Some, Err, inr, is_some, true≢false, refl, sym, ap, ◌∙◌, subst, arith, zero, suc, get_or, slice_get, nat_le, nat_cmp}
+use Rattle.std.proofs.Common.{◌≡◌, ◌≢◌, ℕ, ◌+◌, ◌-◌, ◌<◌, ◌≤◌, Bool, true, false, cond, List, [], ◌∷◌, ◌++◌, length, Option, None, is_some, true≢false, refl, sym, ap, ◌∙◌, subst, arith, zero, suc, get_or, slice_get, nat_cmp, Some}
+use Rattle.std.proofs.lemmas.Bool.{lt-leb}
 use Rattle.std.proofs.lemmas.Option.{slice_get_within, get_or_from_slice_get}
 use Rattle.std.proofs.lemmas.List.Elements.{All-contains}
 use Rattle.std.specs.Cmp.{nat_cmp_total}
 use Rattle.std.specs.FinMap.{get, len, empty, remove, get-empty, len-remove, empty_of_len, same_map, nat_cmp-IsAntisymmetric, contains_key}
+use Rattle.fz_model.specs.declared.limits.TheConstants.{COUNT_LIMIT}
 use Rattle.fz_model.specs.declared.answers.Entry.{Entry}
 use Rattle.fz_model.specs.declared.answers.Passed.{Passed}
 use Rattle.fz_model.specs.declared.answers.Pick.{Pick}
 use Rattle.fz_model.specs.declared.answers.Registration.{Registration}
-use Rattle.fz_model.specs.declared.refusal.Refusal.{Refusal}
-use Rattle.fz_model.specs.declared.refusal.Refusal.TheVariants.{CycleOpen, Exhausted, NoMemory}
+use Rattle.fz_model.specs.declared.refusal.Refusal.TheVariants.{Exhausted}
 use Rattle.fz_model.specs.State.{Map, Object, Core}
 use Rattle.fz_model.specs.Reachability.{IsReachable, Computes}
-use Rattle.fz_model.specs.Pass.{ArePicks, IsPicked, without_picks, links_within, entries_of, remaining_objects}
-use Rattle.fz_model.specs.Causes.{count_limit}
-use Rattle.fz_model.specs.Events.{Collect}
+use Rattle.fz_model.specs.Pass.{IsPicked, without_picks, links_within, entries_of, remaining_objects}
+use Rattle.fz_model.specs.Causes.{first_cause}
+use Rattle.fz_model.specs.Events.{Event, Collect, Answer, causes}
+use Rattle.fz_model.specs.Steps.{Accepts}
 use Rattle.fz_model.proofs.Maps.{get-retain, get-remove_other}
 use Rattle.fz_model.proofs.Lists.{contains_at}
 use Rattle.fz_heap.specs.Contents.{Contents}
@@ -23,8 +25,13 @@ use Rattle.fz_pass.specs.Sets.{has}
 use Rattle.fz_pass.specs.Decides.{Decides}
 use Rattle.fz_world.specs.Ready.{Ready}
 use Rattle.fz_world.specs.World.{core_of}
-use Rattle.fz_world.specs.Does.{Does}
-use Rattle.fz_world.proofs.Stands.{Allowed, first_passes, refused, refused_first, refused_later}
+use Rattle.fz_world.specs.declared.world.World.TheInside.{Inside}
+use Rattle.fz_world.proofs.Reaching.{core_inside}
+
+-- the call is accepted
+pub record Allowed (old : Core) (e : Event) (answer : Answer e) (new : Core) : Type 0 where
+  pub none : first_cause (causes old e) ≡ None
+  pub accepts : Accepts (record { core = old; moments = [] }) e answer new
 
 -- no link is among none
 no_links : (objects : Map Object) (targets containers : ℕ → Bool) → links_within objects empty targets containers ≡ empty
@@ -37,10 +44,10 @@ no_links objects targets containers = same_map nat_cmp_total nat_cmp-IsAntisymme
 -- ---- no more picks than registrations
 
 some_in : {X : Type 0} (m : Map X) (k : ℕ) → contains_key m k ≡ true → 0 < len m
-some_in m k has = cases (len m) refl
+some_in m k here = cases (len m) refl
   where
     cases : (n : ℕ) → len m ≡ n → 0 < len m
-    cases zero e = absurd (true≢false (sym has ∙ ap is_some (ap (λ m. get m k) (empty_of_len m e) ∙ get-empty nat_cmp k)))
+    cases zero e = absurd (true≢false (sym here ∙ ap is_some (ap (λ m. get m k) (empty_of_len m e) ∙ get-empty nat_cmp k)))
     cases (suc n) e = omega (arith, e)
 
 stays : (registrations : Map Registration) (picks : List Pick) (a : ℕ) → ((k : ℕ) (p : Pick) → slice_get picks k ≡ Some p → a ≢ p.obj) → get (without_picks registrations picks) a ≡ get registrations a
@@ -59,90 +66,68 @@ picks_fit registrations (p ∷ ps) each apart =
 
 -- ---- a pass
 
-module _ (heap : Contents) (frames : List (List ℕ)) (table : Registered) (ready : Ready) (passes : ℕ) (found : List Bool) (reclaimed : ℕ) (new_heap : Contents) (new_table : Registered) (picks : List Pick) (d : Decides heap table (has found) [] reclaimed new_heap new_table picks) where
-  -- what was decided is what stands in the list
-  picks_are : ArePicks heap.objects table.registrations empty (has found) picks
-  picks_are = subst (ArePicks heap.objects table.registrations empty (has found)) (sym d.out_is) d.decision.picks_are
+-- what is decided of the parts of a world, and told in its reply
+module _ (w : Inside) (found : List Bool) (out : List Pick) (reclaimed : ℕ) (heap : Contents) (table : Registered) (picks : List Pick) (d : Decides w.heap w.table (has found) out reclaimed heap table picks) (none : out ≡ []) where
+  picks_is : picks ≡ d.decision.picks
+  picks_is = d.out_is ∙ ap (λ ps. ps ++ d.decision.picks) none
 
-  picked_at : (k : ℕ) (p : Pick) → slice_get picks k ≡ Some p → IsPicked heap.objects table.registrations empty (has found) p
-  picked_at k p e = All-contains (IsPicked heap.objects table.registrations empty (has found)) picks p picks_are.each (contains_at picks k p e)
+  picked_at : (k : ℕ) (p : Pick) → slice_get d.decision.picks k ≡ Some p → IsPicked w.heap.objects w.table.registrations empty (has found) p
+  picked_at k p e = All-contains (IsPicked w.heap.objects w.table.registrations empty (has found)) d.decision.picks p d.decision.picks_are.each (contains_at d.decision.picks k p e)
 
   -- room for as many as are registered is enough
-  pub fits : (room : ℕ) → len table.registrations ≤ room → length picks ≤ room
+  pub fits : (room : ℕ) → len w.table.registrations ≤ room → length picks ≤ room
   fits room enough =
-      let all = picks_fit table.registrations picks (λ k p e. ap is_some (picked_at k p e).unreachable.registered)
+      let ps = d.decision.picks in
+      let all = picks_fit w.table.registrations ps (λ k p e. ap is_some (picked_at k p e).unreachable.registered)
       (λ i j p q l e f same.
-      let before = picks_are.ordered i j p l (slice_get_within picks j q f) in
-      let lt : p.obj < q.obj = subst (λ (x : Pick). x.obj < q.obj) (get_or_from_slice_get picks i p p e) (subst (λ (x : Pick). (get_or picks i p).obj < x.obj) (get_or_from_slice_get picks j q p f) before) in
+      let before = d.decision.picks_are.ordered i j p l (slice_get_within ps j q f) in
+      let lt : p.obj < q.obj = subst (λ (x : Pick). x.obj < q.obj) (get_or_from_slice_get ps i p p e) (subst (λ (x : Pick). (get_or ps i p).obj < x.obj) (get_or_from_slice_get ps j q p f) before) in
       absurd (omega arith)) in
-      omega (arith, all, enough)
+      let n = ap length picks_is in
+      omega (arith, all, enough, n)
 
-  module _ (new_ready : Ready) (queue : new_ready.queue ≡ ready.queue ++ entries_of (passes + 1) (length ready.queue) picks) (held : new_ready.held ≡ ready.held ++ entries_of (passes + 1) (length ready.queue) picks) where
-    -- the core with these parts
-    abbrev made : Map Object → Map Registration → Map ℕ → Map ℕ → List Entry → List Entry → Core
-    made objects registrations short long q h = record (core_of heap frames table ready passes) { objects = objects; registrations = registrations; short = short; long = long; queue = q; held = h; passes = passes + 1; cycle = false }
+  -- the entries come after those of before
+  pub passed : (old : Core) (reserved ready : Ready) (items : List Pick) (n : ℕ) → core_inside w ≡ old → old.passes + 1 < COUNT_LIMIT → Computes (has found) (IsReachable old)
+      → (reserved.queue ≡ w.ready.queue) × (reserved.held ≡ w.ready.held) → items ≡ picks → n ≡ length picks
+      → ready.queue ≡ reserved.queue ++ entries_of (w.passes + 1) (length reserved.queue) items → ready.held ≡ reserved.held ++ entries_of (w.passes + 1) (length reserved.queue) items
+      → Allowed old Collect (record { pass = w.passes + 1; picked = n; reclaimed = reclaimed }) (core_of heap w.frames table ready (w.passes + 1))
+  passed old reserved ready items n is few computes same items_are counted queue held = subst (λ c. Allowed c Collect (reply n reclaimed) (core_of heap w.frames table ready (w.passes + 1))) is (record {
+    none = ap (λ b. first_cause ((b, Exhausted) ∷ [])) (lt-leb COUNT_LIMIT (w.passes + 1) (let k = ap (λ (c : Core). c.passes) is in omega (arith, k, few)));
+    accepts = (
+      has found,
+      subst (λ c. Computes (has found) (IsReachable c)) (sym is) computes,
+      record {
+        decision = d.decision;
+        is = core_is;
+        reply = ap (λ k. reply k reclaimed) (counted ∙ ap length picks_is) ∙ ap (reply (length d.decision.picks)) d.reclaimed_is;
+      },
+    );
+  })
+    where
+      reply : ℕ → ℕ → Passed
+      reply n r = record { pass = w.passes + 1; picked = n; reclaimed = r }
 
-    pub passed : (n : ℕ) → n ≡ length picks → nat_le count_limit (passes + 1) ≡ false → Computes (has found) (IsReachable (core_of heap frames table ready passes)) → Allowed (core_of heap frames table ready passes) Collect (record { pass = passes + 1; picked = n; reclaimed = reclaimed }) (core_of new_heap frames new_table new_ready (passes + 1))
-    passed n counted few computes = record {
-      none = first_passes (false, CycleOpen) ((nat_le count_limit (passes + 1), Exhausted) ∷ []) refl ∙ first_passes (nat_le count_limit (passes + 1), Exhausted) [] few;
-      accepts = λ _. (
-        has found,
-        computes,
-        record {
-          decision = d.decision;
-          is = is;
-          reply = ap (λ n. reply_of n reclaimed) (counted ∙ ap length d.out_is) ∙ ap (reply_of (length d.decision.picks)) d.reclaimed_is;
-        },
-      );
-    }
-      where
-        left : Map Object
-        left = remaining_objects heap.objects empty empty (has found) d.decision.kept
+      entries : List Entry
+      entries = entries_of (w.passes + 1) (length w.ready.queue) d.decision.picks
 
-        rest : Map Registration
-        rest = without_picks table.registrations d.decision.picks
-
-        short : Map ℕ
-        short = links_within heap.objects empty (has found) d.decision.kept
-
-        long : Map ℕ
-        long = links_within heap.objects empty d.decision.kept d.decision.kept
-
-        reply_of : ℕ → ℕ → Passed
-        reply_of n r = record { pass = passes + 1; picked = n; reclaimed = r }
-
-        is : core_of new_heap frames new_table new_ready (passes + 1) ≡ made (remaining_objects heap.objects empty empty (has found) d.decision.kept) (without_picks table.registrations d.decision.picks) (links_within heap.objects empty (has found) d.decision.kept) (links_within heap.objects empty d.decision.kept d.decision.kept) (ready.queue ++ entries_of (passes + 1) (length ready.queue) d.decision.picks) (ready.held ++ entries_of (passes + 1) (length ready.queue) d.decision.picks)
-        is =
-            ap (λ (h : Contents). core_of h frames new_table new_ready (passes + 1)) d.heap_is
-            ∙ ap (λ (t : Registered). core_of (record heap { objects = left }) frames t new_ready (passes + 1)) d.table_is
-            ∙ ap (λ s. made left rest s empty new_ready.queue new_ready.held) (sym (no_links heap.objects (has found) d.decision.kept))
-            ∙ ap (λ l. made left rest short l new_ready.queue new_ready.held) (sym (no_links heap.objects d.decision.kept d.decision.kept))
-            ∙ ap (λ q. made left rest short long q new_ready.held) (queue ∙ ap (λ ps. ready.queue ++ entries_of (passes + 1) (length ready.queue) ps) d.out_is)
-            ∙ ap (λ h. made left rest short long (ready.queue ++ entries_of (passes + 1) (length ready.queue) d.decision.picks) h) (held ∙ ap (λ ps. ready.held ++ entries_of (passes + 1) (length ready.queue) ps) d.out_is)
-
--- a list that gained the entries of the picks, after room was made
-pub gained : (pass : ℕ) (old new after old_queue new_queue : List Entry) (ps picks : List Pick) → new ≡ old → new_queue ≡ old_queue → ps ≡ picks → after ≡ new ++ entries_of pass (length new_queue) ps → after ≡ old ++ entries_of pass (length old_queue) picks
-gained pass old new after old_queue new_queue ps picks same queue are is =
-    is ∙ ap (λ es. es ++ entries_of pass (length new_queue) ps) same ∙ ap (λ (q : List Entry). old ++ entries_of pass (length q) ps) queue ∙ ap (λ x. old ++ entries_of pass (length old_queue) x) are
-
--- ---- a collection that is refused
-
-module _ (heap : Contents) (frames : List (List ℕ)) (table : Registered) (ready : Ready) (passes : ℕ) where
-  abbrev pub past : Bool × Refusal
-  past = (nat_le count_limit (passes + 1), Exhausted)
-
-  pub no_more_passes : nat_le count_limit (passes + 1) ≡ true → Does (core_of heap frames table ready passes) Collect (Err Exhausted) (core_of heap frames table ready passes)
-  no_more_passes enough = refused (core_of heap frames table ready passes) Collect Exhausted (refused_later (false, CycleOpen) (past ∷ []) true Exhausted refl (refused_first past [] true enough))
-
-  pub no_memory : nat_le count_limit (passes + 1) ≡ false → Does (core_of heap frames table ready passes) Collect (Err NoMemory) (core_of heap frames table ready passes)
-  no_memory few = refused (core_of heap frames table ready passes) Collect NoMemory (inr (first_passes (false, CycleOpen) (past ∷ []) refl ∙ first_passes past [] few, refl, refl))
-
-  -- the world with the same queue, and room for more
-  pub with_room : (new : Ready) → (new.queue ≡ ready.queue) × (new.held ≡ ready.held) → core_of heap frames table new passes ≡ core_of heap frames table ready passes
-  with_room new same = ap (λ q. core_of heap frames table (record { queue = q; held = new.held; room = 0 }) passes) same.0 ∙ ap (λ h. core_of heap frames table (record { queue = ready.queue; held = h; room = 0 }) passes) same.1
-
-  pub no_memory_after : (new : Ready) → (new.queue ≡ ready.queue) × (new.held ≡ ready.held) → nat_le count_limit (passes + 1) ≡ false → Does (core_of heap frames table ready passes) Collect (Err NoMemory) (core_of heap frames table new passes)
-  no_memory_after new same few = subst (λ (c : Core). Does (core_of heap frames table ready passes) Collect (Err NoMemory) c) (sym (with_room new same)) (no_memory few)
-
-  pub no_memory_as : (r : Refusal) → r ≡ NoMemory → nat_le count_limit (passes + 1) ≡ false → Does (core_of heap frames table ready passes) Collect (Err r) (core_of heap frames table ready passes)
-  no_memory_as r is few = subst (λ (x : Refusal). Does (core_of heap frames table ready passes) Collect (Err x) (core_of heap frames table ready passes)) (sym is) (no_memory few)
+      core_is : core_of heap w.frames table ready (w.passes + 1) ≡ record (core_inside w) {
+        objects = remaining_objects w.heap.objects empty empty (has found) d.decision.kept;
+        registrations = without_picks w.table.registrations d.decision.picks;
+        short = links_within w.heap.objects empty (has found) d.decision.kept;
+        long = links_within w.heap.objects empty d.decision.kept d.decision.kept;
+        queue = w.ready.queue ++ entries;
+        held = w.ready.held ++ entries;
+        passes = w.passes + 1;
+        cycle = false;
+      }
+      core_is =
+          let objects = d.heap_is in
+          let registrations = d.table_is in
+          let short = no_links w.heap.objects (has found) d.decision.kept in
+          let long = no_links w.heap.objects d.decision.kept d.decision.kept in
+          let queue_same = same.0 in
+          let held_same = same.1 in
+          let picks_same = picks_is in
+          let q : ready.queue ≡ w.ready.queue ++ entries = cc in
+          let h : ready.held ≡ w.ready.held ++ entries = cc in
+          cc

@@ -1,6 +1,7 @@
 -- A world stands for a state of the model, and each of its calls is a step of the model from that state.
 use Rattle.std.specs.Prelude.{◌≡◌, ℕ, [], ◌∷◌, Result}
 use Rattle.fz_model.specs.declared.refusal.Refusal.{Refusal}
+use Rattle.fz_model.specs.declared.limits.TheConstants.{MAX_BLOCKS, MAX_FRAMES}
 use Rattle.fz_model.specs.State.{Core, State}
 use Rattle.fz_model.specs.Seen.{SeenIsClosed}
 use Rattle.fz_model.specs.Causes.{Causes, bad_count}
@@ -13,9 +14,9 @@ pub record StandsFor (world : Core) (s : State) : Type 0 where
   pub seen : SeenIsClosed s
 
 -- from each state that the old world stands for there is a step with this reply, to a state that the new world stands for
-abbrev pub Does : Core → (e : Event) → Result (Answer e) Refusal → Core → Type 0
+unfoldable pub Does : Core → (e : Event) → Result (Answer e) Refusal → Core → Type 0
 Does old e reply new = (s : State) → StandsFor old s → (t : State) × Step s e reply t × StandsFor new t
 
 -- the causes of refusal of an opening
 abbrev pub open_causes : ℕ → ℕ → Causes
-open_causes blocks frames = bad_count 4096 blocks ∷ bad_count 8 frames ∷ []
+open_causes blocks frames = bad_count MAX_BLOCKS blocks ∷ bad_count MAX_FRAMES frames ∷ []

@@ -1,47 +1,58 @@
 //! The frames, whose slots are roots.
 
-ghost use Rattle.std.specs.Prelude.{◌≡◌, ◌≤◌, false, IfOk, replicate};
-ghost use Rattle.fz_model.specs.Memory.{lacks_slot, with_slot};
-ghost use Rattle.fz_world.specs.Slots.{GivesSlot};
+ghost use Rattle.std.specs.Prelude.{◌≡◌, ◌≤◌, false, IfOk, OnOk, All, List, ℕ, length, replicate};
+ghost use Rattle.fz_model.specs.declared.limits.TheConstants.{MAX_FRAMES, SLOTS};
+ghost use Rattle.fz_model.specs.Memory.{lacks_slot, slot_word, with_slot};
+ghost use Rattle.fz_model.specs.Causes.{IsJudgedBy, slot_causes};
 
-use fz_model::{Refusal, Word};
+use fz_model::{Refusal, SLOTS, Word};
 use std::alloc::{AllocError, Global};
 use std::marker::Model;
 
-const SLOTS: usize = 16;
+/// The slots of a frame, as the length of an array.
+const ROW: usize = SLOTS as usize;
 
-/// Frames of 16 slots each, which hold a word each.
+/// Frames, whose slots hold a word each.
 #[derive(Drop)]
 pub(crate) struct Frames {
-    rows: Vec<[Word; SLOTS]>,
+    rows: Vec<[Word; ROW]>,
 }
 
 impl Model for Frames {
-    ghost use Rattle.std.specs.Prelude.{List, ℕ};
+    ghost use Rattle.std.specs.Prelude.{List, ℕ, ◌≡◌, All, length};
+    ghost use Rattle.fz_model.specs.declared.limits.TheConstants.{SLOTS};
 
     ghost Value = { List (List ℕ) };
 
     ghost view = { λ f. f.rows.items };
+
+    ghost invariant = { λ f. All (λ (row : List ℕ). length row ≡ SLOTS) f.rows.items };
 }
 
 impl Frames {
     /// So many frames, all of whose slots are zero.
     pub(crate) fn new(alloc: Global, frames: u64) -> Result<Frames, AllocError>
-        requires { frames ≤ 8 }
-        ensures { IfOk result (λ f. f ≡ replicate frames (replicate 16 0)) }
+        requires { frames ≤ MAX_FRAMES }
+        ensures { IfOk result (λ f. f ≡ replicate frames (replicate SLOTS 0)) }
     {
         let mut rows = Vec::new(alloc);
         for _ in 0..frames {
-            rows.push([0; SLOTS])?;
+            rows.push([0; ROW])?;
         }
         Ok(Frames { rows })
     }
 
-    /// The word of a slot, or `BadSlot` where there is no such slot.
+    /// The word of a slot.
+    ///
+    /// Refused `BadSlot` where there is no such slot.
     pub(crate) fn get(&self, frame: u64, slot: u64) -> Result<Word, Refusal>
-        ensures { GivesSlot self.now frame slot result }
+        ensures judged { IsJudgedBy (slot_causes self.now frame slot) result }
+        ensures word { IfOk result (λ word. word ≡ slot_word self.now frame slot) }
+        ensures there { OnOk result (lacks_slot self.now frame slot ≡ false) }
+        // Each frame has all its slots.
+        ensures whole { All (λ (row : List ℕ). length row ≡ SLOTS) self.now }
     {
-        if frame >= self.rows.len() as u64 || slot >= SLOTS as u64 {
+        if frame >= self.rows.len() as u64 || slot >= SLOTS {
             return Err(Refusal::BadSlot);
         }
         let row = &self.rows[frame as usize];
@@ -58,7 +69,7 @@ impl Frames {
     }
 
     /// All frames.
-    pub(crate) fn rows(&self) -> &[[Word; SLOTS]]
+    pub(crate) fn rows(&self) -> &[[Word; ROW]]
         ensures { result.now ≡ self.now }
     {
         self.rows.as_slice()

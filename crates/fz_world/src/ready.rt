@@ -1,11 +1,12 @@
 //! The queue of finalizers that are ready, and those of its entries that are held.
 
-ghost use Rattle.std.specs.Prelude.{◌≡◌, ◌≤◌, ◌<◌, ◌+◌, ◌++◌, [], ◌∷◌, true, false, not, filter, length, MatchOption, OnOk, IfOk};
-ghost use Rattle.std.specs.List.{list_any, position_or_len};
-ghost use Rattle.fz_model.specs.Events.{same_entry};
+ghost use Rattle.std.specs.Prelude.{◌≡◌, ◌≤◌, ◌<◌, ◌+◌, ◌++◌, [], ◌∷◌, not, filter, length, OnOk, OnErr, IfOk};
+ghost use Rattle.std.specs.List.{position_or_len};
+ghost use Rattle.fz_model.specs.Causes.{IsJudgedBy};
+ghost use Rattle.fz_model.specs.Events.{same_entry, not_held};
 ghost use Rattle.fz_model.specs.Pass.{entries_of};
 
-use fz_model::{Entry, Pick};
+use fz_model::{Entry, Pick, Refusal};
 use std::alloc::{AllocError, Global};
 use std::marker::Model;
 
@@ -84,7 +85,7 @@ impl Ready {
         Ok(held)
     }
 
-    /// Makes room for so many more entries.
+    /// Makes room for further entries.
     pub(crate) fn reserve(&mut self, more: usize) -> Result<(), AllocError>
         ensures same { (self.new.queue ≡ self.old.queue) × (self.new.held ≡ self.old.held) }
         ensures room { OnOk result (more ≤ self.new.room) }
@@ -126,32 +127,32 @@ impl Ready {
         }
     }
 
-    /// The place of an entry that is held.
-    fn place_of(&self, entry: &Entry) -> Option<usize>
-        ensures { MatchOption result (list_any (same_entry entry.now) self.now.held ≡ false) (λ place. (place ≡ entry.now.seq) × (list_any (same_entry entry.now) self.now.held ≡ true)) }
+    /// The place of an entry, which has to be held.
+    fn place_of(&self, entry: &Entry) -> Result<usize, Refusal>
+        ensures judged { IsJudgedBy (not_held self.now.held entry.now ∷ []) result }
+        ensures place { IfOk result (λ place. place ≡ entry.now.seq) }
     {
         let place = entry.seq as usize;
         if place < self.queue.len() && self.is_held[place] && *entry == self.queue[place] {
-            Some(place)
+            Ok(place)
         } else {
-            None
+            Err(Refusal::NotHeld)
         }
     }
 
-    /// Ends the holding of an entry, if it is held.
-    pub(crate) fn finish(&mut self, entry: &Entry) -> bool
-        ensures answer { result ≡ list_any (same_entry entry.now) self.old.held }
+    /// Ends the holding of an entry.
+    ///
+    /// Refused `NotHeld` where no held entry is the same in all its fields.
+    pub(crate) fn finish(&mut self, entry: &Entry) -> Result<(), Refusal>
+        ensures judged { IsJudgedBy (not_held self.old.held entry.now ∷ []) result }
+        ensures unchanged { OnErr result (self.new ≡ self.old) }
         ensures queue { self.new.queue ≡ self.old.queue }
-        ensures held { self.new.held ≡ filter (λ h. not (same_entry entry.now h)) self.old.held }
+        ensures held { OnOk result (self.new.held ≡ filter (λ h. not (same_entry entry.now h)) self.old.held) }
     {
-        match self.place_of(entry) {
-            Some(place) => {
-                self.is_held[place] = false;
-                self.outstanding -= 1;
-                self.first_held += first_up(&self.is_held[self.first_held..]);
-                true
-            }
-            None => false,
-        }
+        let place = self.place_of(entry)?;
+        self.is_held[place] = false;
+        self.outstanding -= 1;
+        self.first_held += first_up(&self.is_held[self.first_held..]);
+        Ok(())
     }
 }

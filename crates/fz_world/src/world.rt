@@ -1,13 +1,14 @@
 //! The world, whose calls are the steps of the model.
 
-ghost use Rattle.std.specs.Prelude.{◌≡◌, ◌<◌, ◌+◌, ◌*◌, length, true, false, None, Ok, Some, IfOk, IfErr, OnOk, IsFalse};
+ghost use Rattle.std.specs.Prelude.{◌≡◌, ◌<◌, ◌+◌, ◌*◌, length, IfOk, IfErr, IsFalse};
 ghost use Rattle.std.specs.Option.{IsNone};
 ghost use Rattle.std.specs.FinMap.{get};
+ghost use Rattle.fz_model.specs.declared.limits.TheConstants.{BLOCK_WORDS, COUNT_LIMIT};
 ghost use Rattle.fz_model.specs.State.{opening};
-ghost use Rattle.fz_model.specs.Causes.{start_causes, IsRefusedFor, first_cause, is_off_heap, count_limit};
-ghost use Rattle.fz_model.specs.Events.{Alloc, Load, Store, Set, Copy, Register, Unregister, Collect, Finish, Outstanding, Queue, causes};
 ghost use Rattle.fz_model.specs.Memory.{slot_word};
 ghost use Rattle.fz_model.specs.Reachability.{IsReachable, Computes};
+ghost use Rattle.fz_model.specs.Causes.{IsJudgedBy, IsJudgedOrLacks, start_causes, is_off_heap};
+ghost use Rattle.fz_model.specs.Events.{Alloc, Load, Store, Set, Copy, Register, Unregister, Collect, Finish, Outstanding, Queue, causes};
 ghost use Rattle.fz_pass.specs.Sets.{has};
 ghost use Rattle.fz_world.specs.Does.{StandsFor, Does, open_causes};
 
@@ -16,16 +17,13 @@ use crate::ready::Ready;
 use crate::roots::reachable;
 use fz_heap::Heap;
 use fz_model::{
-    Addr, BLOCK_WORDS, COUNT_LIMIT, Entry, HEAP_START, ObjKind, Old, Passed, Refusal, RegAnswer,
-    RegKind, Word,
+    Addr, BLOCK_WORDS, COUNT_LIMIT, Entry, HEAP_START, MAX_FRAMES, ObjKind, Old, Passed, Refusal,
+    RegAnswer, RegKind, Word,
 };
 use fz_pass::{ObjectSet, decide};
 use fz_table::Table;
 use std::alloc::{AllocError, Global};
 use std::marker::Model;
-
-/// The most frames of a world.
-const MAX_FRAMES: u64 = 8;
 
 /// How a world opens.
 #[derive(Clone, Copy, Debug, PartialEq, Eq)]
@@ -37,7 +35,7 @@ pub struct Config {
 }
 
 /// A world of objects, frames, registrations and entries of ready finalizers, after `gc.h`. A contract sees all that a state of the model
-/// keeps but what an open cycle has seen. A refused call answers the first of its refusals that stands, and changes nothing.
+/// keeps but what an open cycle has seen. A refused call returns the first of its refusals that stands, and changes nothing.
 #[derive(Drop)]
 pub struct World {
     alloc: Global,
@@ -51,7 +49,7 @@ pub struct World {
 impl Model for World {
     ghost use Rattle.fz_model.specs.State.{Core};
     ghost use Rattle.fz_model.specs.Codes.{core_code};
-    ghost use Rattle.fz_model.specs.Sound.{IsSound};
+    ghost use Rattle.fz_model.specs.Parts.{AreSound};
     ghost use Rattle.fz_world.specs.World.{core_of};
 
     ghost Value = { Core };
@@ -60,24 +58,23 @@ impl Model for World {
 
     ghost view = { λ w. core_of w.heap w.frames w.table w.ready w.passes };
 
-    ghost invariant = { λ w. IsSound w.heap.objects w.table.registrations w.table.next_number w.ready.queue w.ready.held };
+    ghost invariant = { λ w. AreSound w.heap.objects w.table.registrations w.table.next_number w.ready.queue w.ready.held };
 }
 
+#[tactic(auto, using(fz_model::proofs::Judged::judged_more, fz_model::proofs::Judged::judged_err, fz_model::proofs::Parts::sound_opening, fz_model::proofs::Parts::sound_made, fz_model::proofs::Parts::sound_written, fz_model::proofs::Parts::sound_registered, fz_model::proofs::Parts::sound_removed, fz_model::proofs::Parts::sound_filtered, crate::proofs::Does::does_refused, crate::proofs::Does::does_accepted))]
 impl World {
     /// Opens a world without objects, all of whose slots are zero.
     ///
     /// Refusals, in their order: `BadCount` where blocks or frames are outside their limits, `NoMemory` where there is none for heap and frames.
     pub fn open(alloc: Global, config: Config) -> Result<World, Refusal>
-        ensures refused { IfErr result (λ r. IsRefusedFor (open_causes config.blocks config.frames) true r) }
-        ensures opened { IfOk result (λ world. (first_cause (open_causes config.blocks config.frames) ≡ None) × StandsFor world (opening config.blocks config.frames)) }
+        ensures judged { IsJudgedOrLacks (open_causes config.blocks config.frames) result }
+        ensures opened { IfOk result (λ world. StandsFor world (opening config.blocks config.frames)) }
     {
         if config.frames < 1 || config.frames > MAX_FRAMES {
             return Err(Refusal::BadCount);
         }
         let heap = Heap::new(alloc, config.blocks)?;
-        let Ok(frames) = Frames::new(alloc, config.frames) else {
-            return Err(Refusal::NoMemory);
-        };
+        let frames = Frames::new(alloc, config.frames)?;
         Ok(World {
             alloc,
             heap,
@@ -88,10 +85,10 @@ impl World {
         })
     }
 
-    /// Makes an object of so many words, all of them zero, and puts its address into the slot. Answers the address and the birth. An atomic
+    /// Makes an object of `size` words, all of them zero, and puts its address into the slot. Returns the address and the birth. An atomic
     /// object is one of `GC_malloc_atomic`.
     ///
-    /// Refusals, in their order: `BadSlot`, `BadSize` outside 1 to 64 words, `Exhausted` after 2^48 births, `NoSpace`.
+    /// Refusals, in their order: `BadSlot`, `BadSize` outside 1 to 1,024 words, `Exhausted` after 2^48 births, `NoSpace`.
     pub fn alloc(
         &mut self,
         frame: u64,
@@ -101,7 +98,7 @@ impl World {
     ) -> Result<(Addr, u64), Refusal>
         ensures step { Does self.old (Alloc frame slot size kind) result self.new }
         // It takes no memory, since `open` made its room: so each refusal has its cause.
-        ensures caused { IfErr result (λ r. first_cause (causes self.old (Alloc frame slot size kind)) ≡ Some r) }
+        ensures caused { IsJudgedBy (causes self.old (Alloc frame slot size kind)) result }
     {
         self.frames.get(frame, slot)?;
         let (address, birth) = self.heap.alloc(size, kind)?;
@@ -203,7 +200,8 @@ impl World {
         Ok(RegAnswer::Number(number, old))
     }
 
-    /// Takes the registration of the object that starts at the slot's word away, and answers its pair: `GC_register_finalizer` with no procedure.
+    /// Removes the registration of the object that starts at the slot's word; returns its procedure and client data: `GC_register_finalizer` with
+    /// no procedure.
     ///
     /// Refusals, in their order: `BadSlot`, `NotPointer`, `NotStart`; a word that is zero or outside the heap has no registration.
     pub fn unregister(&mut self, frame: u64, slot: u64) -> Result<Option<Old>, Refusal>
@@ -227,15 +225,13 @@ impl World {
         if self.passes >= COUNT_LIMIT - 1 {
             return Err(Refusal::Exhausted);
         }
-        let Ok(found) = self.find() else {
-            return Err(Refusal::NoMemory);
-        };
+        let found = self.find()?;
         self.pass(&found)
     }
 
     /// All that is reachable.
     fn find(&self) -> Result<ObjectSet, AllocError>
-        ensures size { IfOk result (λ found. length found ≡ 64 * self.now.blocks) }
+        ensures size { IfOk result (λ found. length found ≡ BLOCK_WORDS * self.now.blocks) }
         ensures found { IfOk result (λ found. Computes (has found) (IsReachable self.now)) }
     {
         let held = self.ready.held(self.alloc)?;
@@ -250,14 +246,12 @@ impl World {
 
     /// A pass with these found objects. All that can fail comes before the first change.
     fn pass(&mut self, found: &ObjectSet) -> Result<Passed, Refusal>
-        requires size { length found.now ≡ 64 * self.old.blocks }
+        requires size { length found.now ≡ BLOCK_WORDS * self.old.blocks }
         requires found { Computes (has found.now) (IsReachable self.old) }
-        requires passes { self.old.passes + 1 < count_limit }
+        requires passes { self.old.passes + 1 < COUNT_LIMIT }
         ensures { Does self.old Collect result self.new }
     {
-        let Ok(()) = self.ready.reserve(self.table.len()) else {
-            return Err(Refusal::NoMemory);
-        };
+        self.ready.reserve(self.table.len())?;
         let mut picks = Vec::new(self.alloc);
         let reclaimed = decide(
             self.alloc,
@@ -282,10 +276,7 @@ impl World {
     pub fn finish(&mut self, entry: &Entry) -> Result<(), Refusal>
         ensures { Does self.old (Finish entry.now) result self.new }
     {
-        if !self.ready.finish(entry) {
-            return Err(Refusal::NotHeld);
-        }
-        Ok(())
+        self.ready.finish(entry)
     }
 
     /// The number of held entries.
@@ -313,8 +304,7 @@ fn is_off_heap(heap: &Heap, word: Word) -> bool
 
 /// Refuses a word that isn't the start of an object.
 fn check_start(heap: &Heap, word: Word) -> Result<(), Refusal>
-    ensures start { OnOk result (first_cause (start_causes heap.now.objects word) ≡ None) }
-    ensures refused { IfErr result (λ r. first_cause (start_causes heap.now.objects word) ≡ Some r) }
+    ensures judged { IsJudgedBy (start_causes heap.now.objects word) result }
 {
     if heap.resolve(word).is_none() {
         return Err(Refusal::NotPointer);
