@@ -1,0 +1,61 @@
+//! Duties: seats with an entry in hand.
+
+ghost use Rattle.std.specs.Prelude.{◌≡◌, ◌+◌};
+
+use crate::place::Place;
+use crate::seat::Seat;
+use fz_model::Entry;
+use std::marker::Model;
+
+/// A seat with the entry that it took last.
+///
+/// A duty can't be copied, cloned or dropped, so that its entry isn't forgotten: it becomes a seat again by `done` or `forfeit`.
+/// A contract sees the seat, whose list ends with the entry, and the entry.
+pub struct Duty {
+    pub(crate) place: Place,
+    pub(crate) entry: Entry,
+}
+
+impl Model for Duty {
+    ghost use Rattle.std.specs.Prelude.{◌≡◌, ◌+◌, length};
+    ghost use Rattle.fz_line.specs.States.{DutyState};
+
+    ghost Value = { DutyState };
+
+    ghost view = { λ d. record { seat = d.place; entry = d.entry } };
+
+    ghost invariant = { λ d. length d.place.took ≡ d.place.finished + d.place.forfeited + 1 };
+}
+
+impl Duty {
+    /// The entry in hand.
+    pub fn entry(&self) -> &Entry
+        ensures { result.now ≡ self.now.entry }
+    {
+        &self.entry
+    }
+
+    /// Gives the entry up, which counts as forfeited.
+    pub fn forfeit(self) -> Seat
+        ensures { result ≡ record self.seat { forfeited = self.seat.forfeited + 1 } }
+    {
+        let Duty {
+            mut place,
+            entry: _,
+        } = self;
+        place.forfeited += 1;
+        Seat { place }
+    }
+
+    /// Puts the entry away with its work done, which counts as finished.
+    pub fn done(self) -> Seat
+        ensures { result ≡ record self.seat { finished = self.seat.finished + 1 } }
+    {
+        let Duty {
+            mut place,
+            entry: _,
+        } = self;
+        place.finished += 1;
+        Seat { place }
+    }
+}

@@ -1,0 +1,85 @@
+//! The owner's end of the line.
+
+ghost use Rattle.std.specs.Prelude.{◌≡◌, ◌+◌, ◌<◌, ◌≤◌, [], ◌++◌, length, take, drop, vec_capacity, All, IsPermutation};
+ghost use Rattle.fz_line.specs.Views.{sent_limit, first_room};
+ghost use Rattle.fz_line.specs.Numbers.{AreNumberedFrom};
+ghost use Rattle.fz_line.specs.States.{IsIdle, taken_by};
+
+use crate::drain::gather;
+use crate::protocol::{LineWorker, Sending};
+use crate::seat::Seat;
+use fz_model::Entry;
+use std::marker::Model;
+
+/// The end of a line at which entries are sent.
+///
+/// A contract sees which line it is, how many seats it has, all that was sent, and what `drain` took out. An owner that is dropped takes
+/// the entries that wait in the line with it.
+#[derive(Drop)]
+pub struct Owner {
+    pub(crate) worker: LineWorker,
+    pub(crate) seats: usize,
+}
+
+impl Model for Owner {
+    ghost use Rattle.crossbeam_deque.specs.Handles.{worker_deque, worker_view};
+    ghost use Rattle.fz_line.specs.Passes.{IsOwnerEnd};
+    ghost use Rattle.fz_line.specs.States.{OwnerState, owner_state};
+
+    ghost Value = { OwnerState };
+
+    ghost view = { λ o. owner_state (worker_deque o.worker).0 o.seats (worker_view o.worker).sent (worker_view o.worker).popped };
+
+    ghost invariant = { λ o. IsOwnerEnd o.seats o.worker };
+}
+
+impl Owner {
+    /// The number of the line's seats.
+    pub fn seats(&self) -> usize
+        ensures { result ≡ self.now.seats }
+    {
+        self.seats
+    }
+
+    /// Sends the entries of the outbox in order; returns how many were sent.
+    ///
+    /// It stops early only where there was no memory for the next entry, which is then, with all after it, not sent; the first 64 entries of a
+    /// line always find room. The entries are numbered on from what was sent before, and 2^62 is the most that a line is ever sent.
+    pub fn publish(&mut self, outbox: &[Entry]) -> usize
+        requires numbers { AreNumberedFrom (length self.old.sent) outbox.now }
+        requires limit { length self.old.sent + length outbox.now ≤ sent_limit }
+        ensures sent { self.new ≡ record self.old { sent = self.old.sent ++ take result outbox.now } }
+        ensures within { result ≤ length outbox.now }
+        ensures room { result < length outbox.now → first_room ≤ length self.new.sent }
+    {
+        let worker = &mut self.worker;
+        for (count, &entry) in outbox.iter().enumerate() {
+            if worker.push_as::<Sending>(entry).is_err() {
+                return count;
+            }
+        }
+        outbox.len()
+    }
+
+    /// Takes all entries that wait in the line out of it, into `out`, in order.
+    ///
+    /// It is lent all seats of the line, and gives each back as it was. So it is known that what the seats took and `out` are together what
+    /// was sent: the seats took its beginning, each entry once, and `out` is the rest. It needs room for all that was sent, takes no memory
+    /// and can't fail. A line is drained once.
+    pub fn drain(&mut self, seats: &mut [Seat], out: &mut Vec<Entry>)
+        requires once { self.old.popped ≡ [] }
+        requires all { length seats.old ≡ self.old.seats }
+        requires own { All (λ seat. seat.line ≡ self.old.line) seats.old }
+        requires room { (out.old.items ≡ []) × (length self.old.sent ≤ vec_capacity out.old) }
+
+        ensures first { IsPermutation (taken_by seats.old) (take (length (taken_by seats.old)) self.old.sent) }
+        ensures rest { out.new.items ≡ drop (length (taken_by seats.old)) self.old.sent }
+        ensures idle { All IsIdle seats.old }
+
+        ensures seats { seats.new ≡ seats.old }
+        ensures popped { self.new ≡ record self.old { popped = out.new.items } }
+        ensures capacity { vec_capacity out.new ≡ vec_capacity out.old }
+    {
+        gather(&mut self.worker, seats, out);
+    }
+}

@@ -1,0 +1,96 @@
+//! Seats, which take entries from the line.
+
+ghost use Rattle.std.specs.Prelude.{◌≡◌, ◌+◌, length};
+ghost use Rattle.fz_line.specs.Takes.{MatchTake, GainsEntry};
+
+use crate::duty::Duty;
+use crate::place::Place;
+use crate::protocol::Taking;
+use crossbeam_deque::Steal;
+use std::marker::Model;
+
+/// A worker's seat at the line, with no entry in hand.
+///
+/// A seat can't be copied, cloned or dropped, so that no entry that it took is forgotten: it ends by `retire` alone.
+/// A contract sees the list of all entries that it took, and that each of them was finished or forfeited.
+pub struct Seat {
+    pub(crate) place: Place,
+}
+
+impl Model for Seat {
+    ghost use Rattle.std.specs.Prelude.{◌≡◌, ◌+◌, length};
+    ghost use Rattle.fz_line.specs.States.{SeatState};
+
+    ghost Value = { SeatState };
+
+    ghost view = { λ s. s.place };
+
+    ghost invariant = { λ s. length s.place.took ≡ s.place.finished + s.place.forfeited };
+}
+
+/// What a take returns.
+pub enum Take {
+    /// The first entry of the line, in the seat's hands.
+    Taken(Duty),
+    /// The line was empty at one moment of the call.
+    Empty(Seat),
+    /// Another thread was in the way, and the take has to be tried again.
+    Busy(Seat),
+}
+
+impl Seat {
+    /// Takes the first entry of the line: one steal, with no lock and no wait.
+    pub fn take(self) -> Take
+        ensures { MatchTake result (GainsEntry self) (λ seat. seat ≡ self) }
+    {
+        let Seat { mut place } = self;
+        match place.stealer.steal_as::<Taking>(&mut place.pass) {
+            Steal::Success(entry) => Take::Taken(Duty { place, entry }),
+            Steal::Empty => Take::Empty(Seat { place }),
+            Steal::Retry => Take::Busy(Seat { place }),
+        }
+    }
+
+    /// Its place among the seats of its line, counted from 0.
+    pub fn index(&self) -> usize
+        ensures { result ≡ self.now.index }
+    {
+        self.place.index
+    }
+
+    /// The number of entries that it took.
+    pub fn taken(&self) -> u64
+        ensures taken { result ≡ length self.now.took }
+        ensures idle { result ≡ self.now.finished + self.now.forfeited }
+    {
+        self.place.finished + self.place.forfeited
+    }
+
+    /// The number of entries whose work it did.
+    pub fn finished(&self) -> u64
+        ensures { result ≡ self.now.finished }
+    {
+        self.place.finished
+    }
+
+    /// The number of entries that it gave up.
+    pub fn forfeited(&self) -> u64
+        ensures { result ≡ self.now.forfeited }
+    {
+        self.place.forfeited
+    }
+
+    /// Ends the seat for good. Its line can't be drained after that.
+    pub fn retire(self) {
+        let Seat { place } = self;
+        let Place {
+            stealer,
+            pass,
+            index: _,
+            finished: _,
+            forfeited: _,
+        } = place;
+        drop(pass);
+        drop(stealer);
+    }
+}
