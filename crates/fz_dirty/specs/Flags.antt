@@ -1,0 +1,66 @@
+-- Sets of numbers, and how the bits of words hold one.
+use Rattle.std.specs.Prelude.{◌≡◌, ◌^◌, ℕ, nat_le, ◌&&◌, ◌+◌, ◌-◌, ◌*◌, ◌/◌, ◌%◌, ◌<◌, ◌≤◌, Bool, ◌==◌, List, length, slice_index, filter, [], Option, None, Some, IsTrue, IsFalse, refl}
+use Rattle.std.specs.Coded.{Coded, code_by, coded×, coded_ℕ}
+use Rattle.std.specs.List.{range_with_len}
+use Rattle.std.specs.Ordering.{nat_cmp}
+use Rattle.std.specs.Int.{bit_at}
+use Rattle.std.specs.FinSet as sets
+use Rattle.std.specs.FinSet.{FinSet, contains, from_list, retain, insert}
+
+abbrev pub Set : Type 0
+Set = FinSet nat_cmp
+
+-- a set, and how many numbers may be in it
+pub record Flagged : Type 0 where
+  pub size : ℕ
+  pub members : Set
+
+abbrev pub flagged_code : Coded Flagged
+flagged_code = code_by (ℕ × Set) (coded× coded_ℕ (sets.code coded_ℕ)) (λ f. (f.size, f.members)) (λ p. record { size = p.0; members = p.1 }) (λ _. refl)
+
+-- whether the bit at a place of a word is set
+abbrev pub has_bit : ℕ → ℕ → Bool
+has_bit word place = bit_at word place == 1
+
+-- the word that has a number's bit
+abbrev pub word_of : ℕ → ℕ → ℕ
+word_of first n = (n - first) / 64
+
+-- whether the bit at a place is set, among words of 64 bits
+abbrev pub has_flag : List ℕ → ℕ → Bool
+has_flag words place = has_bit (slice_index words (place / 64)) (place % 64)
+
+-- the numbers whose bits are set, where the first bit is that of the first number
+abbrev pub flagged : ℕ → List ℕ → Set
+flagged first words = retain (from_list (range_with_len first (64 * length words))) (λ n. has_flag words (n - first))
+
+-- all members of one set are in another
+abbrev pub IsWithin : Set → Set → Type 0
+IsWithin inner outer = (n : ℕ) → IsTrue (contains inner n) → IsTrue (contains outer n)
+
+-- the least member from a number on
+pub record IsNext (set : Set) (from next : ℕ) : Type 0 where
+  pub member : IsTrue (contains set next)
+  pub after : from ≤ next
+  pub before : (n : ℕ) → from ≤ n → n < next → IsFalse (contains set n)
+
+-- the members from a number on, in order
+abbrev pub members_from : ℕ → Flagged → ℕ → List ℕ
+members_from first f next = filter (contains f.members) (range_with_len next (first + f.size - next))
+
+-- the same of a walk that may have come to the end of all numbers
+abbrev pub members_left : ℕ → Flagged → Option ℕ → List ℕ
+members_left first f None = []
+members_left first f (Some next) = members_from first f next
+
+-- The rest is for proofs alone: what a walk over the words keeps.
+
+-- members are from the first number on, where there is room
+pub record HasRoom (first : ℕ) (f : Flagged) : Type 0 where
+  pub fits : first + f.size ≤ 2 ^ 64
+  pub each : (n : ℕ) → IsTrue (contains f.members n) → (first ≤ n) × (n < first + f.size)
+
+-- of the word at an index, the bits of members from a number on; none of those in the words before is a member
+pub record IsRest (first : ℕ) (set : Set) (from index rest : ℕ) : Type 0 where
+  pub bits : (place : ℕ) → place < 64 → has_bit rest place ≡ (nat_le (from - first) (64 * index + place) && contains set (first + 64 * index + place))
+  pub before : (n : ℕ) → from ≤ n → n < first + 64 * index → IsFalse (contains set n)

@@ -1,0 +1,12 @@
+//! Sets of numbers, a bit for each, and the pages of a heap that were written.
+#![tactic(auto)]
+
+mod dirty;
+mod flags;
+mod members;
+#[cfg(test)]
+mod tests;
+
+pub use dirty::Dirty;
+pub use flags::Flags;
+pub use members::Members;

@@ -1,0 +1,36 @@
+-- Links that move.
+use Rattle.std.proofs.Common.{◌≡◌, ◌≢◌, ℕ, ◌+◌, ◌-◌, false, cond, is_some, Option, Some, None, refl, sym, ap, subst, ◌∙◌, ⊎_elim, arith}
+use Rattle.std.proofs.lemmas.Bool.{cases_eq, true≢false}
+use Rattle.std.proofs.lemmas.Option.{none-some}
+use Rattle.std.specs.Cmp.{nat_cmp_total}
+use Rattle.std.specs.FinMap.{get, len, insert, remove, len-insert, len-remove, same_map, nat_cmp-IsAntisymmetric}
+use Rattle.fz_model.specs.State.{Map}
+use Rattle.fz_model.proofs.Maps.{get-remove_same, get-remove_other, get-insert_same, get-insert_other}
+
+module _ {X : Type 0} where
+  -- a key whose value moves to a new key
+  pub moved_turns : (m : Map X) (k n : ℕ) (x : X) → n ≢ k → remove (insert m n x) k ≡ insert (remove m k) n x
+  moved_turns m k n x ne =
+      same_map nat_cmp_total nat_cmp-IsAntisymmetric _ _ (λ q. ⊎_elim (at_old q) (λ (other : q ≢ k). ⊎_elim (at_new q) (elsewhere q other) (cases_eq q n)) (cases_eq q k))
+    where
+      at_old : (q : ℕ) → q ≡ k → get (remove (insert m n x) k) q ≡ get (insert (remove m k) n x) q
+      at_old q is = subst (λ q. get (remove (insert m n x) k) q ≡ get (insert (remove m k) n x) q) (sym is) (get-remove_same (insert m n x) k ∙ sym (get-insert_other (remove m k) n x k (λ e. ne (sym e)) ∙ get-remove_same m k))
+
+      at_new : (q : ℕ) → q ≡ n → get (remove (insert m n x) k) q ≡ get (insert (remove m k) n x) q
+      at_new q is = subst (λ q. get (remove (insert m n x) k) q ≡ get (insert (remove m k) n x) q) (sym is) (get-remove_other (insert m n x) k n ne ∙ get-insert_same m n x ∙ sym (get-insert_same (remove m k) n x))
+
+      elsewhere : (q : ℕ) → q ≢ k → q ≢ n → get (remove (insert m n x) k) q ≡ get (insert (remove m k) n x) q
+      elsewhere q old new = get-remove_other (insert m n x) k q old ∙ get-insert_other m n x q new ∙ sym (get-insert_other (remove m k) n x q new ∙ get-remove_other m k q old)
+
+  -- leaves as many as there were
+  pub len_moved : (m : Map X) (k n : ℕ) (x y : X) → get m k ≡ Some y → get m n ≡ None → len (remove (insert m n x) k) ≡ len m
+  len_moved m k n x y old new =
+      let grown = len-insert nat_cmp_total m n x ∙ ap (λ b. cond b (len m) (len m + 1)) (ap is_some new) in
+      let apart : n ≢ k = λ same. none-some y (sym new ∙ ap (get m) same ∙ old) in
+      let there = ap is_some (get-insert_other m n x k (λ same. apart (sym same)) ∙ old) in
+      let less = len-remove nat_cmp_total (insert m n x) k ∙ ap (λ b. cond b (len (insert m n x) - 1) (len (insert m n x))) there in
+      omega (arith, grown, less)
+
+  pub none_of : (o : Option X) → is_some o ≡ false → o ≡ None
+  none_of None e = refl
+  none_of (Some x) e = absurd (true≢false e)

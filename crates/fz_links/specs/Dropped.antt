@@ -1,0 +1,13 @@
+-- What is left when links are dropped by a test of link and target.
+use Rattle.std.specs.Prelude.{◌≡◌, ℕ, Bool, false, not}
+use Rattle.std.specs.Option.{option_map_or}
+use Rattle.std.specs.FinMap.{get, retain_keys}
+use Rattle.fz_model.specs.State.{Map}
+
+-- a call that may answer so computes the test
+abbrev pub ComputesTest : (ℕ → ℕ → Bool → Type 0) → (ℕ → ℕ → Bool) → Type 0
+ComputesTest answers test = (link target : ℕ) (answer : Bool) → answers link target answer → answer ≡ test link target
+
+-- the links for which the test is false
+abbrev pub without : (ℕ → ℕ → Bool) → Map ℕ → Map ℕ
+without test links = retain_keys links (λ link. option_map_or (λ target. not (test link target)) (get links link) false)

@@ -1,0 +1,180 @@
+//! The links of one kind.
+
+ghost use Rattle.std.specs.Prelude.{◌≡◌, ◌≢◌, ◌<◌, ◌≤◌, ◌↔◌, ℕ, Bool, [], ◌∷◌, nat_eq, if◌then◌else◌, length, IsTrue, IsSome, Some, None, IfOk, IfErr, IfSome, OnOk, OnErr};
+ghost use Rattle.std.specs.FinMap.{get, insert, remove, len, empty, contains_key, from_entries};
+ghost use Rattle.std.specs.List.{IsDistinct};
+ghost use Rattle.std.specs.Map.{keys_of};
+ghost use Rattle.fz_model.specs.Causes.{IsJudgedOrLacks, full};
+ghost use Rattle.fz_model.specs.Steps.{move_answer, moved_to};
+ghost use Rattle.fz_links.specs.Dropped.{ComputesTest, without};
+
+use crate::iter::LinkEntries;
+use fz_model::{Addr, LinkAnswer, MoveAnswer, Refusal, TABLE_LIMIT};
+use indexmap::IndexMap;
+use std::alloc::Global;
+use std::marker::Model;
+
+/// Disappearing links by the addresses of their words, each with the start of its target, at most 65,536 at one time.
+///
+/// One value holds short links or long ones; which they are is for the pass that clears their words (gc.h).
+#[derive(Drop)]
+pub struct Links {
+    entries: IndexMap<Addr, Addr>,
+}
+
+impl Model for Links {
+    ghost use Rattle.std.specs.Prelude.{ℕ, ◌≤◌};
+    ghost use Rattle.std.specs.Coded.{coded_ℕ};
+    ghost use Rattle.std.specs.Ordering.{nat_cmp};
+    ghost use Rattle.std.specs.FinMap.{FinMap, code, len, from_entries};
+    ghost use Rattle.fz_model.specs.declared.limits.TheConstants.{TABLE_LIMIT};
+
+    ghost Value = { FinMap nat_cmp ℕ };
+
+    ghost coded = { code coded_ℕ coded_ℕ };
+
+    ghost view = { λ l. from_entries l.entries.entries };
+
+    ghost invariant = { λ l. len (from_entries {R = nat_cmp} l.entries.entries) ≤ TABLE_LIMIT };
+}
+
+impl Links {
+    /// No links.
+    pub fn new(alloc: Global) -> Links
+        ensures { result ≡ empty }
+    {
+        Links {
+            entries: IndexMap::new(alloc),
+        }
+    }
+
+    /// Registers a link, or gives a registered one a new target.
+    ///
+    /// Refuses a new link alone: with `TableFull` when 65,536 others are registered, then with `NoMemory` when room for it can't be had.
+    pub fn register(&mut self, link: Addr, target: Addr) -> Result<LinkAnswer, Refusal>
+        ensures judged { IsJudgedOrLacks (full self.old link ∷ []) result }
+        ensures fresh { OnErr result (get self.old link ≡ None) }
+        ensures unchanged { OnErr result (self.new ≡ self.old) }
+        ensures answer { IfOk result (λ answer. answer ≡ (if contains_key self.old link then LinkAnswer.Duplicate else LinkAnswer.Success)) }
+        ensures registered { OnOk result (self.new ≡ insert self.old link target) }
+    {
+        if self.is_full_for(link) {
+            return Err(Refusal::TableFull);
+        }
+        let replaced = self.entries.insert(link, target)?;
+        Ok(answer_of(replaced.is_some()))
+    }
+
+    /// Removes a link, and returns whether it was registered.
+    pub fn unregister(&mut self, link: Addr) -> bool
+        ensures answer { result ≡ contains_key self.old link }
+        ensures removed { self.new ≡ remove self.old link }
+    {
+        self.entries.swap_remove(&link).is_some()
+    }
+
+    /// Moves a link with its target to another word. `NoMemory` when room for the new word can't be had.
+    ///
+    /// The answers are tested in this order: `NotFound`, `Success` where the words are one, `Duplicate`, and `Success` once it is moved.
+    pub fn move_link(&mut self, link: Addr, new: Addr) -> Result<MoveAnswer, Refusal>
+        ensures refused { IfErr result (λ r. r ≡ Refusal.NoMemory) }
+        ensures fresh { OnErr result (IsSome (get self.old link) × (get self.old new ≡ None)) }
+        ensures unchanged { OnErr result (self.new ≡ self.old) }
+        ensures answer { IfOk result (λ answer. answer ≡ move_answer self.old link new) }
+        ensures moved { OnOk result (self.new ≡ moved_to self.old link new (get self.old link)) }
+    {
+        let Some(target) = self.get(link) else {
+            return Ok(MoveAnswer::NotFound);
+        };
+        if link == new {
+            return Ok(MoveAnswer::Success);
+        }
+        if self.get(new).is_some() {
+            return Ok(MoveAnswer::Duplicate);
+        }
+        // Room comes first, so that a refused move leaves the link where it was.
+        self.entries.insert(new, target)?;
+        self.entries.swap_remove(&link);
+        Ok(MoveAnswer::Success)
+    }
+
+    /// The target of a link.
+    pub fn get(&self, link: Addr) -> Option<Addr>
+        ensures { result ≡ get self.now link }
+    {
+        self.entries.get(&link).copied()
+    }
+
+    /// The link at a place, with its target. Places count from 0, each has one link, and they hold until the table changes.
+    pub fn at(&self, place: usize) -> Option<(Addr, Addr)>
+        ensures found { IsSome result ↔ (place < len self.now) }
+        ensures entry { IfSome result (λ entry. get self.now entry.0 ≡ Some entry.1) }
+    {
+        // Its clauses tell that no link stands at two places.
+        let _count = self.entries.len();
+        let (link, target) = self.entries.get_index(place)?;
+        Some((*link, *target))
+    }
+
+    /// How many links are registered.
+    pub fn len(&self) -> usize
+        ensures count { result ≡ len self.now }
+        ensures limit { result ≤ TABLE_LIMIT }
+    {
+        self.entries.len()
+    }
+
+    /// Whether no link is registered.
+    pub fn is_empty(&self) -> bool
+        ensures { IsTrue result ↔ (self.now ≡ empty) }
+    {
+        self.entries.is_empty()
+    }
+
+    /// All links with their targets, each once, in no order that callers may count on.
+    pub fn iter(&self) -> LinkEntries<'_>
+        ensures all { from_entries result ≡ self.now }
+        ensures once { IsDistinct nat_eq (keys_of result) }
+        ensures count { length result ≡ len self.now }
+        ensures limit { length result ≤ TABLE_LIMIT }
+    {
+        LinkEntries {
+            entries: self.entries.iter(),
+        }
+    }
+
+    /// Removes the links for which the test of link and target holds. It is asked once of each link.
+    pub fn drop_where<F: Fn(Addr, Addr) -> bool>(&mut self, f: F)
+        requires { F.IsAlwaysCallable f }
+        ensures { (test : ℕ → ℕ → Bool) → ComputesTest (F.post f) test → self.new ≡ without test self.old }
+    {
+        // From the back, since the last link takes the place of one that goes.
+        let mut place = self.entries.len();
+        while place > 0 {
+            place -= 1;
+            if let Some((link, target)) = self.entries.get_index(place) {
+                if f(*link, *target) {
+                    self.entries.swap_remove_index(place);
+                }
+            }
+        }
+    }
+
+    /// Whether there is no room for the link: the table is full, and the link isn't registered.
+    fn is_full_for(&self, link: Addr) -> bool
+        ensures { result ≡ (full self.now link).0 }
+    {
+        self.len() as u64 >= TABLE_LIMIT && self.get(link).is_none()
+    }
+}
+
+/// The answer to the registering of a link.
+fn answer_of(known: bool) -> LinkAnswer
+    ensures { result ≡ (if known then LinkAnswer.Duplicate else LinkAnswer.Success) }
+{
+    if known {
+        LinkAnswer::Duplicate
+    } else {
+        LinkAnswer::Success
+    }
+}
