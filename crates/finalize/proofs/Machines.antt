@@ -1,5 +1,5 @@
 -- Steps of the machine as steps of a joint run.
-use Rattle.std.proofs.Common.{◌≡◌, ℕ, zero, suc, ◌+◌, ◌<◌, ◌≤◌, Bool, true, false, not, if◌then◌else◌, List, [], ◌∷◌, ◌++◌, length, map, set, Option, Some, None, Result, Ok, Err, MatchOption, refl, sym, ap, ◌∙◌, subst, arith, slice_get, get_or, is_some, is_none, IsFalse, nat_lt, take, drop}
+use Rattle.std.proofs.Common.{◌≡◌, ℕ, zero, suc, ◌+◌, ◌<◌, ◌≤◌, Bool, true, false, not, if◌then◌else◌, List, [], ◌∷◌, ◌++◌, length, map, set, Option, Some, None, Result, Ok, Err, MatchOption, refl, sym, ap, ◌∙◌, subst, arith, slice_get, get_or, is_some, is_none, IsTrue, IsFalse, nat_lt, take, drop}
 use Rattle.std.proofs.lemmas.Bool.{lt-ltb, le-ltb}
 use Rattle.std.proofs.lemmas.List.{map-set, length-set}
 use Rattle.std.proofs.Math.Seq.{take-append_seam}
@@ -17,10 +17,10 @@ use Rattle.fz_world.specs.declared.world.World.{World}
 use Rattle.fz_script.specs.declared.step.Step.{Step}
 use Rattle.finalize.specs.declared.machine.Machine.{Machine}
 use Rattle.finalize.specs.declared.reply.Reply.{Reply}
-use Rattle.finalize.specs.Script.{event_of}
+use Rattle.finalize.specs.Script.{has_come, event_of}
 use Rattle.finalize.specs.Replies.{answer_words}
 use Rattle.finalize.specs.Report.{finishes, forfeits}
-use Rattle.finalize.specs.Machines.{StandsForJoint, JointDoes, Tells, StepDoes, words_of, is_forfeit}
+use Rattle.finalize.specs.Machines.{StandsForJoint, JointDoes, Tells, StepDoes, CarriesOut, words_of, is_forfeit}
 use Rattle.finalize.specs.Machines as machines
 
 -- ---- own causes
@@ -80,6 +80,7 @@ no_such m j w s l = ap not (le-ltb w (length j.workers) (let e = length_same in 
 -- ---- steps of the world
 
 pub called : (old new : Machine) (e : Event) (reply : Result (Answer e) Refusal) → IsFalse (is_finish e) → Does old.world e reply new.world → new.line ≡ old.line → new.hands ≡ old.hands → JointDoes old (Call e) reply new
+unfolding Does
 called old new e reply f does line hands j s =
     let d = does j.state s.world in
     (record j { state = d.0 }, (f, d.1, refl), record { world = d.2; line = line ∙ s.line; hands = ap (λ (h : _). h.items) hands ∙ s.hands })
@@ -133,6 +134,7 @@ took old new w None o is idle given world line hands j s =
     (taken_by j w o, acting_step j (Take w) (Ok o) (taken_by j w o) (neither _ _ _ _ (is_worker j w at.0) (ap is_some at.1)) (ap Ok (sym next), ap (taken_by j w) (sym next)), hand_over old new j w o s is world line hands)
 
 pub finish_refused : (old new : Machine) (w : ℕ) (e : Entry) (r : Refusal) → slice_get old.hands.items w ≡ Some (Some e) → Does old.world (Finish e) (Err r) new.world → new.line ≡ old.line → new.hands ≡ old.hands → JointDoes old (FinishOwn w) (Err r) new
+unfolding Does
 finish_refused old new w e r is does line hands j s =
     let at = at_hand old j w (Some e) s is in
     let d = does j.state s.world in
@@ -143,6 +145,7 @@ emptied : (old : Machine) (hands : List (Option Entry)) (j : Joint) (w : ℕ) (w
 emptied old hands j w worker s none is = is ∙ ap (λ l. set l w None) s.hands ∙ ap (set (map hand_of j.workers) w) (sym none) ∙ sym (map-set hand_of j.workers w worker)
 
 pub finished : (old new : Machine) (w : ℕ) (e : Entry) (answer : Unit {0}) → slice_get old.hands.items w ≡ Some (Some e) → Does old.world (Finish e) (Ok answer) new.world → new.line ≡ old.line → new.hands.items ≡ set old.hands.items w None → JointDoes old (FinishOwn w) (Ok answer) new
+unfolding Does
 finished old new w e answer is does line hands j s =
     let at = at_hand old j w (Some e) s is in
     let d = does j.state s.world in
@@ -170,9 +173,14 @@ the_error (Err x) e h = ap Err h
 
 -- ---- a step of the script
 
--- a step that is known asks for what that one asks for
-pub told_again : {step known : Step} {e : Option JointEvent} → step ≡ known → event_of known ≡ e → event_of step ≡ e
-told_again is asked = ap event_of is ∙ asked
+-- a step that may come asks for this event
+pub record Asks (step : Step) (e : JointEvent) : Type 0 where
+  came : IsTrue (has_come step)
+  asked : event_of step ≡ Some e
+
+-- as a step that is known does
+pub asks : {step known : Step} {e : JointEvent} → step ≡ known → IsTrue (has_come known) → event_of known ≡ Some e → Asks step e
+asks is came asked = record { came = ap has_come is ∙ came; asked = ap event_of is ∙ asked }
 
 refused : (old new : Machine) (step : Step) (e : JointEvent) (r : Refusal) → event_of step ≡ Some e → JointDoes old e (Err r) new → StepDoes old step (Err r) new
 refused old new step e r asked does = record { event = e; reply = Err r; asked = asked; does = does; tells = record { words = refl; refused = refl; finish = no_finish e; forfeit = no_forfeit e } }
@@ -191,21 +199,22 @@ refused old new step e r asked does = record { event = e; reply = Err r; asked =
     no_forfeit (FinishOwn w) = refl
     no_forfeit (Forfeit w) = refl
 
-pub accepted : (old new : Machine) (step : Step) (e : JointEvent) (answer : JointAnswer e) (reply : Reply) → event_of step ≡ Some e → JointDoes old e (Ok answer) new
-    → words_of reply ≡ answer_words e answer → machines.is_finish (Ok reply) ≡ finishes e (Ok answer) → is_forfeit (Ok reply) ≡ forfeits e (Ok answer) → StepDoes old step (Ok reply) new
-accepted old new step e answer reply asked does words finish forfeit = record { event = e; reply = Ok answer; asked = asked; does = does; tells = record { words = words; refused = refl; finish = finish; forfeit = forfeit } }
+pub accepted : (old new : Machine) (step : Step) (e : JointEvent) (answer : JointAnswer e) (reply : Reply) → Asks step e → JointDoes old e (Ok answer) new
+    → words_of reply ≡ answer_words e answer → machines.is_finish (Ok reply) ≡ finishes e (Ok answer) → is_forfeit (Ok reply) ≡ forfeits e (Ok answer) → CarriesOut old step (Ok (Some reply)) new
+accepted old new step e answer reply asks does words finish forfeit =
+    (asks.came, record { event = e; reply = Ok answer; asked = asks.asked; does = does; tells = record { words = words; refused = refl; finish = finish; forfeit = forfeit } })
 
 -- the error that a call gives back is the step's
-pub refuses : (old new : Machine) (step : Step) (e : JointEvent) (r : Refusal) (result : Result Reply Refusal) → event_of step ≡ Some e → JointDoes old e (Err r) new → IsErrAnd result (λ x. x ≡ r) → StepDoes old step result new
-refuses old new step e r result asked does error = subst (λ x. StepDoes old step x new) (sym (the_error result r error)) (refused old new step e r asked does)
+pub refuses : (old new : Machine) (step : Step) (e : JointEvent) (r : Refusal) (result : Result (Option Reply) Refusal) → Asks step e → JointDoes old e (Err r) new → IsErrAnd result (λ x. x ≡ r) → CarriesOut old step result new
+refuses old new step e r result asks does error = subst (λ x. CarriesOut old step x new) (sym (the_error result r error)) (asks.came, refused old new step e r asks.asked does)
 
 -- ---- a step that is a call of the world alone
 
-pub world_refuses : (m : Machine) (w : World) (step : Step) (e : Event) (r : Refusal) (result : Result Reply Refusal) → event_of step ≡ Some (Call e) → IsFalse (is_finish e) → Does m.world e (Err r) w
-    → IsErrAnd result (λ x. x ≡ r) → StepDoes m step result (record m { world = w })
-world_refuses m w step e r result asked call does error = refuses m (record m { world = w }) step (Call e) r result asked (called m (record m { world = w }) e (Err r) call does refl refl) error
+pub world_refuses : (m : Machine) (w : World) (step : Step) (e : Event) (r : Refusal) (result : Result (Option Reply) Refusal) → Asks step (Call e) → IsFalse (is_finish e) → Does m.world e (Err r) w
+    → IsErrAnd result (λ x. x ≡ r) → CarriesOut m step result (record m { world = w })
+world_refuses m w step e r result asks call does error = refuses m (record m { world = w }) step (Call e) r result asks (called m (record m { world = w }) e (Err r) call does refl refl) error
 
-pub world_accepts : (m : Machine) (w : World) (step : Step) (e : Event) (answer : Answer e) (reply : Reply) → event_of step ≡ Some (Call e) → IsFalse (is_finish e) → Does m.world e (Ok answer) w
-    → words_of reply ≡ answer_words (Call e) answer → machines.is_finish (Ok reply) ≡ false → is_forfeit (Ok reply) ≡ false → StepDoes m step (Ok reply) (record m { world = w })
-world_accepts m w step e answer reply asked call does words finish forfeit =
-    accepted m (record m { world = w }) step (Call e) answer reply asked (called m (record m { world = w }) e (Ok answer) call does refl refl) words finish forfeit
+pub world_accepts : (m : Machine) (w : World) (step : Step) (e : Event) (answer : Answer e) (reply : Reply) → Asks step (Call e) → IsFalse (is_finish e) → Does m.world e (Ok answer) w
+    → words_of reply ≡ answer_words (Call e) answer → machines.is_finish (Ok reply) ≡ false → is_forfeit (Ok reply) ≡ false → CarriesOut m step (Ok (Some reply)) (record m { world = w })
+world_accepts m w step e answer reply asks call does words finish forfeit =
+    accepted m (record m { world = w }) step (Call e) answer reply asks (called m (record m { world = w }) e (Ok answer) call does refl refl) words finish forfeit

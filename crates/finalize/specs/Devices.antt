@@ -6,12 +6,12 @@ use Rattle.std.specs.Io.KnownBytes.{Appends}
 abbrev pub IsPart : Option (List ℕ) → List ℕ → Option (List ℕ) → Type 0
 IsPart before text after = (part : List ℕ) × (rest : List ℕ) × (text ≡ part ++ rest) × (rest ≢ []) × Appends before after part
 
--- a read fails where it answers `None`
+-- a read fails where it returns `None`
 abbrev pub read_failures : Option ℕ → ℕ
 read_failures None = 1
 read_failures (Some count) = 0
 
--- a write fails where it answers `None`, or takes no byte of those that it is offered
+-- a write fails where it returns `None`, or takes no byte of those that it is offered
 abbrev pub write_failures : ℕ → Option ℕ → ℕ
 write_failures offered None = 1
 write_failures zero (Some count) = 0

@@ -6,7 +6,7 @@ use Rattle.fz_model.specs.Causes.{first_cause}
 use Rattle.fz_model.specs.Joint.{Worker, Joint, JointEvent, JointAnswer, JointStep, Move, joint_opening}
 use Rattle.fz_world.specs.Does.{StandsFor}
 use Rattle.fz_script.specs.declared.step.Step.{Step}
-use Rattle.fz_script.specs.declared.step.Step.TheVariants.{Open, New, Copy, Load, Store, Register, Unregister, Collect}
+use Rattle.fz_script.specs.declared.step.Step.TheVariants.{Open}
 use Rattle.fz_script.specs.Spelling.{Word, Number, Text, spelling, Fits}
 use Rattle.finalize.specs.declared.machine.Machine.{Machine}
 use Rattle.finalize.specs.declared.reply.Reply.{Reply}
@@ -72,20 +72,11 @@ pub record StepDoes (old : Machine) (step : Step) (result : Result Reply Refusal
   pub does : JointDoes old event reply new
   pub tells : Tells event reply result
 
--- a step that moves a word between slots and objects
-abbrev pub moves_word : Step → Bool
-moves_word (Copy frame slot to_frame to_slot) = true
-moves_word (Load frame slot offset to_frame to_slot) = true
-moves_word (Store frame slot offset from_frame from_slot) = true
-moves_word _ = false
-
--- a step that makes, registers or reclaims objects
-abbrev pub changes_objects : Step → Bool
-changes_objects (New frame slot size kind) = true
-changes_objects (Register frame slot kind procedure client_data) = true
-changes_objects (Unregister frame slot) = true
-changes_objects Collect = true
-changes_objects _ = false
+-- a step that may come does what it asks for; no other step changes anything
+abbrev pub CarriesOut : Machine → Step → Result (Option Reply) Refusal → Machine → Type 0
+CarriesOut old step (Ok (Some reply)) new = IsTrue (has_come step) × StepDoes old step (Ok reply) new
+CarriesOut old step (Ok None) new = IsFalse (has_come step) × (new ≡ old)
+CarriesOut old step (Err refusal) new = IsTrue (has_come step) × StepDoes old step (Err refusal) new
 
 -- what one line gives, before the opening and after it
 abbrev pub Gives : Option Machine → List ℕ → Answer → Option Machine → Type 0

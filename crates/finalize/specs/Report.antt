@@ -4,6 +4,7 @@ use Rattle.std.specs.List.{All}
 use Rattle.fz_model.specs.declared.refusal.Refusal.{Refusal}
 use Rattle.fz_model.specs.declared.refusal.Refusal.TheVariants.{BadLine, BadCount, NoMemory, Output, Input}
 use Rattle.fz_model.specs.Refusals.{code_of}
+use Rattle.fz_model.specs.declared.limits.TheConstants.{MAX_WORKERS}
 use Rattle.fz_model.specs.Causes.{Causes, bad_count, first_cause, IsRefusedFor}
 use Rattle.fz_model.specs.Joint.{Worker, Joint, JointEvent, JointAnswer, FinishOwn, Forfeit, JointStep, Move, MovesTo, joint_opening}
 use Rattle.fz_world.specs.Does.{open_causes}
@@ -18,7 +19,7 @@ use Rattle.finalize.specs.Replies.{text_line, done, refused_words, reply_words, 
 
 -- the causes of refusal of an opening
 abbrev pub opening_causes : ℕ → ℕ → ℕ → Causes
-opening_causes blocks frames workers = bad_count 8 workers ∷ open_causes blocks frames
+opening_causes blocks frames workers = bad_count MAX_WORKERS workers ∷ open_causes blocks frames
 
 -- the moves that were made since the opening, and the joint state after them
 pub record Course : Type 0 where

@@ -31,7 +31,7 @@ abbrev pub is_kept : List ℕ → Bool
 is_kept [] = false
 is_kept (b ∷ bs) = not (b == 35)
 
--- a line has at most so many bytes, its LF not counted, and a script so many lines
+-- the most bytes of a line, its LF not counted, and the most lines of a script
 abbrev pub max_line : ℕ
 max_line = 200
 

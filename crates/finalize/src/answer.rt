@@ -40,25 +40,6 @@ fn is_kept(line: &[u8]) -> bool
     }
 }
 
-/// Whether the driver carries out the step in an open world. Any other is malformed.
-fn has_come(step: Step) -> bool
-    ensures { result ≡ script.has_come step }
-{
-    matches!(
-        step,
-        Step::New { .. }
-            | Step::Set { .. }
-            | Step::Copy { .. }
-            | Step::Load { .. }
-            | Step::Store { .. }
-            | Step::Register { .. }
-            | Step::Unregister { .. }
-            | Step::Collect
-            | Step::Take { .. }
-            | Step::Finish { .. }
-    )
-}
-
 /// Carries out a line. There is no machine before the opening.
 fn answer_to(alloc: Global, machine: &mut Option<Machine>, line: &[u8]) -> Answer
     ensures { Gives machine.old line.now result machine.new }
@@ -84,10 +65,10 @@ fn answer_to(alloc: Global, machine: &mut Option<Machine>, line: &[u8]) -> Answe
             },
             _ => Answer::Malformed,
         },
-        Some(machine) => if has_come(step) {
-            Answer::Replied(machine.carry_out(step))
-        } else {
-            Answer::Malformed
+        Some(machine) => match machine.carry_out(step) {
+            Ok(Some(reply)) => Answer::Replied(Ok(reply)),
+            Ok(None) => Answer::Malformed,
+            Err(refusal) => Answer::Replied(Err(refusal)),
         },
     }
 }

@@ -11,7 +11,7 @@ pub(crate) trait Source {
     /// How many reads have failed.
     ghost failures: { Self → ℕ };
 
-    /// Reads some bytes into the front of `buf`, and answers how many. For a `buf` with room, 0 is
+    /// Reads some bytes into the front of `buf`; returns how many. For a `buf` with room, 0 is
     /// the end of the input. `None` says that the read failed.
     fn read(&mut self, buf: &mut [u8]) -> Option<usize>
         ensures bound { (unwrap_or result 0) ≤ length buf.new }
@@ -27,7 +27,7 @@ pub(crate) trait Sink {
     /// How many writes have failed, or have taken no byte though one was offered.
     ghost failures: { Self → ℕ };
 
-    /// Writes some of the bytes from the front, and answers how many. `None` says that the write
+    /// Writes some of the bytes from the front; returns how many. `None` says that the write
     /// failed.
     fn write(&mut self, bytes: &[u8]) -> Option<usize>
         ensures bound { (unwrap_or result 0) ≤ length bytes.now }

@@ -3,26 +3,26 @@
 ghost use Rattle.std.specs.Prelude.{◌≡◌, ◌-◌, true, None, Some, IfOk, IfErr, OnOk, ◌<◌, slice_get, is_some, count_by, length, replicate, ◌≤◌};
 ghost use Rattle.fz_model.specs.Causes.{first_cause, IsRefusedFor};
 ghost use Rattle.fz_model.specs.Joint.{Take, FinishOwn, Forfeit, joint_opening};
-ghost use Rattle.finalize.specs.Script.{has_come};
 ghost use Rattle.finalize.specs.Report.{opening_causes};
-ghost use Rattle.finalize.specs.Machines.{StandsForJoint, JointDoes, StepDoes, moves_word, changes_objects};
+ghost use Rattle.finalize.specs.Machines.{StandsForJoint, JointDoes, CarriesOut};
 
-use crate::plain_line::PlainLine;
 use crate::reply::Reply;
 use arrayvec::ArrayVec;
-use fz_model::{Entry, Refusal};
+use fz_line::PlainLine;
+use fz_model::{Entry, MAX_WORKERS, Refusal};
 use fz_script::Step;
 use fz_world::{Config, World};
 use std::alloc::Global;
 
-const MAX_WORKERS: usize = 8;
+/// A hand for each worker that a world may have.
+const HANDS: usize = MAX_WORKERS as usize;
 
 /// A world, the line of its queue, and the entry in each worker's hand.
 #[derive(Drop)]
 pub(crate) struct Machine {
     world: World,
     line: PlainLine,
-    hands: ArrayVec<Option<Entry>, MAX_WORKERS>,
+    hands: ArrayVec<Option<Entry>, HANDS>,
 }
 
 impl Machine {
@@ -36,7 +36,7 @@ impl Machine {
         ensures refused { IfErr result (λ refusal. IsRefusedFor (opening_causes blocks frames workers) true refusal) }
         ensures opened { IfOk result (λ machine. (first_cause (opening_causes blocks frames workers) ≡ None) × StandsForJoint machine (joint_opening blocks frames workers)) }
     {
-        if workers < 1 || workers > MAX_WORKERS as u64 {
+        if workers < 1 || workers > MAX_WORKERS {
             return Err(Refusal::BadCount);
         }
         let world = World::open(alloc, Config { blocks, frames })?;
@@ -96,39 +96,24 @@ impl Machine {
         Ok(())
     }
 
-    /// Carries out a step.
-    pub(crate) fn carry_out(&mut self, step: Step) -> Result<Reply, Refusal>
-        requires { has_come step ≡ true }
-        ensures { StepDoes self.old step result self.new }
+    /// Carries out a step of an open world. `None`: it may not come in one.
+    pub(crate) fn carry_out(&mut self, step: Step) -> Result<Option<Reply>, Refusal>
+        ensures { CarriesOut self.old step result self.new }
     {
-        match step {
-            Step::Copy { .. } | Step::Load { .. } | Step::Store { .. } => self.move_word(step),
+        Ok(Some(match step {
+            Step::New {
+                frame,
+                slot,
+                size,
+                kind,
+            } => {
+                let (address, birth) = self.world.alloc(frame, slot, size, kind)?;
+                Reply::Allocated { address, birth }
+            }
             Step::Set { frame, slot, word } => {
                 self.world.set(frame, slot, word)?;
-                Ok(Reply::Done)
+                Reply::Done
             }
-            Step::Take { worker } => {
-                let entry = self.take(worker)?;
-                Ok(Reply::Taken(entry))
-            }
-            Step::Finish { worker } => {
-                self.finish(worker)?;
-                Ok(Reply::Finished)
-            }
-            Step::Forfeit { worker } => {
-                self.forfeit(worker)?;
-                Ok(Reply::Forfeited)
-            }
-            _ => self.change_objects(step),
-        }
-    }
-
-    /// Carries out a step that moves a word between slots and objects.
-    fn move_word(&mut self, step: Step) -> Result<Reply, Refusal>
-        requires { moves_word step ≡ true }
-        ensures { StepDoes self.old step result self.new }
-    {
-        match step {
             Step::Copy {
                 frame,
                 slot,
@@ -136,7 +121,7 @@ impl Machine {
                 to_slot,
             } => {
                 self.world.copy(frame, slot, to_frame, to_slot)?;
-                Ok(Reply::Done)
+                Reply::Done
             }
             Step::Load {
                 frame,
@@ -144,10 +129,7 @@ impl Machine {
                 offset,
                 to_frame,
                 to_slot,
-            } => {
-                let word = self.world.load(frame, slot, offset, to_frame, to_slot)?;
-                Ok(Reply::Word(word))
-            }
+            } => Reply::Word(self.world.load(frame, slot, offset, to_frame, to_slot)?),
             Step::Store {
                 frame,
                 slot,
@@ -157,26 +139,7 @@ impl Machine {
             } => {
                 self.world
                     .store(frame, slot, offset, from_frame, from_slot)?;
-                Ok(Reply::Done)
-            }
-            _ => unreachable!(),
-        }
-    }
-
-    /// Carries out a step that makes, registers or reclaims objects.
-    fn change_objects(&mut self, step: Step) -> Result<Reply, Refusal>
-        requires { changes_objects step ≡ true }
-        ensures { StepDoes self.old step result self.new }
-    {
-        match step {
-            Step::New {
-                frame,
-                slot,
-                size,
-                kind,
-            } => {
-                let (address, birth) = self.world.alloc(frame, slot, size, kind)?;
-                Ok(Reply::Allocated { address, birth })
+                Reply::Done
             }
             Step::Register {
                 frame,
@@ -184,22 +147,21 @@ impl Machine {
                 kind,
                 procedure,
                 client_data,
-            } => {
-                let answer = self
-                    .world
-                    .register(frame, slot, kind, procedure, client_data)?;
-                Ok(Reply::Registered(answer))
+            } => Reply::Registered(
+                self.world
+                    .register(frame, slot, kind, procedure, client_data)?,
+            ),
+            Step::Unregister { frame, slot } => Reply::Unregistered(
+                self.world.unregister(frame, slot)?,
+            ),
+            Step::Collect => Reply::Passed(self.world.collect()?),
+            Step::Take { worker } => Reply::Taken(self.take(worker)?),
+            Step::Finish { worker } => {
+                self.finish(worker)?;
+                Reply::Finished
             }
-            Step::Unregister { frame, slot } => {
-                let old = self.world.unregister(frame, slot)?;
-                Ok(Reply::Unregistered(old))
-            }
-            Step::Collect => {
-                let passed = self.world.collect()?;
-                Ok(Reply::Passed(passed))
-            }
-            _ => unreachable!(),
-        }
+            _ => return Ok(None),
+        }))
     }
 
     /// The number of entries in the queue.
@@ -224,7 +186,7 @@ impl Machine {
     }
 }
 
-fn empty_hands(workers: usize) -> ArrayVec<Option<Entry>, MAX_WORKERS>
+fn empty_hands(workers: usize) -> ArrayVec<Option<Entry>, HANDS>
     requires { workers ≤ 8 }
     ensures { result.items ≡ replicate workers None }
 {

@@ -12,7 +12,6 @@ mod machine;
 #[cfg(test)]
 mod memory;
 mod output;
-mod plain_line;
 mod program;
 mod reply;
 #[cfg(test)]

@@ -17,7 +17,7 @@ pub(crate) enum Pieces {
 }
 
 impl Pieces {
-    /// How many of so many bytes go into a call.
+    /// How many of these bytes go into a call.
     fn of(self, len: usize) -> usize
         ensures within { result ≤ len }
         ensures some { 0 < len → 0 < result }
@@ -29,7 +29,7 @@ impl Pieces {
     }
 }
 
-/// Hands over its bytes, so many in a read, and fails after so many reads.
+/// Hands over its bytes, in pieces of a given size, and fails after a given number of reads.
 #[derive(Drop)]
 pub(crate) struct Script<'a, L: Ledger> {
     rest: &'a [u8],
@@ -73,7 +73,7 @@ impl<L: Ledger> Source for Script<'_, L> {
     }
 }
 
-/// Takes bytes, so many in a write and up to 4,096 in all, and fails after so many writes.
+/// Takes bytes, in pieces of a given size and up to 4,096 in all, and fails after a given number of writes.
 #[derive(Drop)]
 pub(crate) struct Page<L: Ledger> {
     bytes: ArrayVec<u8, 4096>,

@@ -1,6 +1,6 @@
 //! The program, over its words and two writers.
 
-ghost use Rattle.std.specs.Prelude.{◌≡◌, ◌≢◌, ◌≤◌, ◌<◌, ◌⊎◌, ◌+◌, List, ℕ, Option, codes, length, Ok, Err, None};
+ghost use Rattle.std.specs.Prelude.{◌≡◌, ◌≢◌, ◌≤◌, ◌<◌, ◌⊎◌, ◌+◌, List, ℕ, Option, codes, length, slice_get, Ok, Err, Some, None};
 ghost use Rattle.finalize.specs.Program.{want_line, memory_line, open_line, fault_line, Says};
 ghost use Rattle.finalize.specs.Report.{Reported, Stopped, failures_of};
 ghost use Rattle.finalize.specs.declared.run.Summary.{Summary};
@@ -30,11 +30,12 @@ fn command<'a>(alloc: Global) -> Result<Command<'a>, AllocError> {
         .subcommand(run)
 }
 
-/// The file that the words ask to run. An error says that they are wrong, or that memory is wanting.
+/// The file that the words ask to run. An error says that they are wrong, or that memory was short.
 fn file_of<'a, S: AsStr>(alloc: Global, words: &'a [S]) -> Result<Option<&'a str>, Error>
-    ensures { length words.now ≢ 2 → result ≡ Ok None }
+    ensures counted { length words.now ≢ 2 → result ≡ Ok None }
+    ensures named { (first : S) → slice_get words.now 0 ≡ Some first → S.text first ≢ codes "run" → result ≡ Ok None }
 {
-    if words.len() != 2 {
+    if words.len() != 2 || words[0].as_str() != "run" {
         return Ok(None);
     }
     let command = command(alloc)?;
@@ -45,7 +46,7 @@ fn file_of<'a, S: AsStr>(alloc: Global, words: &'a [S]) -> Result<Option<&'a str
     })
 }
 
-/// Writes the line, whether or not that succeeds, and answers the status.
+/// Writes the line, whether or not that succeeds; returns the status.
 fn say<E: Sink>(err: &mut E, line: &[u8], status: u8) -> u8
     ensures status { result ≡ status }
     ensures line { Says (E.written err.old) (E.failures err.old) line.now (E.written err.new) (E.failures err.new) }
@@ -54,7 +55,7 @@ fn say<E: Sink>(err: &mut E, line: &[u8], status: u8) -> u8
     status
 }
 
-/// Says that the words are wrong, and answers the status.
+/// Says that the words are wrong; returns the status.
 pub(crate) fn wrong_words<E: Sink>(err: &mut E) -> u8
     ensures status { result ≡ 2 }
     ensures line { Says (E.written err.old) (E.failures err.old) want_line (E.written err.new) (E.failures err.new) }
@@ -62,7 +63,7 @@ pub(crate) fn wrong_words<E: Sink>(err: &mut E) -> u8
     say(err, b"finalize: want run FILE or threads FILE\n", 2)
 }
 
-/// Says that memory is wanting, and answers the status.
+/// Says that memory is short; returns the status.
 pub(crate) fn out_of_memory<E: Sink>(err: &mut E) -> u8
     ensures status { result ≡ 1 }
     ensures line { Says (E.written err.old) (E.failures err.old) memory_line (E.written err.new) (E.failures err.new) }
@@ -70,7 +71,7 @@ pub(crate) fn out_of_memory<E: Sink>(err: &mut E) -> u8
     say(err, b"finalize: out of memory\n", 1)
 }
 
-/// Carries out the words, and answers the exit status: 0 where a script was read to its end, 2 where
+/// Carries out the words; returns the exit status: 0 where a script was read to its end, 2 where
 /// the words are wrong, and 1 for every other fault.
 pub(crate) fn execute<R: Files + AllocGlobal, S: AsStr, O: Sink, E: Sink>(
     rt: &R,
@@ -81,6 +82,8 @@ pub(crate) fn execute<R: Files + AllocGlobal, S: AsStr, O: Sink, E: Sink>(
     ensures known { result ≤ 2 }
     // Any words but two are wrong.
     ensures counted { length words.now ≢ 2 → result ≡ 2 }
+    // So are words whose first isn't `run`.
+    ensures named { (first : S) → slice_get words.now 0 ≡ Some first → S.text first ≢ codes "run" → result ≡ 2 }
     // Of wrong words nothing is written but the line that says so.
     ensures wrong { result ≡ 2 → (O.written out.new ≡ O.written out.old) × (O.failures out.new ≡ O.failures out.old) × Says (E.written err.old) (E.failures err.old) want_line (E.written err.new) (E.failures err.new) }
     // Where it succeeds, what was written is a whole report. (What a file holds, no contract can tell.)

@@ -6,10 +6,11 @@ use crate::failures::Failures;
 use crate::memory::{Page, Pieces, Script};
 use crate::program::execute;
 use crate::rows::{
-    CHAIN_IN_ORDER, CLIENT_DATA_IS_A_ROOT, CYCLE_NEVER_PICKED, EMPTY_FILE, EMPTY_HEAP,
-    INTERIOR_POINTER, LEADING_ZERO, NO_BLOCKS, NO_ORDER_CYCLE_BY_ADDRESS, NO_ORDER_LEADS_BACK,
-    NORMAL_LEADS_TO_NO_ORDER, ONE_OBJECT_LIFE, REPLACED_AND_REMOVED_REGISTRATION, Row,
-    SELF_REFERENCE_BY_KIND, SIZES_AND_FULL_HEAP,
+    CHAIN_IN_ORDER, CLIENT_DATA_IS_A_ROOT, CYCLE_NEVER_PICKED, EIGHT_WORKERS, EMPTY_FILE,
+    EMPTY_HEAP, INTERIOR_POINTER, LARGE_OBJECTS, LAST_FRAME_AND_SLOT, LEADING_ZERO, NO_BLOCKS,
+    NO_ORDER_CYCLE_BY_ADDRESS, NO_ORDER_LEADS_BACK, NORMAL_LEADS_TO_NO_ORDER, NUMBERS_AT_THE_LIMIT,
+    ONE_OBJECT_LIFE, REPLACED_AND_REMOVED_REGISTRATION, Row, SELF_REFERENCE_BY_KIND,
+    SIZES_AND_FULL_HEAP,
 };
 use crate::run::{DriveFault, Summary, drive};
 use arrayvec::ArrayVec;
@@ -19,7 +20,7 @@ use std::marker::Brand;
 use std::sync::ledger::{Blank, Ledger};
 use std::test::Fail;
 
-const ROWS: [Row; 15] = [
+const ROWS: [Row; 16] = [
     EMPTY_HEAP,
     ONE_OBJECT_LIFE,
     CHAIN_IN_ORDER,
@@ -29,6 +30,7 @@ const ROWS: [Row; 15] = [
     EMPTY_FILE,
     INTERIOR_POINTER,
     SIZES_AND_FULL_HEAP,
+    LARGE_OBJECTS,
     SELF_REFERENCE_BY_KIND,
     CLIENT_DATA_IS_A_ROOT,
     NO_ORDER_CYCLE_BY_ADDRESS,
@@ -36,6 +38,9 @@ const ROWS: [Row; 15] = [
     NO_ORDER_LEADS_BACK,
     REPLACED_AND_REMOVED_REGISTRATION,
 ];
+
+/// Scripts that go to the limits.
+const LIMITS: [Row; 3] = [EIGHT_WORKERS, LAST_FRAME_AND_SLOT, NUMBERS_AT_THE_LIMIT];
 
 /// How much the devices hand over and take in a call, and after how many calls they fail.
 #[derive(Clone, Copy)]
@@ -99,7 +104,7 @@ fn lines_in(bytes: &[u8]) -> usize
     bytes.iter().filter(|byte| **byte == b'\n').count()
 }
 
-/// The first so many lines.
+/// The first lines, as many as are asked for.
 fn first_lines(bytes: &[u8], count: usize) -> &[u8] {
     if count == 0 {
         return &[];
@@ -128,6 +133,15 @@ fn rows_are_reported(rt: HostRuntime) {
 }
 
 #[test]
+fn the_limits_are_reported(rt: HostRuntime) {
+    for row in LIMITS {
+        let outcome = run(rt.alloc(), row.script, WHOLE);
+        assert_eq!(rt; outcome.text.as_slice(), row.report);
+        assert_eq!(rt; outcome.result.err(), row.fault);
+    }
+}
+
+#[test]
 fn a_summary_has_the_numbers_of_the_end(rt: HostRuntime) {
     let outcome = run(rt.alloc(), CHAIN_IN_ORDER.script, WHOLE);
     assert!(rt;
@@ -144,7 +158,7 @@ fn a_summary_has_the_numbers_of_the_end(rt: HostRuntime) {
     );
 }
 
-/// Devices that hand over and take a byte in a call, and fail after so many.
+/// Devices that hand over and take a byte in a call, and fail after a given number of calls.
 fn bytewise(reads: usize, writes: usize) -> Limits {
     Limits {
         pieces: Pieces::Single,
@@ -153,7 +167,7 @@ fn bytewise(reads: usize, writes: usize) -> Limits {
     }
 }
 
-/// Whether a run of the script ends with this fault, in the line behind so many, and has written just this text.
+/// Whether a run of the script ends with this fault, in the line after the given ones, and has written just this text.
 fn fails(alloc: Global, limits: Limits, refusal: Refusal, lines: usize, text: &[u8]) -> bool
     requires { lines < 2 ^ 32 }
 {
@@ -412,9 +426,13 @@ fn say_counted<O: Ledger, E: Ledger>(
 
 #[test]
 fn other_words_are_wrong(rt: HostRuntime) {
-    let cases: [&[&str]; 9] = [
+    let cases: [&[&str]; 13] = [
         &[],
         &["run"],
+        &["--help"],
+        &["help"],
+        &["run", "--help"],
+        &["threads", "a"],
         &["-h", "run"],
         &["help", "run"],
         &["run", "--"],
@@ -434,11 +452,21 @@ fn other_words_are_wrong(rt: HostRuntime) {
     }
 }
 
+/// 120 bytes.
+const LONG_NAME: &str =
+    "012345678901234567890123456789012345678901234567890123456789012345678901234567890123456789012345678901234567890123456789";
+
 #[test]
 fn files_that_cannot_be_read(rt: HostRuntime) {
     let said = say(&rt, &["run", "no such file"]);
     assert_eq!(rt; said.status, 1);
     assert_eq!(rt; said.out.as_slice(), b"".as_slice());
+    assert_eq!(rt;
+        said.err.as_slice(),
+        b"finalize: cannot open file\n".as_slice()
+    );
+    let said = say(&rt, &["run", LONG_NAME]);
+    assert_eq!(rt; said.status, 1);
     assert_eq!(rt;
         said.err.as_slice(),
         b"finalize: cannot open file\n".as_slice()

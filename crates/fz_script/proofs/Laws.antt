@@ -1,11 +1,13 @@
 -- What is read is spelled so, and what is spelled so is read.
-use Rattle.std.proofs.Common.{◌≡◌, ℕ, ◌<◌, ◌^◌, List, [], ◌∷◌, ◌++◌, decimal, Option, Some, None, ◌∙◌, ap, sym, cond, Bool, true, false, refl, map, ◌⊎◌, inl, inr, IfSome, subst, append-nil, not, ◌&&◌, ◌==◌, ◌+◌, ◌%◌, ne_eqb, arith}
+use Rattle.std.proofs.Common.{◌≡◌, ℕ, ◌<◌, ◌^◌, List, [], ◌∷◌, ◌++◌, codes, decimal, Option, Some, None, ◌∙◌, ap, sym, cond, Bool, true, false, refl, map, ◌⊎◌, inl, inr, IfSome, subst, append-nil, not, ◌&&◌, ◌==◌, ◌+◌, ◌%◌, ne_eqb, nat_lt, ltb-true, arith, rules}
 use Rattle.std.proofs.lemmas.Bool.{and_parts}
-use Rattle.std.specs.List.{join_with_byte, AllByRecursion}
+use Rattle.std.specs.List.{join_with_byte, AllByRecursion, find}
 use Rattle.std.proofs.lemmas.Fmt.{decimal_by_steps}
 use Rattle.std.proofs.lemmas.List.Splits.{join_with_byte-slice_split}
 use Rattle.std.proofs.lemmas.Option.{some_pair_parts}
-use Rattle.std.specs.Str.{bytes_eq}
+use Rattle.std.proofs.lemmas.Str.{IsUtf8-from_ascii}
+use Rattle.std.proofs.lemmas.Str.Ascii.{IsAscii-nil, IsAscii-cons}
+use Rattle.std.specs.Str.{bytes_eq, IsUtf8, IsAscii}
 use Rattle.std.proofs.lemmas.Slice.Eq.{bytes_eq-Decides}
 use Rattle.fz_model.specs.declared.kinds.ObjKind.{ObjKind}
 use Rattle.fz_model.specs.declared.kinds.ObjKind.TheVariants.{Scanned, Atomic}
@@ -14,11 +16,9 @@ use Rattle.fz_model.specs.declared.kinds.RegKind.TheVariants.{Normal, IgnoreSelf
 use Rattle.fz_model.specs.declared.kinds.LinkKind.{LinkKind}
 use Rattle.fz_model.specs.declared.kinds.LinkKind.TheVariants.{Short, Long}
 use Rattle.fz_script.specs.declared.step.Step.{Step}
-use Rattle.fz_script.specs.declared.step.Step.TheVariants as steps
-use Rattle.fz_script.specs.declared.verb.Verb.{Verb}
-use Rattle.fz_script.specs.declared.verb.Verb.TheVariants.{Open, New, Set, Copy, Load, Store, Register, Unregister, Link, Unlink, Move, Begin, Mark, Pause, Collect, Take, Hold, Finish, Forfeit, Close, Outstanding}
+use Rattle.fz_script.specs.declared.step.Step.TheVariants.{Open, New, Set, Copy, Load, Store, Register, Unregister, Link, Unlink, Move, Begin, Mark, Pause, Collect, Take, Hold, Finish, Forfeit, Close, Outstanding}
 use Rattle.fz_script.specs.Spelling.{Word, Number, Text, IsWord, obj_kind, reg_kind, link_kind, words, text, spelling, Fits}
-use Rattle.fz_script.specs.Reading.{◌>>=◌, with_rest, Field, a_number, an_obj_kind, a_reg_kind, a_link_kind, Value, Values, value_at, values_at, name_at, find_text, fields_at, shape, made, step_at, verb_text, all_verbs, verb_at, word_at, words_of, end_at, step_in}
+use Rattle.fz_script.specs.Reading.{◌>>=◌, with_rest, number, find_text, kind_at, number_at, obj_kind_at, reg_kind_at, link_kind_at, Fields, nothing, a_number, an_obj_kind, a_reg_kind, a_link_kind, two, three, Values, values_at, Verb, verbs, verb_named, word_at, words_of, step_at, end_at, step_in}
 use Rattle.fz_script.proofs.Numbers.{number_takes, number_again}
 
 -- the cases of a bind and of a test
@@ -37,24 +37,31 @@ with_rest_some : {A : Type 0} (o : Option A) (ws rest : List (List ℕ)) (x : A)
 with_rest_some None ws rest x h = cc
 with_rest_some (Some y) ws rest x h = let p = some_pair_parts y x ws rest h in (ap Some p.0, p.1)
 
--- the words of values
-abbrev value_word : (k : Field) → Value k → Word
-value_word a_number n = Number n
-value_word an_obj_kind x = Text (obj_kind x)
-value_word a_reg_kind x = Text (reg_kind x)
-value_word a_link_kind x = Text (link_kind x)
+-- the words of fields
+abbrev field_words : (fields : Fields) → Values fields → List Word
+field_words nothing x = []
+field_words a_number n = Number n ∷ []
+field_words an_obj_kind kind = Text (obj_kind kind) ∷ []
+field_words a_reg_kind kind = Text (reg_kind kind) ∷ []
+field_words a_link_kind which = Text (link_kind which) ∷ []
+field_words (two first second) x = field_words first x.0 ++ field_words second x.1
+field_words (three first second third) x = field_words first x.0 ++ (field_words second x.1 ++ field_words third x.2)
 
-abbrev value_words : (ks : List Field) → Values ks → List Word
-value_words [] x = []
-value_words (k ∷ ks) x = value_word k x.0 ∷ value_words ks x.1
+-- these words were the fields
+abbrev HasTaken : List Word → List (List ℕ) → List (List ℕ) → Type 0
+HasTaken taken ws rest = (ws ≡ map text taken ++ rest) × AllByRecursion IsWord taken
 
-abbrev texts : (ks : List Field) → Values ks → List (List ℕ)
-texts ks x = map text (value_words ks x)
+both_taken : (a b : List Word) (ws between rest : List (List ℕ)) → HasTaken a ws between → HasTaken b between rest → HasTaken (a ++ b) ws rest
+both_taken [] b ws between rest first second = (first.0 ∙ second.0, second.1)
+both_taken (w ∷ a) b [] between rest first second = let e = first.0 in cc
+both_taken (w ∷ a) b (v ∷ ws) between rest first second =
+    let e = first.0 in
+    let head : v ≡ text w = cc in
+    let tail : ws ≡ map text a ++ between = cc in
+    let others = both_taken a b ws between rest (tail, first.1.1) second in
+    (ap (λ x. x ∷ ws) head ∙ ap (λ l. text w ∷ l) others.0, (first.1.0, others.1))
 
-abbrev AreValues : (ks : List Field) → Values ks → Type 0
-AreValues ks x = AllByRecursion IsWord (value_words ks x)
-
--- one value
+-- one word
 find_takes : {A : Type 0} (name : A → List ℕ) (xs : List A) (w : List ℕ) (x : A) → find_text name xs w ≡ Some x → w ≡ name x
 find_takes name [] w x h = cc
 find_takes name (y ∷ ys) w x h = elim (chosen (bytes_eq (name y) w) (Some y) (find_text name ys w) (Some x) h) [
@@ -62,130 +69,173 @@ find_takes name (y ∷ ys) w x h = elim (chosen (bytes_eq (name y) w) (Some y) (
   | inr c ↦ find_takes name ys w x c.1
 ]
 
-name_takes : {A : Type 0} (name : A → List ℕ) (xs : List A) (ws rest : List (List ℕ)) (x : A) → name_at name xs ws ≡ Some (x, rest) → ws ≡ name x ∷ rest
-name_takes name xs [] rest x h = cc
-name_takes name xs (w ∷ ws) rest x h = let t = with_rest_some _ _ _ _ h in let e = find_takes name xs w x t.0 in let r = t.1 in cc
+word_takes : (ws rest : List (List ℕ)) (w : List ℕ) → word_at ws ≡ Some (w, rest) → ws ≡ w ∷ rest
+word_takes [] rest w h = cc
+word_takes (v ∷ ws) rest w h = let p = some_pair_parts v w ws rest h in ap (λ x. x ∷ ws) p.0 ∙ ap (λ l. w ∷ l) p.1
 
-value_takes : (k : Field) (ws rest : List (List ℕ)) (x : Value k) → value_at k ws ≡ Some (x, rest) → (ws ≡ text (value_word k x) ∷ rest) × IsWord (value_word k x)
-value_takes a_number [] rest x h = cc
-value_takes a_number (w ∷ ws) rest x h = let t = with_rest_some _ _ _ _ h in let n = number_takes w x t.0 in let r = t.1 in (let e = n.0 in cc, n.1)
-value_takes an_obj_kind ws rest x h = (name_takes obj_kind (Scanned ∷ Atomic ∷ []) ws rest x h, tt)
-value_takes a_reg_kind ws rest x h = (name_takes reg_kind (Normal ∷ IgnoreSelf ∷ NoOrder ∷ []) ws rest x h, tt)
-value_takes a_link_kind ws rest x h = (name_takes link_kind (Short ∷ Long ∷ []) ws rest x h, tt)
+kind_takes : {A : Type 0} (name : A → List ℕ) (xs : List A) (ws rest : List (List ℕ)) (x : A) → kind_at name xs ws ≡ Some (x, rest) → ws ≡ name x ∷ rest
+kind_takes name xs ws rest x h =
+    let first = bind_some (word_at ws) (λ first. with_rest (find_text name xs first.0) first.1) (x, rest) h in
+    let t = with_rest_some _ _ _ _ first.2 in
+    word_takes ws first.0.1 first.0.0 first.1 ∙ ap (λ w. w ∷ first.0.1) (find_takes name xs first.0.0 x t.0) ∙ ap (λ l. name x ∷ l) t.1
 
-obj_kind_again : (x : ObjKind) (rest : List (List ℕ)) → value_at an_obj_kind (obj_kind x ∷ rest) ≡ Some (x, rest)
+number_taken : (ws rest : List (List ℕ)) (n : ℕ) → number_at ws ≡ Some (n, rest) → HasTaken (Number n ∷ []) ws rest
+number_taken ws rest n h =
+    let first = bind_some (word_at ws) (λ first. with_rest (number first.0) first.1) (n, rest) h in
+    let t = with_rest_some _ _ _ _ first.2 in
+    let is = number_takes first.0.0 n t.0 in
+    (word_takes ws first.0.1 first.0.0 first.1 ∙ ap (λ w. w ∷ first.0.1) is.0 ∙ ap (λ l. decimal n ∷ l) t.1, (is.1, tt))
+
+obj_kind_again : (x : ObjKind) (rest : List (List ℕ)) → obj_kind_at (obj_kind x ∷ rest) ≡ Some (x, rest)
 obj_kind_again Scanned rest = refl
 obj_kind_again Atomic rest = refl
 
-reg_kind_again : (x : RegKind) (rest : List (List ℕ)) → value_at a_reg_kind (reg_kind x ∷ rest) ≡ Some (x, rest)
+reg_kind_again : (x : RegKind) (rest : List (List ℕ)) → reg_kind_at (reg_kind x ∷ rest) ≡ Some (x, rest)
 reg_kind_again Normal rest = refl
 reg_kind_again IgnoreSelf rest = refl
 reg_kind_again NoOrder rest = refl
 
-link_kind_again : (x : LinkKind) (rest : List (List ℕ)) → value_at a_link_kind (link_kind x ∷ rest) ≡ Some (x, rest)
+link_kind_again : (x : LinkKind) (rest : List (List ℕ)) → link_kind_at (link_kind x ∷ rest) ≡ Some (x, rest)
 link_kind_again Short rest = refl
 link_kind_again Long rest = refl
 
-value_again : (k : Field) (x : Value k) (rest : List (List ℕ)) → IsWord (value_word k x) → value_at k (text (value_word k x) ∷ rest) ≡ Some (x, rest)
-value_again a_number x rest h = ap (λ o. with_rest o rest) (number_again x h)
-value_again an_obj_kind x rest h = obj_kind_again x rest
-value_again a_reg_kind x rest h = reg_kind_again x rest
-value_again a_link_kind x rest h = link_kind_again x rest
+-- what is read is written so
+values_taken : (fields : Fields) (ws rest : List (List ℕ)) (x : Values fields) → values_at fields ws ≡ Some (x, rest) → HasTaken (field_words fields x) ws rest
+values_taken nothing ws rest x h = ((some_pair_parts tt x ws rest h).1, tt)
+values_taken a_number ws rest x h = number_taken ws rest x h
+values_taken an_obj_kind ws rest x h = (kind_takes obj_kind (Scanned ∷ Atomic ∷ []) ws rest x h, (tt, tt))
+values_taken a_reg_kind ws rest x h = (kind_takes reg_kind (Normal ∷ IgnoreSelf ∷ NoOrder ∷ []) ws rest x h, (tt, tt))
+values_taken a_link_kind ws rest x h = (kind_takes link_kind (Short ∷ Long ∷ []) ws rest x h, (tt, tt))
+values_taken (two f g) ws rest x h =
+    let a = bind_some (values_at f ws) (λ a. values_at g a.1 >>= λ b. Some ((a.0, b.0), b.1)) (x, rest) h in
+    let b = bind_some (values_at g a.0.1) (λ b. Some ((a.0.0, b.0), b.1)) (x, rest) a.2 in
+    let P : Values (two f g) × List (List ℕ) → Type 0 = λ p. HasTaken (field_words (two f g) p.0) ws p.1 in
+    subst P (some_same ((a.0.0, b.0.0), b.0.1) (x, rest) b.2)
+    (both_taken (field_words f a.0.0) (field_words g b.0.0) ws a.0.1 b.0.1 (values_taken f ws a.0.1 a.0.0 a.1) (values_taken g a.0.1 b.0.1 b.0.0 b.1))
+values_taken (three f g k) ws rest x h =
+    let a = bind_some (values_at f ws) (λ a. values_at g a.1 >>= λ b. values_at k b.1 >>= λ c. Some ((a.0, b.0, c.0), c.1)) (x, rest) h in
+    let b = bind_some (values_at g a.0.1) (λ b. values_at k b.1 >>= λ c. Some ((a.0.0, b.0, c.0), c.1)) (x, rest) a.2 in
+    let c = bind_some (values_at k b.0.1) (λ c. Some ((a.0.0, b.0.0, c.0), c.1)) (x, rest) b.2 in
+    let P : Values (three f g k) × List (List ℕ) → Type 0 = λ p. HasTaken (field_words (three f g k) p.0) ws p.1 in
+    subst P (some_same ((a.0.0, b.0.0, c.0.0), c.0.1) (x, rest) c.2)
+    (both_taken (field_words f a.0.0) (field_words g b.0.0 ++ field_words k c.0.0) ws a.0.1 c.0.1 (values_taken f ws a.0.1 a.0.0 a.1)
+    (both_taken (field_words g b.0.0) (field_words k c.0.0) a.0.1 b.0.1 c.0.1 (values_taken g a.0.1 b.0.1 b.0.0 b.1) (values_taken k b.0.1 c.0.1 c.0.0 c.1)))
 
--- the values of a list of fields
-values_takes : (ks : List Field) (ws rest : List (List ℕ)) (x : Values ks) → values_at ks ws ≡ Some (x, rest) → (ws ≡ texts ks x ++ rest) × AreValues ks x
-values_takes [] ws rest x h = ((some_pair_parts tt x ws rest h).1, tt)
-values_takes (k ∷ ks) ws rest x h =
-    let first = bind_some (value_at k ws) (λ a. values_at ks a.1 >>= λ y. Some ((a.0, y.0), y.1)) (x, rest) h in
-    let others = bind_some (values_at ks first.0.1) (λ y. Some ((first.0.0, y.0), y.1)) (x, rest) first.2 in
-    let f = value_takes k ws first.0.1 first.0.0 first.1 in
-    let o = values_takes ks first.0.1 others.0.1 others.0.0 others.1 in
-    let P : Values (k ∷ ks) × List (List ℕ) → Type 0 = λ p. (ws ≡ texts (k ∷ ks) p.0 ++ p.1) × AreValues (k ∷ ks) p.0 in
-    subst P (some_same ((first.0.0, others.0.0), others.0.1) (x, rest) others.2) (f.0 ∙ ap (λ l. text (value_word k first.0.0) ∷ l) o.0, (f.1, o.1))
+-- the words of lists of words
+two_fit : (a b : List Word) → AllByRecursion IsWord (a ++ b) → AllByRecursion IsWord a × AllByRecursion IsWord b
+two_fit [] b h = (tt, h)
+two_fit (w ∷ a) b h = let r = two_fit a b h.1 in ((h.0, r.0), r.1)
 
-values_again : (ks : List Field) (x : Values ks) (rest : List (List ℕ)) → AreValues ks x → values_at ks (texts ks x ++ rest) ≡ Some (x, rest)
-values_again [] x rest h = refl
-values_again (k ∷ ks) x rest h = rw (value_again k x.0 (texts ks x.1 ++ rest) h.0, values_again ks x.1 rest h.1) refl
+texts_of_two : (a b : List Word) (rest : List (List ℕ)) → map text (a ++ b) ++ rest ≡ map text a ++ (map text b ++ rest)
+texts_of_two [] b rest = refl
+texts_of_two (w ∷ a) b rest = ap (λ l. text w ∷ l) (texts_of_two a b rest)
+
+-- what is written is read
+values_again : (fields : Fields) (x : Values fields) (rest : List (List ℕ)) → AllByRecursion IsWord (field_words fields x) → values_at fields (map text (field_words fields x) ++ rest) ≡ Some (x, rest)
+values_again nothing x rest h = refl
+values_again a_number x rest h = ap (λ o. with_rest o rest) (number_again x h.0)
+values_again an_obj_kind x rest h = obj_kind_again x rest
+values_again a_reg_kind x rest h = reg_kind_again x rest
+values_again a_link_kind x rest h = link_kind_again x rest
+values_again (two f g) x rest h =
+    let fit = two_fit (field_words f x.0) (field_words g x.1) h in
+    rw (texts_of_two (field_words f x.0) (field_words g x.1) rest, values_again f x.0 (map text (field_words g x.1) ++ rest) fit.0, values_again g x.1 rest fit.1) refl
+values_again (three f g k) x rest h =
+    let fit = two_fit (field_words f x.0) (field_words g x.1 ++ field_words k x.2) h in
+    let more = two_fit (field_words g x.1) (field_words k x.2) fit.1 in
+    rw (
+      texts_of_two (field_words f x.0) (field_words g x.1 ++ field_words k x.2) rest,
+      values_again f x.0 (map text (field_words g x.1 ++ field_words k x.2) ++ rest) fit.0,
+      texts_of_two (field_words g x.1) (field_words k x.2) rest,
+      values_again g x.1 (map text (field_words k x.2) ++ rest) more.0,
+      values_again k x.2 rest more.1,
+    ) refl
 
 -- words without spaces
 lacks_space : List ℕ → Bool
 lacks_space [] = true
 lacks_space (b ∷ bs) = not (b == 32) && lacks_space bs
 
--- what is asked of a verb, by computation: a further verb is one more clause in each of the two tables
-record IsReadVerb (v : Verb) : Type 0 where
-  named : verb_at (verb_text v) ≡ Some v
-  unspaced : lacks_space (verb_text v) ≡ true
-  read_as : (rest : List (List ℕ)) → step_at v rest ≡ fields_at (shape v) (made v) rest
-  written_as : (x : Values (shape v)) → words (made v x) ≡ Text (verb_text v) ∷ value_words (shape v) x
+-- words in ASCII
+is_ascii : List ℕ → Bool
+is_ascii [] = true
+is_ascii (b ∷ bs) = nat_lt b 128 && is_ascii bs
 
-verb_is_read : (v : Verb) → IsReadVerb v
-unfolding lacks_space
-verb_is_read Open = record { named = refl; unspaced = refl; read_as = λ rest. refl; written_as = λ x. refl }
-verb_is_read New = record { named = refl; unspaced = refl; read_as = λ rest. refl; written_as = λ x. refl }
-verb_is_read Set = record { named = refl; unspaced = refl; read_as = λ rest. refl; written_as = λ x. refl }
-verb_is_read Copy = record { named = refl; unspaced = refl; read_as = λ rest. refl; written_as = λ x. refl }
-verb_is_read Load = record { named = refl; unspaced = refl; read_as = λ rest. refl; written_as = λ x. refl }
-verb_is_read Store = record { named = refl; unspaced = refl; read_as = λ rest. refl; written_as = λ x. refl }
-verb_is_read Register = record { named = refl; unspaced = refl; read_as = λ rest. refl; written_as = λ x. refl }
-verb_is_read Unregister = record { named = refl; unspaced = refl; read_as = λ rest. refl; written_as = λ x. refl }
-verb_is_read Link = record { named = refl; unspaced = refl; read_as = λ rest. refl; written_as = λ x. refl }
-verb_is_read Unlink = record { named = refl; unspaced = refl; read_as = λ rest. refl; written_as = λ x. refl }
-verb_is_read Move = record { named = refl; unspaced = refl; read_as = λ rest. refl; written_as = λ x. refl }
-verb_is_read Begin = record { named = refl; unspaced = refl; read_as = λ rest. refl; written_as = λ x. refl }
-verb_is_read Mark = record { named = refl; unspaced = refl; read_as = λ rest. refl; written_as = λ x. refl }
-verb_is_read Pause = record { named = refl; unspaced = refl; read_as = λ rest. refl; written_as = λ x. refl }
-verb_is_read Collect = record { named = refl; unspaced = refl; read_as = λ rest. refl; written_as = λ x. refl }
-verb_is_read Take = record { named = refl; unspaced = refl; read_as = λ rest. refl; written_as = λ x. refl }
-verb_is_read Hold = record { named = refl; unspaced = refl; read_as = λ rest. refl; written_as = λ x. refl }
-verb_is_read Finish = record { named = refl; unspaced = refl; read_as = λ rest. refl; written_as = λ x. refl }
-verb_is_read Forfeit = record { named = refl; unspaced = refl; read_as = λ rest. refl; written_as = λ x. refl }
-verb_is_read Close = record { named = refl; unspaced = refl; read_as = λ rest. refl; written_as = λ x. refl }
-verb_is_read Outstanding = record { named = refl; unspaced = refl; read_as = λ rest. refl; written_as = λ x. refl }
+ascii : (bs : List ℕ) → is_ascii bs ≡ true → IsAscii bs
+unfolding is_ascii
+ascii [] h = IsAscii-nil
+ascii (b ∷ bs) h = let p = and_parts _ _ h in IsAscii-cons b bs (ltb-true b 128 p.0) (ascii bs p.1)
 
-parts_of : (s : Step) → (v : Verb) × (x : Values (shape v)) × (s ≡ made v x)
-parts_of (steps.Open blocks frames workers) = (Open, (blocks, (frames, (workers, tt))), refl)
-parts_of (steps.New frame slot size kind) = (New, (frame, (slot, (size, (kind, tt)))), refl)
-parts_of (steps.Set frame slot word) = (Set, (frame, (slot, (word, tt))), refl)
-parts_of (steps.Copy frame slot to_frame to_slot) = (Copy, (frame, (slot, (to_frame, (to_slot, tt)))), refl)
-parts_of (steps.Load frame slot offset to_frame to_slot) = (Load, (frame, (slot, (offset, (to_frame, (to_slot, tt))))), refl)
-parts_of (steps.Store frame slot offset from_frame from_slot) = (Store, (frame, (slot, (offset, (from_frame, (from_slot, tt))))), refl)
-parts_of (steps.Register frame slot kind procedure client_data) = (Register, (frame, (slot, (kind, (procedure, (client_data, tt))))), refl)
-parts_of (steps.Unregister frame slot) = (Unregister, (frame, (slot, tt)), refl)
-parts_of (steps.Link which frame slot offset target_frame target_slot) = (Link, (which, (frame, (slot, (offset, (target_frame, (target_slot, tt)))))), refl)
-parts_of (steps.Unlink which frame slot offset) = (Unlink, (which, (frame, (slot, (offset, tt)))), refl)
-parts_of (steps.Move which frame slot offset to_frame to_slot to_offset) = (Move, (which, (frame, (slot, (offset, (to_frame, (to_slot, (to_offset, tt))))))), refl)
-parts_of steps.Begin = (Begin, tt, refl)
-parts_of (steps.Mark budget) = (Mark, (budget, tt), refl)
-parts_of steps.Pause = (Pause, tt, refl)
-parts_of steps.Collect = (Collect, tt, refl)
-parts_of (steps.Take worker) = (Take, (worker, tt), refl)
-parts_of (steps.Hold worker frame slot) = (Hold, (worker, (frame, (slot, tt))), refl)
-parts_of (steps.Finish worker) = (Finish, (worker, tt), refl)
-parts_of (steps.Forfeit worker) = (Forfeit, (worker, tt), refl)
-parts_of steps.Close = (Close, tt, refl)
-parts_of steps.Outstanding = (Outstanding, tt, refl)
+-- what is asked of each verb, by computation
+record IsSpelled (v : Verb) : Type 0 where
+  readable : is_ascii v.name ≡ true
+  unspaced : lacks_space v.name ≡ true
+  written_as : (x : Values v.fields) → words (v.make x) ≡ Text v.name ∷ field_words v.fields x
 
--- a verb's fields
-step_takes : (v : Verb) (ws rest : List (List ℕ)) (s : Step) → step_at v ws ≡ Some (s, rest) → (verb_text v ∷ ws ≡ map text (words s) ++ rest) × Fits s
-unfolding fields_at
-step_takes v ws rest s h =
-    let verb = verb_is_read v in
-    let read = bind_some (values_at (shape v) ws) (λ x. Some (made v x.0, x.1)) (s, rest) (sym (verb.read_as ws) ∙ h) in
-    let values = values_takes (shape v) ws read.0.1 read.0.0 read.1 in
-    let written : words (made v read.0.0) ≡ Text (verb_text v) ∷ value_words (shape v) read.0.0 = verb.written_as read.0.0 in
-    let P : Step × List (List ℕ) → Type 0 = λ p. (verb_text v ∷ ws ≡ map text (words p.0) ++ p.1) × Fits p.0 in
-    subst P (some_same (made v read.0.0, read.0.1) (s, rest) read.2)
-    (ap (λ l. verb_text v ∷ l) values.0 ∙ ap (λ l. map text l ++ read.0.1) (sym written), subst (AllByRecursion IsWord) (sym written) (tt, values.1))
+all_spelled : AllByRecursion IsSpelled verbs
+unfolding lacks_space is_ascii
+all_spelled = search rules
 
-step_again : (v : Verb) (x : Values (shape v)) → AreValues (shape v) x → step_at v (texts (shape v) x) ≡ Some (made v x, [])
-unfolding fields_at
-step_again v x h =
-    let e : values_at (shape v) (texts (shape v) x) ≡ Some (x, []) = ap (values_at (shape v)) (sym (append-nil (texts (shape v) x))) ∙ values_again (shape v) x [] h in
-    (verb_is_read v).read_as (texts (shape v) x) ∙ ap (λ o. o >>= λ y. Some (made v y.0, y.1)) e
+found_in : (vs : List Verb) (w : List ℕ) (v : Verb) → AllByRecursion IsSpelled vs → find (λ (v : Verb). bytes_eq v.name w) vs ≡ Some v → IsSpelled v × (v.name ≡ w)
+found_in [] w v all h = cc
+found_in (x ∷ xs) w v all h = elim (chosen (bytes_eq x.name w) (Some x) (find (λ (v : Verb). bytes_eq v.name w) xs) (Some v) h) [
+  | inl c ↦ let e = some_same x v c.1 in subst (λ (v : Verb). IsSpelled v × (v.name ≡ w)) e (all.0, (bytes_eq-Decides (x.name) w).0 c.0)
+  | inr c ↦ found_in xs w v all.1 c.1
+]
 
-made_fits : (v : Verb) (x : Values (shape v)) → Fits (made v x) → AreValues (shape v) x
-made_fits v x h = (subst (AllByRecursion IsWord) ((verb_is_read v).written_as x) h).1
+-- what is no text is no verb's name
+pub no_verb : (words : List (List ℕ)) (w : List ℕ) (rest : List (List ℕ)) → word_at words ≡ Some (w, rest) → (IsUtf8 w → ⊥) → step_at words ≡ None
+no_verb words w rest first other = rw (first, unnamed (verb_named w) refl) refl
+  where
+    unnamed : (r : Option Verb) → verb_named w ≡ r → verb_named w ≡ None
+    unnamed None h = h
+    unnamed (Some v) h = let named = found_in verbs w v all_spelled h in absurd (other (subst IsUtf8 named.1 (IsUtf8-from_ascii v.name (ascii v.name named.0.readable))))
+
+-- what is none of the names is no verb's name
+differs : (a b : List ℕ) (r : Bool) → bytes_eq a b ≡ r → (b ≡ a → ⊥) → bytes_eq a b ≡ false
+differs a b true e other = absurd (other (let same = (bytes_eq-Decides a b).0 e in cc))
+differs a b false e other = e
+
+none_of : (w : List ℕ) (vs : List Verb) → AllByRecursion (λ (v : Verb). w ≡ v.name → ⊥) vs → find (λ (v : Verb). bytes_eq v.name w) vs ≡ None
+none_of w [] h = refl
+none_of w (v ∷ vs) h = rw (differs v.name w (bytes_eq v.name w) refl h.0) (none_of w vs h.1)
+
+pub another_word : (words : List (List ℕ)) (w : List ℕ) (rest : List (List ℕ)) → word_at words ≡ Some (w, rest) → AllByRecursion (λ (v : Verb). w ≡ v.name → ⊥) verbs → step_at words ≡ None
+another_word words w rest first others = rw (first, none_of w verbs others) refl
+
+-- a step is what a verb makes of its fields: a further verb is one more clause here
+record IsMade (s : Step) : Type 0 where
+  name : List ℕ
+  verb : Verb
+  named : verb_named name ≡ Some verb
+  values : Values verb.fields
+  is : s ≡ verb.make values
+
+made_by : {s : Step} {verb : Verb} (name : List ℕ) → verb_named name ≡ Some verb → (values : Values verb.fields) → s ≡ verb.make values → IsMade s
+made_by {s} {verb} name named values is = record { name = name; verb = verb; named = named; values = values; is = is }
+
+is_made : (s : Step) → IsMade s
+is_made (Open blocks frames workers) = made_by (codes "open") refl (blocks, frames, workers) refl
+is_made (New frame slot size kind) = made_by (codes "new") refl ((frame, slot), size, kind) refl
+is_made (Set frame slot word) = made_by (codes "set") refl (frame, slot, word) refl
+is_made (Copy frame slot to_frame to_slot) = made_by (codes "copy") refl ((frame, slot), (to_frame, to_slot)) refl
+is_made (Load frame slot offset to_frame to_slot) = made_by (codes "load") refl ((frame, slot, offset), (to_frame, to_slot)) refl
+is_made (Store frame slot offset from_frame from_slot) = made_by (codes "store") refl ((frame, slot, offset), (from_frame, from_slot)) refl
+is_made (Register frame slot kind procedure client_data) = made_by (codes "register") refl ((frame, slot), kind, (procedure, client_data)) refl
+is_made (Unregister frame slot) = made_by (codes "unregister") refl (frame, slot) refl
+is_made (Link which frame slot offset target_frame target_slot) = made_by (codes "link") refl (which, (frame, slot, offset), (target_frame, target_slot)) refl
+is_made (Unlink which frame slot offset) = made_by (codes "unlink") refl (which, (frame, slot, offset)) refl
+is_made (Move which frame slot offset to_frame to_slot to_offset) = made_by (codes "move") refl (which, (frame, slot, offset), (to_frame, to_slot, to_offset)) refl
+is_made Begin = made_by (codes "begin") refl tt refl
+is_made (Mark budget) = made_by (codes "mark") refl budget refl
+is_made Pause = made_by (codes "pause") refl tt refl
+is_made Collect = made_by (codes "collect") refl tt refl
+is_made (Take worker) = made_by (codes "take") refl worker refl
+is_made (Hold worker frame slot) = made_by (codes "hold") refl (worker, frame, slot) refl
+is_made (Finish worker) = made_by (codes "finish") refl worker refl
+is_made (Forfeit worker) = made_by (codes "forfeit") refl worker refl
+is_made Close = made_by (codes "close") refl tt refl
+is_made Outstanding = made_by (codes "outstanding") refl tt refl
 
 -- words without spaces, joined by spaces, are split again
 not_true : (b : Bool) → not b ≡ true → b ≡ false
@@ -234,54 +284,75 @@ unfolding lacks_space
 lacks_space_link_kind Short = refl
 lacks_space_link_kind Long = refl
 
-lacks_space_value : (k : Field) (x : Value k) → IsWord (value_word k x) → lacks_space (text (value_word k x)) ≡ true
-lacks_space_value a_number x h = lacks_space_decimal x h
-lacks_space_value an_obj_kind x h = lacks_space_obj_kind x
-lacks_space_value a_reg_kind x h = lacks_space_reg_kind x
-lacks_space_value a_link_kind x h = lacks_space_link_kind x
+-- fields have no spaces
+abbrev ArePlain : List Word → Type 0
+ArePlain ws = AllByRecursion (λ w. lacks_space w ≡ true) (map text ws)
 
-lacks_space_values : (ks : List Field) (x : Values ks) → AreValues ks x → AllByRecursion (λ w. lacks_space w ≡ true) (texts ks x)
-lacks_space_values [] x h = tt
-lacks_space_values (k ∷ ks) x h = (lacks_space_value k x.0 h.0, lacks_space_values ks x.1 h.1)
+both_plain : (a b : List Word) → ArePlain a → ArePlain b → ArePlain (a ++ b)
+both_plain [] b h k = k
+both_plain (w ∷ a) b h k = (h.0, both_plain a b h.1 k)
 
--- the words of a line that a step is spelled by
-words_of_made : (v : Verb) (x : Values (shape v)) → Fits (made v x) → words_of (spelling (made v x)) ≡ verb_text v ∷ texts (shape v) x
-words_of_made v x h =
-    ap (λ l. words_of (join_with_byte 32 (map text l))) ((verb_is_read v).written_as x) ∙ split_joined (verb_text v) (texts (shape v) x) (verb_is_read v).unspaced (lacks_space_values (shape v) x (made_fits v x h))
+fields_plain : (fields : Fields) (x : Values fields) → AllByRecursion IsWord (field_words fields x) → ArePlain (field_words fields x)
+fields_plain nothing x h = tt
+fields_plain a_number x h = (lacks_space_decimal x h.0, tt)
+fields_plain an_obj_kind x h = (lacks_space_obj_kind x, tt)
+fields_plain a_reg_kind x h = (lacks_space_reg_kind x, tt)
+fields_plain a_link_kind x h = (lacks_space_link_kind x, tt)
+fields_plain (two f g) x h = let fit = two_fit (field_words f x.0) (field_words g x.1) h in both_plain (field_words f x.0) (field_words g x.1) (fields_plain f x.0 fit.0) (fields_plain g x.1 fit.1)
+fields_plain (three f g k) x h =
+    let fit = two_fit (field_words f x.0) (field_words g x.1 ++ field_words k x.2) h in
+    let more = two_fit (field_words g x.1) (field_words k x.2) fit.1 in
+    both_plain (field_words f x.0) (field_words g x.1 ++ field_words k x.2) (fields_plain f x.0 fit.0) (both_plain (field_words g x.1) (field_words k x.2) (fields_plain g x.1 more.0) (fields_plain k x.2 more.1))
+
+-- a verb's fields
+verb_takes : (v : Verb) (ws rest : List (List ℕ)) (x : Values v.fields) → IsSpelled v → values_at v.fields ws ≡ Some (x, rest) → (v.name ∷ ws ≡ map text (words (v.make x)) ++ rest) × Fits (v.make x)
+verb_takes v ws rest x spelled h =
+    let taken = values_taken v.fields ws rest x h in
+    let written = spelled.written_as x in
+    (ap (λ l. v.name ∷ l) taken.0 ∙ ap (λ l. map text l ++ rest) (sym written), subst (AllByRecursion IsWord) (sym written) (tt, taken.1))
 
 end_takes : (ws : List (List ℕ)) → end_at ws ≡ Some tt → ws ≡ []
 end_takes [] h = refl
 end_takes (w ∷ ws) h = cc
 
-word_takes : (ws rest : List (List ℕ)) (w : List ℕ) → word_at ws ≡ Some (w, rest) → ws ≡ w ∷ rest
-word_takes [] rest w h = cc
-word_takes (v ∷ ws) rest w h = let p = some_pair_parts v w ws rest h in ap (λ x. x ∷ ws) p.0 ∙ ap (λ l. w ∷ l) p.1
-
-all_words : (ws rest after : List (List ℕ)) (w verb : List ℕ) (ts : List (List ℕ)) → ws ≡ w ∷ rest → w ≡ verb → verb ∷ rest ≡ ts ++ after → after ≡ [] → ws ≡ ts
-all_words ws rest after w verb ts split named taken ended = split ∙ ap (λ x. x ∷ rest) named ∙ taken ∙ ap (λ l. ts ++ l) ended ∙ append-nil ts
+step_takes : (ws rest : List (List ℕ)) (s : Step) → step_at ws ≡ Some (s, rest) → (ws ≡ map text (words s) ++ rest) × Fits s
+step_takes ws rest s h =
+    let w = bind_some (word_at ws) (λ w. verb_named w.0 >>= λ v. values_at v.fields w.1 >>= λ x. Some (v.make x.0, x.1)) (s, rest) h in
+    let v = bind_some (verb_named w.0.0) (λ v. values_at v.fields w.0.1 >>= λ x. Some (v.make x.0, x.1)) (s, rest) w.2 in
+    let x = bind_some (values_at v.0.fields w.0.1) (λ x. Some (v.0.make x.0, x.1)) (s, rest) v.2 in
+    let named = found_in verbs w.0.0 v.0 all_spelled v.1 in
+    let taken = verb_takes v.0 w.0.1 x.0.1 x.0.0 named.0 x.1 in
+    let P : Step × List (List ℕ) → Type 0 = λ p. (ws ≡ map text (words p.0) ++ p.1) × Fits p.0 in
+    subst P (some_same (v.0.make x.0.0, x.0.1) (s, rest) x.2) (word_takes ws w.0.1 w.0.0 w.1 ∙ ap (λ n. n ∷ w.0.1) (sym named.1) ∙ taken.0, taken.1)
 
 step_in_takes : (ws : List (List ℕ)) (s : Step) → step_in ws ≡ Some s → (ws ≡ map text (words s)) × Fits s
 unfolding step_in
 step_in_takes ws s h =
-    let w = bind_some (word_at ws) (λ w. verb_at w.0 >>= λ v. step_at v w.1 >>= λ s. end_at s.1 >>= λ _. Some s.0) s h in
-    let v = bind_some (verb_at w.0.0) (λ v. step_at v w.0.1 >>= λ s. end_at s.1 >>= λ _. Some s.0) s w.2 in
-    let t = bind_some (step_at v.0 w.0.1) (λ s. end_at s.1 >>= λ _. Some s.0) s v.2 in
+    let t = bind_some (step_at ws) (λ s. end_at s.1 >>= λ _. Some s.0) s h in
     let e = bind_some (end_at t.0.1) (λ _. Some t.0.0) s t.2 in
-    let taken = step_takes v.0 w.0.1 t.0.1 t.0.0 t.1 in
+    let taken = step_takes ws t.0.1 t.0.0 t.1 in
     let P : Step → Type 0 = λ s. (ws ≡ map text (words s)) × Fits s in
-    subst P (some_same t.0.0 s e.2)
-    (all_words ws w.0.1 t.0.1 w.0.0 (verb_text v.0) (map text (words t.0.0)) (word_takes ws w.0.1 w.0.0 w.1) (find_takes verb_text all_verbs w.0.0 v.0 v.1) taken.0 (end_takes t.0.1 e.1), taken.1)
+    subst P (some_same t.0.0 s e.2) (taken.0 ∙ ap (λ l. map text (words t.0.0) ++ l) (end_takes t.0.1 e.1) ∙ append-nil (map text (words t.0.0)), taken.1)
 
-step_in_again : (v : Verb) (x : Values (shape v)) → Fits (made v x) → step_in (words_of (spelling (made v x))) ≡ Some (made v x)
+-- a step that a verb makes is read again
+made_again : (v : Verb) (x : Values v.fields) → IsSpelled v → verb_named v.name ≡ Some v → Fits (v.make x) → step_in (words_of (spelling (v.make x))) ≡ Some (v.make x)
 unfolding step_in
-step_in_again v x h = rw (words_of_made v x h, (verb_is_read v).named, step_again v x (made_fits v x h)) refl
+made_again v x spelled named fits =
+    let fit : AllByRecursion IsWord (field_words v.fields x) = (subst (AllByRecursion IsWord) (spelled.written_as x) fits).1 in
+    let fields : List (List ℕ) = map text (field_words v.fields x) in
+    let split : words_of (spelling (v.make x)) ≡ v.name ∷ fields = ap (λ l. words_of (join_with_byte 32 (map text l))) (spelled.written_as x) ∙ split_joined v.name fields spelled.unspaced (fields_plain v.fields x fit) in
+    let values : values_at v.fields fields ≡ Some (x, []) = ap (values_at v.fields) (sym (append-nil fields)) ∙ values_again v.fields x [] fit in
+    rw (split, named, values) refl
+
+step_again : (s : Step) → Fits s → step_in (words_of (spelling s)) ≡ Some s
+step_again s fits =
+    let m = is_made s in
+    let found = found_in verbs m.name m.verb all_spelled m.named in
+    subst (λ (s : Step). Fits s → step_in (words_of (spelling s)) ≡ Some s) (sym m.is) (made_again m.verb m.values found.0 (ap verb_named found.1 ∙ m.named)) fits
 
 pub found : (line : List ℕ) (r : Option Step) → step_in (words_of line) ≡ r → IfSome r (λ s. Fits s × (line ≡ spelling s))
 found line None h = tt
 found line (Some s) h = let t = step_in_takes (words_of line) s h in (t.1, sym (join_with_byte-slice_split 32 line) ∙ ap (join_with_byte 32) t.0)
 
 pub only : (line : List ℕ) (s : Step) → Fits s → line ≡ spelling s → step_in (words_of line) ≡ Some s
-only line s fits e =
-    let p = parts_of s in
-    let again : step_in (words_of (spelling s)) ≡ Some s = subst (λ s. Fits s → step_in (words_of (spelling s)) ≡ Some s) (sym p.2) (step_in_again p.0 p.1) fits in
-    ap (λ l. step_in (words_of l)) e ∙ again
+only line s fits e = ap (λ l. step_in (words_of l)) e ∙ step_again s fits

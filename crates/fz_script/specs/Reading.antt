@@ -13,9 +13,7 @@ use Rattle.fz_model.specs.declared.kinds.RegKind.TheVariants.{Normal, IgnoreSelf
 use Rattle.fz_model.specs.declared.kinds.LinkKind.{LinkKind}
 use Rattle.fz_model.specs.declared.kinds.LinkKind.TheVariants.{Short, Long}
 use Rattle.fz_script.specs.declared.step.Step.{Step}
-use Rattle.fz_script.specs.declared.step.Step.TheVariants as steps
-use Rattle.fz_script.specs.declared.verb.Verb.{Verb}
-use Rattle.fz_script.specs.declared.verb.Verb.TheVariants.{Open, New, Set, Copy, Load, Store, Register, Unregister, Link, Unlink, Move, Begin, Mark, Pause, Collect, Take, Hold, Finish, Forfeit, Close, Outstanding}
+use Rattle.fz_script.specs.declared.step.Step.TheVariants.{Open, New, Set, Copy, Load, Store, Register, Unregister, Link, Unlink, Move, Begin, Mark, Pause, Collect, Take, Hold, Finish, Forfeit, Close, Outstanding}
 use denote.Bor.{Bor}
 
 -- the code's `?`
@@ -45,19 +43,6 @@ abbrev pub word_at : List (List ℕ) → Option (List ℕ × List (List ℕ))
 word_at [] = None
 word_at (word ∷ rest) = Some (word, rest)
 
--- what a field may be
-pub data Field : Type 0 where
-  a_number : Field
-  an_obj_kind : Field
-  a_reg_kind : Field
-  a_link_kind : Field
-
-abbrev pub Value : Field → Type 0
-Value a_number = ℕ
-Value an_obj_kind = ObjKind
-Value a_reg_kind = RegKind
-Value a_link_kind = LinkKind
-
 -- what a word is worth in decimal, if this is how that number is written
 unfoldable pub number : List ℕ → Option ℕ
 number word = let n = digits_value 10 word in if nat_lt n (2 ^ 64) && bytes_eq word (decimal n) then Some n else None
@@ -66,158 +51,103 @@ number word = let n = digits_value 10 word in if nat_lt n (2 ^ 64) && bytes_eq w
 abbrev pub find_text : {A : Type 0} → (A → List ℕ) → List A → List ℕ → Option A
 find_text text xs word = find (λ x. bytes_eq (text x) word) xs
 
-abbrev pub name_at : {A : Type 0} → (A → List ℕ) → List A → List (List ℕ) → Option (A × List (List ℕ))
-name_at text xs [] = None
-name_at text xs (word ∷ rest) = with_rest (find_text text xs word) rest
+abbrev pub kind_at : {A : Type 0} → (A → List ℕ) → List A → List (List ℕ) → Option (A × List (List ℕ))
+kind_at text xs words = word_at words >>= λ first. with_rest (find_text text xs first.0) first.1
 
 abbrev pub number_at : List (List ℕ) → Option (ℕ × List (List ℕ))
-number_at [] = None
-number_at (word ∷ rest) = with_rest (number word) rest
+number_at words = word_at words >>= λ first. with_rest (number first.0) first.1
 
-abbrev pub value_at : (field : Field) → List (List ℕ) → Option (Value field × List (List ℕ))
-value_at a_number words = number_at words
-value_at an_obj_kind words = name_at obj_kind (Scanned ∷ Atomic ∷ []) words
-value_at a_reg_kind words = name_at reg_kind (Normal ∷ IgnoreSelf ∷ NoOrder ∷ []) words
-value_at a_link_kind words = name_at link_kind (Short ∷ Long ∷ []) words
+abbrev pub obj_kind_at : List (List ℕ) → Option (ObjKind × List (List ℕ))
+obj_kind_at words = kind_at obj_kind (Scanned ∷ Atomic ∷ []) words
 
--- a value for each field
-abbrev pub Values : List Field → Type 0
-Values [] = Unit {0}
-Values (field ∷ fields) = Value field × Values fields
+abbrev pub reg_kind_at : List (List ℕ) → Option (RegKind × List (List ℕ))
+reg_kind_at words = kind_at reg_kind (Normal ∷ IgnoreSelf ∷ NoOrder ∷ []) words
 
-abbrev pub values_at : (fields : List Field) → List (List ℕ) → Option (Values fields × List (List ℕ))
-values_at [] words = Some (tt, words)
-values_at (field ∷ fields) words = value_at field words >>= λ x. values_at fields x.1 >>= λ y. Some ((x.0, y.0), y.1)
+abbrev pub link_kind_at : List (List ℕ) → Option (LinkKind × List (List ℕ))
+link_kind_at words = kind_at link_kind (Short ∷ Long ∷ []) words
 
--- the first word of a verb's line
-abbrev pub verb_text : Verb → List ℕ
-verb_text Open = codes "open"
-verb_text New = codes "new"
-verb_text Set = codes "set"
-verb_text Copy = codes "copy"
-verb_text Load = codes "load"
-verb_text Store = codes "store"
-verb_text Register = codes "register"
-verb_text Unregister = codes "unregister"
-verb_text Link = codes "link"
-verb_text Unlink = codes "unlink"
-verb_text Move = codes "move"
-verb_text Begin = codes "begin"
-verb_text Mark = codes "mark"
-verb_text Pause = codes "pause"
-verb_text Collect = codes "collect"
-verb_text Take = codes "take"
-verb_text Hold = codes "hold"
-verb_text Finish = codes "finish"
-verb_text Forfeit = codes "forfeit"
-verb_text Close = codes "close"
-verb_text Outstanding = codes "outstanding"
+-- fields one after another
+abbrev pub two_at : {A B : Type 0} → (List (List ℕ) → Option (A × List (List ℕ))) → (List (List ℕ) → Option (B × List (List ℕ))) → List (List ℕ) → Option ((A × B) × List (List ℕ))
+two_at first second words = first words >>= λ x. second x.1 >>= λ y. Some ((x.0, y.0), y.1)
 
-abbrev pub all_verbs : List Verb
-all_verbs = Open ∷ New ∷ Set ∷ Copy ∷ Load ∷ Store ∷ Register ∷ Unregister ∷ Link ∷ Unlink ∷ Move ∷ Begin ∷ Mark ∷ Pause ∷ Collect ∷ Take ∷ Hold ∷ Finish ∷ Forfeit ∷ Close ∷ Outstanding ∷ []
+abbrev pub three_at : {A B C : Type 0} → (List (List ℕ) → Option (A × List (List ℕ))) → (List (List ℕ) → Option (B × List (List ℕ))) → (List (List ℕ) → Option (C × List (List ℕ))) → List (List ℕ) → Option ((A × B × C) × List (List ℕ))
+three_at first second third words = first words >>= λ x. second x.1 >>= λ y. third y.1 >>= λ z. Some ((x.0, y.0, z.0), z.1)
 
-abbrev pub verb_at : List ℕ → Option Verb
-verb_at word = find_text verb_text all_verbs word
+-- what fields a verb may have
+pub data Fields : Type 0 where
+  nothing : Fields
+  a_number : Fields
+  an_obj_kind : Fields
+  a_reg_kind : Fields
+  a_link_kind : Fields
+  two : (first second : Fields) → Fields
+  three : (first second third : Fields) → Fields
 
--- the fields of a verb
-abbrev pub shape : Verb → List Field
-shape Open = a_number ∷ a_number ∷ a_number ∷ []
-shape New = a_number ∷ a_number ∷ a_number ∷ an_obj_kind ∷ []
-shape Set = a_number ∷ a_number ∷ a_number ∷ []
-shape Copy = a_number ∷ a_number ∷ a_number ∷ a_number ∷ []
-shape Load = a_number ∷ a_number ∷ a_number ∷ a_number ∷ a_number ∷ []
-shape Store = a_number ∷ a_number ∷ a_number ∷ a_number ∷ a_number ∷ []
-shape Register = a_number ∷ a_number ∷ a_reg_kind ∷ a_number ∷ a_number ∷ []
-shape Unregister = a_number ∷ a_number ∷ []
-shape Link = a_link_kind ∷ a_number ∷ a_number ∷ a_number ∷ a_number ∷ a_number ∷ []
-shape Unlink = a_link_kind ∷ a_number ∷ a_number ∷ a_number ∷ []
-shape Move = a_link_kind ∷ a_number ∷ a_number ∷ a_number ∷ a_number ∷ a_number ∷ a_number ∷ []
-shape Begin = []
-shape Mark = a_number ∷ []
-shape Pause = []
-shape Collect = []
-shape Take = a_number ∷ []
-shape Hold = a_number ∷ a_number ∷ a_number ∷ []
-shape Finish = a_number ∷ []
-shape Forfeit = a_number ∷ []
-shape Close = []
-shape Outstanding = []
+abbrev pub Values : Fields → Type 0
+Values nothing = Unit {0}
+Values a_number = ℕ
+Values an_obj_kind = ObjKind
+Values a_reg_kind = RegKind
+Values a_link_kind = LinkKind
+Values (two first second) = Values first × Values second
+Values (three first second third) = Values first × Values second × Values third
 
--- the step that a verb and its fields make
-abbrev pub made : (verb : Verb) → Values (shape verb) → Step
-made Open x = steps.Open x.0 x.1.0 x.1.1.0
-made New x = steps.New x.0 x.1.0 x.1.1.0 x.1.1.1.0
-made Set x = steps.Set x.0 x.1.0 x.1.1.0
-made Copy x = steps.Copy x.0 x.1.0 x.1.1.0 x.1.1.1.0
-made Load x = steps.Load x.0 x.1.0 x.1.1.0 x.1.1.1.0 x.1.1.1.1.0
-made Store x = steps.Store x.0 x.1.0 x.1.1.0 x.1.1.1.0 x.1.1.1.1.0
-made Register x = steps.Register x.0 x.1.0 x.1.1.0 x.1.1.1.0 x.1.1.1.1.0
-made Unregister x = steps.Unregister x.0 x.1.0
-made Link x = steps.Link x.0 x.1.0 x.1.1.0 x.1.1.1.0 x.1.1.1.1.0 x.1.1.1.1.1.0
-made Unlink x = steps.Unlink x.0 x.1.0 x.1.1.0 x.1.1.1.0
-made Move x = steps.Move x.0 x.1.0 x.1.1.0 x.1.1.1.0 x.1.1.1.1.0 x.1.1.1.1.1.0 x.1.1.1.1.1.1.0
-made Begin x = steps.Begin
-made Mark x = steps.Mark x.0
-made Pause x = steps.Pause
-made Collect x = steps.Collect
-made Take x = steps.Take x.0
-made Hold x = steps.Hold x.0 x.1.0 x.1.1.0
-made Finish x = steps.Finish x.0
-made Forfeit x = steps.Forfeit x.0
-made Close x = steps.Close
-made Outstanding x = steps.Outstanding
+abbrev pub values_at : (fields : Fields) → List (List ℕ) → Option (Values fields × List (List ℕ))
+values_at nothing words = Some (tt, words)
+values_at a_number words = number_at words
+values_at an_obj_kind words = obj_kind_at words
+values_at a_reg_kind words = reg_kind_at words
+values_at a_link_kind words = link_kind_at words
+values_at (two first second) words = two_at (values_at first) (values_at second) words
+values_at (three first second third) words = three_at (values_at first) (values_at second) (values_at third) words
 
--- what the step of a verb is about
-pub data Subject : Type 0 where
-  an_object : Subject
-  a_registration : Subject
-  a_link : Subject
-  a_worker : Subject
-  the_world : Subject
+abbrev pub a_slot : Fields
+a_slot = two a_number a_number
 
-abbrev pub subject : Verb → Subject
-subject New = an_object
-subject Set = an_object
-subject Copy = an_object
-subject Load = an_object
-subject Store = an_object
-subject Register = a_registration
-subject Unregister = a_registration
-subject Link = a_link
-subject Unlink = a_link
-subject Move = a_link
-subject Take = a_worker
-subject Hold = a_worker
-subject Finish = a_worker
-subject Forfeit = a_worker
-subject _ = the_world
+abbrev pub a_place : Fields
+a_place = three a_number a_number a_number
 
-unfoldable pub fields_at : (fields : List Field) → (Values fields → Step) → List (List ℕ) → Option (Step × List (List ℕ))
-fields_at fields make words = values_at fields words >>= λ x. Some (make x.0, x.1)
+-- a verb: the first word of its line, the fields that follow, and the step that they make
+pub record Verb : Type 0 where
+  pub name : List ℕ
+  pub fields : Fields
+  pub make : Values fields → Step
 
--- the step of a verb whose fields come next (a clause a verb, so that the check computes each by itself)
-abbrev pub step_at : Verb → List (List ℕ) → Option (Step × List (List ℕ))
-step_at Open words = fields_at (shape Open) (made Open) words
-step_at New words = fields_at (shape New) (made New) words
-step_at Set words = fields_at (shape Set) (made Set) words
-step_at Copy words = fields_at (shape Copy) (made Copy) words
-step_at Load words = fields_at (shape Load) (made Load) words
-step_at Store words = fields_at (shape Store) (made Store) words
-step_at Register words = fields_at (shape Register) (made Register) words
-step_at Unregister words = fields_at (shape Unregister) (made Unregister) words
-step_at Link words = fields_at (shape Link) (made Link) words
-step_at Unlink words = fields_at (shape Unlink) (made Unlink) words
-step_at Move words = fields_at (shape Move) (made Move) words
-step_at Begin words = fields_at (shape Begin) (made Begin) words
-step_at Mark words = fields_at (shape Mark) (made Mark) words
-step_at Pause words = fields_at (shape Pause) (made Pause) words
-step_at Collect words = fields_at (shape Collect) (made Collect) words
-step_at Take words = fields_at (shape Take) (made Take) words
-step_at Hold words = fields_at (shape Hold) (made Hold) words
-step_at Finish words = fields_at (shape Finish) (made Finish) words
-step_at Forfeit words = fields_at (shape Forfeit) (made Forfeit) words
-step_at Close words = fields_at (shape Close) (made Close) words
-step_at Outstanding words = fields_at (shape Outstanding) (made Outstanding) words
+abbrev pub verb : (name : List ℕ) (fields : Fields) → (Values fields → Step) → Verb
+verb name fields make = record { name = name; fields = fields; make = make }
+
+-- a line a verb
+abbrev pub verbs : List Verb
+verbs =
+    verb (codes "open") (three a_number a_number a_number) (λ x. Open x.0 x.1 x.2)
+    ∷ verb (codes "new") (three a_slot a_number an_obj_kind) (λ x. New x.0.0 x.0.1 x.1 x.2)
+    ∷ verb (codes "set") (three a_number a_number a_number) (λ x. Set x.0 x.1 x.2)
+    ∷ verb (codes "copy") (two a_slot a_slot) (λ x. Copy x.0.0 x.0.1 x.1.0 x.1.1)
+    ∷ verb (codes "load") (two a_place a_slot) (λ x. Load x.0.0 x.0.1 x.0.2 x.1.0 x.1.1)
+    ∷ verb (codes "store") (two a_place a_slot) (λ x. Store x.0.0 x.0.1 x.0.2 x.1.0 x.1.1)
+    ∷ verb (codes "register") (three a_slot a_reg_kind (two a_number a_number)) (λ x. Register x.0.0 x.0.1 x.1 x.2.0 x.2.1)
+    ∷ verb (codes "unregister") a_slot (λ x. Unregister x.0 x.1)
+    ∷ verb (codes "link") (three a_link_kind a_place a_slot) (λ x. Link x.0 x.1.0 x.1.1 x.1.2 x.2.0 x.2.1)
+    ∷ verb (codes "unlink") (two a_link_kind a_place) (λ x. Unlink x.0 x.1.0 x.1.1 x.1.2)
+    ∷ verb (codes "move") (three a_link_kind a_place a_place) (λ x. Move x.0 x.1.0 x.1.1 x.1.2 x.2.0 x.2.1 x.2.2)
+    ∷ verb (codes "begin") nothing (λ x. Begin)
+    ∷ verb (codes "mark") a_number (λ x. Mark x)
+    ∷ verb (codes "pause") nothing (λ x. Pause)
+    ∷ verb (codes "collect") nothing (λ x. Collect)
+    ∷ verb (codes "take") a_number (λ x. Take x)
+    ∷ verb (codes "hold") (three a_number a_number a_number) (λ x. Hold x.0 x.1 x.2)
+    ∷ verb (codes "finish") a_number (λ x. Finish x)
+    ∷ verb (codes "forfeit") a_number (λ x. Forfeit x)
+    ∷ verb (codes "close") nothing (λ x. Close)
+    ∷ verb (codes "outstanding") nothing (λ x. Outstanding)
+    ∷ []
+
+abbrev pub verb_named : List ℕ → Option Verb
+verb_named word = find (λ (v : Verb). bytes_eq v.name word) verbs
+
+-- the step whose verb and fields come next
+abbrev pub step_at : List (List ℕ) → Option (Step × List (List ℕ))
+step_at words = word_at words >>= λ first. verb_named first.0 >>= λ v. values_at v.fields first.1 >>= λ x. Some (v.make x.0, x.1)
 
 -- done, if no word is left
 abbrev pub end_at : List (List ℕ) → Option (Unit {0})
@@ -226,4 +156,4 @@ end_at (word ∷ rest) = None
 
 -- the step of a line's words
 unfoldable pub step_in : List (List ℕ) → Option Step
-step_in words = word_at words >>= λ first. verb_at first.0 >>= λ verb. step_at verb first.1 >>= λ step. end_at step.1 >>= λ _. Some step.0
+step_in words = step_at words >>= λ step. end_at step.1 >>= λ _. Some step.0

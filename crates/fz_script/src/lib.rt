@@ -5,12 +5,11 @@
 //! specs/Spelling.antt; `step_of` is its inverse, for every line.
 #![tactic(auto)]
 
-mod names;
+mod fields;
 mod reading;
 mod step;
 #[cfg(test)]
 mod tests;
-mod verb;
 mod words;
 
 pub use reading::step_of;

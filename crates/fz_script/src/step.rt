@@ -10,7 +10,7 @@ use fz_model::{LinkKind, ObjKind, RegKind};
 /// whether a number names something that exists is for the step's call to answer.
 #[derive(Clone, Copy, Debug, PartialEq, Eq)]
 pub enum Step {
-    /// Opens a world of so many blocks of 64 words and so many frames of 16 slots, for so many
+    /// Opens a world of blocks of 64 words and frames of 16 slots, as many as it names, for its
     /// workers. The first step of a script, and no later one.
     Open {
         blocks: u64,

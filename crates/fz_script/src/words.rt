@@ -1,11 +1,9 @@
 //! The words of a line, one by one.
 
-ghost use Rattle.std.specs.Prelude.{◌≡◌, ◌==◌, option_map, position};
-ghost use Rattle.fz_script.specs.Reading.{words_left, words_of, word_at, number, value_at, name_at, with_rest, end_at, a_number, an_obj_kind, a_reg_kind, a_link_kind};
+ghost use Rattle.std.specs.Prelude.{◌≡◌, ◌==◌, option_map, position, IfSome, Some, None};
+ghost use Rattle.fz_script.specs.Reading.{words_left, words_of, word_at, step_at, with_rest, end_at};
 
-use crate::names::{Named, one_named};
-use fz_model::{LinkKind, ObjKind, RegKind};
-use itoa::Buffer;
+use crate::fields::Field;
 use std::str;
 
 /// The words of a line that are still to be read.
@@ -44,43 +42,22 @@ impl<'a> Words<'a> {
         }
     }
 
-    /// The next word, if it is a number.
-    pub(crate) fn number(&mut self) -> Option<u64>
-        ensures { value_at a_number (words_left self.old) ≡ with_rest result (words_left self.new) }
+    /// The next word as text. Where it is no text it is no verb either.
+    pub(crate) fn verb(&mut self) -> Option<&'a str>
+        ensures some { IfSome result (λ verb. word_at (words_left self.old) ≡ Some (verb.now, words_left self.new)) }
+        ensures none { result ≡ None → step_at (words_left self.old) ≡ None }
     {
-        number_of(self.next()?)
+        let Ok(verb) = str::from_utf8(self.next()?) else {
+            return None;
+        };
+        Some(verb)
     }
 
-    /// The next word, if it is the text of one of these.
-    fn name<T: Named>(&mut self, all: &[T]) -> Option<T>
-        ensures { name_at T.text all.now (words_left self.old)
-            ≡ with_rest result (words_left self.new) }
+    /// The next fields, if they are next.
+    pub(crate) fn read<T: Field>(&mut self) -> Option<T>
+        ensures { T.reads (words_left self.old) ≡ with_rest result (words_left self.new) }
     {
-        one_named(all, self.next()?)
-    }
-
-    /// The next word, if it is a kind of object.
-    pub(crate) fn obj_kind(&mut self) -> Option<ObjKind>
-        ensures { value_at an_obj_kind (words_left self.old)
-            ≡ with_rest result (words_left self.new) }
-    {
-        self.name(&[ObjKind::Scanned, ObjKind::Atomic])
-    }
-
-    /// The next word, if it is a kind of registration.
-    pub(crate) fn reg_kind(&mut self) -> Option<RegKind>
-        ensures { value_at a_reg_kind (words_left self.old)
-            ≡ with_rest result (words_left self.new) }
-    {
-        self.name(&[RegKind::Normal, RegKind::IgnoreSelf, RegKind::NoOrder])
-    }
-
-    /// The next word, if it is a kind of disappearing link.
-    pub(crate) fn link_kind(&mut self) -> Option<LinkKind>
-        ensures { value_at a_link_kind (words_left self.old)
-            ≡ with_rest result (words_left self.new) }
-    {
-        self.name(&[LinkKind::Short, LinkKind::Long])
+        T::read(self)
     }
 
     /// Done, if no word is left. A further word is `None`, so that `?` ends the reading there as at
@@ -100,25 +77,4 @@ fn space_in(bytes: &[u8]) -> Option<usize>
     ensures { result ≡ position (λ byte. byte == 32) bytes.now }
 {
     bytes.iter().position(|byte| *byte == b' ')
-}
-
-/// The number that the word spells.
-///
-/// `parse` also takes a plus sign and leading zeros. So the number is written again: a number has
-/// one spelling, and only that is taken.
-fn number_of(word: &[u8]) -> Option<u64>
-    ensures { number word.now ≡ result }
-{
-    let Ok(text) = str::from_utf8(word) else {
-        return None;
-    };
-    let Ok(number) = text.parse::<u64>() else {
-        return None;
-    };
-    let mut buffer = Buffer::new();
-    if buffer.format(number).as_bytes() == word {
-        Some(number)
-    } else {
-        None
-    }
 }

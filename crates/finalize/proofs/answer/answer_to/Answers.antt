@@ -16,14 +16,27 @@ returns-in-Ok c = (
   c.in-Ok.ensures.opened.1,
 )
 
-pub returns-then-has_come : goal.returns-then-has_come
-returns-then-has_come c = (
+pub returns-in-Ok-Some : goal.returns-in-Ok-Some
+returns-in-Ok-Some c =
+    let out = rw c.in-Ok-Some.field-0-is at c.in-Ok-Some.ensures in (
+      c.in-Some-machine.machine,
+      c.in-Some-machine.is,
+      c.carry_out.new.self,
+      refl,
+      c.in-Some.step,
+      (sym c.is_kept.ensures ∙ c.if-not-is_kept.false, c.in-Some.ensures.found.0, c.in-Some.ensures.found.1),
+      out.0,
+      out.1,
+    )
+
+pub returns-in-Err-carry_out : goal.returns-in-Err-carry_out
+returns-in-Err-carry_out c = (
   c.in-Some-machine.machine,
   c.in-Some-machine.is,
   c.carry_out.new.self,
   refl,
   c.in-Some.step,
   (sym c.is_kept.ensures ∙ c.if-not-is_kept.false, c.in-Some.ensures.found.0, c.in-Some.ensures.found.1),
-  sym c.has_come.ensures ∙ c.if-has_come.true,
-  c.carry_out.ensures,
+  c.in-Err-carry_out.ensures.0,
+  c.in-Err-carry_out.ensures.1,
 )

@@ -1,0 +1,114 @@
+//! The fields of a line, by their types.
+
+ghost use Rattle.std.specs.Prelude.{◌≡◌, ◌<◌, ◌+◌, length, get_or, List, ℕ, Option, IfSome, None};
+ghost use Rattle.std.specs.Int.{IsInRange};
+ghost use Rattle.fz_script.specs.Reading.{words_left, with_rest, number, number_at, obj_kind_at, reg_kind_at, link_kind_at, two_at, three_at};
+
+use crate::words::Words;
+use fz_model::{LinkKind, ObjKind, RegKind};
+
+/// What stands in one word of a line, or in several.
+pub(crate) trait Field: Sized {
+    ghost reads: { List (List ℕ) → Option (Self × List (List ℕ)) };
+
+    /// The field in the next words. Words that were asked for are read, also where they aren't what was asked for.
+    fn read(words: &mut Words<'_>) -> Option<Self>
+        ensures { reads (words_left words.old) ≡ with_rest result (words_left words.new) };
+}
+
+impl Field for u64 {
+    ghost reads = { number_at };
+
+    fn read(words: &mut Words<'_>) -> Option<u64> {
+        number_of(words.next()?)
+    }
+}
+
+impl Field for ObjKind {
+    ghost reads = { obj_kind_at };
+
+    fn read(words: &mut Words<'_>) -> Option<ObjKind> {
+        match words.next()? {
+            b"scanned" => Some(ObjKind::Scanned),
+            b"atomic" => Some(ObjKind::Atomic),
+            _ => None,
+        }
+    }
+}
+
+impl Field for RegKind {
+    ghost reads = { reg_kind_at };
+
+    fn read(words: &mut Words<'_>) -> Option<RegKind> {
+        match words.next()? {
+            b"normal" => Some(RegKind::Normal),
+            b"ignore_self" => Some(RegKind::IgnoreSelf),
+            b"no_order" => Some(RegKind::NoOrder),
+            _ => None,
+        }
+    }
+}
+
+impl Field for LinkKind {
+    ghost reads = { link_kind_at };
+
+    fn read(words: &mut Words<'_>) -> Option<LinkKind> {
+        match words.next()? {
+            b"short" => Some(LinkKind::Short),
+            b"long" => Some(LinkKind::Long),
+            _ => None,
+        }
+    }
+}
+
+impl<A: Field + Drop, B: Field> Field for (A, B) {
+    ghost reads = { two_at A.reads B.reads };
+
+    fn read(words: &mut Words<'_>) -> Option<(A, B)> {
+        Some((A::read(words)?, B::read(words)?))
+    }
+}
+
+impl<A: Field + Drop, B: Field + Drop, C: Field> Field for (A, B, C) {
+    ghost reads = { three_at A.reads B.reads C.reads };
+
+    fn read(words: &mut Words<'_>) -> Option<(A, B, C)> {
+        Some((A::read(words)?, B::read(words)?, C::read(words)?))
+    }
+}
+
+/// The number that the word spells in decimal, with no zero before another digit. `None` also for a number that no `u64`
+/// holds.
+#[tactic(auto, using(crate::proofs::Numbers::empty, crate::proofs::Numbers::zero_leads))]
+fn number_of(word: &[u8]) -> Option<u64>
+    ensures { number word.now ≡ result }
+{
+    match word {
+        [] | [b'0', _, ..] => None,
+        _ => value_of(word),
+    }
+}
+
+/// The value of decimal digits.
+fn value_of(digits: &[u8]) -> Option<u64>
+    requires some { 0 < length digits.now }
+    requires plain { get_or digits.now 0 0 ≡ 48 → length digits.now ≡ 1 }
+    ensures { number digits.now ≡ result }
+{
+    let mut value: u64 = 0;
+    for byte in digits {
+        value = value.checked_mul(10)?.checked_add(digit_of(*byte)?)?;
+    }
+    Some(value)
+}
+
+/// The value of a decimal digit.
+fn digit_of(byte: u8) -> Option<u64>
+    ensures is { IfSome result (λ digit. IsInRange 48 57 byte × (digit + 48 ≡ byte)) }
+    ensures none { result ≡ None → IsInRange 48 57 byte → ⊥ }
+{
+    match byte {
+        b'0'..=b'9' => Some(u64::from(byte - b'0')),
+        _ => None,
+    }
+}
