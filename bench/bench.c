@@ -54,7 +54,6 @@ static bool fits(size_t n, size_t size) { size_t cells = BLOCK_WORDS / size; ret
 
 /* what an export is called with */
 typedef struct { size_t n, size; const uint64_t *words; } Given;
-typedef Outcome (*Run)(const Given *);
 static Outcome r_nothing(const Given *g) { (void)g; return (Outcome){ 0, true }; }
 static Outcome r_new(const Given *g) { return heap_bench_new(g->n, g->size); }
 static Outcome r_fill(const Given *g) { return heap_bench_fill(g->n, g->size); }
@@ -68,17 +67,41 @@ static Outcome r_read_twice(const Given *g) { return heap_bench_read(g->n, g->si
 static Outcome r_register(const Given *g) { return heap_bench_register(g->words, g->n); }
 static Outcome r_remove(const Given *g) { return heap_bench_remove(g->words, g->n); }
 
+/* what the answers have to add up to */
+static uint64_t s_none(const Given *g) { (void)g; return 0; }
+static uint64_t s_blocks(const Given *g) { size_t cells = BLOCK_WORDS / g->size; return (g->n + cells - 1) / cells; }
+static uint64_t s_starts(const Given *g) {
+    uint64_t sum = 0, cells = BLOCK_WORDS / g->size;
+    for (size_t i = 0; i < g->n; i++) sum += HEAP_START + i / cells * BLOCK_WORDS + i % cells * g->size;
+    return sum;
+}
+static uint64_t s_starts_twice(const Given *g) { return 2 * s_starts(g); }
+static uint64_t s_words(const Given *g) {
+    uint64_t sum = 0;
+    for (size_t i = 0; i < g->n; i++) sum += g->words[i];
+    return sum;
+}
+static uint64_t s_words_twice(const Given *g) { return 2 * s_words(g); }
+static uint64_t s_numbers(const Given *g) { return g->n * (g->n - 1) / 2; }
+
+typedef struct { Outcome (*run)(const Given *); uint64_t (*sum)(const Given *); } Export;
+static const Export NOTHING = { r_nothing, s_none }, NEW = { r_new, s_blocks }, FILL = { r_fill, s_starts }, LIST = { r_list, s_starts },
+    EMPTY = { r_empty, s_starts }, REFILL = { r_refill, s_starts }, RESOLVE_ONCE = { r_resolve_once, s_starts },
+    RESOLVE_TWICE = { r_resolve_twice, s_starts_twice }, READ_ONCE = { r_read_once, s_words }, READ_TWICE = { r_read_twice, s_words_twice },
+    REGISTER = { r_register, s_numbers }, REMOVE = { r_remove, s_words };
+
 /* the time of one run less that of another, which does all that it does but n calls: both by turns, until that many calls were timed */
 enum { CALLS = 600000 };
-static double timed(Run run, const Given *g) {
+static double timed(Export export, const Given *g) {
     double t = now();
-    Outcome o = run(g);
+    Outcome o = export.run(g);
     t = now() - t;
     if (!o.done) fail("a call was refused");
+    if (o.sum != export.sum(g)) fail("a wrong sum");
     return t;
 }
 static int by_size(const void *a, const void *b) { double x = *(const double *)a, y = *(const double *)b; return (x > y) - (x < y); }
-static double difference(Run more, Run less, size_t n, size_t size, bool mixed) {
+static double difference(Export more, Export less, size_t n, size_t size, bool mixed) {
     if (!fits(n, size)) return TOO_LARGE;
     Given g = { n, size, words(n, size, mixed) };
     size_t rounds = CALLS / n + 3;
@@ -89,21 +112,21 @@ static double difference(Run more, Run less, size_t n, size_t size, bool mixed) 
     return figures[rounds / 2] > 0 ? figures[rounds / 2] / n : 0;
 }
 
-static double t_new(size_t n) { return difference(r_new, r_nothing, n, 1, false); }
-static double t_alloc(size_t n) { return difference(r_fill, r_new, n, 1, false); }
-static double t_alloc_again(size_t n) { return difference(r_refill, r_empty, n, 1, false); }
-static double t_reclaim(size_t n) { return difference(r_empty, r_list, n, 1, false); }
-static double t_resolve(size_t n) { return difference(r_resolve_twice, r_resolve_once, n, 1, true); }
-static double t_resolve3(size_t n) { return difference(r_resolve_twice, r_resolve_once, n, 3, true); }
-static double t_read(size_t n) { return difference(r_read_twice, r_read_once, n, 1, false); }
-static double t_read_mixed(size_t n) { return difference(r_read_twice, r_read_once, n, 1, true); }
+static double t_new(size_t n) { return difference(NEW, NOTHING, n, 1, false); }
+static double t_alloc(size_t n) { return difference(FILL, NEW, n, 1, false); }
+static double t_alloc_again(size_t n) { return difference(REFILL, EMPTY, n, 1, false); }
+static double t_reclaim(size_t n) { return difference(EMPTY, LIST, n, 1, false); }
+static double t_resolve(size_t n) { return difference(RESOLVE_TWICE, RESOLVE_ONCE, n, 1, true); }
+static double t_resolve3(size_t n) { return difference(RESOLVE_TWICE, RESOLVE_ONCE, n, 3, true); }
+static double t_read(size_t n) { return difference(READ_TWICE, READ_ONCE, n, 1, false); }
+static double t_read_mixed(size_t n) { return difference(READ_TWICE, READ_ONCE, n, 1, true); }
 /* once, in a fresh process: in a later run the table would grow into memory that is already there */
 static double t_register(size_t n) {
     if (n > MOST_REGISTERED) return TOO_LARGE;
     Given g = { n, 1, words(n, 1, false) };
-    return timed(r_register, &g) / n;
+    return timed(REGISTER, &g) / n;
 }
-static double t_remove(size_t n) { return n <= MOST_REGISTERED ? difference(r_remove, r_register, n, 1, false) : TOO_LARGE; }
+static double t_remove(size_t n) { return n <= MOST_REGISTERED ? difference(REMOVE, REGISTER, n, 1, false) : TOO_LARGE; }
 
 /* the words of an array, each read once: one load a turn */
 static double NOINLINE read_once(const uint64_t *a, const uint64_t *order, size_t n) {

@@ -1,6 +1,4 @@
-//! What a run of calls answers to C.
-
-ghost use Rattle.std.specs.Prelude.{◌≡◌, IfOk, OnErr, true, false};
+//! What a run of calls returns to C.
 
 use fz_model::Refusal;
 
@@ -8,7 +6,7 @@ use fz_model::Refusal;
 #[repr(C)]
 #[derive(Clone, Copy)]
 pub struct Outcome {
-    /// The sum of the answers, so that none of the calls can be left out.
+    /// The sum of the answers. The C program knows what it has to be.
     pub sum: u64,
     /// Whether no call was refused. The sum means nothing if one was.
     pub done: bool,
@@ -16,10 +14,7 @@ pub struct Outcome {
 
 impl Outcome {
     /// The sum, or that a call was refused.
-    pub(crate) fn of(sum: Result<u64, Refusal>) -> Outcome
-        ensures done { IfOk sum (λ answer. result ≡ record { sum = answer; done = true }) }
-        ensures refused { OnErr sum (result ≡ record { sum = 0; done = false }) }
-    {
+    pub(crate) fn of(sum: Result<u64, Refusal>) -> Outcome {
         match sum {
             Ok(sum) => Outcome { sum, done: true },
             Err(_) => Outcome {

@@ -1,21 +1,12 @@
 //! The table's calls.
 
-ghost use Rattle.std.specs.Prelude.{◌≡◌, ◌+◌, ℕ, All, Contains, IfErr, IsTrue, OnOk, length, true};
-ghost use Rattle.std.specs.Option.{IsNone};
-ghost use Rattle.std.specs.FinMap.{contains_key, get, len};
-ghost use Rattle.fz_model.specs.Causes.{IsRefusedFor, register_causes};
-
 use crate::outcome::Outcome;
 use fz_model::{Addr, Refusal, RegKind};
 use fz_table::Table;
 use std::alloc::Global;
 
-/// Registers the objects, and answers the sum of the numbers.
-fn register_all(table: &mut Table, objects: &[Addr]) -> Result<u64, Refusal>
-    ensures registered { OnOk result (All (λ a. IsTrue (contains_key table.new.registrations a)) objects.now) }
-    ensures numbers { OnOk result (table.new.next_number ≡ table.old.next_number + length objects.now) }
-    ensures refused { IfErr result (λ r. (a : ℕ) × Contains objects.now a × IsRefusedFor (register_causes table.new.registrations table.new.next_number a) true r) }
-{
+/// Registers the objects; returns the sum of the numbers.
+fn register_all(table: &mut Table, objects: &[Addr]) -> Result<u64, Refusal> {
     let mut sum = 0u64;
     for object in objects {
         let (number, _) = table.register(*object, RegKind::Normal, 1, *object)?;
@@ -24,12 +15,8 @@ fn register_all(table: &mut Table, objects: &[Addr]) -> Result<u64, Refusal>
     Ok(sum)
 }
 
-/// Takes the registrations of the objects away, and answers the sum of their client data.
-fn remove_all(table: &mut Table, objects: &[Addr]) -> Result<u64, Refusal>
-    ensures removed { OnOk result (All (λ a. IsNone (get table.new.registrations a)) objects.now) }
-    ensures fewer { OnOk result (len table.new.registrations + length objects.now ≡ len table.old.registrations) }
-    ensures refused { IfErr result (λ r. (a : ℕ) × Contains objects.now a × IsNone (get table.new.registrations a) × (r ≡ Refusal.NotStart)) }
-{
+/// Removes the registrations of the objects; returns the sum of their client data.
+fn remove_all(table: &mut Table, objects: &[Addr]) -> Result<u64, Refusal> {
     let mut sum = 0u64;
     for object in objects {
         let pair = table.remove(*object).ok_or(Refusal::NotStart)?;
@@ -49,13 +36,13 @@ fn register_and_remove(alloc: Global, objects: &[Addr]) -> Result<u64, Refusal> 
     remove_all(&mut table, objects)
 }
 
-/// Registers the objects in a new table.
+/// Registers the objects in a new table. The sum is that of the numbers.
 #[unsafe(no_mangle)]
 pub extern "C" fn heap_bench_register(alloc: Global, objects: &[Addr]) -> Outcome {
     Outcome::of(register(alloc, objects))
 }
 
-/// The same, and removes their registrations in the same order.
+/// The same, and removes their registrations in the same order. Each object's client data is its start, and the sum is that of the starts.
 #[unsafe(no_mangle)]
 pub extern "C" fn heap_bench_remove(alloc: Global, objects: &[Addr]) -> Outcome {
     Outcome::of(register_and_remove(alloc, objects))

@@ -1,0 +1,75 @@
+/* bdwgc.c - times bdwgc's calls that stand nearest to the world's.
+ *   bdwgc ROW N      the nanoseconds of a row of rows.h for each of N objects, or "-" where N is too large for it
+ * bench/run builds it, and runs it beside world.c.
+ */
+#define GC_THREADS 1
+#include <gc/gc.h>
+#include "rows.h"
+#define NOINLINE __attribute__((noinline, noclone))
+
+static uintptr_t *hidden;      /* the objects, by pointers that bdwgc doesn't see as such */
+#define OBJECT(i) ((void **)GC_REVEAL_POINTER(hidden[i]))
+static void *volatile root;    /* the one pointer to them that it sees */
+static void finalizer(void *object, void *data) { (void)object; (void)data; }
+static void NOINLINE clear_stack(void) { volatile char a[256 * 1024]; memset((void *)a, 0, sizeof a); __asm__ volatile("" :: "r"(a) : "memory"); }
+
+static void NOINLINE make(const Objects *objects, bool live) {
+    hidden = memory(objects->count * sizeof *hidden);
+    for (size_t i = 0; i < objects->count; i++) hidden[i] = GC_HIDE_POINTER(GC_malloc(objects->size * sizeof(void *)));
+    for (size_t i = 0; i < objects->count; i++) if (!OBJECT(i)) fail("no memory");
+    for (size_t i = 0; objects->links && i < objects->count; i++)
+        for (size_t k = 0; k < objects->size; k++) {
+            size_t link = objects->links[i * objects->size + k];
+            if (link) OBJECT(i)[k] = OBJECT(link - 1);
+        }
+    root = live ? OBJECT(objects->first) : NULL;
+}
+
+static double NOINLINE enter(size_t n, Kind kind) {
+    double t = now();
+    if (kind == NORMAL) for (size_t i = 0; i < n; i++) GC_register_finalizer(OBJECT(i), finalizer, 0, 0, 0);
+    if (kind == NO_ORDER) for (size_t i = 0; i < n; i++) GC_register_finalizer_no_order(OBJECT(i), finalizer, 0, 0, 0);
+    return now() - t;
+}
+
+static double collect(void) {
+    clear_stack();
+    GC_enable();
+    double t = now();
+    GC_gcollect();
+    t = now() - t;
+    GC_disable();
+    return t;
+}
+
+/* Calls all procedures that are queued. A few words on the stack may keep a few objects, or the chain's first. */
+static double invoke(size_t expected) {
+    clear_stack();
+    double t = now();
+    size_t invoked = GC_invoke_finalizers();
+    t = now() - t;
+    if (invoked > expected || invoked + 16 < expected) fail("another number of procedures");
+    return t;
+}
+
+/* collections happen nowhere but where asked for, by one thread; the first is of an empty heap */
+static double run(const Row *row, const Objects *objects, bool with_call) {
+    if (!with_call) return 0;
+    GC_set_markers_count(1); GC_INIT(); GC_set_finalize_on_demand(1); GC_disable();
+    collect();
+    make(objects, row->live);
+    double t = enter(objects->count, row->kind);
+    if (row->call == REGISTER) return t;
+    t = collect();
+    if (row->live) {
+        t = 0;
+        for (int i = 0; i < COLLECTIONS; i++) t += collect();
+        if (GC_get_heap_size() - GC_get_free_bytes() < objects->count * objects->size * sizeof(void *)) fail("live objects are gone");
+    }
+    double of_calls = invoke(queued(row, objects->count));
+    return row->call == FINISH ? of_calls : t;
+}
+
+static double fresh(const Row *row, const Objects *objects, bool with_call) { return in_own_process(run, row, objects, with_call); }
+
+int main(int argc, char **argv) { return print_figure(argc, argv, fresh); }

@@ -1,0 +1,122 @@
+/* rows.h - what world.c and bdwgc.c share: the rows, the objects of each, and how a figure is taken. */
+#include <math.h>
+#include <stdbool.h>
+#include <stdint.h>
+#include <stdio.h>
+#include <stdlib.h>
+#include <string.h>
+#include <sys/wait.h>
+#include <time.h>
+#include <unistd.h>
+
+enum { TOO_LARGE = -1, MOST_WORDS = 262144, MOST_REGISTERED = 65536, GRAPH_WORDS = 8, MOST_OF_GRAPH = MOST_WORDS / GRAPH_WORDS, COLLECTIONS = 9 };
+
+static void fail(const char *what) { fprintf(stderr, "bench: %s\n", what); exit(1); }
+static void *memory(size_t bytes) { void *p = malloc(bytes); if (!p) fail("no memory"); return p; }
+
+/* the processor's time: other processes don't count */
+static double now(void) { struct timespec t; clock_gettime(CLOCK_PROCESS_CPUTIME_ID, &t); return t.tv_sec * 1e9 + t.tv_nsec; }
+
+static uint64_t seed = 88172645463325252ull;
+static size_t below(size_t n) { seed ^= seed << 13; seed ^= seed >> 7; seed ^= seed << 17; return (seed >> 33) % n; }
+
+/* A row: its objects, whether a root leads to them, and the call that is timed: of live objects, COLLECTIONS collections after the first. */
+typedef enum { LOOSE, CHAIN, MIXED_CHAIN, GRAPH } Shape;
+typedef enum { UNREGISTERED, NORMAL, NO_ORDER } Kind;
+typedef enum { REGISTER, COLLECT, FINISH } Call;
+typedef struct { const char *name; Shape shape; Kind kind; bool live; Call call; } Row;
+static const Row rows[] = {
+    { "register", LOOSE, NORMAL, false, REGISTER },
+    { "dead", LOOSE, UNREGISTERED, false, COLLECT },
+    { "dead_queued", LOOSE, NORMAL, false, COLLECT },
+    { "dead_no_order", LOOSE, NO_ORDER, false, COLLECT },
+    { "dead_chain", CHAIN, NORMAL, false, COLLECT },
+    { "live_chain", CHAIN, UNREGISTERED, true, COLLECT },
+    { "live_mixed", MIXED_CHAIN, UNREGISTERED, true, COLLECT },
+    { "live_registered", CHAIN, NORMAL, true, COLLECT },
+    { "live_graph", GRAPH, UNREGISTERED, true, COLLECT },
+    { "finish", LOOSE, NORMAL, false, FINISH },
+};
+
+/* how many times the call is timed in one run */
+static inline size_t calls(const Row *row) { return row->live ? COLLECTIONS : 1; }
+
+/* how many entries a collection queues of n objects */
+static inline size_t queued(const Row *row, size_t n) { return row->live || row->kind == UNREGISTERED ? 0 : row->shape == CHAIN ? 1 : n; }
+
+/* The objects of a row. Word k of object i points to object links[i * size + k] - 1, or is zero where that is 0; no links: all words are zero. */
+typedef struct { size_t count, size, first; uint64_t *links; } Objects;
+static Objects objects_of(const Row *row, size_t n) {
+    Objects o = { n, row->shape == GRAPH ? GRAPH_WORDS : 1, 0, NULL };
+    if (row->shape == LOOSE) return o;
+    uint64_t *order = memory(n * sizeof *order);
+    for (size_t i = 0; i < n; i++) order[i] = i;
+    if (row->shape == MIXED_CHAIN) for (size_t i = n - 1; i > 0; i--) { size_t j = below(i + 1); uint64_t x = order[i]; order[i] = order[j]; order[j] = x; }
+    o.first = order[0];
+    o.links = calloc(n * o.size, sizeof *o.links);
+    if (!o.links) fail("no memory");
+    for (size_t i = 0; i < n; i++) {
+        if (i + 1 < n) o.links[order[i] * o.size] = order[i + 1] + 1;
+        for (size_t k = 1; k < o.size; k++) o.links[order[i] * o.size + k] = below(n) + 1;
+    }
+    free(order);
+    return o;
+}
+
+/* the time of one run, with the row's call or without it */
+typedef double (*Run)(const Row *row, const Objects *objects, bool with_call);
+
+/* the same in a process of its own, whose memory is fresh */
+static double in_own_process(Run run, const Row *row, const Objects *objects, bool with_call) {
+    int ends[2], status;
+    double t;
+    if (pipe(ends)) fail("no pipe");
+    pid_t child = fork();
+    if (child < 0) fail("no process");
+    if (child == 0) {
+        t = run(row, objects, with_call);
+        _exit(write(ends[1], &t, sizeof t) != sizeof t);
+    }
+    close(ends[1]);
+    bool whole = read(ends[0], &t, sizeof t) == sizeof t;
+    close(ends[0]);
+    if (waitpid(child, &status, 0) != child || status || !whole) fail("a run failed");
+    return t;
+}
+
+/* the time of a run with the row's call less that of one without: both by turns, until so much time was spent, and the least time of each */
+enum { LEAST_TURNS = 5, MOST_TURNS = 99 };
+static const double SPENT = 300e6;
+static double difference(Run run, const Row *row, const Objects *objects) {
+    double less = INFINITY, more = INFINITY, spent = 0;
+    for (int turn = 0; turn < LEAST_TURNS || (turn < MOST_TURNS && spent < SPENT); turn++) {
+        double without = run(row, objects, false), with = run(row, objects, true);
+        if (without < less) less = without;
+        if (with < more) more = with;
+        spent += without + with;
+    }
+    return more > less ? more - less : 0;
+}
+
+/* the nanoseconds of a row for each of n objects. A graph of as many objects as can be registered has but as many as fit. */
+static double figure(Run run, const Row *row, size_t n) {
+    if (n > (row->kind != UNREGISTERED || row->shape == GRAPH ? MOST_REGISTERED : MOST_WORDS)) return TOO_LARGE;
+    if (row->shape == GRAPH && n > MOST_OF_GRAPH) n = MOST_OF_GRAPH;
+    Objects objects = objects_of(row, n);
+    return difference(run, row, &objects) / calls(row) / n;
+}
+
+static const Row *row_named(const char *name) {
+    for (size_t i = 0; i < sizeof rows / sizeof *rows; i++) if (!strcmp(rows[i].name, name)) return &rows[i];
+    return NULL;
+}
+
+/* PROGRAM ROW N */
+static int print_figure(int argc, char **argv, Run run) {
+    const Row *row = argc == 3 ? row_named(argv[1]) : NULL;
+    long n = row ? atol(argv[2]) : 0;
+    if (n < 1) { fprintf(stderr, "usage: %s ROW N, with a row of rows.h\n", argv[0]); return 2; }
+    double t = figure(run, row, n);
+    if (t < 0) puts("-"); else printf("%.3f\n", t);
+    return 0;
+}

@@ -1,0 +1,90 @@
+/* world.c - times the world's calls.
+ *   world ROW N          the nanoseconds of a row of rows.h for each of N objects, or "-" where N is too large for it
+ *   world open BLOCKS    the nanoseconds in which a world of so many blocks is opened and dropped
+ * bench/run builds it with crates/world_bench, and runs it beside bdwgc.c.
+ */
+#include <malloc.h>
+#include "rows.h"
+
+/* crates/world_bench */
+typedef struct { uint64_t blocks, objects, size, registered; bool no_order; uint64_t root, collections, finished; } Plan;
+typedef struct { uint64_t addresses, numbers, queued, reclaimed, finished; bool done; } Outcome;
+Outcome world_bench_run(const Plan *plan, const uint64_t *words, size_t length);
+
+enum { HEAP_START = 65536, BLOCK_WORDS = 64 };
+
+static uint64_t address(const Objects *objects, size_t i) { return HEAP_START + i * objects->size; }
+
+/* the plan of a row, with the call that is timed or without it */
+static Plan plan_of(const Row *row, const Objects *objects, bool with_call) {
+    size_t n = objects->count, cells = BLOCK_WORDS / objects->size;
+    Plan plan = { .blocks = (n + cells - 1) / cells, .objects = n, .size = objects->size, .no_order = row->kind == NO_ORDER };
+    if (row->kind != UNREGISTERED && (row->call != REGISTER || with_call)) plan.registered = n;
+    if (row->live) plan.root = address(objects, objects->first);
+    if (row->call == COLLECT) plan.collections = row->live + (with_call ? calls(row) : 0);
+    if (row->call == FINISH) { plan.collections = 1; plan.finished = with_call ? n : 0; }
+    return plan;
+}
+
+/* the words of the objects, one after another */
+static uint64_t *words_of(const Objects *objects, size_t *length) {
+    *length = objects->links ? objects->count * objects->size : 0;
+    uint64_t *words = memory((*length + 1) * sizeof *words);
+    for (size_t i = 0; i < *length; i++) words[i] = objects->links[i] ? address(objects, objects->links[i] - 1) : 0;
+    return words;
+}
+
+static void check(const Row *row, const Objects *objects, const Plan *plan, const Outcome *outcome) {
+    uint64_t n = objects->count, addresses = 0;
+    for (size_t i = 0; i < n; i++) addresses += address(objects, i);
+    if (!outcome->done) fail("a call was refused");
+    if (outcome->addresses != addresses) fail("objects at other addresses");
+    if (outcome->numbers != (plan->registered ? n * (n - 1) / 2 : 0)) fail("other numbers of registrations");
+    if (outcome->queued != (plan->collections ? queued(row, n) : 0)) fail("another number of entries");
+    if (outcome->reclaimed != (plan->collections && !row->live && row->kind == UNREGISTERED ? n : 0)) fail("another number of reclaimed objects");
+    if (outcome->finished != (plan->finished ? addresses : 0)) fail("other entries");
+}
+
+static double run(const Row *row, const Objects *objects, bool with_call) {
+    /* all of the code once, so that it is in memory */
+    Plan first = { .blocks = 1, .objects = 1, .size = 1, .registered = 1, .collections = 1, .finished = 1 }, plan = plan_of(row, objects, with_call);
+    if (!world_bench_run(&first, NULL, 0).done) fail("a call was refused");
+    size_t length;
+    uint64_t *words = words_of(objects, &length);
+    double t = now();
+    Outcome outcome = world_bench_run(&plan, words, length);
+    t = now() - t;
+    check(row, objects, &plan, &outcome);
+    free(words);
+    return t;
+}
+
+/* A finish takes no memory, and some thirtieth of the time of what has to come before it: so all runs of that row share their memory, since
+   fresh memory would make them differ by more than what is timed. */
+static double fresh(const Row *row, const Objects *objects, bool with_call) {
+    if (row->call == FINISH) {
+        mallopt(M_MMAP_THRESHOLD, 1 << 30);
+        mallopt(M_TRIM_THRESHOLD, 1 << 30);
+        return run(row, objects, with_call);
+    }
+    return in_own_process(run, row, objects, with_call);
+}
+
+static double open_and_drop(const Row *row, const Objects *objects, bool with_call) {
+    (void)row;
+    Plan plan = { .blocks = objects->count };
+    if (!with_call) return 0;
+    double t = now();
+    Outcome outcome = world_bench_run(&plan, NULL, 0);
+    t = now() - t;
+    if (!outcome.done) fail("a call was refused");
+    return t;
+}
+static double fresh_opening(const Row *row, const Objects *objects, bool with_call) { return in_own_process(open_and_drop, row, objects, with_call); }
+
+int main(int argc, char **argv) {
+    if (argc != 3 || strcmp(argv[1], "open")) return print_figure(argc, argv, fresh);
+    Objects blocks = { .count = atol(argv[2]) };
+    printf("%.0f\n", difference(fresh_opening, NULL, &blocks));
+    return 0;
+}

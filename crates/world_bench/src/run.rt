@@ -1,0 +1,119 @@
+//! A run: a plan carried out in a world of its own.
+
+use crate::plan::{Outcome, Plan};
+use fz_model::ObjKind::Scanned;
+use fz_model::{HEAP_START, Refusal, RegAnswer, RegKind, Word};
+use fz_world::{Config, World};
+use std::alloc::Global;
+
+/// The slot of frame 0 that points to the object of a call, and to the root while the world collects.
+const OBJECT: u64 = 0;
+
+/// The slot of frame 0 whose word is stored.
+const STORED: u64 = 1;
+
+/// Carries the plan out in a new world, which it drops at the end. `words` are what the objects' words are set to, from the heap's first word
+/// on: as many as the plan's objects have, or none.
+#[unsafe(no_mangle)]
+pub extern "C" fn world_bench_run(alloc: Global, plan: &Plan, words: &[Word]) -> Outcome {
+    match run(alloc, plan, words) {
+        Ok(outcome) => outcome,
+        Err(_) => Outcome {
+            addresses: 0,
+            numbers: 0,
+            queued: 0,
+            reclaimed: 0,
+            finished: 0,
+            done: false,
+        },
+    }
+}
+
+fn run(alloc: Global, plan: &Plan, words: &[Word]) -> Result<Outcome, Refusal> {
+    let mut world = World::open(
+        alloc,
+        Config {
+            blocks: plan.blocks,
+            frames: 1,
+        },
+    )?;
+    let addresses = make(&mut world, plan.objects, plan.size)?;
+    write(&mut world, words)?;
+    let numbers = register(&mut world, plan)?;
+    world.set(0, OBJECT, plan.root)?;
+    world.set(0, STORED, 0)?;
+    let (queued, reclaimed) = collect(&mut world, plan.collections)?;
+    let finished = finish(&mut world, plan.finished)?;
+    Ok(Outcome {
+        addresses,
+        numbers,
+        queued,
+        reclaimed,
+        finished,
+        done: true,
+    })
+}
+
+/// Makes `count` objects of this size. Returns the sum of their addresses.
+fn make(world: &mut World, count: u64, size: u64) -> Result<u64, Refusal> {
+    let mut sum = 0u64;
+    for _ in 0..count {
+        let (address, _) = world.alloc(0, OBJECT, size, Scanned)?;
+        sum = sum.wrapping_add(address);
+    }
+    Ok(sum)
+}
+
+/// Stores the words, one after another, from the heap's first word on.
+fn write(world: &mut World, words: &[Word]) -> Result<(), Refusal> {
+    let mut place = HEAP_START;
+    for word in words {
+        world.set(0, OBJECT, place)?;
+        world.set(0, STORED, *word)?;
+        world.store(0, OBJECT, 0, 0, STORED)?;
+        place = place.wrapping_add(1);
+    }
+    Ok(())
+}
+
+/// Registers the plan's first objects. Returns the sum of the numbers.
+fn register(world: &mut World, plan: &Plan) -> Result<u64, Refusal> {
+    let kind = if plan.no_order {
+        RegKind::NoOrder
+    } else {
+        RegKind::Normal
+    };
+    let mut object = HEAP_START;
+    let mut sum = 0u64;
+    for _ in 0..plan.registered {
+        world.set(0, OBJECT, object)?;
+        if let RegAnswer::Number(number, _) = world.register(0, OBJECT, kind, 1, 0)? {
+            sum = sum.wrapping_add(number);
+        }
+        object = object.wrapping_add(plan.size);
+    }
+    Ok(sum)
+}
+
+/// Collects a given number of times. Returns how many entries were queued, and how many objects reclaimed.
+fn collect(world: &mut World, times: u64) -> Result<(u64, u64), Refusal> {
+    let mut queued = 0u64;
+    let mut reclaimed = 0u64;
+    for _ in 0..times {
+        let passed = world.collect()?;
+        queued = queued.wrapping_add(passed.picked);
+        reclaimed = reclaimed.wrapping_add(passed.reclaimed);
+    }
+    Ok((queued, reclaimed))
+}
+
+/// Finishes a given number of entries of the queue, each read by its place. Returns the sum of their objects' addresses.
+fn finish(world: &mut World, count: u64) -> Result<u64, Refusal> {
+    let mut sum = 0u64;
+    for index in 0..count {
+        let entry = *world.queue().get(index as usize).ok_or(Refusal::NotHeld)?;
+        world.finish(&entry)?;
+        sum = sum.wrapping_add(entry.obj);
+    }
+    Ok(sum)
+}
