@@ -295,9 +295,9 @@ accepted_laid s (Store frame slot offset from_frame from_slot) answer new h none
     subst Laid (sym a) (subst (AreLaid s.blocks) (sym (extents-filled (λ x. x == slot_word s.frames frame slot + offset) (slot_word s.frames from_frame from_slot) s.objects)) h)
 accepted_laid s (Set frame slot word) answer new h none a = subst Laid (sym a) h
 accepted_laid s (Copy frame slot to_frame to_slot) answer new h none a = subst Laid (sym a) h
-accepted_laid s (Register frame slot kind proc cd) answer new h none a =
+accepted_laid s (Register frame slot kind proc cd rank) answer new h none a =
     let w = slot_word s.frames frame slot in
-    either_laid s.core (record s.core { registrations = insert s.registrations w (record { number = s.next_number; kind = kind; proc = proc; cd = cd }); next_number = s.next_number + 1 }) new (is_off_heap s.blocks w) a.1 h h
+    either_laid s.core (record s.core { registrations = insert s.registrations w (record { number = s.next_number; kind = kind; proc = proc; cd = cd; rank = rank }); next_number = s.next_number + 1 }) new (is_off_heap s.blocks w) a.1 h h
 accepted_laid s (Unregister frame slot) answer new h none a =
     let w = slot_word s.frames frame slot in
     either_laid s.core (record s.core { registrations = remove s.registrations w }) new (is_off_heap s.blocks w) a.1 h h

@@ -31,9 +31,9 @@ stays_open s (Load frame slot offset to_frame to_slot) answer new other on a = a
 stays_open s (Store frame slot offset from_frame from_slot) answer new other on a = ap (λ (x : Core). x.cycle) a ∙ on
 stays_open s (Set frame slot word) answer new other on a = ap (λ (x : Core). x.cycle) a ∙ on
 stays_open s (Copy frame slot to_frame to_slot) answer new other on a = ap (λ (x : Core). x.cycle) a ∙ on
-stays_open s (Register frame slot kind proc cd) answer new other on a =
+stays_open s (Register frame slot kind proc cd rank) answer new other on a =
     let w = slot_word s.frames frame slot in
-    either_cycle s.core (record s.core { registrations = insert s.registrations w (record { number = s.next_number; kind = kind; proc = proc; cd = cd }); next_number = s.next_number + 1 }) new (is_off_heap s.blocks w) a.1 refl ∙ on
+    either_cycle s.core (record s.core { registrations = insert s.registrations w (record { number = s.next_number; kind = kind; proc = proc; cd = cd; rank = rank }); next_number = s.next_number + 1 }) new (is_off_heap s.blocks w) a.1 refl ∙ on
 stays_open s (Unregister frame slot) answer new other on a =
     let w = slot_word s.frames frame slot in
     either_cycle s.core (record s.core { registrations = remove s.registrations w }) new (is_off_heap s.blocks w) a.1 refl ∙ on

@@ -1,5 +1,5 @@
 -- Each change of a world's parts keeps them sound.
-use Rattle.std.proofs.Common.{◌≡◌, ◌<◌, ◌≤◌, ◌+◌, ℕ, Bool, false, not, ◌&&◌, nat_le, List, [], ◌∷◌, length, replicate, filter, Some, None, refl, arith}
+use Rattle.std.proofs.Common.{◌≡◌, ◌<◌, ◌≤◌, ◌+◌, ℕ, Bool, false, not, ◌&&◌, nat_le, List, [], ◌∷◌, length, replicate, filter, Some, None, refl, arith, IsTrue}
 use Rattle.std.proofs.lemmas.List.{length-replicate}
 use Rattle.std.proofs.lemmas.Bool.{not-false, leb-true, and_parts}
 use Rattle.std.specs.FinMap.{get, insert, remove, empty}
@@ -19,7 +19,10 @@ use Rattle.fz_model.proofs.Maps.{free_place}
 use Rattle.fz_model.proofs.Runs.{opening_sound}
 use Rattle.fz_model.proofs.Sound as sound
 use Rattle.fz_model.proofs.Sound.{first_none, is_some_of, new_sized, register_sound, other_objects, written_sized, written_object, fewer_regs, removed_back, finish_sound}
-use Rattle.fz_model.proofs.Stepwise.{accepted_sound}
+use Rattle.fz_model.proofs.Stepwise.{accepted_sound, pass_keeps}
+use Rattle.fz_model.specs.declared.answers.Passed.{Passed}
+use Rattle.fz_model.specs.Reachability.{IsReachable}
+use Rattle.fz_model.specs.Pass.{Passes}
 
 -- of accepted causes none stands
 abbrev pub NoneStands : Causes → Type 0
@@ -38,6 +41,11 @@ sound_opening = opening_sound 1 1
 pub sound_accepted : (s : State) (e : Event) (answer : Answer e) (new : Core) → AreSound s.objects s.registrations s.next_number s.queue s.held → first_cause (causes s.core e) ≡ None → Accepts s e answer new → AreSound new.objects new.registrations new.next_number new.queue new.held
 unfolding AreSound
 sound_accepted s e answer new h none a = accepted_sound s e answer new h none a
+
+-- a pass whose found objects are at least the reachable ones
+pub sound_passed : (c : Core) (found : ℕ → Bool) (passed : Passed) (new : Core) → ((a : ℕ) → IsReachable c a → IsTrue (found a)) → Passes c found passed new → AreSound c.objects c.registrations c.next_number c.queue c.held → AreSound new.objects new.registrations new.next_number new.queue new.held
+unfolding AreSound
+sound_passed c found passed new reachable p h = pass_keeps c found passed new h reachable p
 
 module _ (objects : Map Object) (registrations : Map Registration) (next_number : ℕ) (queue held : List Entry) where
   pub sound_removed : (word : ℕ) → AreSound objects registrations next_number queue held → AreSound objects (remove registrations word) next_number queue held
@@ -63,8 +71,8 @@ module _ (objects : Map Object) (registrations : Map Registration) (next_number 
   sound_made blocks next_birth birth size kind a none place h =
       other_objects _ _ _ _ _ _ h (new_sized objects a (new_object kind birth size) (sized size (none_stands (alloc_causes objects blocks next_birth size kind) none).0) h.sized) (sound.new_object objects a (new_object kind birth size) (free_place objects blocks size a kind place))
 
-  pub sound_registered : (word : ℕ) (kind : RegKind) (proc cd : ℕ) → first_cause (start_causes objects word) ≡ None → AreSound objects registrations next_number queue held → AreSound objects (insert registrations word (record { number = next_number; kind = kind; proc = proc; cd = cd })) (next_number + 1) queue held
+  pub sound_registered : (word : ℕ) (kind : RegKind) (proc cd rank : ℕ) → first_cause (start_causes objects word) ≡ None → AreSound objects registrations next_number queue held → AreSound objects (insert registrations word (record { number = next_number; kind = kind; proc = proc; cd = cd; rank = rank })) (next_number + 1) queue held
   unfolding AreSound
-  sound_registered word kind proc cd none h =
+  sound_registered word kind proc cd rank none h =
       let o = is_some_of (get objects word) (none_stands (start_causes objects word) none).1.0 in
-      register_sound objects registrations next_number queue held word (record { number = next_number; kind = kind; proc = proc; cd = cd }) o.0 refl o.1 h
+      register_sound objects registrations next_number queue held word (record { number = next_number; kind = kind; proc = proc; cd = cd; rank = rank }) o.0 refl o.1 h

@@ -1,5 +1,5 @@
 -- What a pass leaves.
-use Rattle.std.proofs.Common.{◌≡◌, ℕ, ◌+◌, ◌-◌, ◌<◌, ◌&&◌, ◌⊎◌, inl, inr, ⊎_elim, Bool, true, false, not, List, [], ◌∷◌, length, Option, Some, None, is_some, refl, sym, ap, ◌∙◌, subst, arith, zero, suc, slice_get, Contains, count_by, add-zero, ◌≢◌, get_or, AllPairs, true≢false, length-append, map}
+use Rattle.std.proofs.Common.{◌≡◌, ℕ, ◌+◌, ◌-◌, ◌<◌, ◌≤◌, ◌&&◌, ◌⊎◌, inl, inr, ⊎_elim, Bool, true, false, not, List, [], ◌∷◌, length, Option, Some, None, is_some, refl, sym, ap, ◌∙◌, subst, arith, zero, suc, slice_get, Contains, count_by, add-zero, ◌≢◌, get_or, AllPairs, true≢false, length-append, map}
 use Rattle.std.proofs.lemmas.Bool.{cases_Bool, cond-true, cond-false, and_parts, and_from, both_ways, not-true, not_from_false}
 use Rattle.std.proofs.lemmas.Option.{same_Some, none-some, slice_get-get_or, slice_get_within, get_or_from_slice_get}
 use Rattle.std.proofs.lemmas.List.{length-map}
@@ -17,10 +17,10 @@ use Rattle.fz_model.specs.Extents.{extent_of}
 use Rattle.fz_model.specs.Memory.{points, fill}
 use Rattle.fz_model.specs.Reachability.{IsRoot, Child, Leads, IsReachable, WasSeen, Computes}
 use Rattle.fz_model.specs.Reachability as reaching
-use Rattle.fz_model.specs.Pass.{is_outside, is_dead, cleared, links_within, IsKept, FoundItself, LedFrom, entries_of, Passes, LeadsFirst, IsLedTo, IsPicked, entry_of, without_picks}
+use Rattle.fz_model.specs.Pass.{is_outside, is_dead, cleared, links_within, IsKept, FoundItself, LedFrom, entries_of, Passes, LeadsFirst, IsLedTo, IsPicked, entry_of, without_picks, rank_at, ComesBefore}
 use Rattle.fz_model.specs.Steps.{IsReached, moments_after}
 use Rattle.fz_model.specs.CallLaws.{Stands}
-use Rattle.fz_model.specs.PassLaws.{HasLost, StandsAround, IsSameBut, StepsOn, LeadsOn, Itself, OneMore, IsLedToByRegistered, WhatStays, WhichLinksStay, Answers, IsLawful, EachPassIsLawful, IsLedToBy, IsOf, WhatIsQueued}
+use Rattle.fz_model.specs.PassLaws.{HasLost, StandsAround, IsSameBut, StepsOn, LeadsOn, Itself, OneMore, IsLedToByRegistered, WhatStays, WhichLinksStay, Answers, IsLawful, EachPassIsLawful, IsLedToBy, IsOf, StandsBefore, WhatIsQueued}
 use Rattle.fz_model.proofs.Lists.{place_of, contains_at, map_at}
 use Rattle.fz_model.proofs.MapEntries.{at_key}
 use Rattle.fz_model.proofs.Maps.{get-retain, filled_here, filled_back, length-fill, get-remove_other}
@@ -29,6 +29,7 @@ use Rattle.fz_model.proofs.Sound.{Sound, length-entries_of, left_back, left_othe
 use Rattle.fz_model.proofs.SeenKept.{points-filled, Child-filled}
 use Rattle.fz_model.proofs.Counts.{count_alike, count_not, len_retained, keys-mapped}
 use Rattle.fz_model.proofs.Standing.{Standing, pointed_at, zero_points_nowhere, once, left, passed_over, left_here, left_before, passed_size, within_back, within_here, reached_standing}
+use Rattle.fz_model.proofs.Ranked.{picks_ordered}
 use Rattle.fz_model.proofs.Traced.{led, led_is}
 use Rattle.fz_model.proofs.Runs.{reached_sound}
 use Rattle.std.proofs.lemmas.List.Elements.{All-contains}
@@ -428,15 +429,19 @@ module _ (s : State) (seen : ℕ → Type 0) (found : ℕ → Bool) (passed : Pa
   old_one : (a : ℕ) (r : Registration) → get new.registrations a ≡ Some r → get s.registrations a ≡ Some r
   old_one a r e = left_back s.registrations p.picks a r (ap (λ m. get m a) (sym table_is) ∙ e)
 
-  rising : AllPairs (λ (d e : Entry). d.obj < e.obj) gained
-  rising i j d lt within =
+  in_order : AllPairs (StandsBefore s) gained
+  in_order i j d lt within r q =
       let in_i : i < length gained = omega (arith, lt, within) in
       let x = entry_pick (s.passes + 1) (length s.queue) p.picks i (get_or gained i d) (slice_get-get_or gained i d in_i) in
       let y = entry_pick (s.passes + 1) (length s.queue) p.picks j (get_or gained j d) (slice_get-get_or gained j d within) in
-      let before = p.picks_are.ordered i j x.0 lt (slice_get_within p.picks j y.0 y.1) in
-      let first_is : x.0.obj < (get_or p.picks j x.0).obj = subst (λ (q : Pick). q.obj < (get_or p.picks j x.0).obj) (get_or_from_slice_get p.picks i x.0 x.0 x.1) before in
-      let both : x.0.obj < y.0.obj = subst (λ (q : Pick). x.0.obj < q.obj) (get_or_from_slice_get p.picks j y.0 x.0 y.1) first_is in
-      subst (λ (e : Entry). e.obj < (get_or gained j d).obj) (sym x.2) (subst (λ (e : Entry). x.0.obj < e.obj) (sym y.2) both)
+      stands (get_or gained i d) (get_or gained j d) x.0 y.0 (ap (λ (e : Entry). e.obj) x.2) (ap (λ (e : Entry). e.obj) y.2) r q
+      (picks_ordered s.objects s.registrations s.short found p.picks p.picks_are i j x.0 y.0 lt x.1 y.1)
+    where
+      stands : (d e : Entry) (x y : Pick) → d.obj ≡ x.obj → e.obj ≡ y.obj → (r q : Registration) → ComesBefore s.registrations x y → get s.registrations d.obj ≡ Some r → get s.registrations e.obj ≡ Some q → (r.rank ≤ q.rank) × (r.rank ≡ q.rank → d.obj < e.obj)
+      stands d e x y dx ey r q before here there =
+          let first : rank_at s.registrations x.obj ≡ r.rank = ap (λ g. option_map_or (λ (r : Registration). r.rank) g 0) (ap (get s.registrations) (sym dx) ∙ here) in
+          let second : rank_at s.registrations y.obj ≡ q.rank = ap (λ g. option_map_or (λ (r : Registration). r.rank) g 0) (ap (get s.registrations) (sym ey) ∙ there) in
+          ⊎_elim (λ lt. (omega (arith, lt, first, second), λ same. absurd (omega (arith, lt, first, second, same)))) (λ both. (omega (arith, both.0, first, second), λ same. omega (arith, both.1, dx, ey))) before
 
   -- a registration that stays and wasn't found is led to
   waiting : (a : ℕ) (r : Registration) → get new.registrations a ≡ Some r → seen a ⊎ ((l : IsLedToBy s seen a) × (IsReachable s.core l.from → ⊥))
@@ -472,7 +477,7 @@ module _ (s : State) (seen : ℕ → Type 0) (found : ℕ → Bool) (passed : Pa
     gained = gained;
     queue = ap (λ (c : Core). c.queue) p.is;
     held = ap (λ (c : Core). c.held) p.is;
-    rising = rising;
+    in_order = in_order;
     each = each_entry;
     others = other_stays;
     old_ones = old_one;

@@ -61,9 +61,9 @@ module _ (s t : State) (h : SeenIsClosed s) (moments : t.moments ≡ moments_aft
       store_seen s t frame slot offset from_frame from_slot h standing.whole (first_slot s.frames from_frame from_slot rest (none_right (slot_causes s.frames frame slot) (slot_causes s.frames from_frame from_slot ++ rest) none)) a moments
   accepted_seen standing laid (Set frame slot word) answer none a = becomes _ a refl refl
   accepted_seen standing laid (Copy frame slot to_frame to_slot) answer none a = becomes _ a refl refl
-  accepted_seen standing laid (Register frame slot kind proc cd) answer none a =
+  accepted_seen standing laid (Register frame slot kind proc cd rank) answer none a =
       let w = slot_word s.frames frame slot in
-      either (record s.core { registrations = insert s.registrations w (record { number = s.next_number; kind = kind; proc = proc; cd = cd }); next_number = s.next_number + 1 }) (is_off_heap s.blocks w) a.1 refl refl
+      either (record s.core { registrations = insert s.registrations w (record { number = s.next_number; kind = kind; proc = proc; cd = cd; rank = rank }); next_number = s.next_number + 1 }) (is_off_heap s.blocks w) a.1 refl refl
   accepted_seen standing laid (Unregister frame slot) answer none a =
       let w = slot_word s.frames frame slot in
       either (record s.core { registrations = remove s.registrations w }) (is_off_heap s.blocks w) a.1 refl refl

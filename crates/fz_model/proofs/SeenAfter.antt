@@ -49,7 +49,7 @@ module _ (s t : State) (h : SeenIsClosed s) (moments : t.moments ≡ moments_aft
       store_seen s t frame slot offset from_frame from_slot h shown (none_stands (causes s.core (Store frame slot offset from_frame from_slot)) none).1.0 a moments
   accepted_seen (Set _ _ _) answer shown none a = same _ a refl refl
   accepted_seen (Copy _ _ _ _) answer shown none a = same _ a refl refl
-  accepted_seen (Register frame slot _ _ _) answer shown none a = same_either (is_off_heap s.blocks (slot_word s.frames frame slot)) _ a.1 refl refl
+  accepted_seen (Register frame slot _ _ _ _) answer shown none a = same_either (is_off_heap s.blocks (slot_word s.frames frame slot)) _ a.1 refl refl
   accepted_seen (Unregister frame slot) answer shown none a = same_either (is_off_heap s.blocks (slot_word s.frames frame slot)) _ a.1 refl refl
   accepted_seen (Link which _ _ _ _ _) answer shown none a = same_links which _ a.1
   accepted_seen (Unlink which _ _ _) answer shown none a = same_links which _ a.1
@@ -77,7 +77,7 @@ whatever_seen c seen other (Load _ _ _ _ _) answer new is a = a
 whatever_seen c seen other (Store _ _ _ _ _) answer new is a = a
 whatever_seen c seen other (Set _ _ _) answer new is a = a
 whatever_seen c seen other (Copy _ _ _ _) answer new is a = a
-whatever_seen c seen other (Register _ _ _ _ _) answer new is a = a
+whatever_seen c seen other (Register _ _ _ _ _ _) answer new is a = a
 whatever_seen c seen other (Unregister _ _) answer new is a = a
 whatever_seen c seen other (Link _ _ _ _ _ _) answer new is a = a
 whatever_seen c seen other (Unlink _ _ _ _) answer new is a = a

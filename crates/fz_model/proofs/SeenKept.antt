@@ -148,7 +148,7 @@ module _ (c : Core) (frame slot : ℕ) (whole : All (λ (f : List ℕ). length f
       }
 
   -- and so is what a word points to that was put into it
-  put_root : (a b : ℕ) (new : Core) → new.frames ≡ with_slot c.frames frame slot a → points new.objects a ≡ Some b → IsReachable new b
+  pub put_root : (a b : ℕ) (new : Core) → new.frames ≡ with_slot c.frames frame slot a → points new.objects a ≡ Some b → IsReachable new b
   put_root a b new frames is =
       let row = set (get_or c.frames frame []) slot a in
       let lt = length-set c.frames frame row in

@@ -320,9 +320,9 @@ accepted_standing s (Store frame slot offset from_frame from_slot) answer new h 
     })
 accepted_standing s (Set frame slot word) answer new h none a = with_frames s.core new _ (whole_with s.frames frame slot word h.whole) a h
 accepted_standing s (Copy frame slot to_frame to_slot) answer new h none a = with_frames s.core new _ (whole_with s.frames to_frame to_slot _ h.whole) a h
-accepted_standing s (Register frame slot kind proc cd) answer new h none a =
+accepted_standing s (Register frame slot kind proc cd rank) answer new h none a =
     let w = slot_word s.frames frame slot in
-    either_parts s.core (record s.core { registrations = insert s.registrations w (record { number = s.next_number; kind = kind; proc = proc; cd = cd }); next_number = s.next_number + 1 }) new (is_off_heap s.blocks w) a.1 refl refl refl refl h
+    either_parts s.core (record s.core { registrations = insert s.registrations w (record { number = s.next_number; kind = kind; proc = proc; cd = cd; rank = rank }); next_number = s.next_number + 1 }) new (is_off_heap s.blocks w) a.1 refl refl refl refl h
 accepted_standing s (Unregister frame slot) answer new h none a =
     let w = slot_word s.frames frame slot in
     either_parts s.core (record s.core { registrations = remove s.registrations w }) new (is_off_heap s.blocks w) a.1 refl refl refl refl h

@@ -37,7 +37,7 @@ has_reachable s found f a r = f.reachable a r
 pub has_just_reachable : (s : State) (found : ℕ → Bool) → Computes found (IsReachable s.core) → (a : ℕ) → IsReachable s.core a → IsTrue (found a)
 has_just_reachable s found f a r = (f a).1 r
 
-pass_keeps : (c : Core) (found : ℕ → Bool) (passed : Passed) (new : Core) → Sound c → ((a : ℕ) → IsReachable c a → IsTrue (found a)) → Passes c found passed new → Sound new
+pub pass_keeps : (c : Core) (found : ℕ → Bool) (passed : Passed) (new : Core) → Sound c → ((a : ℕ) → IsReachable c a → IsTrue (found a)) → Passes c found passed new → Sound new
 pass_keeps c found passed new h roots p = subst Sound (sym p.is) (pass_sound c found passed new h roots p)
 
 -- the object of an accepted registration
@@ -75,9 +75,9 @@ accepted_sound s (Load frame slot offset to_frame to_slot) answer new h none a =
 accepted_sound s (Store frame slot offset from_frame from_slot) answer new h none a = subst Sound (sym a) (other_objects _ _ _ _ _ _ h (written_sized (λ x. x == slot_word s.frames frame slot + offset) (slot_word s.frames from_frame from_slot) s.objects h.sized) (written_object (λ x. x == slot_word s.frames frame slot + offset) (slot_word s.frames from_frame from_slot) s.objects))
 accepted_sound s (Set frame slot word) answer new h none a = subst Sound (sym a) h
 accepted_sound s (Copy frame slot to_frame to_slot) answer new h none a = subst Sound (sym a) h
-accepted_sound s (Register frame slot kind proc cd) answer new h none a =
+accepted_sound s (Register frame slot kind proc cd rank) answer new h none a =
     let w = slot_word s.frames frame slot in
-    registered_sound s.core (is_off_heap s.blocks w) w (record { number = s.next_number; kind = kind; proc = proc; cd = cd }) new h (registering s.core frame slot (is_off_heap s.blocks w) (register_causes s.registrations s.next_number w) none) refl a.1
+    registered_sound s.core (is_off_heap s.blocks w) w (record { number = s.next_number; kind = kind; proc = proc; cd = cd; rank = rank }) new h (registering s.core frame slot (is_off_heap s.blocks w) (register_causes s.registrations s.next_number w) none) refl a.1
 accepted_sound s (Unregister frame slot) answer new h none a = unregistered_sound s.core (is_off_heap s.blocks (slot_word s.frames frame slot)) (slot_word s.frames frame slot) new h a.1
 accepted_sound s (Link which frame slot offset to_frame to_slot) answer new h none a = subst Sound (sym a.1) (links_sound s.core which _ h)
 accepted_sound s (Unlink which frame slot offset) answer new h none a = subst Sound (sym a.1) (links_sound s.core which _ h)
@@ -121,9 +121,9 @@ accepted_keeps s (Load frame slot offset to_frame to_slot) answer new other a = 
 accepted_keeps s (Store frame slot offset from_frame from_slot) answer new other a = same s.core _ new _ a refl refl refl
 accepted_keeps s (Set frame slot word) answer new other a = same s.core _ new _ a refl refl refl
 accepted_keeps s (Copy frame slot to_frame to_slot) answer new other a = same s.core _ new _ a refl refl refl
-accepted_keeps s (Register frame slot kind proc cd) answer new other a =
+accepted_keeps s (Register frame slot kind proc cd rank) answer new other a =
     let w = slot_word s.frames frame slot in
-    same_either s.core (Register frame slot kind proc cd) new (record s.core { registrations = insert s.registrations w (record { number = s.next_number; kind = kind; proc = proc; cd = cd }); next_number = s.next_number + 1 }) (is_off_heap s.blocks w) a.1 refl refl refl
+    same_either s.core (Register frame slot kind proc cd rank) new (record s.core { registrations = insert s.registrations w (record { number = s.next_number; kind = kind; proc = proc; cd = cd; rank = rank }); next_number = s.next_number + 1 }) (is_off_heap s.blocks w) a.1 refl refl refl
 accepted_keeps s (Unregister frame slot) answer new other a =
     let w = slot_word s.frames frame slot in
     same_either s.core (Unregister frame slot) new (record s.core { registrations = remove s.registrations w }) (is_off_heap s.blocks w) a.1 refl refl refl

@@ -18,11 +18,12 @@ use Rattle.fz_model.specs.declared.answers.Registration.{Registration}
 use Rattle.fz_model.specs.State.{Map, Object, Core}
 use Rattle.fz_model.specs.Memory.{points}
 use Rattle.fz_model.specs.Reachability.{Child, Leads, Itself, OneMore, IsRoot, IsReachable, Computes}
-use Rattle.fz_model.specs.Pass.{is_outside, is_dead, cleared, LeadsFirst, IsUnreachable, IsLedTo, IsKept, FoundItself, LedFrom, IsPicked, Decision}
+use Rattle.fz_model.specs.Pass.{rank_at, is_outside, is_dead, cleared, LeadsFirst, IsUnreachable, IsLedTo, IsKept, FoundItself, LedFrom, IsPicked, Decision}
 use Rattle.fz_model.proofs.Lists.{contains_at, any_at, map_at, filter_at}
 use Rattle.fz_model.proofs.MapEntries.{get_at, place_of_key, key_in, below_at, T-first, T-second}
 use Rattle.fz_model.proofs.SeenKept.{Child-filled}
 use Rattle.fz_model.proofs.Standing.{Standing, pointed_at, zero_points_nowhere}
+use Rattle.fz_model.proofs.Ranked.{ranked, ranked_all, ranked_at, ranked_ordered}
 use Rattle.fz_model.proofs.Closures.{closure, closure_closed, start_in, closure_least}
 
 -- ---- tests
@@ -302,8 +303,17 @@ module _ (c : Core) (found : ℕ → Bool) (h : Standing c) (closed : (a b : ℕ
   abbrev pick_of : ℕ × Registration → Pick
   pick_of e = record { reg = e.1.number; obj = e.0; birth = option_map_or (λ (o : Object). o.birth) (get c.objects e.0) 0; proc = e.1.proc; cd = e.1.cd }
 
+  abbrev by_address : List Pick
+  by_address = map pick_of free
+
+  abbrev rank_of : Pick → ℕ
+  rank_of p = rank_at c.registrations p.obj
+
+  abbrev start_of : Pick → ℕ
+  start_of p = p.obj
+
   abbrev picks : List Pick
-  picks = map pick_of free
+  picks = ranked rank_of start_of by_address
 
   picked : (e : ℕ × Registration) → get c.registrations e.0 ≡ Some e.1 → is_free e ≡ true → IsPicked c.objects c.registrations c.short found (pick_of e)
   picked e here on =
@@ -318,29 +328,39 @@ module _ (c : Core) (found : ℕ → Bool) (h : Standing c) (closed : (a b : ℕ
         free = λ l. both_ways (led e.0) (not-true (led e.0) both.1) ((led_is e.0).1 l);
       }
 
-  each : All (IsPicked c.objects c.registrations c.short found) picks
+  each : All (IsPicked c.objects c.registrations c.short found) by_address
   each k d lt =
-      let p = get_or picks k d in
-      let e = map_at pick_of free k p (slice_get-get_or picks k d lt) in
+      let p = get_or by_address k d in
+      let e = map_at pick_of free k p (slice_get-get_or by_address k d lt) in
       let f = filter_at is_free (entries c.registrations) k e.0 e.1 in
       subst (IsPicked c.objects c.registrations c.short found) e.2 (picked e.0 (get_at c.registrations f.0 e.0 f.1) f.2)
 
-  ordered : AllPairs (λ (p q : Pick). p.obj < q.obj) picks
-  ordered i j d lt within =
-      let in_i : i < length picks = omega (arith, lt, within) in
-      let e = map_at pick_of free i (get_or picks i d) (slice_get-get_or picks i d in_i) in
-      let f = map_at pick_of free j (get_or picks j d) (slice_get-get_or picks j d within) in
+  rising : AllPairs (λ (p q : Pick). p.obj < q.obj) by_address
+  rising i j d lt within =
+      let in_i : i < length by_address = omega (arith, lt, within) in
+      let e = map_at pick_of free i (get_or by_address i d) (slice_get-get_or by_address i d in_i) in
+      let f = map_at pick_of free j (get_or by_address j d) (slice_get-get_or by_address j d within) in
       let rise = AllPairs-filter (λ (e f : ℕ × Registration). e.0 < f.0) is_free (entries c.registrations) (keys_rise c.registrations) i j e.0 lt (slice_get_within free j f.0 f.1) in
       let first : e.0.0 < (get_or free j e.0).0 = subst (λ (x : ℕ × Registration). x.0 < (get_or free j e.0).0) (get_or_from_slice_get free i e.0 e.0 e.1) rise in
       let both : e.0.0 < f.0.0 = subst (λ (x : ℕ × Registration). e.0.0 < x.0) (get_or_from_slice_get free j f.0 e.0 f.1) first in
-      subst (λ (p : Pick). p.obj < (get_or picks j d).obj) e.2 (subst (λ (q : Pick). e.0.0 < q.obj) f.2 both)
+      subst (λ (p : Pick). p.obj < (get_or by_address j d).obj) e.2 (subst (λ (q : Pick). e.0.0 < q.obj) f.2 both)
 
   all_picked : (o : ℕ) (r : Registration) → IsLeft o r → (IsLedTo c.objects c.registrations c.short found o → ⊥) → Contains (map (λ (p : Pick). p.obj) picks) o
   all_picked o r u not_led =
       let at = place_of_key c.registrations o r u.registered in
       let unled : led o ≡ false = ⊎_elim (λ on. absurd (not_led ((led_is o).0 on))) (λ off. off) (cases_Bool (led o)) in
       let i = filter_has is_free (entries c.registrations) at.0 (o, r) at.1 (and_from (is_outside c.objects found o) (not (led o)) u.outside (not_from_false _ unled)) in
-      contains_at (map (λ (p : Pick). p.obj) picks) i.0 o (slice_get-map (λ (p : Pick). p.obj) picks i.0 ∙ ap (option_map (λ (p : Pick). p.obj)) (slice_get-map pick_of free i.0 ∙ ap (option_map pick_of) i.1))
+      let k = ranked_at rank_of start_of by_address i.0 (pick_of (o, r)) (slice_get-map pick_of free i.0 ∙ ap (option_map pick_of) i.1) in
+      contains_at (map (λ (p : Pick). p.obj) picks) k.0 o (slice_get-map (λ (p : Pick). p.obj) picks k.0 ∙ ap (option_map (λ (p : Pick). p.obj)) k.1)
 
   pub decides : Decision c.objects c.registrations c.short found
-  decides = record { kept = kept; kept_is = kept_is; picks = picks; picks_are = record { ordered = ordered; each = each; whole = all_picked } }
+  decides = record {
+    kept = kept;
+    kept_is = kept_is;
+    picks = picks;
+    picks_are = record {
+      ordered = ranked_ordered rank_of start_of by_address rising;
+      each = ranked_all rank_of start_of (IsPicked c.objects c.registrations c.short found) by_address each;
+      whole = all_picked;
+    };
+  }

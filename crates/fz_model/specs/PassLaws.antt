@@ -1,5 +1,5 @@
 -- Laws that test the definition of a pass: what stays, what goes, and what is answered, in words that don't repeat how a pass is defined.
-use Rattle.std.specs.Prelude.{◌≡◌, ◌≢◌, ℕ, ◌+◌, ◌<◌, not, List, [], ◌++◌, length, None, Some, slice_get, AllPairs, Contains, count_by, Ok, IsFalse, ◌↔◌, ◌⊎◌}
+use Rattle.std.specs.Prelude.{◌≡◌, ◌≢◌, ℕ, ◌+◌, ◌<◌, ◌≤◌, not, List, [], ◌++◌, length, None, Some, slice_get, AllPairs, Contains, count_by, Ok, IsFalse, ◌↔◌, ◌⊎◌}
 use Rattle.std.specs.FinMap.{get, keys, contains_key}
 use Rattle.fz_model.specs.declared.kinds.ObjKind.TheVariants.{Scanned}
 use Rattle.fz_model.specs.declared.kinds.RegKind.TheVariants.{IgnoreSelf, NoOrder}
@@ -92,12 +92,17 @@ pub record IsLedToBy (s : State) (seen : ℕ → Type 0) (a : ℕ) : Type 0 wher
 abbrev pub IsOf : State → Registration → Entry → Type 0
 IsOf s r e = (e.reg ≡ r.number) × (e.proc ≡ r.proc) × (e.cd ≡ r.cd) × ((o : Object) × (get s.objects e.obj ≡ Some o) × (e.birth ≡ o.birth))
 
+-- the registration of one entry had no higher rank than that of another, and within their rank the lower address
+abbrev pub StandsBefore : State → Entry → Entry → Type 0
+StandsBefore s d e =
+    (r q : Registration) → get s.registrations d.obj ≡ Some r → get s.registrations e.obj ≡ Some q → (r.rank ≤ q.rank) × (r.rank ≡ q.rank → d.obj < e.obj)
+
 pub record WhatIsQueued (old : State) (seen : ℕ → Type 0) (new : State) : Type 0 where
-  -- the queue and the held entries gain the same entries, by rising address
+  -- the queue and the held entries gain the same entries: no rank stands before a lower one, and within a rank addresses rise
   pub gained : List Entry
   pub queue : new.queue ≡ old.queue ++ gained
   pub held : new.held ≡ old.held ++ gained
-  pub rising : AllPairs (λ (d e : Entry). d.obj < e.obj) gained
+  pub in_order : AllPairs (StandsBefore old) gained
   -- each is of a registration that wasn't reachable and left the table, and any other registration stays
   pub each : (e : Entry) → Contains gained e → (r : Registration) × (get old.registrations e.obj ≡ Some r) × IsOf old r e × (e.pass ≡ new.passes) × (IsReachable old.core e.obj → ⊥) × (get new.registrations e.obj ≡ None)
   pub others : (a : ℕ) (r : Registration) → get old.registrations a ≡ Some r → ((e : Entry) → Contains gained e → e.obj ≢ a) → get new.registrations a ≡ Some r

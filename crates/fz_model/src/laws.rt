@@ -27,7 +27,8 @@ pub fn every_call()
     ensures links_are_moved { (s : State) → IsReached s → (frame slot offset to_frame to_slot to_offset : ℕ) → LinksAreMoved s frame slot offset to_frame to_slot to_offset }
     // A pass keeps all that is reachable and all that is registered, as it was but for the words of lost links; it keeps no more than what was seen and
     // what registered objects lead to; no word that stays leads to what went; each link that stays leads to an object that stays, from one that
-    // stays; the answer counts the entries that the queue gained and the starts that went; and no cycle is open afterwards.
+    // stays; what is queued stands by rank, then address; the answer counts the entries that the queue gained and the starts that went; and no
+    // cycle is open afterwards.
     ensures passes { (s : State) → IsReached s → EachPassIsLawful s }
     // What was seen was reachable in a state of this cycle.
     ensures seen { (s : State) → IsReached s → SeenInThisCycle s }
