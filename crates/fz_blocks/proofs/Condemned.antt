@@ -1,6 +1,6 @@
 -- Where condemned cells start, and how many there are.
 use Rattle.std.proofs.Common.{◌≡◌, ◌≢◌, ℕ, zero, suc, ◌+◌, ◌-◌, ◌*◌, ◌/◌, ◌%◌, ◌^◌, ◌<◌, ◌≤◌, ◌⊎◌, inl, inr, Bool, true, false, cond, not, ◌&&◌, ◌||◌, nat_le, nat_lt, nat_eq, nat_cmp, List, [], ◌∷◌, ◌++◌, map, length, set, take, get_or, Option, Some, None, slice_get, refl, sym, ap, ◌∙◌, ⊎_elim, arith, count_by, bit_or}
-use Rattle.std.proofs.lemmas.Bool.{cond-true, cond-false, cases_eq, cases_lt, cases_Bool, eq-eqb, ne_eqb, lt-ltb, le-ltb, le-leb, leb-true, and_left, and_right, both_ways}
+use Rattle.std.proofs.lemmas.Bool.{cond-true, cond-false, cases_eq, cases_lt, cases_Bool, eq-eqb, ne_eqb, lt-ltb, le-ltb, le-leb, leb-true, ltb-true, and_left, and_right, and_parts, both_ways}
 use Rattle.std.proofs.lemmas.Option.{same_Some, slice_get_past, slice_get_within}
 use Rattle.std.proofs.lemmas.List.{take_all}
 use Rattle.std.proofs.lemmas.List.Sums.{sum_by-append, sum_by_more, sum_by-cons, sum_by-set, sum_by-le, count_by-le-length}
@@ -15,6 +15,8 @@ use Rattle.std.specs.Option.{option_map_or}
 use Rattle.std.specs.declared.cmp.Ordering.TheVariants.{Equal}
 use Rattle.std.specs.FinSet.{contains, insert, len, contains-empty, contains-retain, len-empty, len-insert, same_set, nat_cmp-IsAntisymmetric}
 use Rattle.fz_model.specs.Allocation.{block_start, block_of}
+use Rattle.fz_model.specs.Extents.{IsInHeap, heap_end}
+use Rattle.fz_model.specs.declared.limits.TheConstants.{HEAP_START}
 use Rattle.fz_blocks.specs.declared.block.Block.{Block}
 use Rattle.fz_blocks.specs.BlockSets.{has_bit}
 use Rattle.fz_blocks.specs.Blocks.{Condemns}
@@ -209,6 +211,16 @@ module _ (blocks : List Block) where
           ∙ ap (λ n. n + count_by (λ i. is_condemned blocks (65536 + 64 * k + i)) (range_with_len 0 64)) (up_to k (omega (arith, le)))
           ∙ ap (λ n. sum_by (λ (block : Block). ones block.condemned) (take k blocks) + n) (count_range (λ i. is_condemned blocks (65536 + 64 * k + i)) (has_bit found.0.condemned) 0 64 (λ i low lt. inside k found.0 found.1 i (omega (arith, lt))) ∙ sym (ones-word found.0.condemned (condemned_fit found.0)) ∙ ap (λ (block : Block). ones block.condemned) (sym (get_or_here blocks k found.0 found.1)))
           ∙ sym (ap (λ n. sum_by (λ (block : Block). ones block.condemned) (take n blocks)) more ∙ sum_by_more (λ (block : Block). ones block.condemned) blocks k found.0 (omega (arith, le)))
+
+  -- they lie in the heap
+  pub condemned_within : (a : ℕ) → contains (condemned_in blocks) a ≡ true → IsInHeap (length blocks) a
+  condemned_within a on = (low, high)
+    where
+      low : HEAP_START ≤ a
+      low = ⊎_elim (λ lt. absurd (both_ways _ (low_condemned a lt) (sym (contains-condemned_in a) ∙ on))) (λ ge. ge) (cases_lt a HEAP_START)
+
+      high : a < heap_end (length blocks)
+      high = ltb-true a (heap_end (length blocks)) (and_parts _ (is_condemned blocks a) (sym (contains-gathered (is_condemned blocks) (heap_end (length blocks)) a) ∙ on)).0
 
 -- ---- what changes
 

@@ -14,6 +14,7 @@ pub mod Claiming
 pub mod Writing
 pub mod Opening
 pub mod Starting
+pub mod Fewer
 pub mod Mapped
 pub mod Condemned
 pub mod Searching

@@ -6,6 +6,7 @@ use Rattle.std.specs.Cmp.{nat_cmp_total, ranked}
 use Rattle.std.specs.Int.Count.{ones}
 use Rattle.std.specs.declared.cmp.Ordering.TheVariants.{Equal}
 use Rattle.std.specs.FinMap.{get, remove, retain_keys, get-retain_keys, contains_key, same_map, nat_cmp-IsAntisymmetric}
+use Rattle.std.specs.FinMap as maps
 use Rattle.std.specs.FinSet.{contains, insert, len}
 use Rattle.std.specs.Option.{option_map_or}
 use Rattle.fz_model.specs.declared.extent.Extent.{Extent}
@@ -19,6 +20,7 @@ use Rattle.fz_blocks.specs.Runs.{FreesLater}
 use Rattle.fz_blocks.proofs.Condemned.{low_condemned, high_condemned, len-condemned_in, waiting_set, contains-condemned_in, condemned_set, condemned_later, swept_is}
 use Rattle.fz_blocks.proofs.Extents.{get-extents_in, opened, extent_is_at}
 use Rattle.fz_blocks.proofs.Changes.{condemn_extents}
+use Rattle.fz_blocks.proofs.Fewer.{fewer_keys}
 use Rattle.fz_blocks.proofs.Freed.{later_extents, freed_runs, gone_first}
 use Rattle.fz_blocks.proofs.Runs.{at_low, at_high}
 use Rattle.fz_blocks.proofs.Tables.{slice_get-set}
@@ -344,3 +346,8 @@ module _ (blocks : List Block) (is : IsMap blocks) (b places : ℕ) (was now : B
       let after = ap len (condemned_later mid new b count frees ∙ ap condemned_in mid_is) ∙ len-condemned_in (set blocks b now) in
       let change = waiting_set blocks b was now (slice_get_within blocks b was here) here in
       omega (arith, before, after, change, more)
+
+  pub chosen_view_fewer : (result : ℕ) → ones now.condemned ≡ ones was.condemned + result → maps.len (extents_in new) + result ≡ maps.len (extents_in blocks)
+  chosen_view_fewer result more =
+      ap (λ m. maps.len m + result) chosen_view_extents
+      ∙ fewer_keys (extents_in blocks) (stands_at b places) (condemned_in blocks) (condemned_in new) chosen_view_condemned (are_gone blocks) result (chosen_view_count result more)

@@ -8,12 +8,13 @@ use Rattle.std.specs.FinSet as sets
 use Rattle.std.specs.FinSet.{contains, empty, contains-insert, contains-remove, contains-empty}
 use Rattle.fz_model.specs.declared.kinds.ObjKind.{ObjKind}
 use Rattle.fz_model.specs.declared.kinds.ObjKind.TheVariants.{Scanned, Atomic}
+use Rattle.fz_model.specs.Allocation.{same_kind}
 use Rattle.fz_blocks.specs.declared.block.Block.{Block}
 use Rattle.fz_blocks.specs.BlockSets.{Blocks, Roomed, no_room, members_at, room_at, IsLeast}
 use Rattle.fz_blocks.specs.Classes.{class_of}
-use Rattle.fz_blocks.specs.Blocks.{is_full, has_free_cell, is_bare}
+use Rattle.fz_blocks.specs.Blocks.{is_full, has_free_cell, has_same_room, is_bare}
 use Rattle.fz_blocks.specs.Layout.{has_room}
-use Rattle.fz_blocks.specs.Tables.{AreListed, IsFirst, Leaves, Joins}
+use Rattle.fz_blocks.specs.Tables.{AreListed, IsFirst, Leaves, Joins, Changes}
 
 -- ---- one element of a list
 
@@ -124,36 +125,74 @@ module _ (rooms : List Roomed) (block : Block) (at : ℕ) where
 
 -- ---- a block becomes another
 
-pub put_listed : (blocks : List Block) (bare bare_now : Roomed) (rooms left joined : List Roomed) (at : ℕ) (old new : Block) → AreListed blocks bare rooms → at < length blocks → slice_get blocks at ≡ Some old → Leaves rooms left old at → Joins left joined new at → bare_now.room ≡ bare.room → ((b : ℕ) → contains bare_now.members b ≡ cond (b == at) (is_bare new) (contains bare.members b)) → AreListed (set blocks at new) bare_now joined
-put_listed blocks bare bare_now rooms left joined at old new listed lt here leaves joins room_is bare_is = record {
+kind_is : (k l : ObjKind) → same_kind k l ≡ true → k ≡ l
+kind_is Scanned Scanned on = refl
+kind_is Scanned Atomic on = absurd (both_ways _ refl on)
+kind_is Atomic Scanned on = absurd (both_ways _ refl on)
+kind_is Atomic Atomic on = refl
+
+-- blocks that stand in the sets of the same classes
+same_rooms : (old new : Block) → has_same_room old new ≡ true → (d : ℕ) → has_room d old ≡ has_room d new
+same_rooms old new alike d = room_is d old ∙ parts (has_free_cell old) (has_free_cell new) alike ∙ sym (room_is d new)
+  where
+    parts : (x y : Bool) → cond x (y && ((old.size == new.size) && same_kind old.kind new.kind)) (not y) ≡ true → (x && (class_of old.size old.kind == d)) ≡ (y && (class_of new.size new.kind == d))
+    parts true true on =
+        let both = and_parts (old.size == new.size) _ on in
+        ap (λ n. class_of n old.kind == d) (eqb-true old.size new.size both.0) ∙ ap (λ k. class_of new.size k == d) (kind_is old.kind new.kind both.1)
+    parts true false on = absurd (both_ways _ refl on)
+    parts false true on = absurd (both_ways _ refl on)
+    parts false false on = refl
+
+-- where the sets have the block in the classes in which it was listed
+module _ (rooms : List Roomed) (at : ℕ) (old new : Block) (listed : (class : ℕ) → class < 128 → contains (members_at rooms class) at ≡ has_room class old) where
+  pub changes_none : has_same_room old new ≡ true → Changes rooms rooms new at
+  changes_none alike = record {
+    long = refl;
+    room = λ d. refl;
+    are = λ d b small. stays d b small (b == at) refl;
+  }
+    where
+      stays : (d b : ℕ) → d < 128 → (t : Bool) → (b == at) ≡ t → contains (members_at rooms d) b ≡ cond t (has_room d new) (contains (members_at rooms d) b)
+      stays d b small true is = ap (contains (members_at rooms d)) (eqb-true b at is) ∙ listed d small ∙ same_rooms old new alike d
+      stays d b small false is = refl
+
+  pub changes_both : (left joined : List Roomed) → Leaves rooms left old at → Joins left joined new at → Changes rooms joined new at
+  changes_both left joined leaves joins = record {
+    long = joins.long ∙ leaves.long;
+    room = λ d. joins.room d ∙ leaves.room d;
+    are = λ d b small. joins.are d b ∙ ap (λ t. has_room d new && b == at || t) (leaves.are d b) ∙ changed d b small (b == at) refl;
+  }
+    where
+      settle : (x y : Bool) → ((x && true) || (not (y && true) && y)) ≡ x
+      settle true y = refl
+      settle false true = refl
+      settle false false = refl
+
+      keep : (x y z : Bool) → ((x && false) || (not (y && false) && z)) ≡ z
+      keep true true z = refl
+      keep true false z = refl
+      keep false true z = refl
+      keep false false z = refl
+
+      changed : (d b : ℕ) → d < 128 → (t : Bool) → (b == at) ≡ t → ((has_room d new && t) || (not (has_room d old && t) && contains (members_at rooms d) b)) ≡ cond t (has_room d new) (contains (members_at rooms d) b)
+      changed d b small true is =
+          ap (λ u. (has_room d new && true) || (not (has_room d old && true) && u)) (ap (contains (members_at rooms d)) (eqb-true b at is) ∙ listed d small)
+          ∙ settle (has_room d new) (has_room d old)
+      changed d b small false is = keep (has_room d new) (has_room d old) (contains (members_at rooms d) b)
+
+pub put_listed : (blocks : List Block) (bare bare_now : Roomed) (rooms changed : List Roomed) (at : ℕ) (new : Block) → AreListed blocks bare rooms → at < length blocks → Changes rooms changed new at → bare_now.room ≡ bare.room → ((b : ℕ) → contains bare_now.members b ≡ cond (b == at) (is_bare new) (contains bare.members b)) → AreListed (set blocks at new) bare_now changed
+put_listed blocks bare bare_now rooms changed at new listed lt changes room_is bare_is = record {
   few = subst (λ n. n ≤ 4096) (sym (length-set blocks at new)) listed.few;
-  classes = joins.long ∙ leaves.long ∙ listed.classes;
+  classes = changes.long ∙ listed.classes;
   bare_room = let long = length-set blocks at new in let was = listed.bare_room in omega (arith, long, was, room_is);
-  rooms_room = λ class small. let long = length-set blocks at new in let was = listed.rooms_room class small in let one = leaves.room class in let two = joins.room class in omega (arith, long, was, one, two);
+  rooms_room = λ class small. let long = length-set blocks at new in let was = listed.rooms_room class small in let same = changes.room class in omega (arith, long, was, same);
   bare_are = λ b. bare_is b ∙ ap (cond (b == at) (is_bare new)) (listed.bare_are b) ∙ sym (set_at (slice_get blocks b) is_bare (b == at)) ∙ ap (λ o. option_map_or is_bare o false) (sym (slice_get-set blocks at new lt b));
-  rooms_are = λ class b small. joins.are class b ∙ ap (λ t. has_room class new && b == at || t) (leaves.are class b) ∙ changed class b small (b == at) refl ∙ sym (set_at (slice_get blocks b) (has_room class) (b == at)) ∙ ap (λ o. option_map_or (has_room class) o false) (sym (slice_get-set blocks at new lt b));
+  rooms_are = λ d b small. changes.are d b small ∙ ap (cond (b == at) (has_room d new)) (listed.rooms_are d b small) ∙ sym (set_at (slice_get blocks b) (has_room d) (b == at)) ∙ ap (λ o. option_map_or (has_room d) o false) (sym (slice_get-set blocks at new lt b));
 }
   where
     set_at : (o : Option Block) (f : Block → Bool) (t : Bool) → option_map_or f (cond t (Some new) o) false ≡ cond t (f new) (option_map_or f o false)
     set_at o f true = refl
     set_at o f false = refl
-
-    settle : (x y : Bool) → ((x && true) || (not (y && true) && y)) ≡ x
-    settle true y = refl
-    settle false true = refl
-    settle false false = refl
-
-    keep : (x y z : Bool) → ((x && false) || (not (y && false) && z)) ≡ z
-    keep true true z = refl
-    keep true false z = refl
-    keep false true z = refl
-    keep false false z = refl
-
-    changed : (class b : ℕ) → class < 128 → (t : Bool) → (b == at) ≡ t → ((has_room class new && t) || (not (has_room class old && t) && contains (members_at rooms class) b)) ≡ cond t (has_room class new) (option_map_or (has_room class) (slice_get blocks b) false)
-    changed class b small true is =
-        ap (λ u. (has_room class new && true) || (not (has_room class old && true) && u)) (listed.rooms_are class b small ∙ ap (λ o. option_map_or (has_room class) o false) (ap (slice_get blocks) (eqb-true b at is) ∙ here))
-        ∙ settle (has_room class new) (has_room class old)
-    changed class b small false is = keep (has_room class new) (has_room class old) (contains (members_at rooms class) b) ∙ listed.rooms_are class b small
 
 -- ---- the least of a set
 

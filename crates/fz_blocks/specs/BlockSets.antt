@@ -5,6 +5,7 @@ use Rattle.std.specs.Ordering.{nat_cmp}
 use Rattle.std.specs.Int.{bit_at}
 use Rattle.std.specs.FinSet.{FinSet, code, empty, contains, from_list, retain}
 use Rattle.std.specs.Coded.{Coded, code_by, coded×, coded_ℕ}
+pub use Rattle.fz_model.specs.Condemned.{has_bit}
 
 abbrev pub Blocks : Type 0
 Blocks = FinSet nat_cmp
@@ -31,10 +32,6 @@ room_at sets class = (slice_index_or sets class no_room).room
 pub record IsLeast (blocks : Blocks) (least : ℕ) : Type 0 where
   pub member : IsTrue (contains blocks least)
   pub before : (b : ℕ) → b < least → IsFalse (contains blocks b)
-
--- whether the bit at a place of a word is set
-abbrev pub has_bit : ℕ → ℕ → Bool
-has_bit word place = bit_at word place == 1
 
 -- whether the block's bit is set, among words of 64 bits
 abbrev pub has_block : List ℕ → ℕ → Bool

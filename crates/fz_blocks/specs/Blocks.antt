@@ -2,6 +2,7 @@
 use Rattle.std.specs.Prelude.{◌≡◌, ℕ, ◌+◌, ◌<◌, ◌≤◌, Bool, ◌||◌, ◌&&◌, not, ◌==◌, nat_le, if◌then◌else◌, Option, Some, None, IsTrue, IsFalse}
 use Rattle.fz_model.specs.declared.limits.TheConstants.{BLOCK_WORDS}
 use Rattle.fz_model.specs.declared.extent.Extent.{Extent}
+use Rattle.fz_model.specs.Allocation.{same_kind}
 use Rattle.fz_blocks.specs.declared.block.Block.{Block}
 use Rattle.fz_blocks.specs.BlockSets.{has_bit}
 use Rattle.fz_blocks.specs.Cells.{is_cell}
@@ -20,6 +21,11 @@ is_full block = block.objects == block.cells
 -- whether objects start in it, and one of its cells is free
 abbrev pub has_free_cell : Block → Bool
 has_free_cell block = not (block.objects == 0) && (not (is_full block) && nat_le block.size BLOCK_WORDS)
+
+-- whether both blocks have a free cell beside objects, of one size and kind, or neither has
+abbrev pub has_same_room : Block → Block → Bool
+has_same_room block other =
+    if has_free_cell block then has_free_cell other && ((block.size == other.size) && same_kind block.kind other.kind) else not (has_free_cell other)
 
 -- the extent of an object that starts in the block
 abbrev pub extent_of : Block → Extent

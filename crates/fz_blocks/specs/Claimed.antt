@@ -1,19 +1,16 @@
 -- What contracts see of a block map: its number of blocks, the extents of the objects in them, and where condemned cells start.
-use Rattle.std.specs.Prelude.{ℕ, ◌+◌, ◌-◌, ◌%◌, Bool, ◌==◌, not, ◌&&◌, nat_le, nat_lt, refl, [], ◌∷◌, IsTrue, IsFalse}
+use Rattle.std.specs.Prelude.{ℕ, refl, [], ◌∷◌, IsTrue, IsFalse}
 use Rattle.std.specs.Coded.{Coded, code_by, coded×, coded_ℕ}
 use Rattle.std.specs.FinMap as map
 use Rattle.std.specs.FinMap.{contains_key}
 use Rattle.std.specs.FinSet as sets
-use Rattle.std.specs.FinSet.{contains, retain}
+use Rattle.std.specs.FinSet.{contains}
 use Rattle.fz_model.specs.declared.kinds.ObjKind.{ObjKind}
 use Rattle.fz_model.specs.declared.extent.Extent.{Extent}
 use Rattle.fz_model.specs.State.{Map}
 use Rattle.fz_model.specs.Causes.{Causes, bad_size, no_space}
 use Rattle.fz_model.specs.Codes.{kind_code}
-use Rattle.fz_model.specs.Allocation.{block_of}
-use Rattle.fz_model.specs.declared.limits.TheConstants.{HEAP_START, BLOCK_WORDS}
-use Rattle.fz_blocks.specs.BlockSets.{has_bit}
-use Rattle.fz_blocks.specs.Tabulated.{Addresses}
+pub use Rattle.fz_model.specs.Condemned.{Addresses, stands_at, swept}
 
 pub record Claimed : Type 0 where
   pub blocks : ℕ
@@ -31,14 +28,6 @@ claimed_code =
 -- no object starts where a condemned cell does
 abbrev pub AreGone : Claimed → Type 0
 AreGone claimed = (a : ℕ) → IsTrue (contains claimed.condemned a) → IsFalse (contains_key claimed.extents a)
-
--- whether an address stands in the block, at one of these places: a bit each, the first place's lowest
-abbrev pub stands_at : ℕ → ℕ → ℕ → Bool
-stands_at b places a = (block_of a == b) && has_bit places ((a - HEAP_START) % BLOCK_WORDS)
-
--- the condemned starts but for those in `count` blocks from `b` on
-abbrev pub swept : Addresses → ℕ → ℕ → Addresses
-swept condemned b count = retain condemned (λ a. not (nat_le b (block_of a) && nat_lt (block_of a) (b + count)))
 
 -- a new object: why it is refused
 abbrev pub claim_causes : Claimed → ℕ → ObjKind → Causes

@@ -1,5 +1,5 @@
 -- A list of blocks beside the sets by which the least bare one, and the least with room, are found.
-use Rattle.std.specs.Prelude.{◌≡◌, ℕ, ◌<◌, ◌≤◌, Bool, false, not, ◌&&◌, ◌||◌, ◌==◌, List, length, Some, slice_get, ◌*◌, IsTrue, IsFalse}
+use Rattle.std.specs.Prelude.{◌≡◌, ℕ, ◌<◌, ◌≤◌, Bool, false, not, ◌&&◌, ◌||◌, ◌==◌, if◌then◌else◌, List, length, Some, slice_get, ◌*◌, IsTrue, IsFalse}
 use Rattle.std.specs.Option.{option_map_or}
 use Rattle.std.specs.FinSet.{contains}
 use Rattle.fz_model.specs.declared.limits.TheConstants.{MAX_BLOCKS}
@@ -40,3 +40,9 @@ pub record Joins (old new : List Roomed) (block : Block) (at : ℕ) : Type 0 whe
   pub long : length new ≡ length old
   pub room : (class : ℕ) → room_at new class ≡ room_at old class
   pub are : (class b : ℕ) → contains (members_at new class) b ≡ (has_room class block && b == at || contains (members_at old class) b)
+
+-- a block that was one stands now in just the sets of those with room in which it is as another
+pub record Changes (old new : List Roomed) (block : Block) (at : ℕ) : Type 0 where
+  pub long : length new ≡ length old
+  pub room : (class : ℕ) → room_at new class ≡ room_at old class
+  pub are : (class b : ℕ) → class < 128 → contains (members_at new class) b ≡ (if b == at then has_room class block else contains (members_at old class) b)

@@ -30,7 +30,7 @@ pub(crate) struct Block {
 
 impl Block {
     ghost use Rattle.fz_blocks.specs.Starts.{IsFirstStart};
-    ghost use Rattle.fz_blocks.specs.Blocks.{starts_at, is_bare, is_full, has_free_cell, extent_of, IsCellOf, IsAlike, Claims, Condemns, CondemnsAll, Detaches};
+    ghost use Rattle.fz_blocks.specs.Blocks.{starts_at, is_bare, is_full, has_free_cell, has_same_room, extent_of, IsCellOf, IsAlike, Claims, Condemns, CondemnsAll, Detaches};
     ghost use Rattle.fz_model.specs.Allocation.{blocks_for};
     ghost use Rattle.std.specs.Int.Count.{ones};
 
@@ -98,6 +98,14 @@ impl Block {
         ensures { result ≡ has_free_cell self.now }
     {
         self.objects != 0 && !self.is_full() && u64::from(self.size) <= BLOCK_WORDS
+    }
+
+    /// Whether it stands in the sets of the same classes as another block.
+    pub(crate) fn has_same_room(&self, other: &Block) -> bool
+        ensures { result ≡ has_same_room self.now other.now }
+    {
+        let room = self.has_room();
+        room == other.has_room() && (!room || self.size == other.size && self.kind == other.kind)
     }
 
     /// Whether an object starts at this place.
@@ -177,6 +185,9 @@ impl Block {
         requires { place < BLOCK_WORDS }
         ensures { MatchOption result ((start : ℕ) → IsTrue (starts_at self.now start) → start ≤ place → start + self.now.size ≤ place) (λ start. IsCellOf self.now place start) }
     {
+        if self.starts_at(place) {
+            return Some(place);
+        }
         let below = self.objects & (u64::MAX >> (63 - place));
         if below == 0 {
             return None;

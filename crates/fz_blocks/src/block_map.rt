@@ -37,10 +37,10 @@ impl Model for BlockMap {
 
 impl BlockMap {
     ghost use Rattle.std.specs.Prelude.{◌∷◌, [], ◌≡◌, ◌≤◌, ◌<◌, ◌+◌, None, Some, ℕ, MatchOption, not, ◌&&◌, ◌||◌, IsTrue, IfOk, OnOk, OnErr};
-    ghost use Rattle.std.specs.FinMap.{get, keys, insert, remove, retain_keys, contains_key, empty};
+    ghost use Rattle.std.specs.FinMap.{get, keys, insert, remove, retain_keys, contains_key, empty, len};
     ghost use Rattle.std.specs.FinSet as sets;
     ghost use Rattle.fz_model.specs.declared.limits.TheConstants.{BLOCK_WORDS, MAX_BLOCKS};
-    ghost use Rattle.fz_model.specs.Extents.{points_in, AreApart, AreWithin};
+    ghost use Rattle.fz_model.specs.Extents.{points_in, IsInHeap, AreApart, AreWithin};
     ghost use Rattle.fz_model.specs.Allocation.{block_start, block_of, blocks_for, place_in};
     ghost use Rattle.fz_model.specs.Causes.{IsJudgedBy, IsJudgedOrLacks, bad_count};
     ghost use Rattle.fz_blocks.specs.BlockSets.{has_bit};
@@ -110,6 +110,7 @@ impl BlockMap {
         ensures extents { self.new.extents ≡ retain_keys self.old.extents (λ a. not (stands_at block places a)) }
         ensures condemned { (a : ℕ) → sets.contains self.new.condemned a ≡ (contains_key self.old.extents a && stands_at block places a || sets.contains self.old.condemned a) }
         ensures count { sets.len self.new.condemned ≡ sets.len self.old.condemned + result }
+        ensures fewer { len self.new.extents + result ≡ len self.old.extents }
     {
         let table = &mut self.table;
         let mut left = table.get(block);
@@ -137,6 +138,7 @@ impl BlockMap {
     pub fn condemned(&self) -> u64
         ensures count { result ≡ sets.len self.now.condemned }
         ensures gone { AreGone self.now }
+        ensures within { (a : ℕ) → IsTrue (sets.contains self.now.condemned a) → IsInHeap self.now.blocks a }
     {
         self.table.condemned()
     }

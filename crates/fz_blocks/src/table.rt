@@ -1,11 +1,12 @@
 //! A list of blocks, and the sets by which the least bare one and the least with room are found.
 
-ghost use Rattle.std.specs.Prelude.{◌≡◌, ◌≤◌, ◌<◌, ◌*◌, ℕ, true, false, nat_lt, length, All, IfOk, IfErr};
+ghost use Rattle.std.specs.Prelude.{◌≡◌, ◌≤◌, ◌<◌, ◌*◌, ◌==◌, if◌then◌else◌, ℕ, true, false, nat_lt, length, All, IfOk, IfErr};
 ghost use Rattle.std.specs.FinSet.{contains};
 ghost use Rattle.std.specs.FinSet as sets;
 ghost use Rattle.fz_model.specs.declared.limits.TheConstants.{MAX_BLOCKS};
-ghost use Rattle.fz_blocks.specs.BlockSets.{room_at};
-ghost use Rattle.fz_blocks.specs.Tables.{Leaves, Joins};
+ghost use Rattle.fz_blocks.specs.BlockSets.{members_at, room_at};
+ghost use Rattle.fz_blocks.specs.Layout.{has_room};
+ghost use Rattle.fz_blocks.specs.Tables.{Leaves, Joins, Changes};
 
 use crate::block::Block;
 use crate::block_set::BlockSet;
@@ -77,6 +78,32 @@ fn join(rooms: &mut [BlockSet], block: &Block, at: u64)
     }
 }
 
+/// A block that becomes another leaves the set of its class and joins the other's, where these differ.
+fn change_room(rooms: &mut [BlockSet], old: &Block, block: &Block, at: u64)
+    requires classes { length rooms.old ≡ 128 }
+    requires room { (class : ℕ) → class < 128 → at < 64 * room_at rooms.old class }
+    requires listed { (class : ℕ) → class < 128 → contains (members_at rooms.old class) at ≡ has_room class old.now }
+    ensures { Changes rooms.old rooms.new block.now at }
+{
+    if old.has_same_room(block) {
+        return;
+    }
+    leave(rooms, old, at);
+    join(rooms, block, at);
+}
+
+/// A block joins the set of bare blocks or leaves it, where it was not what it is.
+fn change_bare(bare: &mut BlockSet, was: bool, is: bool, at: u64)
+    requires room { at < 64 * bare.old.room }
+    requires listed { contains bare.old.members at ≡ was }
+    ensures room { bare.new.room ≡ bare.old.room }
+    ensures members { (b : ℕ) → contains bare.new.members b ≡ (if b == at then is else contains bare.old.members b) }
+{
+    if was != is {
+        bare.set(at, is);
+    }
+}
+
 impl Model for Table {
     ghost use Rattle.std.specs.Prelude.{List};
     ghost use Rattle.fz_blocks.specs.declared.block.Block.{Block};
@@ -97,7 +124,7 @@ impl Table {
     ghost use Rattle.std.specs.Prelude.{Some, ℕ, slice_get, slice_set, MatchOption, IsFalse, ◌≤◌, IfOk, IfErr};
     ghost use Rattle.fz_blocks.specs.declared.block.Block.{Block};
     ghost use Rattle.fz_blocks.specs.Classes.{class_of};
-    ghost use Rattle.fz_blocks.specs.Layout.{has_room, waiting_in};
+    ghost use Rattle.fz_blocks.specs.Layout.{waiting_in};
     ghost use Rattle.fz_blocks.specs.Runs.{IsRun, IsFirstRun};
     ghost use Rattle.fz_model.specs.declared.limits.TheConstants.{BLOCK_WORDS};
     ghost use Rattle.fz_blocks.specs.Tables.{IsFirst, AreNew};
@@ -168,9 +195,8 @@ impl Table {
         ensures { self.new ≡ slice_set self.old at block }
     {
         let old = self.blocks[at as usize];
-        leave(&mut self.rooms, &old, at);
-        join(&mut self.rooms, &block, at);
-        self.bare.set(at, block.is_bare());
+        change_room(&mut self.rooms, &old, &block, at);
+        change_bare(&mut self.bare, old.is_bare(), block.is_bare(), at);
         self.condemned = self.condemned + block.waiting() - old.waiting();
         self.blocks[at as usize] = block;
     }

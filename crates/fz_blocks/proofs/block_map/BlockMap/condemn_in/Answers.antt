@@ -1,10 +1,11 @@
 use Rattle.std.proofs.Common.{◌∙◌, ◌+◌, ◌&&◌, ◌||◌, not, List, length, ap, arith}
 use Rattle.std.proofs.lemmas.List.{length-set}
+use Rattle.std.specs.FinMap as maps
 use Rattle.std.specs.FinMap.{retain_keys, contains_key}
 use Rattle.std.specs.FinSet.{contains, len}
 use Rattle.fz_blocks.specs.declared.block.Block.{Block}
 use Rattle.fz_blocks.specs.Claimed.{Claimed, stands_at}
-use Rattle.fz_blocks.proofs.Mapped.{unchosen_extents, unchosen_condemned, map_chosen, chosen_view_extents, chosen_view_condemned, chosen_view_count}
+use Rattle.fz_blocks.proofs.Mapped.{unchosen_extents, unchosen_condemned, map_chosen, chosen_view_extents, chosen_view_condemned, chosen_view_count, chosen_view_fewer}
 use Rattle.fz_blocks.proofs.Freed.{span_within}
 use Rattle.fz_blocks.proofs.block_map.BlockMap.condemn_in.Goals as goal
 
@@ -50,3 +51,9 @@ returns-clause-count c =
     let ne = c.if-count-eq0.false in
     chosen_view_count c.self.inside.table c.self.invariant c.args.block c.args.places c.get-left.result c.condemn_all-count.new.self c.get-left.ensures c.condemn_all-count.ensures.condemns (c.condemn_all-count.ensures.some (omega (arith, ne))) c.put.new.self c.put.ensures c.span.result c.span.ensures c.free_later.new.table c.free_later.ensures c.condemn_all-count.result c.condemn_all-count.ensures.count
     ∙ ap (λ (v : Claimed). len v.condemned + c.condemn_all-count.result) c.self.view_is
+
+pub returns-clause-fewer : goal.returns-clause-fewer
+returns-clause-fewer c =
+    let ne = c.if-count-eq0.false in
+    chosen_view_fewer c.self.inside.table c.self.invariant c.args.block c.args.places c.get-left.result c.condemn_all-count.new.self c.get-left.ensures c.condemn_all-count.ensures.condemns (c.condemn_all-count.ensures.some (omega (arith, ne))) c.put.new.self c.put.ensures c.span.result c.span.ensures c.free_later.new.table c.free_later.ensures c.condemn_all-count.result c.condemn_all-count.ensures.count
+    ∙ ap (λ (v : Claimed). maps.len v.extents) c.self.view_is
