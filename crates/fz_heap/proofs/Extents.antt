@@ -3,7 +3,7 @@ use Rattle.std.proofs.Common.{◌≡◌, ℕ, ◌+◌, ◌<◌, ◌≤◌, ◌&&
 use Rattle.std.proofs.lemmas.Bool.{and_right, and_parts, leb-true, le-ltb}
 use Rattle.std.proofs.lemmas.Option.{same_Some, none-some}
 use Rattle.std.specs.Option.{option_map_or}
-use Rattle.std.specs.FinMap.{get, remove, empty, get-empty, contains_key}
+use Rattle.std.specs.FinMap.{get, remove, retain_keys, empty, get-empty, contains_key}
 use Rattle.fz_model.specs.State.{Map}
 use Rattle.fz_model.specs.declared.extent.Extent.{Extent}
 use Rattle.fz_model.specs.declared.refusal.Refusal.{Refusal}
@@ -11,6 +11,7 @@ use Rattle.fz_model.specs.declared.refusal.Refusal.TheVariants.{NotPointer, Outs
 use Rattle.fz_model.specs.Extents.{covers, points_in, IsInHeap, AreApart, AreWithin}
 use Rattle.fz_model.specs.Causes.{first_cause, bad_count, place_causes_in}
 use Rattle.fz_model.proofs.Objects.{from_covers, to_covers, points_target, points_at}
+use Rattle.fz_model.proofs.Maps.{retained_back}
 use Rattle.fz_model.proofs.Sound.{removed_back, is_some_of}
 
 -- an extent is pointed to by its start
@@ -68,3 +69,9 @@ apart_removed extents k apart a b word x y here there = apart a b word x y (remo
 
 pub within_removed : (blocks : ℕ) (extents : Map Extent) (k : ℕ) → AreWithin blocks extents → AreWithin blocks (remove extents k)
 within_removed blocks extents k within a x here = within a x (removed_back extents k a x here).1
+
+pub apart_retained : (extents : Map Extent) (p : ℕ → Bool) → AreApart extents → AreApart (retain_keys extents p)
+apart_retained extents p apart a b word x y here there = apart a b word x y (retained_back extents p a x here).1 (retained_back extents p b y there).1
+
+pub within_retained : (blocks : ℕ) (extents : Map Extent) (p : ℕ → Bool) → AreWithin blocks extents → AreWithin blocks (retain_keys extents p)
+within_retained blocks extents p within a x here = within a x (retained_back extents p a x here).1

@@ -1,19 +1,24 @@
 -- Objects whose words stand flat: their extents, and what a write and a new object make of them.
-use Rattle.std.proofs.Common.{◌≡◌, ◌≢◌, ℕ, zero, suc, ◌+◌, ◌-◌, ◌*◌, ◌<◌, ◌≤◌, cond, ◌==◌, List, ◌∷◌, length, Some, option_map, option_and_then, unwrap_or, refl, sym, ap, ◌∙◌, ⊎_elim, arith, slice_index, set, replicate, get_or-set_same, get_or-set_other}
+use Rattle.std.proofs.Common.{take, drop, add-one, [], None, Bool, subst, if◌then◌else◌, ◌≡◌, ◌≢◌, ℕ, zero, suc, ◌+◌, ◌-◌, ◌*◌, ◌<◌, ◌≤◌, cond, ◌==◌, List, ◌∷◌, length, Some, option_map, option_and_then, unwrap_or, refl, sym, ap, ◌∙◌, ⊎_elim, arith, slice_index, set, replicate, get_or-set_same, get_or-set_other}
 use Rattle.std.proofs.lemmas.Bool.{cases_eq, cases_lt, eq-eqb, ne_eqb}
-use Rattle.std.specs.FinMap.{get, insert}
+use Rattle.std.proofs.Math.Seq.{drop-cons}
+use Rattle.std.specs.FinMap.{get, insert, retain_keys}
+use Rattle.std.specs.Option.{option_map_or}
+use Rattle.fz_model.specs.declared.kinds.ObjKind.TheVariants.{Scanned}
+use Rattle.fz_model.specs.declared.limits.TheConstants.{HEAP_START}
 use Rattle.fz_model.specs.State.{Map, Object}
 use Rattle.fz_model.specs.declared.extent.Extent.{Extent}
 use Rattle.fz_model.specs.Extents.{extents, points_in, AreApart, AreWithin}
 use Rattle.fz_model.specs.Memory.{fill, written, word_at, new_object}
-use Rattle.fz_model.proofs.Maps.{get-insert_same, get-insert_other, mapped_here, extents-made}
+use Rattle.fz_model.proofs.Maps.{get-insert_same, get-insert_other, get-mapped, mapped_here, extents-made}
 use Rattle.fz_model.proofs.Objects.{from_covers, to_covers, points_at}
-use Rattle.fz_model.specs.Allocation.{block_of, blocks_for}
-use Rattle.fz_blocks.specs.Claimed.{Claimed, swept}
+use Rattle.fz_model.specs.Allocation.{block_of, blocks_for, same_kind}
+use Rattle.fz_model.specs.Condemned.{swept}
+use Rattle.fz_blocks.specs.Claimed.{Claimed}
 use Rattle.fz_heap.specs.Layout.{IsHeap}
+use Rattle.fz_heap.specs.Contents.{pointers_of}
 use Rattle.fz_heap.specs.Flat.{words_from, object_at, objects_of, IsPlace, IsZeroedAt}
-use Rattle.fz_heap.proofs.Extents.{points_itself}
-use Rattle.fz_heap.proofs.Swept.{swept-empty}
+use Rattle.fz_heap.proofs.Extents.{points_itself, apart_retained, within_retained}
 use Rattle.fz_heap.proofs.Mapped.{mapped-insert, mapped-mapped}
 
 -- ---- words
@@ -21,6 +26,17 @@ use Rattle.fz_heap.proofs.Mapped.{mapped-insert, mapped-mapped}
 pub length-words_from : (words : List ℕ) (first n : ℕ) → length (words_from words first n) ≡ n
 length-words_from words first zero = refl
 length-words_from words first (suc n) = ap suc (length-words_from words (first + 1) n)
+
+-- a slice of so many words from a place on
+pub words_taken : (words : List ℕ) (first n : ℕ) → first + n ≤ length words → take (first + n - first) (drop first words) ≡ words_from words first n
+words_taken words first n within = let back : first + n - first ≡ n = omega arith in rw back (taken first n within)
+  where
+    taken : (first n : ℕ) → first + n ≤ length words → take n (drop first words) ≡ words_from words first n
+    taken first zero within = refl
+    taken first (suc n) within =
+        ap (take (suc n)) (drop-cons words first 0 (omega (arith, within)))
+        ∙ ap (λ k. slice_index words first ∷ take n (drop k words)) (sym (add-one first))
+        ∙ ap (λ ws. slice_index words first ∷ ws) (taken (first + 1) n (omega (arith, within)))
 
 word_of : (words : List ℕ) (first n i : ℕ) → i < n → slice_index (words_from words first n) i ≡ slice_index words (first + i)
 word_of words first zero i h = absurd (omega (arith, h))
@@ -58,6 +74,15 @@ fill_words words value t place a first (suc n) at from lt =
 pub extents_flat : (m : Map Extent) (words births : List ℕ) → extents (objects_of m words births) ≡ m
 extents_flat m words births = extents-made (object_at words births) (λ a x i. record { size = length-words_from words (a - 65536) x.size i; kind = x.kind }) m
 
+-- the pointers of the object at a start, by its extent; none where no object starts
+pub pointers_here : (m : Map Extent) (words births : List ℕ) (start : ℕ) (x : Extent) → Some x ≡ get m start → pointers_of (objects_of m words births) start ≡ (if same_kind x.kind Scanned then words_from words (start - HEAP_START) x.size else [])
+pointers_here m words births start x here =
+    ap (λ o. option_map_or (λ (o : Object). if same_kind o.kind Scanned then o.words else []) o []) (mapped_here (object_at words births) m start x (sym here))
+
+pub pointers_nowhere : (m : Map Extent) (words births : List ℕ) (start : ℕ) → None ≡ get m start → pointers_of (objects_of m words births) start ≡ []
+pointers_nowhere m words births start none =
+    ap (λ o. option_map_or (λ (o : Object). if same_kind o.kind Scanned then o.words else []) o []) (get-mapped (object_at words births) m start ∙ ap (option_map (object_at words births start)) (sym none))
+
 module _ (blocks : ℕ) (m : Map Extent) (apart : AreApart m) (within : AreWithin blocks m) where
   pub word_read : (words births : List ℕ) (word offset place : ℕ) → IsPlace m word offset place → word_at (objects_of m words births) (word + offset) ≡ slice_index words place
   word_read words births word offset place is =
@@ -78,6 +103,17 @@ module _ (blocks : ℕ) (m : Map Extent) (apart : AreApart m) (within : AreWithi
   word_written words births address place value at lt =
       mapped-mapped (λ start (o : Object). record o { words = fill (λ a. a == address) value start o.words }) (object_at words births) (object_at (set words place value) births) m
       (λ q x here. let from = (within q x here).0 in ap (λ ws. record { kind = x.kind; birth = slice_index births (q - 65536); words = ws }) (fill_words words value address place q (q - 65536) x.size at (omega (arith, from)) lt))
+
+-- ---- where objects are gone
+
+pub retained_heap : (old new : Claimed) (p : ℕ → Bool) (words births : List ℕ) → new.blocks ≡ old.blocks → new.extents ≡ retain_keys old.extents p → IsHeap old words births → IsHeap new words births
+retained_heap old new p words births same left h = record {
+  few = omega (arith, same, h.few);
+  apart = subst AreApart (sym left) (apart_retained old.extents p h.apart);
+  within = subst (λ n. AreWithin n new.extents) (sym same) (subst (AreWithin old.blocks) (sym left) (within_retained old.blocks old.extents p h.within));
+  words_len = omega (arith, same, h.words_len);
+  births_len = omega (arith, same, h.births_len);
+}
 
 -- ---- a new object, whose extent is apart from all others
 
@@ -102,7 +138,6 @@ module _ (old new : Claimed) (start : ℕ) (x : Extent) (is : new ≡ record old
     few = omega (arith, same_blocks, h.few);
     apart = apart;
     within = within;
-    clean = ap (λ (m : Claimed). m.condemned) is ∙ ap (λ s. swept s (block_of start) (blocks_for x.size)) h.clean ∙ swept-empty (block_of start) (blocks_for x.size);
     words_len = omega (arith, same, same_blocks, h.words_len);
     births_len = omega (arith, same_births, same_blocks, h.births_len);
   }

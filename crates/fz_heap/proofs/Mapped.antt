@@ -1,11 +1,12 @@
 -- Maps whose values are made of those of another map.
-use Rattle.std.proofs.Common.{List, [], ◌∷◌, map, nat_cmp, ◌≡◌, ◌≢◌, ℕ, Option, Some, None, is_some, option_map, refl, sym, ap, ◌∙◌, ⊎_elim}
+use Rattle.std.proofs.Common.{Bool, true, false, cond, length, List, [], ◌∷◌, map, nat_cmp, ◌≡◌, ◌≢◌, ℕ, Option, Some, None, is_some, option_map, refl, sym, ap, ◌∙◌, ⊎_elim}
 use Rattle.std.proofs.lemmas.Bool.{cases_eq}
+use Rattle.std.proofs.lemmas.List.{length-map}
 use Rattle.std.specs.Cmp.{nat_cmp_total}
-use Rattle.std.specs.FinMap.{get, keys, entries, empty, get-empty, contains_key, insert, remove, same_map, nat_cmp-IsAntisymmetric}
+use Rattle.std.specs.FinMap.{get, keys, entries, empty, get-empty, contains_key, insert, remove, retain_keys, len, len-entries, same_map, nat_cmp-IsAntisymmetric}
 use Rattle.fz_model.specs.State.{Map}
 use Rattle.fz_model.specs.Extents.{mapped}
-use Rattle.fz_model.proofs.Maps.{get-insert_same, get-insert_other, get-remove_same, get-remove_other, entries-mapped, get-mapped, mapped_here}
+use Rattle.fz_model.proofs.Maps.{get-insert_same, get-insert_other, get-remove_same, get-remove_other, get-retain, entries-mapped, get-mapped, mapped_here}
 
 module _ {X Y : Type 0} where
   pub has_key : (f : ℕ → X → Y) (m : Map X) (q : ℕ) → contains_key (mapped f m) q ≡ contains_key m q
@@ -49,6 +50,16 @@ module _ {X Y : Type 0} where
           (λ (is : q ≡ k). ap (get (mapped f (remove m k))) is ∙ get-mapped f (remove m k) k ∙ ap (option_map (f k)) (get-remove_same m k) ∙ sym (get-remove_same (mapped f m) k) ∙ ap (get (remove (mapped f m) k)) (sym is))
           (λ (ne : q ≢ k). get-mapped f (remove m k) q ∙ ap (option_map (f q)) (get-remove_other m k q ne) ∙ sym (get-mapped f m q) ∙ sym (get-remove_other (mapped f m) k q ne))
           (cases_eq q k)
+
+  pub mapped-retain : (f : ℕ → X → Y) (m : Map X) (p : ℕ → Bool) → mapped f (retain_keys m p) ≡ retain_keys (mapped f m) p
+  mapped-retain f m p = same_map nat_cmp_total nat_cmp-IsAntisymmetric _ _ (λ q. get-mapped f (retain_keys m p) q ∙ ap (option_map (f q)) (get-retain m p q) ∙ either q (p q) ∙ ap (λ o. cond (p q) o None) (sym (get-mapped f m q)) ∙ sym (get-retain (mapped f m) p q))
+    where
+      either : (q : ℕ) (b : Bool) → option_map (f q) (cond b (get m q) None) ≡ cond b (option_map (f q) (get m q)) None
+      either q true = refl
+      either q false = refl
+
+  pub len-mapped : (f : ℕ → X → Y) (m : Map X) → len (mapped f m) ≡ len m
+  len-mapped f m = len-entries (mapped f m) ∙ ap length (entries-mapped f m) ∙ length-map (entries m) (λ (e : ℕ × X). (e.0, f e.0 e.1)) ∙ sym (len-entries m)
 
   -- values that are changed afterwards are made otherwise
   pub mapped-mapped : (h : ℕ → Y → Y) (f g : ℕ → X → Y) (m : Map X) → ((q : ℕ) (x : X) → get m q ≡ Some x → h q (f q x) ≡ g q x) → mapped h (mapped f m) ≡ mapped g m

@@ -1,16 +1,32 @@
--- What contracts see of a heap: its size in blocks, its objects by their starts, and the next birth.
-use Rattle.std.specs.Prelude.{ℕ, refl}
+-- What contracts see of a heap: its size in blocks, its objects by their starts, where condemned cells start, and the next birth.
+use Rattle.std.specs.Prelude.{ℕ, List, [], if◌then◌else◌, refl, IsTrue, IsFalse}
 use Rattle.std.specs.Coded.{Coded, code_by, coded×, coded_ℕ}
 use Rattle.std.specs.FinMap as map
+use Rattle.std.specs.FinMap.{get, contains_key}
+use Rattle.std.specs.FinSet as sets
+use Rattle.std.specs.FinSet.{contains}
+use Rattle.std.specs.Option.{option_map_or}
+use Rattle.fz_model.specs.declared.kinds.ObjKind.TheVariants.{Scanned}
 use Rattle.fz_model.specs.State.{Map, Object}
 use Rattle.fz_model.specs.Codes.{object_code}
+use Rattle.fz_model.specs.Allocation.{same_kind}
+use Rattle.fz_model.specs.Condemned.{Addresses}
 
 pub record Contents : Type 0 where
   pub blocks : ℕ
   pub objects : Map Object
+  pub condemned : Addresses
   pub next_birth : ℕ
 
 abbrev pub contents_code : Coded Contents
 contents_code =
-    code_by (ℕ × (Map Object × ℕ)) (coded× coded_ℕ (coded× (map.code coded_ℕ object_code) coded_ℕ)) (λ c. (c.blocks, (c.objects, c.next_birth)))
-    (λ p. record { blocks = p.0; objects = p.1.0; next_birth = p.1.1 }) (λ _. refl)
+    code_by (ℕ × (Map Object × (Addresses × ℕ))) (coded× coded_ℕ (coded× (map.code coded_ℕ object_code) (coded× (sets.code coded_ℕ) coded_ℕ))) (λ c. (c.blocks, (c.objects, (c.condemned, c.next_birth))))
+    (λ p. record { blocks = p.0; objects = p.1.0; condemned = p.1.1.0; next_birth = p.1.1.1 }) (λ _. refl)
+
+-- no object starts where a condemned cell does
+abbrev pub AreGone : Contents → Type 0
+AreGone heap = (a : ℕ) → IsTrue (contains heap.condemned a) → IsFalse (contains_key heap.objects a)
+
+-- the words of the scanned object at a start, and none of an atomic one
+abbrev pub pointers_of : Map Object → ℕ → List ℕ
+pointers_of objects start = option_map_or (λ (o : Object). if same_kind o.kind Scanned then o.words else []) (get objects start) []

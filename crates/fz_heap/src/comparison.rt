@@ -5,7 +5,6 @@ ghost use Rattle.fz_model.specs.declared.limits.TheConstants.{MAX_BLOCKS};
 
 use crate::Heap;
 use crate::plain::PlainHeap;
-use crate::tests::free;
 use fz_model::ObjKind::{Atomic, Scanned};
 use fz_model::{Addr, BLOCK_WORDS, HEAP_START, MAX_OBJECT_WORDS, ObjKind, Word};
 use std::alloc::Global;
@@ -67,8 +66,40 @@ impl Random {
     }
 }
 
-/// One random call of both, whose answers have to be the same.
-fn call_both(
+/// Condemns the object at the start, if one starts there.
+pub(crate) fn condemn(heap: &mut Heap, start: Addr) -> bool {
+    if heap.facts(start).is_none() {
+        return false;
+    }
+    heap.condemn(start);
+    true
+}
+
+/// One random call of both that leaves the objects as they are. The answers have to be the same.
+fn ask_both(
+    rt: &impl Abort,
+    heap: &mut Heap,
+    plain: &mut PlainHeap,
+    random: &mut Random,
+) -> Result<(), Fail> {
+    let word = random.word(heap.blocks());
+    let offset = random.offset();
+    match random.below(5) {
+        0 => {
+            let value = random.next();
+            let written = heap.write(word, offset, value);
+            assert_eq!(rt; written, plain.write(word, offset, value));
+        }
+        1 => assert_eq!(rt; heap.read(word, offset), plain.read(word, offset)),
+        2 => assert_eq!(rt; heap.resolve(word), plain.resolve(word), "at {word}"),
+        3 => assert_eq!(rt; heap.facts(word), plain.facts(word), "at {word}"),
+        _ => assert_eq!(rt; heap.pointers(word), plain.pointers(word), "at {word}"),
+    }
+    Ok(())
+}
+
+/// One random call of both that takes objects away, or sweeps a block. The answers have to be the same.
+fn clear_both(
     rt: &impl Abort,
     heap: &mut Heap,
     plain: &mut PlainHeap,
@@ -76,29 +107,63 @@ fn call_both(
 ) -> Result<(), Fail> {
     let blocks = heap.blocks();
     let word = random.word(blocks);
-    let offset = random.offset();
+    let block = random.below(blocks);
     match random.below(8) {
-        0..=2 => {
+        0..=3 => {
+            if let Some(start) = plain.resolve(word) {
+                plain.condemn(start)?;
+                assert!(rt; condemn(heap, start), "at {start}");
+            }
+        }
+        4 => {
+            let places = random.next() & random.next();
+            let count = plain.condemn_in(block as u16, places)?;
+            assert_eq!(rt; heap.condemn_in(block, places), count, "in {block}");
+        }
+        _ => {
+            heap.sweep(block);
+            plain.sweep(block as u16);
+        }
+    }
+    Ok(())
+}
+
+/// One random call of both, whose answers have to be the same.
+fn call_both(
+    rt: &impl Abort,
+    heap: &mut Heap,
+    plain: &mut PlainHeap,
+    random: &mut Random,
+) -> Result<(), Fail> {
+    match random.below(4) {
+        0 | 1 => {
             let size = random.size();
             let kind = random.kind();
             assert_eq!(rt; heap.alloc(size, kind), plain.alloc(size, kind));
         }
-        3 => {
-            let value = random.next();
-            let written = heap.write(word, offset, value);
-            assert_eq!(rt; written, plain.write(word, offset, value));
-        }
-        4 => assert_eq!(rt; heap.read(word, offset), plain.read(word, offset)),
-        5 => assert_eq!(rt; heap.resolve(word), plain.resolve(word), "at {word}"),
-        6 => assert_eq!(rt; heap.facts(word), plain.facts(word), "at {word}"),
-        _ => {
-            if let Some(start) = plain.resolve(word) {
-                plain.reclaim(start);
-                assert!(rt; free(heap, start), "at {start}");
-            }
-        }
+        2 => ask_both(rt, heap, plain, random)?,
+        _ => clear_both(rt, heap, plain, random)?,
     }
+    assert_eq!(rt; heap.condemned(), plain.condemned());
     Ok(())
+}
+
+/// Whether the bits of its block name the object at the start.
+fn is_named(heap: &Heap, start: Addr) -> bool {
+    if heap.facts(start).is_none() {
+        return false;
+    }
+    let offset = start - HEAP_START;
+    heap.starts_in(offset / BLOCK_WORDS) >> (offset % BLOCK_WORDS) & 1 == 1
+}
+
+/// How many objects the bits of all blocks name.
+fn named(heap: &Heap) -> u64 {
+    let mut count = 0u64;
+    for block in 0..heap.blocks() {
+        count = count.saturating_add(u64::from(heap.starts_in(block).count_ones()));
+    }
+    count
 }
 
 /// The objects, their facts and their words are the same.
@@ -106,7 +171,10 @@ fn compare_all(rt: &impl Abort, alloc: Global, heap: &Heap, plain: &PlainHeap) -
     let starts: Vec<Addr> = heap.objects().collect(alloc)?;
     let expected = plain.starts()?;
     assert_eq!(rt; starts.as_slice(), expected.as_slice());
+    assert_eq!(rt; named(heap), starts.len() as u64);
     for start in starts.iter() {
+        assert!(rt; is_named(heap, *start), "at {start}");
+        assert_eq!(rt; heap.pointers(*start), plain.pointers(*start), "at {start}");
         let facts = heap.facts(*start);
         assert_eq!(rt; facts, plain.facts(*start), "at {start}");
         let size = facts.map_or(0, |(size, _, _)| size);

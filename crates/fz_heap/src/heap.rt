@@ -1,11 +1,14 @@
 //! The heap: where its objects lie, and their words and births.
 
-ghost use Rattle.std.specs.Prelude.{◌∷◌, [], ◌≡◌, ◌≤◌, ◌+◌, All, IsTrue, IsSome, IfSome, IfOk, OnOk, OnErr, option_map, length, replicate};
-ghost use Rattle.std.specs.FinMap.{get, insert, remove, contains_key, keys, empty};
-ghost use Rattle.fz_model.specs.declared.limits.TheConstants.{MAX_BLOCKS};
+ghost use Rattle.std.specs.Prelude.{◌^◌, ◌∷◌, [], ◌≡◌, ◌≤◌, ◌<◌, ◌+◌, ℕ, not, ◌&&◌, ◌||◌, All, IsTrue, IsSome, IfSome, IfOk, OnOk, OnErr, option_map, length, replicate};
+ghost use Rattle.std.specs.FinMap.{get, insert, remove, retain_keys, contains_key, keys, len, empty};
+ghost use Rattle.std.specs.FinSet as sets;
+ghost use Rattle.fz_model.specs.declared.limits.TheConstants.{BLOCK_WORDS, MAX_BLOCKS};
 ghost use Rattle.fz_model.specs.Extents.{IsInHeap, extents, AreApart};
 ghost use Rattle.fz_model.specs.Memory.{points, word_at, written, new_object};
-ghost use Rattle.fz_model.specs.Allocation.{place_for};
+ghost use Rattle.fz_model.specs.Allocation.{place_for, block_of, block_start, blocks_for};
+ghost use Rattle.fz_model.specs.Condemned.{has_bit, stands_at, swept};
+ghost use Rattle.fz_heap.specs.Contents.{AreGone, pointers_of};
 ghost use Rattle.fz_model.specs.Causes.{IsJudgedBy, IsJudgedOrLacks, bad_count, alloc_causes, place_causes};
 
 use crate::places::{place_of, zero};
@@ -49,7 +52,7 @@ impl Model for Heap {
     ghost use Rattle.fz_heap.specs.Flat.{objects_of};
     ghost use Rattle.fz_heap.specs.Layout.{IsHeap};
 
-    ghost view = { λ h. record { blocks = h.map.blocks; objects = objects_of h.map.extents h.words.items h.births.items; next_birth = h.next_birth } };
+    ghost view = { λ h. record { blocks = h.map.blocks; objects = objects_of h.map.extents h.words.items h.births.items; condemned = h.map.condemned; next_birth = h.next_birth } };
 
     ghost invariant = { λ h. IsHeap h.map h.words.items h.births.items };
 }
@@ -60,7 +63,7 @@ impl Heap {
     /// `BadCount` for any other number of blocks; `NoMemory` where an allocation fails.
     pub fn new(alloc: Global, blocks: u64) -> Result<Heap, Refusal>
         ensures judged { IsJudgedOrLacks (bad_count MAX_BLOCKS blocks ∷ []) result }
-        ensures opened { IfOk result (λ h. h ≡ record { blocks = blocks; objects = empty; next_birth = 0 }) }
+        ensures opened { IfOk result (λ h. h ≡ record { blocks = blocks; objects = empty; condemned = sets.empty; next_birth = 0 }) }
     {
         let map = BlockMap::new(alloc, blocks)?;
         let words = zeros(alloc, BLOCK_WORDS * blocks)?;
@@ -76,13 +79,15 @@ impl Heap {
     /// The number of blocks.
     pub fn blocks(&self) -> u64
         ensures blocks { result ≡ self.now.blocks }
+        ensures some { 1 ≤ self.now.blocks }
         ensures few { self.now.blocks ≤ MAX_BLOCKS }
     {
         self.map.blocks()
     }
 
     /// Makes an object of 1 to `MAX_OBJECT_WORDS` words, all of them zero; returns its start and its birth. Births count the objects made,
-    /// from 0. An object of more than `BLOCK_WORDS` words takes whole neighbouring blocks, one for each `BLOCK_WORDS` words begun.
+    /// from 0. An object of more than `BLOCK_WORDS` words takes whole neighbouring blocks, one for each `BLOCK_WORDS` words begun. The object's
+    /// blocks are swept, and no others.
     ///
     /// `BadSize` for any other size; then `Exhausted` once `COUNT_LIMIT` births are given out; then `NoSpace` where the heap has no place for an object of
     /// this size and kind. A refused call changes nothing.
@@ -90,7 +95,7 @@ impl Heap {
         ensures judged { IsJudgedBy (alloc_causes self.old.objects self.old.blocks self.old.next_birth size kind) result }
         ensures unchanged { OnErr result (self.new ≡ self.old) }
         ensures place { IfOk result (λ made. (place_for self.old.objects self.old.blocks size kind ≡ Some made.0) × (made.1 ≡ self.old.next_birth)) }
-        ensures made { IfOk result (λ made. self.new ≡ record self.old { objects = insert self.old.objects made.0 (new_object kind self.old.next_birth size); next_birth = self.old.next_birth + 1 }) }
+        ensures made { IfOk result (λ made. self.new ≡ record self.old { objects = insert self.old.objects made.0 (new_object kind self.old.next_birth size); condemned = swept self.old.condemned (block_of made.0) (blocks_for size); next_birth = self.old.next_birth + 1 }) }
         ensures start { IfOk result (λ made. points self.new.objects made.0 ≡ Some made.0) }
         ensures within { IfOk result (λ made. IsInHeap self.old.blocks made.0) }
     {
@@ -113,9 +118,21 @@ impl Heap {
     pub fn resolve(&self, word: Word) -> Option<Addr>
         ensures points { result ≡ points self.now.objects word }
         ensures within { IfSome result (λ start. IsInHeap self.now.blocks start × IsTrue (contains_key self.now.objects start)) }
+        ensures apart { AreApart (extents self.now.objects) }
     {
         let (start, _) = self.map.cell_of(word)?;
         Some(start)
+    }
+
+    /// The address at an offset, in words, from where `word` points into an object.
+    ///
+    /// `NotPointer` where `word` points to no object; `OutsideObject` where `word` plus `offset` lies outside the object to which `word` points.
+    pub fn place(&self, word: Word, offset: u64) -> Result<Addr, Refusal>
+        ensures judged { IsJudgedBy (place_causes self.now.objects word offset) result }
+        ensures place { IfOk result (λ place. place ≡ word + offset) }
+    {
+        let place = place_of(&self.map, word, offset)?;
+        Ok(HEAP_START + place as u64)
     }
 
     /// Reads the word at an offset, in words, from where `word` points into an object.
@@ -137,19 +154,70 @@ impl Heap {
         ensures judged { IsJudgedBy (place_causes self.old.objects word offset) result }
         ensures unchanged { OnErr result (self.new ≡ self.old) }
         ensures written { OnOk result (self.new ≡ record self.old { objects = written (word + offset) value self.old.objects }) }
+        ensures within { OnOk result (IsInHeap self.old.blocks (word + offset)) }
+        ensures fits { OnOk result (word + offset < 2 ^ 64) }
     {
         let place = place_of(&self.map, word, offset)?;
         self.words[place] = value;
         Ok(())
     }
 
-    /// Reclaims the object at the start: its words are free for other objects. Asked only of a start.
-    pub fn reclaim(&mut self, start: Addr)
+    /// Takes the object at the start out of the heap. Its cell waits to be swept; of an object of several blocks, the whole run does. Asked only of a start.
+    pub fn condemn(&mut self, start: Addr)
         requires { IsTrue (contains_key self.old.objects start) }
-        ensures { self.new ≡ record self.old { objects = remove self.old.objects start } }
+        ensures { self.new ≡ record self.old { objects = remove self.old.objects start; condemned = sets.insert self.old.condemned start } }
     {
         self.map.condemn(start);
-        self.map.sweep((start - HEAP_START) / BLOCK_WORDS);
+    }
+
+    /// Condemns each object that starts in the block at one of these places, a bit each, the first place's lowest; returns their number. Places
+    /// where no object starts don't count. Asked only of a block of the heap.
+    pub fn condemn_in(&mut self, block: u64, places: u64) -> u64
+        requires { block < self.old.blocks }
+        ensures rest { self.new ≡ record self.old { objects = self.new.objects; condemned = self.new.condemned } }
+        ensures objects { self.new.objects ≡ retain_keys self.old.objects (λ a. not (stands_at block places a)) }
+        ensures condemned { (a : ℕ) → sets.contains self.new.condemned a ≡ (contains_key self.old.objects a && stands_at block places a || sets.contains self.old.condemned a) }
+        ensures count { sets.len self.new.condemned ≡ sets.len self.old.condemned + result }
+        ensures fewer { len self.new.objects + result ≡ len self.old.objects }
+    {
+        self.map.condemn_in(block, places)
+    }
+
+    /// Frees the condemned cells of a block, or the condemned run that begins there. Asked only of a block of the heap.
+    pub fn sweep(&mut self, block: u64)
+        requires { block < self.old.blocks }
+        ensures { self.new ≡ record self.old { condemned = swept self.old.condemned block 1 } }
+    {
+        self.map.sweep(block);
+    }
+
+    /// Frees all condemned cells.
+    pub fn sweep_all(&mut self)
+        ensures { self.new ≡ record self.old { condemned = sets.empty } }
+    {
+        if self.condemned() == 0 {
+            return;
+        }
+        for block in 0..self.blocks() {
+            self.sweep(block);
+        }
+    }
+
+    /// The number of condemned cells that aren't swept; a run counts as one.
+    pub fn condemned(&self) -> u64
+        ensures count { result ≡ sets.len self.now.condemned }
+        ensures gone { AreGone self.now }
+        ensures within { (a : ℕ) → IsTrue (sets.contains self.now.condemned a) → IsInHeap self.now.blocks a }
+    {
+        self.map.condemned()
+    }
+
+    /// The places of a block where objects start, a bit each, the first place's lowest. Asked only of a block of the heap.
+    pub fn starts_in(&self, block: u64) -> u64
+        requires { block < self.now.blocks }
+        ensures { (place : ℕ) → place < BLOCK_WORDS → has_bit result place ≡ contains_key self.now.objects (block_start block + place) }
+    {
+        self.map.starts_in(block)
     }
 
     /// The size in words, the kind and the birth of the object that starts at the address, if one starts there.
@@ -162,6 +230,22 @@ impl Heap {
         let extent = self.map.extent_at(start)?;
         let birth = self.births[(start - HEAP_START) as usize];
         Some((extent.size, extent.kind, birth))
+    }
+
+    /// The words of the scanned object that starts at the address. Empty where an atomic object starts, or none.
+    pub fn pointers(&self, start: Addr) -> &[Word]
+        ensures { result.now ≡ pointers_of self.now.objects start }
+    {
+        match self.map.extent_at(start) {
+            Some(extent) => match extent.kind {
+                ObjKind::Scanned => {
+                    let first = (start - HEAP_START) as usize;
+                    &self.words[first..first + extent.size as usize]
+                }
+                ObjKind::Atomic => &[],
+            },
+            None => &[],
+        }
     }
 
     /// The starts of all objects, by rising address.

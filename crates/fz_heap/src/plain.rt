@@ -1,7 +1,8 @@
 //! The heap as a plain list of its objects: slow, and each call reads as its rule. Tests hold the real heap against it.
 //! It is proved to be safe and to end, no more: nothing but a test rests on it.
 
-ghost use Rattle.std.specs.Prelude.{◌≡◌, ◌<◌, ◌+◌, ◌*◌};
+ghost use Rattle.std.specs.Prelude.{◌≡◌, ◌<◌, ◌+◌, ◌*◌, IfSome};
+ghost use Rattle.fz_model.specs.declared.limits.TheConstants.{BLOCK_WORDS};
 
 use fz_model::{
     Addr, BLOCK_WORDS, COUNT_LIMIT, HEAP_START, MAX_BLOCKS, MAX_OBJECT_WORDS, ObjKind, Refusal,
@@ -18,12 +19,13 @@ struct Object {
     words: Vec<Word>,
 }
 
-/// The objects by rising start, and the number of blocks.
+/// The objects by rising start, the starts of condemned cells in any order, and the number of blocks.
 #[derive(Drop)]
 pub(crate) struct PlainHeap {
     alloc: Global,
     blocks: u16,
     objects: Vec<Object>,
+    condemned: Vec<Addr>,
     next_birth: u64,
 }
 
@@ -32,6 +34,22 @@ fn block_start(block: u16) -> Addr
     ensures { result ≡ 65536 + 64 * block }
 {
     HEAP_START + BLOCK_WORDS * u64::from(block)
+}
+
+/// The place of the address in the block, if it stands there.
+fn place_in(address: u64, block: u16) -> Option<u64>
+    ensures { IfSome result (λ place. place < BLOCK_WORDS) }
+{
+    let place = address.checked_sub(block_start(block))?;
+    (place < BLOCK_WORDS).then_some(place)
+}
+
+/// Whether the address stands in the block, at one of these places: a bit each, the first place's lowest.
+fn stands_at(address: u64, block: u16, places: u64) -> bool {
+    match place_in(address, block) {
+        Some(place) => places >> place & 1 == 1,
+        None => false,
+    }
 }
 
 impl Object {
@@ -44,8 +62,7 @@ impl Object {
     }
 
     fn starts_in(&self, block: u16) -> bool {
-        let first = block_start(block);
-        first <= self.start && self.start - first < BLOCK_WORDS
+        place_in(self.start, block).is_some()
     }
 
     /// Whether the object has a word in the block.
@@ -60,6 +77,15 @@ impl Object {
     }
 }
 
+/// The condemned cells lose those in blocks that the object meets.
+fn sweep_under(condemned: &mut Vec<Addr>, blocks: u16, object: &Object) {
+    for block in 0..blocks {
+        if object.meets(block) {
+            condemned.retain(|start| place_in(*start, block).is_none());
+        }
+    }
+}
+
 impl PlainHeap {
     pub(crate) fn new(alloc: Global, blocks: u64) -> Result<PlainHeap, Refusal> {
         if blocks == 0 || blocks > MAX_BLOCKS {
@@ -69,6 +95,7 @@ impl PlainHeap {
             alloc,
             blocks: blocks as u16,
             objects: Vec::new(alloc),
+            condemned: Vec::new(alloc),
             next_birth: 0,
         })
     }
@@ -153,6 +180,7 @@ impl PlainHeap {
             .iter()
             .position(|object| start < object.start)
             .unwrap_or(end);
+        sweep_under(&mut self.condemned, self.blocks, &object);
         self.objects.insert(index, object)?;
         self.next_birth += 1;
         Ok((start, birth))
@@ -186,8 +214,40 @@ impl PlainHeap {
         Err(Refusal::NotPointer)
     }
 
-    pub(crate) fn reclaim(&mut self, start: Addr) {
+    pub(crate) fn condemn(&mut self, start: Addr) -> Result<(), AllocError> {
         self.objects.retain(|object| object.start != start);
+        self.condemned.push(start)?;
+        Ok(())
+    }
+
+    /// Condemns the objects at these places of a block; returns their number.
+    pub(crate) fn condemn_in(&mut self, block: u16, places: u64) -> Result<u64, AllocError> {
+        let mut starts = self.starts()?;
+        starts.retain(|start| stands_at(*start, block, places));
+        for start in starts.iter() {
+            self.condemn(*start)?;
+        }
+        Ok(starts.len() as u64)
+    }
+
+    pub(crate) fn sweep(&mut self, block: u16) {
+        self.condemned
+            .retain(|start| place_in(*start, block).is_none());
+    }
+
+    pub(crate) fn condemned(&self) -> u64 {
+        self.condemned.len() as u64
+    }
+
+    /// The words of a scanned object; none of an atomic one.
+    pub(crate) fn pointers(&self, start: Addr) -> &[Word] {
+        match self.objects.iter().find(|object| object.start == start) {
+            Some(object) => match object.kind {
+                ObjKind::Scanned => &object.words,
+                ObjKind::Atomic => &[],
+            },
+            None => &[],
+        }
     }
 
     pub(crate) fn facts(&self, start: Addr) -> Option<(u64, ObjKind, u64)> {

@@ -2,15 +2,17 @@
 
 use crate::Heap;
 use fz_model::ObjKind::{Atomic, Scanned};
-use fz_model::{Addr, BLOCK_WORDS, MAX_BLOCKS, MAX_OBJECT_WORDS, Refusal};
+use fz_model::{Addr, BLOCK_WORDS, HEAP_START, MAX_BLOCKS, MAX_OBJECT_WORDS, Refusal};
+use std::alloc::{AllocError, Global};
 use std::test::Fail;
 
-/// Reclaims the object at the start, if one starts there.
+/// Condemns the object at the start, if one starts there, and sweeps its cell.
 pub(crate) fn free(heap: &mut Heap, start: Addr) -> bool {
     if heap.facts(start).is_none() {
         return false;
     }
-    heap.reclaim(start);
+    heap.condemn(start);
+    heap.sweep((start - HEAP_START) / BLOCK_WORDS);
     true
 }
 
@@ -190,5 +192,60 @@ fn an_object_stands_in_each_block(rt: HostRuntime) -> Result<(), Fail> {
     assert_eq!(rt; heap.resolve(last + 1), None);
     let starts: Vec<Addr> = heap.objects().collect(rt.alloc())?;
     assert_eq!(rt; starts.len() as u64, MAX_BLOCKS);
+    Ok(())
+}
+
+/// Makes objects of this size until none has a place.
+fn fill(heap: &mut Heap, size: u64) {
+    for _ in 0..BLOCK_WORDS * MAX_BLOCKS {
+        if heap.alloc(size, Scanned).is_err() {
+            return;
+        }
+    }
+}
+
+/// Makes one object of each size up to a block's, and some of more blocks.
+fn one_of_each(heap: &mut Heap) -> Result<(), Refusal> {
+    for size in 1..=BLOCK_WORDS {
+        heap.alloc(size, Scanned)?;
+    }
+    for size in [65, 128, 129, MAX_OBJECT_WORDS] {
+        heap.alloc(size, Scanned)?;
+    }
+    Ok(())
+}
+
+/// Condemns every other object; returns their sizes.
+fn drop_every_other(alloc: Global, heap: &mut Heap) -> Result<Vec<u64>, AllocError> {
+    let starts: Vec<Addr> = heap.objects().collect(alloc)?;
+    let mut sizes = Vec::new(alloc);
+    for start in starts.iter().step_by(2) {
+        if let Some((size, _, _)) = heap.facts(*start) {
+            heap.condemn(*start);
+            sizes.push(size)?;
+        }
+    }
+    Ok(sizes)
+}
+
+#[test]
+fn what_was_dropped_has_room_again(rt: HostRuntime) -> Result<(), Fail> {
+    let mut heap = Heap::new(rt.alloc(), MAX_BLOCKS)?;
+    for _ in 0..MAX_BLOCKS {
+        if one_of_each(&mut heap).is_err() {
+            break;
+        }
+    }
+    for size in (1..=MAX_OBJECT_WORDS).rev() {
+        fill(&mut heap, size);
+    }
+    let mut sizes = drop_every_other(rt.alloc(), &mut heap)?;
+    assert_eq!(rt; heap.condemned(), sizes.len() as u64);
+    sizes.sort()?;
+    for size in sizes.iter().rev() {
+        assert!(rt; heap.alloc(*size, Scanned).is_ok(), "of {size} words");
+    }
+    heap.sweep_all();
+    assert_eq!(rt; heap.condemned(), 0);
     Ok(())
 }

@@ -59,7 +59,7 @@ returns-clause-made c =
     let zeroed = subst (λ (ws : List ℕ). IsZeroedAt ws (with_items h.words c.zero.new.words).items (start - 65536) c.args.size) c.deref_mut.ensures.value
     (subst (λ (ws : List ℕ). IsZeroedAt c.deref_mut.result.now ws (start - 65536) c.args.size) (sym words) c.zero.ensures) in
     let objects = new_object_made h.map _ start _ made.claimed made.apart made.within h.words.items (with_items h.words c.zero.new.words).items h.births.items h.next_birth zeroed inside in
-    rw (← c.self.view_is) (λ i. record { blocks = (made.claimed i).blocks; objects = objects i; next_birth = h.next_birth + 1 })
+    rw (← c.self.view_is) (λ i. record { blocks = (made.claimed i).blocks; objects = objects i; condemned = (made.claimed i).condemned; next_birth = h.next_birth + 1 })
 
 pub returns-clause-start : goal.returns-clause-start
 returns-clause-start c =

@@ -1,6 +1,7 @@
-use Rattle.std.proofs.Common.{◌*◌, ◌∙◌, refl, ap, sym, subst, length, ℕ}
+use Rattle.std.proofs.Common.{◌*◌, ◌∙◌, ap, sym, subst, length, ℕ}
 use Rattle.std.proofs.lemmas.List.{length-replicate}
 use Rattle.fz_model.specs.declared.limits.TheConstants.{BLOCK_WORDS, MAX_BLOCKS}
+use Rattle.std.specs.FinSet.{empty}
 use Rattle.fz_model.specs.State.{Map, Object}
 use Rattle.fz_blocks.specs.Claimed.{Claimed}
 use Rattle.fz_heap.specs.Flat.{object_at, objects_of}
@@ -18,7 +19,6 @@ invariant_of-result c =
       few = few_opened MAX_BLOCKS c.args.blocks c.in_ok-map.ensures.judged;
       apart = apart_empty;
       within = within_empty c.args.blocks;
-      clean = refl;
       words_len = ap (length {A = ℕ}) c.in_ok-words.ensures ∙ length-replicate (BLOCK_WORDS * c.args.blocks) 0;
       births_len = ap (length {A = ℕ}) c.in_ok-births.ensures ∙ length-replicate (BLOCK_WORDS * c.args.blocks) 0;
     })
@@ -27,5 +27,5 @@ pub returns-clause-opened : goal.returns-clause-opened
 returns-clause-opened c =
     let words = c.in_ok-words.words.items in
     let births = c.in_ok-births.births.items in
-    ap (λ (m : Claimed). record { blocks = m.blocks; objects = objects_of m.extents words births; next_birth = 0 }) c.in_ok-map.ensures.opened
-    ∙ ap (λ (m : Map Object). record { blocks = c.args.blocks; objects = m; next_birth = 0 }) (mapped-empty (object_at words births))
+    ap (λ (m : Claimed). record { blocks = m.blocks; objects = objects_of m.extents words births; condemned = m.condemned; next_birth = 0 }) c.in_ok-map.ensures.opened
+    ∙ ap (λ (m : Map Object). record { blocks = c.args.blocks; objects = m; condemned = empty; next_birth = 0 }) (mapped-empty (object_at words births))

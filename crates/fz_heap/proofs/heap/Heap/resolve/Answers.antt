@@ -16,3 +16,9 @@ returns-clause-within c =
     let here = c.in_ok-start.ensures.1 in
     let within = c.self.invariant.within _ _ here in
     rw (← c.self.view_is) ((within.0, omega (arith, within)), has_key (object_at h.words.items h.births.items) h.map.extents c.in_ok-start.start ∙ ap is_some here)
+
+pub returns-in_err-start-clause-apart : goal.returns-in_err-start-clause-apart
+returns-in_err-start-clause-apart c = rw (← c.self.view_is, extents_flat) c.self.invariant.apart
+
+pub returns-clause-apart : goal.returns-clause-apart
+returns-clause-apart c = rw (← c.self.view_is, extents_flat) c.self.invariant.apart

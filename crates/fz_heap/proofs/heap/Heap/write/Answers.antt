@@ -15,5 +15,5 @@ returns-clause-written c =
     let is = c.in_ok-place.ensures.found in
     let inside : c.in_ok-place.place < length h.words.items = omega (arith, c.in_ok-place.ensures.in_heap, c.self.invariant.words_len) in
     rw (← c.self.view_is)
-    (ap (λ (m : Map Object). record { blocks = h.map.blocks; objects = m; next_birth = h.next_birth })
+    (ap (λ (m : Map Object). record { blocks = h.map.blocks; objects = m; condemned = h.map.condemned; next_birth = h.next_birth })
     (sym (word_written _ h.map.extents c.self.invariant.apart c.self.invariant.within h.words.items h.births.items _ c.in_ok-place.place c.args.value is.at inside)))
