@@ -202,6 +202,22 @@ no_flags first n words is = same_members _ _ (λ q. contains-flagged first words
         (λ (past : n ≤ p / 64). past_words words p (omega (arith, len, past)))
         (cases_lt (p / 64) n)
 
+-- ---- words of zero are added
+
+pub words_added : (first : ℕ) (old new : List ℕ) → ((k : ℕ) → slice_index new k ≡ slice_index old k) → flagged first new ≡ flagged first old
+words_added first old new same = same_members _ _ (λ q.
+    contains-flagged first new q
+    ∙ ap (λ w. nat_le first q && has_bit w ((q - first) % 64)) (same ((q - first) / 64))
+    ∙ sym (contains-flagged first old q))
+
+-- each word of a list that was filled up with zeros, by what is said of those within it
+pub filled_up : (old new : List ℕ) (n : ℕ) → length old ≤ n → length new ≡ n → ((k : ℕ) → k < n → k < length old → get_or new k 0 ≡ get_or old k 0) → ((k : ℕ) → length old ≤ k → k < n → get_or new k 0 ≡ 0) → (k : ℕ) → slice_index new k ≡ slice_index old k
+filled_up old new n fewer len kept zeros k =
+    ⊎_elim
+    (λ (within : k < n). ⊎_elim (λ (low : k < length old). kept k within low) (λ (high : length old ≤ k). zeros k high within ∙ sym (get_or_past old k 0 high)) (cases_lt k (length old)))
+    (λ (past : n ≤ k). get_or_past new k 0 (omega (arith, len, past)) ∙ sym (get_or_past old k 0 (omega (arith, fewer, past))))
+    (cases_lt k n)
+
 -- ---- a word is cleared
 
 pub word_cleared : (first : ℕ) (words : List ℕ) (word n : ℕ) → word < length words → contains (flagged first (set words word 0)) n ≡ (contains (flagged first words) n && not (nat_eq ((n - first) / 64) word))

@@ -1,6 +1,6 @@
 //! A set of numbers, a bit for each.
 
-ghost use Rattle.std.specs.Prelude.{◌≡◌, ◌≤◌, ◌<◌, ◌+◌, ◌*◌, ◌==◌, ◌&&◌, ◌^◌, not, slice_index, filter, ℕ, IsFalse, IfOk, IfErr, IfSome, MatchOption};
+ghost use Rattle.std.specs.Prelude.{◌≡◌, ◌≤◌, ◌<◌, ◌+◌, ◌*◌, ◌==◌, ◌&&◌, ◌^◌, not, slice_index, filter, ℕ, IsFalse, IfOk, IfErr, OnOk, OnErr, IfSome, MatchOption};
 ghost use Rattle.std.specs.List.{range_with_len};
 ghost use Rattle.std.specs.FinSet.{contains, insert, remove, empty, len};
 ghost use Rattle.fz_dirty.specs.Flags.{IsNext, IsRest, HasRoom, word_of, has_bit};
@@ -13,7 +13,7 @@ use std::marker::Model;
 /// The bits of a word.
 const BITS: u64 = 64;
 
-/// A set of numbers from `FIRST` on, a bit for each, 64 in a word. All its memory is taken by `new`.
+/// A set of numbers from `FIRST` on, a bit for each, 64 in a word. `new` and `extend_to` take its memory, and no other call takes any.
 ///
 /// With `FIRST` at the heap's start it is a set of addresses, and each of its words has the addresses of one block.
 #[derive(Drop)]
@@ -43,6 +43,21 @@ impl<const FIRST: u64> Flags<FIRST> {
     {
         let words = vec![in alloc; 0; words as usize]?;
         Ok(Flags { words })
+    }
+
+    /// Makes room for 64 numbers a word, where there is less. `NoMemory` when the memory for them can't be had; nothing has changed then.
+    pub fn extend_to(&mut self, words: u64) -> Result<(), Refusal>
+        requires fits { FIRST + 64 * words ≤ 2 ^ 64 }
+        ensures refused { IfErr result (λ r. r ≡ Refusal.NoMemory) }
+        ensures unchanged { OnErr result (self.new ≡ self.old) }
+        ensures members { self.new.members ≡ self.old.members }
+        ensures room { OnOk result (64 * words ≤ self.new.size) }
+        ensures kept { self.old.size ≤ self.new.size }
+    {
+        if words > self.words.len() as u64 {
+            self.words.resize(words as usize, 0)?;
+        }
+        Ok(())
     }
 
     /// Whether the number is in the set.
