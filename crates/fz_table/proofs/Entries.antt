@@ -2,22 +2,25 @@
 -- A contract sees a table's iterator as the list of what is left. So a loop for (object, registration) in table.iter() keeps the invariant
 -- from_entries (l.yielded ++ l.object-iterator) ≡ l.table.registrations, with no answer, and at its end nothing is left. Then got, listed and
 -- All-got go between such a list and what get answers.
-use Rattle.std.proofs.Common.{◌≡◌, ◌≤◌, ℕ, ◌+◌, ◌-◌, Bool, true, false, cond, not, ◌&&◌, nat_le, is_some, List, [], ◌∷◌, length, Some, None, nat_eq, nat_cmp, refl, sym, ap, subst, ◌∙◌, add-one, arith}
+use Rattle.std.proofs.Common.{◌≡◌, ◌≤◌, ℕ, ◌+◌, ◌-◌, Bool, true, false, cond, not, ◌&&◌, nat_le, is_some, List, [], ◌∷◌, length, Option, Some, None, nat_eq, nat_cmp, refl, sym, ap, subst, ◌∙◌, add-one, arith}
 use Rattle.std.proofs.lemmas.Bool.{eq-eqb, eqb-true}
 use Rattle.std.proofs.lemmas.Bool.Decides.{nat_tests}
 use Rattle.std.proofs.lemmas.List.Elements.{All-contains}
 use Rattle.std.proofs.lemmas.Map.Keys.{IsDistinct-head, IsDistinct-tail}
 use Rattle.std.proofs.lemmas.Map.Views.{Contains-from_lookup, lookup-from_Contains}
+use Rattle.std.proofs.lemmas.Option.{slice_get_within}
+use Rattle.fz_model.proofs.MapEntries.{place_of_key}
 use Rattle.std.specs.List.{All, Contains, IsDistinct, AllByRecursion}
 use Rattle.std.specs.Map.{keys_of, lookup}
 use Rattle.std.specs.Cmp.{nat_cmp_total, nat_eq_equiv}
-use Rattle.std.specs.FinMap.{get, len, empty, insert, remove, contains_key, from_entries, get-empty, len-empty, len-insert, len-remove}
+use Rattle.std.specs.Option.{IfSome}
+use Rattle.std.specs.FinMap.{get, len, entries, len-entries, empty, insert, remove, contains_key, from_entries, get-empty, len-empty, len-insert, len-remove}
 use Rattle.fz_model.specs.declared.answers.Old.{Old}
 use Rattle.fz_model.specs.declared.answers.Registration.{Registration}
 use Rattle.fz_model.specs.State.{Map}
 use Rattle.fz_model.specs.declared.limits.TheConstants.{TABLE_LIMIT}
 use Rattle.fz_model.specs.Causes.{full}
-use Rattle.fz_model.proofs.Tables.{get_made}
+use Rattle.fz_model.proofs.Tables.{get_made, made_removed}
 
 -- what is answered of a registration that goes
 abbrev pub pair_of : Registration → Old
@@ -76,3 +79,20 @@ module _ {X : Type 0} where
       by : (b : Bool) → cond b (len m - 1) (len m) ≤ TABLE_LIMIT
       by true = omega arith
       by false = h
+
+-- ---- a key whose entry is taken out of the list
+
+module _ {X : Type 0} (es ns : List (ℕ × X)) (k : ℕ) (taken : (q : ℕ) → lookup (nat_eq q) ns ≡ cond (nat_eq k q) None (lookup (nat_eq q) es)) where
+  pub limit_taken : len (from_entries {R = nat_cmp} es) ≤ TABLE_LIMIT → len (from_entries {R = nat_cmp} ns) ≤ TABLE_LIMIT
+  limit_taken h = subst (λ m. len m ≤ TABLE_LIMIT) (sym (made_removed es ns k taken)) (limit_removed (from_entries es) k h)
+
+  -- there is one fewer
+  pub one_taken : (o : Option X) → o ≡ lookup (nat_eq k) es → IfSome o (λ _. len (from_entries {R = nat_cmp} ns) + 1 ≡ len (from_entries {R = nat_cmp} es))
+  one_taken None is = tt
+  one_taken (Some x) is =
+      let m : Map X = from_entries es in
+      let here : get m k ≡ Some x = get_made es k ∙ sym is in
+      let at = place_of_key m k x here in
+      let some = slice_get_within (entries m) at.0 (k, x) at.1 in
+      let less = ap len (made_removed es ns k taken) ∙ len-remove nat_cmp_total m k ∙ ap (λ o. cond (is_some o) (len m - 1) (len m)) here in
+      omega (arith, some, len-entries m, less)

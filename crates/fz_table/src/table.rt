@@ -1,13 +1,13 @@
 //! The table and its calls.
 
-ghost use Rattle.std.specs.Prelude.{◌≡◌, ◌+◌, ◌≤◌, ◌↔◌, nat_eq, length, IsTrue, IfOk, IfErr, OnOk, OnErr};
+ghost use Rattle.std.specs.Prelude.{◌≡◌, ◌+◌, ◌≤◌, ◌<◌, ◌↔◌, nat_eq, length, IsTrue, IsFalse, IfSome, IfOk, IfErr, OnOk, OnErr};
 ghost use Rattle.std.specs.Option.{IsNone};
 ghost use Rattle.std.specs.FinMap.{get, insert, remove, len, empty, from_entries};
 ghost use Rattle.std.specs.List.{IsDistinct};
 ghost use Rattle.std.specs.Map.{keys_of};
-ghost use Rattle.fz_model.specs.declared.limits.TheConstants.{TABLE_LIMIT};
+ghost use Rattle.fz_model.specs.declared.limits.TheConstants.{TABLE_LIMIT, COUNT_LIMIT};
 ghost use Rattle.fz_model.specs.declared.refusal.Refusal.TheVariants.{NoMemory};
-ghost use Rattle.fz_model.specs.Causes.{IsJudgedOrLacks, full, register_causes};
+ghost use Rattle.fz_model.specs.Causes.{IsJudgedBy, IsJudgedOrLacks, full, register_causes};
 ghost use Rattle.fz_model.specs.Steps.{old_of};
 
 use crate::registrations::Registrations;
@@ -50,6 +50,23 @@ impl Table {
         }
     }
 
+    /// Refuses an object that `register` would refuse for another cause than want of memory.
+    ///
+    /// The refusals, in this order: `Exhausted` once 2^48 numbers are given out, `TableFull` when 65,536 other objects are registered.
+    pub fn check(&self, object: Addr) -> Result<(), Refusal>
+        ensures judged { IsJudgedBy (register_causes self.now.registrations self.now.next_number object) result }
+        ensures few { OnOk result (self.now.next_number < COUNT_LIMIT) }
+        ensures room { OnOk result (IsFalse (full self.now.registrations object).0) }
+    {
+        if self.next_number >= COUNT_LIMIT {
+            return Err(Refusal::Exhausted);
+        }
+        if self.is_full_for(object) {
+            return Err(Refusal::TableFull);
+        }
+        Ok(())
+    }
+
     /// Registers the object, with a new number; returns the number and what was replaced.
     ///
     /// The refusals, in this order: `Exhausted` once 2^48 numbers are given out, `TableFull` when 65,536 other objects are registered,
@@ -60,6 +77,7 @@ impl Table {
         kind: RegKind,
         proc: u64,
         cd: Word,
+        rank: u8,
     ) -> Result<(u64, Option<Old>), Refusal>
         ensures judged { IsJudgedOrLacks (register_causes self.old.registrations self.old.next_number object) result }
         // Only an object's first registration can lack memory.
@@ -68,22 +86,18 @@ impl Table {
         ensures number { IfOk result (λ answer. answer.0 ≡ self.old.next_number) }
         ensures replaced { IfOk result (λ answer. answer.1 ≡ old_of self.old.registrations object) }
         ensures registered { OnOk result (self.new ≡ record {
-          registrations = insert self.old.registrations object (record { number = self.old.next_number; kind = kind; proc = proc; cd = cd });
+          registrations = insert self.old.registrations object (record { number = self.old.next_number; kind = kind; proc = proc; cd = cd; rank = rank });
           next_number = self.old.next_number + 1;
         }) }
     {
+        self.check(object)?;
         let number = self.next_number;
-        if number >= COUNT_LIMIT {
-            return Err(Refusal::Exhausted);
-        }
-        if self.is_full_for(object) {
-            return Err(Refusal::TableFull);
-        }
         let registration = Registration {
             number,
             kind,
             proc,
             cd,
+            rank,
         };
         // A refused insertion leaves the entries as they were.
         let replaced = self.entries.insert(object, registration)?;
@@ -91,12 +105,22 @@ impl Table {
         Ok((number, replaced.map(pair_of)))
     }
 
+    /// Removes the object's registration and returns it.
+    #[tactic(auto, using(fz_model::proofs::Tables::get_made, fz_model::proofs::Tables::made_removed))]
+    pub fn take(&mut self, object: Addr) -> Option<Registration>
+        ensures answer { result ≡ get self.old.registrations object }
+        ensures removed { self.new ≡ record self.old { registrations = remove self.old.registrations object } }
+        ensures count { IfSome result (λ _. len self.new.registrations + 1 ≡ len self.old.registrations) }
+    {
+        self.entries.swap_remove(&object)
+    }
+
     /// Removes the object's registration; returns its procedure and client data.
     pub fn remove(&mut self, object: Addr) -> Option<Old>
         ensures answer { result ≡ old_of self.old.registrations object }
         ensures removed { self.new ≡ record self.old { registrations = remove self.old.registrations object } }
     {
-        self.entries.swap_remove(&object).map(pair_of)
+        self.take(object).map(pair_of)
     }
 
     /// The object's registration.

@@ -18,11 +18,11 @@ pub returns-in_err-replaced-clause-growth : goal.returns-in_err-replaced-clause-
 returns-in_err-replaced-clause-growth c =
     let absent : get c.args.self.now.registrations c.args.object ≡ None = ap (λ (t : Registered). get t.registrations c.args.object) (sym c.self.view_is)
     ∙ get_made c.self.inside.entries.entries c.args.object ∙ c.in_err-replaced.ensures.absent in
-    IfErr-always c.from_residual.result (λ _ _. subst IsNone (sym absent) (search rules))
+    IfErr-always c.from_residual-in_err-replaced.result (λ _ _. subst IsNone (sym absent) (search rules))
 
 pub invariant_of-self-2 : goal.invariant_of-self-2
 invariant_of-self-2 c =
-    let free = ap (λ (t : Registered). (full t.registrations c.args.object).0) c.self.view_is ∙ sym c.is_full_for.ensures ∙ c.if-is_full_for.false in
+    let free = ap (λ (t : Registered). (full t.registrations c.args.object).0) c.self.view_is ∙ c.in_ok-check.ensures.room in
     subst (λ m. len m ≤ TABLE_LIMIT) (sym (made_inserted c.self.inside.entries.entries _ c.args.object _ c.in_ok-replaced.ensures.updates.0)) (limit_inserted _ c.args.object _ free c.self.invariant)
 
 pub returns-clause-replaced : goal.returns-clause-replaced
@@ -35,6 +35,6 @@ pub returns-clause-registered : goal.returns-clause-registered
 returns-clause-registered c =
     ap (λ m. record { registrations = m; next_number = c.self.inside.next_number + 1 }) (made_inserted c.self.inside.entries.entries _ c.args.object _ c.in_ok-replaced.ensures.updates.0)
     ∙ ap (λ (t : Registered). record {
-      registrations = insert t.registrations c.args.object (record { number = t.next_number; kind = c.args.kind; proc = c.args.proc; cd = c.args.cd });
+      registrations = insert t.registrations c.args.object (record { number = t.next_number; kind = c.args.kind; proc = c.args.proc; cd = c.args.cd; rank = c.args.rank });
       next_number = t.next_number + 1;
     }) c.self.view_is
