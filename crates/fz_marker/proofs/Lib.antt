@@ -1,0 +1,9 @@
+pub mod Gaining
+pub mod Scanning
+pub mod Counts
+pub mod Proceeding
+pub mod Waiting
+pub mod Standing
+pub mod Forgetting
+pub mod Tracing
+pub mod Marked

@@ -1,0 +1,169 @@
+//! A set of objects that grows, with its members that wait to be read.
+
+ghost use Rattle.std.specs.Prelude.{◌∷◌, [], ◌++◌, ◌≡◌, ◌≤◌, ◌<◌, ◌+◌, ◌*◌, ℕ, length, vec_capacity, Some, IsTrue, IsFalse, IfOk, IfErr, IsSome, IfSome, MatchOption};
+ghost use Rattle.std.specs.FinSet.{contains, insert, empty, len};
+ghost use Rattle.fz_model.specs.declared.limits.TheConstants.{HEAP_START, BLOCK_WORDS, MAX_BLOCKS};
+ghost use Rattle.fz_model.specs.Reachability.{Child};
+ghost use Rattle.fz_model.specs.Allocation.{block_of};
+ghost use Rattle.fz_dirty.specs.Flags.{IsNext};
+ghost use Rattle.fz_marker.specs.Frontiers.{Gains, IsAmong, IsPointedAt, IsTracing};
+
+use fz_dirty::Flags;
+use fz_heap::Heap;
+use fz_model::{Addr, BLOCK_WORDS, HEAP_START, Refusal, Word};
+use std::alloc::Global;
+use std::marker::Model;
+
+/// A set of objects by their starts, with a work list of members. The list has room for each object that may become one.
+#[derive(Drop)]
+pub(crate) struct Frontier {
+    set: Flags<HEAP_START>,
+    work: Vec<Addr>,
+}
+
+impl Model for Frontier {
+    ghost use Rattle.std.specs.Prelude.{vec_capacity};
+    ghost use Rattle.fz_marker.specs.Frontiers.{Frontier, frontier_code, HasRoom};
+
+    ghost Value = { Frontier };
+
+    ghost coded = { frontier_code };
+
+    ghost view = { λ f. record { size = f.set.size; members = f.set.members; waiting = f.work.items } };
+
+    ghost invariant = { λ f. HasRoom f.set f.work.items (vec_capacity f.work) };
+}
+
+/// An empty list with room for `room` objects.
+fn work_list(alloc: Global, room: u64) -> Result<Vec<Addr>, Refusal>
+    ensures refused { IfErr result (λ r. r ≡ Refusal.NoMemory) }
+    ensures empty { IfOk result (λ work. work.items ≡ []) }
+    ensures room { IfOk result (λ work. vec_capacity work ≡ room) }
+{
+    Vec::with_capacity(alloc, room as usize).map_err(|_| Refusal::NoMemory)
+}
+
+/// Puts an object at the end of a list that has room for it, so that the push takes no memory and can't fail.
+fn put_last(work: &mut Vec<Addr>, start: Addr)
+    requires room { length work.old.items < vec_capacity work.old }
+    ensures items { work.new.items ≡ work.old.items ++ start ∷ [] }
+    ensures capacity { vec_capacity work.old ≤ vec_capacity work.new }
+{
+    let _ = work.push(start);
+}
+
+impl Frontier {
+    /// An empty set of objects of a heap of `blocks` blocks. `NoMemory` where an allocation fails.
+    pub(crate) fn new(alloc: Global, blocks: u64) -> Result<Frontier, Refusal>
+        requires { blocks ≤ MAX_BLOCKS }
+        ensures refused { IfErr result (λ r. r ≡ Refusal.NoMemory) }
+        ensures made { IfOk result (λ f. f ≡ record { size = BLOCK_WORDS * blocks; members = empty; waiting = [] }) }
+    {
+        let set = Flags::new(alloc, blocks)?;
+        let work = work_list(alloc, BLOCK_WORDS * blocks)?;
+        Ok(Frontier { set, work })
+    }
+
+    /// Whether the object is a member.
+    pub(crate) fn contains(&self, start: Addr) -> bool
+        ensures { result ≡ contains self.now.members start }
+    {
+        self.set.contains(start)
+    }
+
+    /// Makes the object a member. A new one waits.
+    pub(crate) fn add(&mut self, start: Addr)
+        requires { IsAmong self.old.size start }
+        ensures gains { Gains self.old self.new (λ a. a ≡ start) }
+    {
+        if self.set.insert(start) {
+            put_last(&mut self.work, start);
+        }
+    }
+
+    /// Adds all objects to which the words point.
+    pub(crate) fn add_targets(&mut self, heap: &Heap, words: &[Word])
+        requires size { self.old.size ≡ BLOCK_WORDS * heap.now.blocks }
+        requires room { len self.old.members ≤ self.old.size }
+        ensures gains { Gains self.old self.new (IsPointedAt heap.now.objects words.now) }
+    {
+        for word in words {
+            if let Some(start) = heap.resolve(*word) {
+                self.add(start);
+            }
+        }
+    }
+
+    /// Takes one that waits.
+    pub(crate) fn pop(&mut self) -> Option<Addr>
+        ensures set { (self.new.size ≡ self.old.size) × (self.new.members ≡ self.old.members) }
+        ensures waiting { MatchOption result ((self.old.waiting ≡ []) × (self.new.waiting ≡ [])) (λ start. self.old.waiting ≡ self.new.waiting ++ start ∷ []) }
+        ensures within { IfSome result (IsAmong self.old.size) }
+        ensures room { IsSome result → length self.new.waiting < len self.new.members }
+    {
+        self.work.pop()
+    }
+
+    /// The least member from an address on, among those of its block.
+    pub(crate) fn next_in_block(&self, from: Addr) -> Option<Addr>
+        ensures next { MatchOption result ((a : ℕ) → from ≤ a → block_of a ≡ block_of from → IsFalse (contains self.now.members a)) (λ next. IsNext self.now.members from next) }
+        ensures within { IfSome result (IsAmong self.now.size) }
+        ensures near { IfSome result (λ next. block_of next ≡ block_of from) }
+    {
+        self.set.next_in_word(from)
+    }
+
+    /// Lets one wait again that was taken.
+    pub(crate) fn put_back(&mut self, start: Addr)
+        requires room { length self.old.waiting < len self.old.members }
+        requires among { IsAmong self.old.size start }
+        ensures { self.new ≡ record self.old { waiting = self.old.waiting ++ start ∷ [] } }
+    {
+        put_last(&mut self.work, start);
+    }
+
+    /// Makes it the same set as another, where nothing waits.
+    pub(crate) fn copy(&mut self, other: &Frontier)
+        requires size { self.old.size ≡ other.now.size }
+        requires idle { self.old.waiting ≡ [] }
+        ensures { self.new ≡ record self.old { members = other.now.members } }
+    {
+        self.set.copy_from(&other.set);
+    }
+
+    /// The members.
+    pub(crate) fn members(&self) -> &Flags<HEAP_START>
+        ensures { result.now ≡ record { size = self.now.size; members = self.now.members } }
+    {
+        &self.set
+    }
+
+    /// Empties the set.
+    pub(crate) fn clear(&mut self)
+        ensures { self.new ≡ record self.old { members = empty; waiting = [] } }
+    {
+        self.set.clear();
+        self.work.clear();
+    }
+
+    /// Adds the children of the object at a start.
+    fn add_children(&mut self, heap: &Heap, start: Addr)
+        requires size { self.old.size ≡ BLOCK_WORDS * heap.now.blocks }
+        requires room { len self.old.members ≤ self.old.size }
+        ensures gains { Gains self.old self.new (Child heap.now.objects start) }
+    {
+        self.add_targets(heap, heap.pointers(start));
+    }
+
+    /// Adds all that those lead to that wait.
+    pub(crate) fn close(&mut self, heap: &Heap)
+        requires size { self.old.size ≡ BLOCK_WORDS * heap.now.blocks }
+        requires traced { IsTracing heap.now.objects self.old self.old }
+        ensures traced { IsTracing heap.now.objects self.old self.new }
+        ensures idle { self.new.waiting ≡ [] }
+    {
+        while let Some(start) = self.pop() {
+            self.add_children(heap, start);
+        }
+    }
+}

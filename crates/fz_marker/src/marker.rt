@@ -1,0 +1,226 @@
+//! The marker of a heap.
+
+ghost use Rattle.std.specs.Prelude.{◌≡◌, ◌≤◌, ◌<◌, ◌+◌, ◌*◌, ◌↔◌, ◌⊎◌, ℕ, IsTrue, IsFalse, IfOk, IfErr, IfSome, MatchOption};
+ghost use Rattle.std.specs.FinSet.{contains, insert, empty, len};
+ghost use Rattle.fz_model.specs.declared.limits.TheConstants.{HEAP_START, BLOCK_WORDS, MAX_BLOCKS};
+ghost use Rattle.fz_model.specs.Extents.{IsInHeap};
+ghost use Rattle.fz_model.specs.Memory.{points};
+ghost use Rattle.fz_model.specs.Reachability.{Leads};
+ghost use Rattle.fz_dirty.specs.Flags.{IsNext, IsWithin};
+ghost use Rattle.fz_marker.specs.Marking.{IsLedFrom, IsLeft, HasChildrenIn, IsClosed, AllScanned, CleanAreClosed, is_newly_in, is_to_scan, readable_count, with_target};
+
+use crate::cycle::Cycle;
+use crate::frontier::Frontier;
+use fz_dirty::{Dirty, Flags};
+use fz_heap::Heap;
+use fz_model::{Addr, HEAP_START, Progress, Refusal, Word};
+use std::alloc::Global;
+use std::marker::Model;
+
+/// The marks of a cycle, a second set of marks, and a list of objects, all by the starts of objects of one heap.
+///
+/// Each call with a heap is asked only with one of as many blocks. All its memory is taken by `new`: for each word of the heap 16 bytes, for the two
+/// lists of objects to be read, and four bits. Marking goes by single objects, so that a cycle can be spread over many steps of the program
+/// (Boehm, Demers and Shenker, "Mostly parallel garbage collection", 1991).
+#[derive(Drop)]
+pub struct Marker {
+    cycle: Cycle,
+    traces: Frontier,
+    listed: Flags<HEAP_START>,
+}
+
+impl Model for Marker {
+    ghost use Rattle.fz_marker.specs.Marking.{Marking, marking_code};
+
+    ghost Value = { Marking };
+
+    ghost coded = { marking_code };
+
+    ghost use Rattle.fz_marker.specs.Markers.{IsMarker};
+
+    ghost view = { λ m. record { size = m.cycle.marks.size; marked = m.cycle.marks.members; scanned = m.cycle.scanned.members; traced = m.traces.members; listed = m.listed.members; scans = m.cycle.scans } };
+
+    ghost invariant = { λ m. IsMarker m.cycle m.traces m.listed };
+}
+
+impl Marker {
+    /// A marker for a heap of `blocks` blocks, without marks. `NoMemory` where an allocation fails.
+    pub fn new(alloc: Global, blocks: u64) -> Result<Marker, Refusal>
+        requires { blocks ≤ MAX_BLOCKS }
+        ensures refused { IfErr result (λ r. r ≡ Refusal.NoMemory) }
+        ensures made { IfOk result (λ m. m ≡ record { size = BLOCK_WORDS * blocks; marked = empty; scanned = empty; traced = empty; listed = empty; scans = 0 }) }
+    {
+        let marks = Frontier::new(alloc, blocks)?;
+        let scanned = Flags::new(alloc, blocks)?;
+        let traces = Frontier::new(alloc, blocks)?;
+        let listed = Flags::new(alloc, blocks)?;
+        let cycle = Cycle {
+            marks,
+            scanned,
+            scans: 0,
+        };
+        Ok(Marker {
+            cycle,
+            traces,
+            listed,
+        })
+    }
+
+    /// Begins a cycle: nothing is marked, traced or listed, and nothing was scanned.
+    pub fn begin(&mut self)
+        ensures { self.new ≡ record self.old { marked = empty; scanned = empty; traced = empty; listed = empty; scans = 0 } }
+    {
+        self.cycle.marks.clear();
+        self.cycle.scanned.clear();
+        self.cycle.scans = 0;
+        self.traces.clear();
+        self.listed.clear();
+    }
+
+    /// Marks the object to which the word points, if it points to one.
+    pub fn root(&mut self, heap: &Heap, word: Word)
+        requires { self.old.size ≡ BLOCK_WORDS * heap.now.blocks }
+        ensures { self.new ≡ record self.old { marked = with_target self.old.marked (points heap.now.objects word) } }
+    {
+        if let Some(start) = heap.resolve(word) {
+            self.born(start);
+        }
+    }
+
+    /// Marks a new object.
+    pub fn born(&mut self, start: Addr)
+        requires { (HEAP_START ≤ start) × (start < HEAP_START + self.old.size) }
+        ensures { self.new ≡ record self.old { marked = insert self.old.marked start } }
+    {
+        self.cycle.marks.add(start);
+    }
+
+    /// Scans marked objects that weren't scanned in this cycle, at most `budget` of them. An atomic object needs no scan.
+    ///
+    /// `Done` where no marked object is left unscanned, `More` where one is after `budget` scans. Asked only in an open cycle, where no
+    /// object was scanned twice: `finish` may scan some again.
+    pub fn step(&mut self, heap: &Heap, budget: u64) -> Progress
+        requires size { self.old.size ≡ BLOCK_WORDS * heap.now.blocks }
+        requires unfinished { self.old.scans ≤ len self.old.scanned }
+        // Marks come, and only along child steps from marked objects.
+        ensures kept { IsWithin self.old.marked self.new.marked }
+        ensures led { (a : ℕ) → IsTrue (contains self.new.marked a) → IsLedFrom heap.now.objects self.old.marked a }
+        // What it scans has marked children.
+        ensures still { IsWithin self.old.scanned self.new.scanned }
+        ensures closed { (a : ℕ) → IsTrue (is_newly_in self.old.scanned self.new.scanned a) → HasChildrenIn heap.now.objects self.new.marked a }
+        // Its answer, and how many scans it makes.
+        ensures done { result ≡ Progress.Done ↔ AllScanned heap.now.objects self.new }
+        ensures more { result ≡ Progress.More → self.new.scans ≡ self.old.scans + budget }
+        ensures left { result ≡ Progress.More → IsLeft heap.now.objects self.new.marked self.new.scanned }
+        ensures budgeted { (self.old.scans ≤ self.new.scans) × (self.new.scans ≤ self.old.scans + budget) }
+        ensures each_once { self.new.scans ≤ self.old.scans + readable_count heap.now.objects (is_newly_in self.old.scanned self.new.scanned) }
+        ensures unfinished { self.new.scans ≤ len self.new.scanned }
+        ensures same { (self.new.size ≡ self.old.size) × (self.new.traced ≡ self.old.traced) × (self.new.listed ≡ self.old.listed) }
+    {
+        self.cycle.step(heap, budget)
+    }
+
+    /// Closes the marks under children: scans the marked objects that weren't scanned in this cycle, and once more those that were, but stand on a
+    /// noted page. An object stands on each page that its words meet. Asked once a cycle; empties the second set and the list.
+    pub fn finish(&mut self, heap: &Heap, dirty: &Dirty)
+        requires size { self.old.size ≡ BLOCK_WORDS * heap.now.blocks }
+        requires pages { dirty.now.pages ≡ heap.now.blocks }
+        requires unfinished { self.old.scans ≤ len self.old.scanned }
+        ensures kept { IsWithin self.old.marked self.new.marked }
+        ensures led { (a : ℕ) → IsTrue (contains self.new.marked a) → IsLedFrom heap.now.objects self.old.marked a }
+        ensures closed { CleanAreClosed heap.now.objects self.old dirty.now.noted → IsClosed heap.now.objects self.new.marked }
+        ensures few { (self.old.scans ≤ self.new.scans) × (self.new.scans ≤ self.old.scans + readable_count heap.now.objects (is_to_scan heap.now.objects self.old dirty.now.noted self.new.marked)) }
+        ensures size { self.new.size ≡ self.old.size }
+        ensures emptied { (self.new.traced ≡ empty) × (self.new.listed ≡ empty) }
+    {
+        self.cycle.forget(heap, dirty);
+        self.cycle.rescan(heap, dirty);
+        self.cycle.step(heap, u64::MAX);
+        self.traces.clear();
+        self.listed.clear();
+    }
+
+    /// Whether the object is marked.
+    pub fn is_marked(&self, start: Addr) -> bool
+        ensures { result ≡ contains self.now.marked start }
+    {
+        self.cycle.marks.contains(start)
+    }
+
+    /// The number of scans in this cycle: each is one reading of an object's words by `step` or `finish`.
+    pub fn scans(&self) -> u64
+        ensures { result ≡ self.now.scans }
+    {
+        self.cycle.scans
+    }
+
+    /// The marked objects.
+    pub fn found(&self) -> &Flags<HEAP_START>
+        ensures { result.now ≡ record { size = self.now.size; members = self.now.marked } }
+    {
+        self.cycle.marks.members()
+    }
+
+    /// Makes the second set the marks, so that `trace` stops at marked objects.
+    pub fn trace_found(&mut self)
+        ensures { self.new ≡ record self.old { traced = self.old.marked } }
+    {
+        self.traces.copy(&self.cycle.marks);
+    }
+
+    /// Adds the object and all that it leads to to the second set; its readings are no scans. Asked only where the second set is closed under children.
+    pub fn trace(&mut self, heap: &Heap, start: Addr)
+        requires size { self.old.size ≡ BLOCK_WORDS * heap.now.blocks }
+        requires in_heap { IsInHeap heap.now.blocks start }
+        requires closed { IsClosed heap.now.objects self.old.traced }
+        ensures same { self.new ≡ record self.old { traced = self.new.traced } }
+        ensures traced { (a : ℕ) → IsTrue (contains self.new.traced a) ↔ (IsTrue (contains self.old.traced a) ⊎ Leads heap.now.objects start a) }
+    {
+        self.traces.add(start);
+        self.traces.close(heap);
+    }
+
+    /// Whether the object is in the second set.
+    pub fn traced(&self, start: Addr) -> bool
+        ensures { result ≡ contains self.now.traced start }
+    {
+        self.traces.contains(start)
+    }
+
+    /// The objects of the second set.
+    pub fn kept(&self) -> &Flags<HEAP_START>
+        ensures { result.now ≡ record { size = self.now.size; members = self.now.traced } }
+    {
+        self.traces.members()
+    }
+
+    /// Empties the list.
+    pub fn clear_list(&mut self)
+        ensures { self.new ≡ record self.old { listed = empty } }
+    {
+        self.listed.clear();
+    }
+
+    /// Puts an object on the list.
+    pub fn list(&mut self, start: Addr)
+        requires { (HEAP_START ≤ start) × (start < HEAP_START + self.old.size) }
+        ensures { self.new ≡ record self.old { listed = insert self.old.listed start } }
+    {
+        self.listed.insert(start);
+    }
+
+    /// The listed objects.
+    pub fn listed(&self) -> &Flags<HEAP_START>
+        ensures { result.now ≡ record { size = self.now.size; members = self.now.listed } }
+    {
+        &self.listed
+    }
+
+    /// The least listed object from an address on. A walk by it may trace, or list, on its way.
+    pub fn next_listed(&self, from: Addr) -> Option<Addr>
+        ensures next { MatchOption result ((n : ℕ) → from ≤ n → IsFalse (contains self.now.listed n)) (λ next. IsNext self.now.listed from next) }
+        ensures within { IfSome result (λ next. (HEAP_START ≤ next) × (next < HEAP_START + self.now.size)) }
+    {
+        self.listed.next(from)
+    }
+}
