@@ -1,41 +1,102 @@
--- A plan that was carried out.
-use Rattle.std.proofs.Common.{◌≡◌, ℕ, ◌+◌, ◌<◌, ◌++◌, Bool, not, List, length, get_or, sym, ap, ◌∙◌, subst, arith, slice_get, All, AllPairs, IsTrue}
-use Rattle.std.specs.FinMap.{len, keys, empty, contains_key, retain_keys}
-use Rattle.std.proofs.lemmas.Option.{slice_get-get_or}
-use Rattle.std.proofs.lemmas.List.Kept.{AllPairs-filter}
+-- A pass that was carried out.
+use Rattle.std.proofs.Common.{◌≡◌, ◌||◌, true, ℕ, ◌↔◌, ◌⊎◌, ◌&&◌, ◌++◌, not, Bool, false, None, List, refl, sym, ap, ◌∙◌, subst, IsTrue}
+use Rattle.std.specs.Option.{option_map_or}
+use Rattle.std.specs.FinSet.{contains}
+use Rattle.std.specs.FinMap.{get, len, contains_key, retain_keys}
 use Rattle.fz_model.specs.State.{Map, Object}
 use Rattle.fz_model.specs.declared.answers.Pick.{Pick}
-use Rattle.fz_model.specs.declared.answers.Registration.{Registration}
-use Rattle.fz_model.specs.Pass.{cleared, without_picks, remaining_objects}
-use Rattle.fz_model.proofs.Lists.{filter_at}
+use Rattle.fz_model.specs.Memory.{points}
+use Rattle.fz_model.specs.Pass.{is_outside, cleared, is_dead, links_within}
 use Rattle.fz_heap.specs.Contents.{Contents}
 use Rattle.fz_table.specs.Registered.{Registered}
-use Rattle.fz_pass.specs.Plans.{IsPlan, without_all}
-use Rattle.fz_pass.specs.Decides.{Decides}
-use Rattle.fz_pass.proofs.Cleared.{cleared_none}
-use Rattle.fz_pass.proofs.Members.{key_has}
-use Rattle.fz_pass.proofs.Removed.{without_failing}
-use Rattle.fz_pass.proofs.Sorted.{keys_rise}
+use Rattle.fz_dirty.specs.Flags.{Set}
+use Rattle.fz_marker.specs.Marking.{Marking, IsClosed}
+use Rattle.fz_pass.specs.Leading.{Traces, AreLeading, AreReaching, is_unreachable}
+use Rattle.fz_pass.specs.Picking.{is_free, AreReady, Picks}
+use Rattle.fz_pass.specs.Decides.{Decides, parts}
+use Rattle.fz_model.proofs.SeenKept.{points-filled}
+use Rattle.fz_pass.proofs.Filling.{has_filled, len_filled}
+use Rattle.fz_pass.proofs.Condemned.{has_retained}
+use Rattle.fz_pass.proofs.Decided.{are_picks, computes_kept, child_before}
 
-module _ (objects : Map Object) (registrations : Map Registration) (found : ℕ → Bool) (picks : List Pick) (garbage : List ℕ) (plan : IsPlan objects registrations found picks garbage) where
-  pub garbage_there : All (λ a. IsTrue (contains_key objects a)) garbage
-  garbage_there i d within =
-      let at = filter_at (λ a. not (plan.decision.kept a)) (keys objects) i (get_or garbage i d) (sym (ap (λ l. slice_get l i) plan.dropped) ∙ slice_get-get_or garbage i d within) in
-      key_has objects at.0 (get_or garbage i d) at.1
+-- links are within the same sets where words point to the same objects
+pub within_same : (a b : Map Object) (links : Map ℕ) (targets containers : ℕ → Bool) → ((w : ℕ) → points a w ≡ points b w) → links_within a links targets containers ≡ links_within b links targets containers
+within_same a b links targets containers same = λ i. retain_keys links (λ link. option_map_or targets (get links link) false && option_map_or containers (same link i) false)
 
-  pub garbage_rises : AllPairs (λ a b. a < b) garbage
-  garbage_rises = subst (AllPairs (λ a b. a < b)) (sym plan.dropped) (AllPairs-filter (λ a b. a < b) (λ a. not (plan.decision.kept a)) (keys objects) (keys_rise objects))
+module _ (heap0 heap1 heap2 heap3 : Contents) (m0 m1 m2 m3 : Marking) (table0 table1 : Registered) (short long new_short new_long : Map ℕ) (L : Set) (out out1 : List Pick) (cleared_short : heap1 ≡ record heap0 { objects = cleared short (contains m0.marked) heap0.objects }) (begun : m1.traced ≡ m0.marked) (listed : (a : ℕ) → contains L a ≡ is_unreachable heap1.objects table0.registrations (contains m0.marked) a) (traced : Traces heap1.objects m1 m2 (AreLeading heap1.objects table0.registrations (contains L))) (p : Picks heap1.objects (is_free L m2.traced) table0 table1 out out1) (reached : Traces heap1.objects m2 m3 (AreReaching heap1.objects (contains L))) (cleared_long : heap2 ≡ record heap1 { objects = cleared long (contains m3.traced) heap1.objects }) (short_is : new_short ≡ links_within heap2.objects short (contains m0.marked) (contains m3.traced)) (long_is : new_long ≡ links_within heap2.objects long (contains m3.traced) (contains m3.traced)) (left : heap3.objects ≡ retain_keys heap2.objects (contains m3.traced)) where
+  after : heap1.objects ≡ cleared short (contains m0.marked) heap0.objects
+  after = ap (λ (h : Contents). h.objects) cleared_short
 
-  pub left : without_all objects garbage ≡ remaining_objects objects empty empty found plan.decision.kept
-  left =
-      ap (without_all objects) plan.dropped ∙ without_failing objects plan.decision.kept
-      ∙ ap (λ m. retain_keys m plan.decision.kept) (sym (cleared_none plan.decision.kept (cleared empty found objects) ∙ cleared_none found objects))
+  listed_is : (a : ℕ) → contains L a ≡ is_unreachable (cleared short (contains m0.marked) heap0.objects) table0.registrations (contains m0.marked) a
+  listed_is a = subst (λ (os : Map Object). contains L a ≡ is_unreachable os table0.registrations (contains m0.marked) a) after (listed a)
 
-pub carried_out : (heap : Contents) (table : Registered) (found : ℕ → Bool) (out picks : List Pick) (garbage : List ℕ) → IsPlan heap.objects table.registrations found picks garbage → (count : ℕ) (new_heap : Contents) (new_table : Registered) (new_out : List Pick) → new_heap ≡ record heap { objects = without_all heap.objects garbage } → len new_heap.objects + length garbage ≡ len heap.objects → new_table ≡ record table { registrations = without_picks table.registrations picks } → new_out ≡ out ++ picks → count ≡ length garbage → Decides heap table found out count new_heap new_table new_out
-carried_out heap table found out picks garbage plan count new_heap new_table new_out heap_is fewer table_is out_is count_is = record {
-  decision = plan.decision;
-  heap_is = heap_is ∙ ap (λ m. record heap { objects = m }) (left heap.objects table.registrations found picks garbage plan);
-  table_is = table_is ∙ ap (λ ps. record table { registrations = without_picks table.registrations ps }) plan.picked;
-  out_is = out_is ∙ ap (λ ps. out ++ ps) plan.picked;
-  reclaimed_is = omega (arith, fewer, count_is);
-}
+  led_is : (x : ℕ) → IsTrue (contains m2.traced x) ↔ (IsTrue (contains m0.marked x) ⊎ AreLeading (cleared short (contains m0.marked) heap0.objects) table0.registrations (contains L) x)
+  led_is x =
+      subst (λ (os : Map Object). IsTrue (contains m2.traced x) ↔ (IsTrue (contains m0.marked x) ⊎ AreLeading os table0.registrations (contains L) x)) after
+      (subst (λ (s : Set). IsTrue (contains m2.traced x) ↔ (IsTrue (contains s x) ⊎ AreLeading heap1.objects table0.registrations (contains L) x)) begun (traced.members x))
+
+  kept_is : (x : ℕ) → IsTrue (contains m3.traced x) ↔ (IsTrue (contains m2.traced x) ⊎ AreReaching (cleared short (contains m0.marked) heap0.objects) (contains L) x)
+  kept_is x = subst (λ (os : Map Object). IsTrue (contains m3.traced x) ↔ (IsTrue (contains m2.traced x) ⊎ AreReaching os (contains L) x)) after (reached.members x)
+
+  ready : AreReady (cleared short (contains m0.marked) heap0.objects) table0.registrations (is_free L m2.traced) p.picks
+  ready = subst (λ (os : Map Object). AreReady os table0.registrations (is_free L m2.traced) p.picks) after p.picked
+
+  objects_are : heap2.objects ≡ cleared long (contains m3.traced) (cleared short (contains m0.marked) heap0.objects)
+  objects_are = ap (λ (h : Contents). h.objects) cleared_long ∙ ap (cleared long (contains m3.traced)) after
+
+  pointed : (w : ℕ) → points heap2.objects w ≡ points heap0.objects w
+  pointed w =
+      ap (λ os. points os w) objects_are ∙ points-filled (is_dead (cleared short (contains m0.marked) heap0.objects) long (contains m3.traced)) 0 (cleared short (contains m0.marked) heap0.objects) w
+      ∙ points-filled (is_dead heap0.objects short (contains m0.marked)) 0 heap0.objects w
+
+  pub decided : (picks : List Pick) × (out1 ≡ out ++ picks) × Decides (parts heap0 table0 short long) (contains m0.marked) picks (parts heap3 table1 new_short new_long)
+  decided = (
+    p.picks,
+    p.out_is,
+    record {
+      decision = record {
+        kept = contains m3.traced;
+        kept_is = computes_kept heap0.objects table0.registrations short (contains m0.marked) (contains L) listed_is (contains m2.traced) led_is (contains m3.traced) kept_is;
+        picks = p.picks;
+        picks_are = are_picks heap0.objects table0.registrations short (contains m0.marked) (contains L) listed_is (contains m2.traced) led_is p.picks ready;
+      };
+      picked = refl;
+      is = λ i. record {
+        objects = (left ∙ ap (λ os. retain_keys os (contains m3.traced)) objects_are) i;
+        registrations = (ap (λ (t : Registered). t.registrations) p.table_is) i;
+        short = (short_is ∙ within_same heap2.objects heap0.objects short (contains m0.marked) (contains m3.traced) pointed) i;
+        long = (long_is ∙ within_same heap2.objects heap0.objects long (contains m3.traced) (contains m3.traced) pointed) i;
+      };
+    },
+  )
+
+-- ---- what the parts of a pass ask for
+
+-- the marks stay closed when the words of dead links are zero
+pub closed_after : (objects : Map Object) (short : Map ℕ) (marked : Set) → points objects 0 ≡ None → IsClosed objects marked → IsClosed (cleared short (contains marked) objects) marked
+closed_after objects short marked none closed a h b child = closed a h b (child_before (is_dead objects short (contains marked)) objects none a b child)
+
+-- the same clearing, by the same set
+pub cleared_by : (heap new : Contents) (links : Map ℕ) (given set : Set) → given ≡ set → new ≡ record heap { objects = cleared links (contains given) heap.objects } → new ≡ record heap { objects = cleared links (contains set) heap.objects }
+cleared_by heap new links given set same is = is ∙ ap (λ s. record heap { objects = cleared links (contains s) heap.objects }) same
+
+-- ---- what is condemned
+
+has_cleared : (heap new : Contents) (links : Map ℕ) (set : Set) → new ≡ record heap { objects = cleared links (contains set) heap.objects } → (a : ℕ) → contains_key new.objects a ≡ contains_key heap.objects a
+has_cleared heap new links set is a = ap (λ (h : Contents). contains_key h.objects a) is ∙ has_filled (is_dead heap.objects links (contains set)) 0 heap.objects a
+
+pub len_cleared : (heap new : Contents) (links : Map ℕ) (set : Set) → new ≡ record heap { objects = cleared links (contains set) heap.objects } → len new.objects ≡ len heap.objects
+len_cleared heap new links set is = ap (λ (h : Contents). len h.objects) is ∙ len_filled (is_dead heap.objects links (contains set)) 0 heap.objects
+
+gone : (there kept was : Bool) → ((there && not kept) || was) ≡ ((there && not (there && kept)) || was)
+gone true kept was = refl
+gone false kept was = refl
+
+pub condemned : (heap0 heap1 heap2 heap3 : Contents) (short long : Map ℕ) (found kept : Set) → heap1 ≡ record heap0 { objects = cleared short (contains found) heap0.objects } → heap2 ≡ record heap1 { objects = cleared long (contains kept) heap1.objects } → heap3.objects ≡ retain_keys heap2.objects (contains kept) → ((a : ℕ) → contains heap3.condemned a ≡ (is_outside heap2.objects (contains kept) a || contains heap2.condemned a)) → (a : ℕ) → contains heap3.condemned a ≡ ((contains_key heap0.objects a && not (contains_key heap3.objects a)) || contains heap0.condemned a)
+condemned heap0 heap1 heap2 heap3 short long found kept first second left is a =
+    let here = has_cleared heap1 heap2 long kept second a ∙ has_cleared heap0 heap1 short found first a in
+    let was = ap (λ (h : Contents). contains h.condemned a) second ∙ ap (λ (h : Contents). contains h.condemned a) first in
+    let stays = ap (λ (m : Map Object). contains_key m a) left ∙ has_retained heap2.objects (contains kept) a ∙ ap (λ b. b && contains kept a) here in
+    is a ∙ ap (λ b. (b && not (contains kept a)) || contains heap2.condemned a) here ∙ ap (λ b. (contains_key heap0.objects a && not (contains kept a)) || b) was
+    ∙ gone (contains_key heap0.objects a) (contains kept a) (contains heap0.condemned a)
+    ∙ ap (λ b. (contains_key heap0.objects a && not b) || contains heap0.condemned a) (sym stays)

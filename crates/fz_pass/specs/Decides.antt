@@ -1,14 +1,46 @@
--- What a pass makes of heap and table, where no links are registered.
-use Rattle.std.specs.Prelude.{◌≡◌, ℕ, ◌-◌, Bool, List, ◌++◌}
-use Rattle.std.specs.FinMap.{len, empty}
+-- What a pass makes of the parts that it goes over.
+use Rattle.std.specs.Prelude.{◌≡◌, ℕ, ◌+◌, ◌++◌, Bool, false, List, length}
 use Rattle.fz_model.specs.declared.answers.Pick.{Pick}
-use Rattle.fz_model.specs.Pass.{Decision, remaining_objects, without_picks}
+use Rattle.fz_model.specs.declared.answers.Registration.{Registration}
+use Rattle.fz_model.specs.State.{Map, Object, Core}
+use Rattle.fz_model.specs.Pass.{Decision, remaining_objects, without_picks, links_within, entries_of}
 use Rattle.fz_heap.specs.Contents.{Contents}
 use Rattle.fz_table.specs.Registered.{Registered}
 
-pub record Decides (heap : Contents) (table : Registered) (found : ℕ → Bool) (out : List Pick) (reclaimed : ℕ) (new_heap : Contents) (new_table : Registered) (new_out : List Pick) : Type 0 where
-  pub decision : Decision heap.objects table.registrations empty found
-  pub heap_is : new_heap ≡ record heap { objects = remaining_objects heap.objects empty empty found decision.kept }
-  pub table_is : new_table ≡ record table { registrations = without_picks table.registrations decision.picks }
-  pub out_is : new_out ≡ out ++ decision.picks
-  pub reclaimed_is : reclaimed ≡ len heap.objects - len new_heap.objects
+pub record Parts : Type 0 where
+  pub objects : Map Object
+  pub registrations : Map Registration
+  pub short : Map ℕ
+  pub long : Map ℕ
+
+-- the parts as they stand in heap, table and links
+abbrev pub parts : Contents → Registered → Map ℕ → Map ℕ → Parts
+parts heap table short long = record { objects = heap.objects; registrations = table.registrations; short = short; long = long }
+
+-- what a pass with these found objects picks, and what it leaves
+pub record Decides (old : Parts) (found : ℕ → Bool) (picks : List Pick) (new : Parts) : Type 0 where
+  pub decision : Decision old.objects old.registrations old.short found
+  pub picked : picks ≡ decision.picks
+  pub is : new ≡ record {
+    objects = remaining_objects old.objects old.short old.long found decision.kept;
+    registrations = without_picks old.registrations decision.picks;
+    short = links_within old.objects old.short found decision.kept;
+    long = links_within old.objects old.long decision.kept decision.kept;
+  }
+
+-- the parts of a core
+abbrev pub parts_of : Core → Parts
+parts_of c = record { objects = c.objects; registrations = c.registrations; short = c.short; long = c.long }
+
+-- the core after a pass: with other parts, and with the entries of the picks
+abbrev pub passed_core : Core → Parts → List Pick → Core
+passed_core c new picks = record c {
+  objects = new.objects;
+  registrations = new.registrations;
+  short = new.short;
+  long = new.long;
+  queue = c.queue ++ entries_of (c.passes + 1) (length c.queue) picks;
+  held = c.held ++ entries_of (c.passes + 1) (length c.queue) picks;
+  passes = c.passes + 1;
+  cycle = false;
+}

@@ -1,13 +1,15 @@
-//! The finalization pass, and the tracing that it stands on.
+//! The finalization pass.
 #![tactic(auto)]
 
+mod clearing;
+mod keeping;
+mod law;
+mod leading;
 mod pass;
-mod plan;
-mod set;
+mod picking;
+mod reclaiming;
 #[cfg(test)]
 mod tests;
-mod trace;
 
+pub use law::decisions_pass;
 pub use pass::decide;
-pub use set::ObjectSet;
-pub use trace::Tracer;

@@ -1,62 +1,63 @@
-//! One pass over heap and table.
+//! One pass over heap, marks, table and links.
 
-ghost use Rattle.std.specs.Prelude.{◌≡◌, ◌<◌, ◌+◌, ◌*◌, ℕ, length, All, AllPairs, IsTrue, IfOk, IfErr, OnErr};
+ghost use Rattle.std.specs.Prelude.{◌≡◌, ◌≤◌, ◌+◌, ◌*◌, ◌++◌, ◌||◌, ◌&&◌, not, ℕ, List, length, vec_capacity};
+ghost use Rattle.std.specs.FinSet.{contains};
+ghost use Rattle.std.specs.FinSet as sets;
 ghost use Rattle.std.specs.FinMap.{len, contains_key};
-ghost use Rattle.fz_model.specs.Reachability.{Child};
-ghost use Rattle.fz_model.specs.Pass.{without_picks};
-ghost use Rattle.fz_pass.specs.Sets.{has};
-ghost use Rattle.fz_pass.specs.Plans.{without_all};
-ghost use Rattle.fz_pass.specs.Decides.{Decides};
+ghost use Rattle.fz_model.specs.declared.answers.Pick.{Pick};
+ghost use Rattle.fz_model.specs.declared.limits.TheConstants.{BLOCK_WORDS};
+ghost use Rattle.fz_marker.specs.Marking.{IsClosed};
+ghost use Rattle.fz_pass.specs.Decides.{Decides, parts};
 
-use crate::plan::Plan;
-use crate::set::ObjectSet;
+use crate::clearing::{clear_dead, learn_zero};
+use crate::keeping::keep_within;
+use crate::leading::{list_unreachable, trace_led, trace_listed};
+use crate::picking::pick_free;
+use crate::reclaiming::condemn_outside;
 use fz_heap::Heap;
-use fz_model::{Addr, Pick, Refusal};
+use fz_links::Links;
+use fz_marker::Marker;
+use fz_model::Pick;
 use fz_table::Table;
-use std::alloc::Global;
 
-/// Carries out a pass with these found objects: puts the ready registrations into `out`, by rising address, removes them from the table, reclaims the
-/// objects that aren't kept, and returns their number. Asked only with a found set of as many blocks as the heap has, closed under children.
+/// Carries out a pass in which the marked objects are those that were found, and returns the number of objects that it reclaims.
 ///
-/// Refused `NoMemory` where an allocation is refused, and nothing has changed then.
+/// It clears the words of dead links, takes the ready registrations out of the table and puts their picks at the end of `out`, by rank, then
+/// address, drops links, and condemns the objects that aren't kept. It takes no memory, and asks for room in `out` for every registration.
 pub fn decide(
-    alloc: Global,
     heap: &mut Heap,
+    marker: &mut Marker,
     table: &mut Table,
-    found: &ObjectSet,
+    short: &mut Links,
+    long: &mut Links,
     out: &mut Vec<Pick>,
-) -> Result<u64, Refusal>
-    requires size { length found.now ≡ 64 * heap.old.blocks }
-    requires closed { (a b : ℕ) → IsTrue (has found.now a) → Child heap.old.objects a b → IsTrue (has found.now b) }
-    ensures refused { IfErr result (λ r. r ≡ Refusal.NoMemory) }
-    ensures unchanged { OnErr result ((heap.new ≡ heap.old) × (table.new ≡ table.old) × (out.new.items ≡ out.old.items)) }
-    ensures decided { IfOk result (λ reclaimed. Decides heap.old table.old (has found.now) out.old.items reclaimed heap.new table.new out.new.items) }
+) -> u64
+    requires size { marker.old.size ≡ BLOCK_WORDS * heap.old.blocks }
+    requires closed { IsClosed heap.old.objects marker.old.marked }
+    requires room { length out.old.items + len table.old.registrations ≤ vec_capacity out.old }
+    ensures decided { (picks : List Pick) × (out.new.items ≡ out.old.items ++ picks) × Decides (parts heap.old table.old short.old long.old) (contains marker.old.marked) picks (parts heap.new table.new short.new long.new) }
+    // The objects that it reclaims are condemned, and no other.
+    ensures condemned { (a : ℕ) → contains heap.new.condemned a ≡ (contains_key heap.old.objects a && not (contains_key heap.new.objects a) || contains heap.old.condemned a) }
+    ensures count { sets.len heap.new.condemned ≡ sets.len heap.old.condemned + result }
+    ensures reclaimed { len heap.new.objects + result ≡ len heap.old.objects }
+    // There is room for every registration that is left.
+    ensures room { length out.new.items + len table.new.registrations ≤ vec_capacity out.new }
+    // All else stays.
+    ensures heap { heap.new ≡ record heap.old { objects = heap.new.objects; condemned = heap.new.condemned } }
+    ensures marker { marker.new ≡ record marker.old { traced = marker.new.traced; listed = marker.new.listed } }
+    ensures table { table.new ≡ record table.old { registrations = table.new.registrations } }
 {
-    let plan = Plan::new(alloc, heap, table, found)?;
-    out.extend_from_slice(&plan.picks)?;
-    // From here on nothing fails.
-    take_out(table, &plan.picks);
-    reclaim_all(heap, &plan.garbage);
-    Ok(plan.garbage.len() as u64)
-}
-
-/// Removes the registrations of the picks from the table.
-fn take_out(table: &mut Table, picks: &[Pick])
-    ensures { table.new ≡ record table.old { registrations = without_picks table.old.registrations picks.now } }
-{
-    for pick in picks {
-        table.remove(pick.obj);
-    }
-}
-
-/// Reclaims the objects at the starts. Asked only of starts, by rising address.
-fn reclaim_all(heap: &mut Heap, starts: &[Addr])
-    requires objects { All (λ a. IsTrue (contains_key heap.old.objects a)) starts.now }
-    requires rising { AllPairs (λ a b. a < b) starts.now }
-    ensures reclaimed { heap.new ≡ record heap.old { objects = without_all heap.old.objects starts.now } }
-    ensures fewer { len heap.new.objects + length starts.now ≡ len heap.old.objects }
-{
-    for start in starts {
-        heap.reclaim(*start);
-    }
+    learn_zero(heap);
+    clear_dead(heap, short, marker.found());
+    marker.trace_found();
+    list_unreachable(heap, marker, table);
+    trace_led(heap, marker, table);
+    pick_free(heap, table, marker.listed(), marker.kept(), out);
+    trace_listed(heap, marker);
+    let found = marker.found();
+    let kept = marker.kept();
+    clear_dead(heap, long, kept);
+    keep_within(short, heap, found, kept);
+    keep_within(long, heap, kept, kept);
+    condemn_outside(heap, kept)
 }

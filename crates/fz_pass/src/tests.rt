@@ -1,130 +1,141 @@
-//! Worked examples of a pass. The objects have one word each: the first stands at address 65,536, the second at 65,537, and so on.
+//! Worked examples of a pass. Objects of one word stand at the heap's first addresses, in the order in which they are made.
 
-use crate::{ObjectSet, Tracer, decide};
+ghost use Rattle.std.specs.Prelude.{◌≡◌, ◌*◌, IfOk};
+ghost use Rattle.fz_model.specs.declared.limits.TheConstants.{BLOCK_WORDS};
+ghost use Rattle.fz_marker.specs.Marking.{IsClosed};
+
+use crate::decide;
+use fz_dirty::Dirty;
 use fz_heap::Heap;
-use fz_model::RegKind::{IgnoreSelf, NoOrder, Normal};
-use fz_model::{Addr, ObjKind, Pick, RegKind, Word};
+use fz_links::Links;
+use fz_marker::Marker;
+use fz_model::RegKind::{IgnoreSelf, Normal};
+use fz_model::{Addr, HEAP_START, ObjKind, Pick, RegKind, Word};
 use fz_table::Table;
 use std::alloc::Global;
 use std::test::Fail;
 
-/// A heap with a scanned object for each word, which is what it holds.
-fn heap_of(alloc: Global, words: &[Word]) -> Result<Heap, Fail> {
-    let mut heap = Heap::new(alloc, 2)?;
+const FIRST: Addr = HEAP_START;
+
+const SECOND: Addr = HEAP_START + 1;
+
+const THIRD: Addr = HEAP_START + 2;
+
+const FOURTH: Addr = HEAP_START + 3;
+
+/// What a pass goes over.
+#[derive(Drop)]
+struct Parts {
+    heap: Heap,
+    table: Table,
+    short: Links,
+    long: Links,
+}
+
+fn open(alloc: Global, blocks: u64) -> Result<Parts, Fail> {
+    Ok(Parts {
+        heap: Heap::new(alloc, blocks)?,
+        table: Table::new(alloc),
+        short: Links::new(alloc),
+        long: Links::new(alloc),
+    })
+}
+
+/// Makes a scanned object for each word, which is what it holds.
+fn make(parts: &mut Parts, words: &[Word]) -> Result<(), Fail> {
     for word in words {
-        let (start, _) = heap.alloc(1, ObjKind::Scanned)?;
-        heap.write(start, 0, *word)?;
+        let (start, _) = parts.heap.alloc(1, ObjKind::Scanned)?;
+        parts.heap.write(start, 0, *word)?;
     }
-    Ok(heap)
+    Ok(())
 }
 
-/// A table with these registrations, numbered from 0 in this order.
-fn table_of(alloc: Global, registered: &[(Addr, RegKind)]) -> Result<Table, Fail> {
-    let mut table = Table::new(alloc);
-    for (object, kind) in registered {
-        table.register(*object, *kind, 7, 8)?;
+/// Registers these objects with their kinds and ranks, numbered from 0 in this order.
+fn register(parts: &mut Parts, registered: &[(Addr, RegKind, u8)]) -> Result<(), Fail> {
+    for (object, kind, rank) in registered {
+        parts.table.register(*object, *kind, 7, 8, *rank)?;
     }
-    Ok(table)
+    Ok(())
 }
 
-/// The object at the start, and all that it leads to.
-fn led_from(alloc: Global, heap: &Heap, start: Addr) -> Result<ObjectSet, Fail> {
-    heap.facts(start).ok_or("no object starts there")?;
-    let mut tracer = Tracer::new(alloc, heap.blocks())?;
-    tracer.mark(start)?;
-    Ok(tracer.finish(heap)?)
+/// A marker that has found what one root leads to.
+fn marked(alloc: Global, heap: &Heap, root: Word) -> Result<Marker, Fail>
+    ensures size { IfOk result (λ m. m.size ≡ BLOCK_WORDS * heap.now.blocks) }
+    ensures closed { IfOk result (λ m. IsClosed heap.now.objects m.marked) }
+{
+    let blocks = heap.blocks();
+    let mut marker = Marker::new(alloc, blocks)?;
+    let clean = Dirty::new(alloc, blocks)?;
+    marker.begin();
+    marker.root(heap, root);
+    marker.finish(heap, &clean);
+    Ok(marker)
 }
 
-/// A pass with one root: its picks, and how many objects it reclaims.
-fn pass(
-    alloc: Global,
-    heap: &mut Heap,
-    table: &mut Table,
-    root: Word,
-) -> Result<(Vec<Pick>, u64), Fail> {
-    let mut tracer = Tracer::new(alloc, heap.blocks())?;
-    tracer.root(heap, root)?;
-    let found = tracer.finish(heap)?;
-    let mut picks = Vec::new(alloc);
-    let reclaimed = decide(alloc, heap, table, &found, &mut picks)?;
+/// A pass that finds what one root leads to: its picks, and how many objects it reclaims.
+fn pass(alloc: Global, parts: &mut Parts, root: Word) -> Result<(Vec<Pick>, u64), Fail> {
+    let mut picks = Vec::with_capacity(alloc, parts.table.len())?;
+    let mut marker = marked(alloc, &parts.heap, root)?;
+    let reclaimed = decide(
+        &mut parts.heap,
+        &mut marker,
+        &mut parts.table,
+        &mut parts.short,
+        &mut parts.long,
+        &mut picks,
+    );
     Ok((picks, reclaimed))
+}
+
+fn objects_of(alloc: Global, picks: &[Pick]) -> Result<Vec<Addr>, Fail> {
+    Ok(picks.iter().map(|pick| pick.obj).collect(alloc)?)
 }
 
 /// The objects that a pass without roots picks among those with these words, in order.
 fn picked(
     alloc: Global,
     words: &[Word],
-    registered: &[(Addr, RegKind)],
+    registered: &[(Addr, RegKind, u8)],
 ) -> Result<Vec<Addr>, Fail> {
-    let mut heap = heap_of(alloc, words)?;
-    let mut table = table_of(alloc, registered)?;
-    let (picks, _) = pass(alloc, &mut heap, &mut table, 0)?;
-    Ok(picks.iter().map(|pick| pick.obj).collect(alloc)?)
+    let mut parts = open(alloc, 2)?;
+    make(&mut parts, words)?;
+    register(&mut parts, registered)?;
+    let (picks, _) = pass(alloc, &mut parts, 0)?;
+    objects_of(alloc, &picks)
 }
 
 /// Of four objects the first is registered and found, the second is registered and leads to the third, and nothing leads to the fourth.
 #[test]
 fn picks_keeps_and_reclaims(rt: HostRuntime) -> Result<(), Fail> {
     let alloc = rt.alloc();
-    let mut heap = heap_of(alloc, &[0, 65_538, 0, 0])?;
-    let mut table = table_of(alloc, &[(65_536, Normal), (65_537, Normal)])?;
-    let (picks, reclaimed) = pass(alloc, &mut heap, &mut table, 65_536)?;
+    let mut parts = open(alloc, 2)?;
+    make(&mut parts, &[0, THIRD, 0, 0])?;
+    register(&mut parts, &[(FIRST, Normal, 0), (SECOND, Normal, 0)])?;
+    let (picks, reclaimed) = pass(alloc, &mut parts, FIRST)?;
     let pick = Pick {
         reg: 1,
-        obj: 65_537,
+        obj: SECOND,
         birth: 1,
         proc: 7,
         cd: 8,
     };
     assert_eq!(rt; picks.as_slice(), [pick].as_slice());
     assert_eq!(rt; reclaimed, 1);
-    let left: Vec<Addr> = heap.objects().collect(alloc)?;
-    assert_eq!(rt; left.as_slice(), [65_536, 65_537, 65_538].as_slice());
-    assert!(rt; table.get(65_536).is_some(), "it was found");
-    assert!(rt; table.get(65_537).is_none(), "it is picked once");
+    assert_eq!(rt; parts.heap.condemned(), 1);
+    assert!(rt; parts.heap.facts(THIRD).is_some(), "the pick leads to it");
+    assert!(rt; parts.heap.facts(FOURTH).is_none());
+    assert!(rt; parts.table.get(FIRST).is_some(), "it was found");
+    assert!(rt; parts.table.get(SECOND).is_none(), "it is picked once");
     Ok(())
 }
 
-/// The second object leads to the first.
+/// Two objects lead to one another, and each waits for the other, whether it ignores itself or not.
 #[test]
-fn picks_only_what_leads_a_chain(rt: HostRuntime) -> Result<(), Fail> {
-    let registered = [(65_536, Normal), (65_537, Normal)];
-    let chain = picked(rt.alloc(), &[0, 65_536], &registered)?;
-    assert_eq!(rt; chain.as_slice(), [65_537].as_slice());
-    Ok(())
-}
-
-#[test]
-fn only_a_normal_object_waits_for_itself(rt: HostRuntime) -> Result<(), Fail> {
-    let normal = picked(rt.alloc(), &[65_536], &[(65_536, Normal)])?;
-    assert!(rt; normal.is_empty());
-    let ignore_self = picked(rt.alloc(), &[65_536], &[(65_536, IgnoreSelf)])?;
-    assert_eq!(rt; ignore_self.as_slice(), [65_536].as_slice());
-    let no_order = picked(rt.alloc(), &[65_536], &[(65_536, NoOrder)])?;
-    assert_eq!(rt; no_order.as_slice(), [65_536].as_slice());
-    Ok(())
-}
-
-/// Two no-order objects lead to one another, and the second is registered first.
-#[test]
-fn picks_come_by_address(rt: HostRuntime) -> Result<(), Fail> {
-    let registered = [(65_537, NoOrder), (65_536, NoOrder)];
-    let pair = picked(rt.alloc(), &[65_537, 65_536], &registered)?;
-    assert_eq!(rt; pair.as_slice(), [65_536, 65_537].as_slice());
-    Ok(())
-}
-
-/// The first object leads to the second, and that to an atomic one, whose word is the address of the third.
-#[test]
-fn traces_all_but_words_of_atomic_objects(rt: HostRuntime) -> Result<(), Fail> {
-    let alloc = rt.alloc();
-    let mut heap = heap_of(alloc, &[65_537, 65_600, 0])?;
-    assert_eq!(rt; heap.alloc(1, ObjKind::Atomic), Ok((65_600, 3)));
-    heap.write(65_600, 0, 65_538)?;
-    let led = led_from(alloc, &heap, 65_536)?;
-    assert!(rt; led.contains(65_536));
-    assert!(rt; led.contains(65_537));
-    assert!(rt; led.contains(65_600));
-    assert!(rt; !led.contains(65_538));
+fn a_cycle_waits(rt: HostRuntime) -> Result<(), Fail> {
+    let pair = [SECOND, FIRST];
+    let normal = [(FIRST, Normal, 0), (SECOND, Normal, 0)];
+    assert!(rt; picked(rt.alloc(), &pair, &normal)?.is_empty());
+    let ignore_self = [(FIRST, IgnoreSelf, 0), (SECOND, IgnoreSelf, 0)];
+    assert!(rt; picked(rt.alloc(), &pair, &ignore_self)?.is_empty());
     Ok(())
 }

@@ -1,28 +1,69 @@
--- The plan is carried out.
-use Rattle.std.proofs.Common.{◌≡◌, ◌∙◌, sym, ap, subst, All, AllPairs, IsTrue, ◌<◌, ◌+◌, ◌++◌, ℕ, List, length}
-use Rattle.std.specs.FinMap.{contains_key, len}
-use Rattle.fz_model.specs.Pass.{without_picks}
-use Rattle.fz_pass.specs.Plans.{without_all}
-use Rattle.fz_pass.specs.Sets.{has}
-use Rattle.fz_pass.proofs.Carried.{garbage_there, garbage_rises, carried_out}
+-- The parts of the pass fit together.
+use Rattle.std.proofs.Common.{◌≡◌, ◌||◌, ◌∙◌, ℕ, sym, ap, subst, arith}
+use Rattle.std.specs.FinSet.{contains}
+use Rattle.std.specs.FinMap.{retain_keys}
+use Rattle.fz_model.specs.Pass.{is_outside, links_within}
+use Rattle.fz_heap.specs.Contents.{Contents}
+use Rattle.fz_dirty.specs.Flags.{Set, Flagged}
+use Rattle.fz_marker.specs.Marking.{Marking, IsClosed}
+use Rattle.fz_pass.specs.Leading.{Traces, AreReaching, is_unreachable}
+use Rattle.fz_pass.specs.Picking.{Picks, is_free}
+use Rattle.fz_pass.proofs.Carried.{decided, closed_after, cleared_by, condemned, len_cleared}
 use Rattle.fz_pass.proofs.pass.decide.Goals as goal
 
-pub reclaim_all-requires-clause-objects : goal.reclaim_all-requires-clause-objects
-reclaim_all-requires-clause-objects c =
-    subst (All (λ a. IsTrue (contains_key c.args.heap.now.objects a))) (sym c.deref-3.ensures.value)
-    (garbage_there c.args.heap.now.objects c.args.table.now.registrations (has c.args.found.now) c.in_ok-plan.plan.picks.items c.in_ok-plan.plan.garbage.items c.in_ok-plan.ensures)
-
-pub reclaim_all-requires-clause-rising : goal.reclaim_all-requires-clause-rising
-reclaim_all-requires-clause-rising c =
-    subst (AllPairs (λ a b. a < b)) (sym c.deref-3.ensures.value)
-    (garbage_rises c.args.heap.now.objects c.args.table.now.registrations (has c.args.found.now) c.in_ok-plan.plan.picks.items c.in_ok-plan.plan.garbage.items c.in_ok-plan.ensures)
+pub trace_led-requires-clause-closed : goal.trace_led-requires-clause-closed
+trace_led-requires-clause-closed c =
+    let m0 = c.args.marker.now in
+    let heap0 = c.args.heap.now in
+    let first = cleared_by heap0 c.clear_dead.new.heap c.args.short.now c.found.result.now.members m0.marked (ap (λ (f : Flagged). f.members) c.found.ensures) c.clear_dead.ensures in
+    let begun : c.list_unreachable.new.marker.traced ≡ m0.marked = ap (λ (m : Marking). m.traced) c.list_unreachable.ensures.same ∙ ap (λ (m : Marking). m.traced) c.trace_found.ensures in
+    subst (IsClosed c.clear_dead.new.heap.objects) (sym begun)
+    (subst (λ (h : Contents). IsClosed h.objects m0.marked) (sym first) (closed_after heap0.objects c.args.short.now m0.marked c.learn_zero.ensures c.requires.closed))
 
 pub returns-clause-decided : goal.returns-clause-decided
 returns-clause-decided c =
-    let plan = c.in_ok-plan.plan in
-    carried_out c.args.heap.now c.args.table.now (has c.args.found.now) c.args.out.now.items plan.picks.items plan.garbage.items c.in_ok-plan.ensures c.len.result c.reclaim_all.new.heap c.take_out.new.table c.extend_from_slice.new.self.items
-    (c.reclaim_all.ensures.reclaimed ∙ ap (λ ks. record c.args.heap.now { objects = without_all c.args.heap.now.objects ks }) c.deref-3.ensures.value)
-    (subst (λ (ks : List ℕ). len c.reclaim_all.new.heap.objects + length ks ≡ len c.args.heap.now.objects) c.deref-3.ensures.value c.reclaim_all.ensures.fewer)
-    (c.take_out.ensures ∙ ap (λ ps. record c.args.table.now { registrations = without_picks c.args.table.now.registrations ps }) c.deref-2.ensures.value)
-    (c.in_ok-extend_from_slice.ensures.items ∙ ap (λ ps. c.args.out.now.items ++ ps) c.deref.ensures.value)
-    (c.len.ensures ∙ plan.garbage.ok.0)
+    let m0 = c.args.marker.now in
+    let m1 = c.list_unreachable.new.marker in
+    let m2 = c.trace_led.new.marker in
+    let m3 = c.trace_listed.new.marker in
+    let heap0 = c.args.heap.now in
+    let heap1 = c.clear_dead.new.heap in
+    let heap2 = c.clear_dead-2.new.heap in
+    let table0 = c.args.table.now in
+    let table1 = c.pick_free.new.table in
+    let out0 = c.args.out.now.items in
+    let out1 = c.pick_free.new.out.items in
+    let short = c.args.short.now in
+    let long = c.args.long.now in
+    let first = cleared_by heap0 heap1 short c.found.result.now.members m0.marked (ap (λ (f : Flagged). f.members) c.found.ensures) c.clear_dead.ensures in
+    let begun : m1.traced ≡ m0.marked = ap (λ (m : Marking). m.traced) c.list_unreachable.ensures.same ∙ ap (λ (m : Marking). m.traced) c.trace_found.ensures in
+    let listed : (a : ℕ) → contains m1.listed a ≡ is_unreachable heap1.objects table0.registrations (contains m0.marked) a =
+    λ a. c.list_unreachable.ensures.listed a ∙ ap (λ (m : Marking). is_unreachable heap1.objects table0.registrations (contains m.marked) a) c.trace_found.ensures in
+    let list : m2.listed ≡ m1.listed = ap (λ (m : Marking). m.listed) c.trace_led.ensures.same in
+    let marked : m3.marked ≡ m0.marked =
+    ap (λ (m : Marking). m.marked) c.trace_listed.ensures.same ∙ ap (λ (m : Marking). m.marked) c.trace_led.ensures.same ∙ ap (λ (m : Marking). m.marked) c.list_unreachable.ensures.same ∙ ap (λ (m : Marking). m.marked) c.trace_found.ensures in
+    let picks = subst (λ (s : Set). Picks heap1.objects (is_free s m2.traced) table0 table1 out0 out1) (ap (λ (f : Flagged). f.members) c.listed.ensures ∙ list)
+    (subst (λ (s : Set). Picks heap1.objects (is_free c.listed.result.now.members s) table0 table1 out0 out1) (ap (λ (f : Flagged). f.members) c.kept.ensures) c.pick_free.ensures.picks) in
+    let reached = subst (λ (s : Set). Traces heap1.objects m2 m3 (AreReaching heap1.objects (contains s))) list c.trace_listed.ensures in
+    let second = cleared_by heap1 heap2 long c.kept-kept.result.now.members m3.traced (ap (λ (f : Flagged). f.members) c.kept-kept.ensures) c.clear_dead-2.ensures in
+    let found : c.found-found.result.now.members ≡ m0.marked = ap (λ (f : Flagged). f.members) c.found-found.ensures ∙ marked in
+    let kept : c.kept-kept.result.now.members ≡ m3.traced = ap (λ (f : Flagged). f.members) c.kept-kept.ensures in
+    decided heap0 heap1 heap2 c.condemn_outside.new.heap m0 m1 m2 m3 table0 table1 short long c.keep_within.new.links c.keep_within-2.new.links m1.listed out0 out1 first begun listed c.trace_led.ensures picks reached second
+    (c.keep_within.ensures ∙ (λ i. links_within heap2.objects short (contains (found i)) (contains (kept i))))
+    (c.keep_within-2.ensures ∙ (λ i. links_within heap2.objects long (contains (kept i)) (contains (kept i))))
+    (c.condemn_outside.ensures.objects ∙ ap (λ (f : Flagged). retain_keys heap2.objects (contains f.members)) c.kept-kept.ensures)
+
+pub returns-clause-condemned : goal.returns-clause-condemned
+returns-clause-condemned c =
+    let m3 = c.trace_listed.new.marker in
+    let heap2 = c.clear_dead-2.new.heap in
+    condemned c.args.heap.now c.clear_dead.new.heap heap2 c.condemn_outside.new.heap c.args.short.now c.args.long.now c.found.result.now.members m3.traced c.clear_dead.ensures
+    (cleared_by c.clear_dead.new.heap heap2 c.args.long.now c.kept-kept.result.now.members m3.traced (ap (λ (f : Flagged). f.members) c.kept-kept.ensures) c.clear_dead-2.ensures)
+    (c.condemn_outside.ensures.objects ∙ ap (λ (f : Flagged). retain_keys heap2.objects (contains f.members)) c.kept-kept.ensures)
+    (λ a. c.condemn_outside.ensures.condemned a ∙ ap (λ (f : Flagged). is_outside heap2.objects (contains f.members) a || contains heap2.condemned a) c.kept-kept.ensures)
+
+pub returns-clause-reclaimed : goal.returns-clause-reclaimed
+returns-clause-reclaimed c =
+    let first = len_cleared c.args.heap.now c.clear_dead.new.heap c.args.short.now c.found.result.now.members c.clear_dead.ensures in
+    let second = len_cleared c.clear_dead.new.heap c.clear_dead-2.new.heap c.args.long.now c.kept-kept.result.now.members c.clear_dead-2.ensures in
+    omega (arith, first, second, c.condemn_outside.ensures.fewer)
