@@ -1,5 +1,9 @@
-pub mod Does
-pub mod Marking
-pub mod Reaching
-pub mod Passing
 pub mod Queues
+pub mod Marking
+pub mod Rooted
+pub mod Does
+pub mod Inside
+pub mod Keeping
+pub mod Whole
+pub mod Scans
+pub mod Passing

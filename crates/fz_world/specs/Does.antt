@@ -1,20 +1,30 @@
 -- A world stands for a state of the model, and each of its calls is a step of the model from that state.
-use Rattle.std.specs.Prelude.{◌≡◌, ℕ, [], ◌∷◌, Result}
+use Rattle.std.specs.Prelude.{◌≡◌, ℕ, [], ◌∷◌, Result, IsTrue}
+use Rattle.std.specs.FinSet.{contains}
 use Rattle.fz_model.specs.declared.refusal.Refusal.{Refusal}
 use Rattle.fz_model.specs.declared.limits.TheConstants.{MAX_BLOCKS, MAX_FRAMES}
 use Rattle.fz_model.specs.State.{Core, State}
 use Rattle.fz_model.specs.Seen.{SeenIsClosed}
+use Rattle.fz_model.specs.Reachability.{WasSeen}
 use Rattle.fz_model.specs.Causes.{Causes, bad_count}
 use Rattle.fz_model.specs.Events.{Event, Answer}
 use Rattle.fz_model.specs.Steps.{Step}
+use Rattle.fz_dirty.specs.Flags.{Set}
+use Rattle.fz_world.specs.World.{WorldView}
 
--- all that the world keeps is as in the state; and what the state's open cycle has seen is closed under children, and has what is reachable
-pub record StandsFor (world : Core) (s : State) : Type 0 where
-  pub core : world ≡ s.core
+-- in an open cycle each marked object was seen
+abbrev pub AreSeen : State → Set → Type 0
+AreSeen s marked = IsTrue s.cycle → (a : ℕ) → IsTrue (contains marked a) → WasSeen s a
+
+-- all that the world keeps is as in the state; what the state's open cycle has seen is closed under children, and has what is reachable and what
+-- is marked
+pub record StandsFor (world : WorldView) (s : State) : Type 0 where
+  pub core : world.core ≡ s.core
   pub seen : SeenIsClosed s
+  pub marks : AreSeen s world.marked
 
 -- from each state that the old world stands for there is a step with this reply, to a state that the new world stands for
-unfoldable pub Does : Core → (e : Event) → Result (Answer e) Refusal → Core → Type 0
+unfoldable pub Does : WorldView → (e : Event) → Result (Answer e) Refusal → WorldView → Type 0
 Does old e reply new = (s : State) → StandsFor old s → (t : State) × Step s e reply t × StandsFor new t
 
 -- the causes of refusal of an opening

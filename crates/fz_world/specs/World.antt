@@ -1,26 +1,81 @@
--- What contracts see of a world: all that a state of the model keeps, but for what an open cycle has seen.
-use Rattle.std.specs.Prelude.{ℕ, false, List}
-use Rattle.std.specs.FinMap.{empty}
-use Rattle.fz_model.specs.State.{Core}
+-- What contracts see of a world: all that a state of the model keeps but what an open cycle has seen; and of the cycle begun last the marked
+-- and the scanned objects, the noted pages, and the number of scans.
+use Rattle.std.specs.Prelude.{◌≡◌, ℕ, ◌+◌, ◌<◌, ◌≤◌, ◌*◌, Bool, List, [], if◌then◌else◌, IsTrue, refl}
+use Rattle.std.specs.Coded.{Coded, code_by, coded×, coded_ℕ}
+use Rattle.std.specs.FinSet as sets
+use Rattle.std.specs.FinSet.{insert, len}
+use Rattle.std.specs.FinMap as map
+use Rattle.fz_model.specs.declared.answers.Pick.{Pick}
+use Rattle.fz_model.specs.declared.limits.TheConstants.{BLOCK_WORDS, COUNT_LIMIT}
+use Rattle.fz_model.specs.State.{Map, Core}
+use Rattle.fz_model.specs.Codes.{core_code}
+use Rattle.fz_model.specs.Allocation.{block_of}
+use Rattle.fz_model.specs.Parts.{AreSound}
 use Rattle.fz_heap.specs.Contents.{Contents}
 use Rattle.fz_table.specs.Registered.{Registered}
+use Rattle.fz_dirty.specs.Flags.{Set}
+use Rattle.fz_dirty.specs.Pages.{Pages}
+use Rattle.fz_marker.specs.Marking.{Marking, CleanAreClosed}
 use Rattle.fz_world.specs.Ready.{Ready}
 
--- no links are registered, and no cycle is open, as long as no call does it
-abbrev pub core_of : Contents → List (List ℕ) → Registered → Ready → ℕ → Core
-core_of heap frames table ready passes =
+pub record WorldView : Type 0 where
+  pub core : Core
+  pub open core use *
+  pub marked : Set
+  pub scanned : Set
+  pub noted : Set
+  pub scans : ℕ
+
+abbrev pub world_code : Coded WorldView
+world_code =
+    code_by (Core × (Set × (Set × (Set × ℕ)))) (coded× core_code (coded× (sets.code coded_ℕ) (coded× (sets.code coded_ℕ) (coded× (sets.code coded_ℕ) coded_ℕ))))
+    (λ w. (w.core, (w.marked, (w.scanned, (w.noted, w.scans))))) (λ p. record { core = p.0; marked = p.1.0; scanned = p.1.1.0; noted = p.1.1.1.0; scans = p.1.1.1.1 }) (λ _. refl)
+
+abbrev pub core_of : Contents → List (List ℕ) → Registered → Map ℕ → Map ℕ → Ready → ℕ → Bool → Bool → Core
+core_of heap frames table short long ready passes closed cycle =
     record {
       blocks = heap.blocks;
       objects = heap.objects;
       frames = frames;
       registrations = table.registrations;
-      short = empty;
-      long = empty;
+      short = short;
+      long = long;
       held = ready.held;
       queue = ready.queue;
       next_birth = heap.next_birth;
       next_number = table.next_number;
       passes = passes;
-      closed = false;
-      cycle = false;
+      closed = closed;
+      cycle = cycle;
     }
+
+abbrev pub view_of : Core → Marking → Pages → WorldView
+view_of core marker pages = record { core = core; marked = marker.marked; scanned = marker.scanned; noted = pages.noted; scans = marker.scans }
+
+-- a call that leaves all marks and pages as they were
+abbrev pub KeepsMarks : WorldView → WorldView → Type 0
+KeepsMarks old new = new ≡ record old { core = new.core }
+
+-- in an open cycle, the set with a number
+abbrev pub with_in_cycle : Bool → Set → ℕ → Set
+with_in_cycle cycle set n = if cycle then insert set n else set
+
+-- the rest is what a world keeps of its parts, as one word that proofs hand on whole
+pub record IsWhole (heap : Contents) (table : Registered) (ready : Ready) (marker : Marking) (pages : Pages) (capacity : ℕ) (picks : List Pick) (cycle : Bool) : Type 0 where
+  pub sound : AreSound heap.objects table.registrations table.next_number ready.queue ready.held
+  pub size : marker.size ≡ BLOCK_WORDS * heap.blocks
+  pub pages_are : pages.pages ≡ heap.blocks
+  -- there is room for the entries and the picks of all registrations
+  pub room : map.len table.registrations ≤ ready.room
+  pub pick_room : map.len table.registrations ≤ capacity
+  pub none_picked : picks ≡ []
+  -- in an open cycle a scanned object that stands on no noted page has marked children alone, and no object was scanned twice
+  pub clean : IsTrue cycle → CleanAreClosed heap.objects marker pages.noted
+  pub once : IsTrue cycle → marker.scans ≤ len marker.scanned
+
+unfoldable pub IsWorld : Contents → Registered → Ready → Marking → Pages → ℕ → List Pick → Bool → Type 0
+IsWorld heap table ready marker pages capacity picks cycle = IsWhole heap table ready marker pages capacity picks cycle
+
+-- a cycle is open only where its pass has a number
+abbrev pub HasNumber : ℕ → Bool → Type 0
+HasNumber passes cycle = IsTrue cycle → passes + 1 < COUNT_LIMIT

@@ -1,30 +1,30 @@
 //! The queue of finalizers that are ready, and those of its entries that are held.
 
-ghost use Rattle.std.specs.Prelude.{◌≡◌, ◌≤◌, ◌<◌, ◌+◌, ◌++◌, [], ◌∷◌, not, filter, length, OnOk, OnErr, IfOk};
-ghost use Rattle.std.specs.List.{position_or_len};
+ghost use Rattle.std.specs.Prelude.{◌≡◌, ◌≤◌, ◌<◌, ◌+◌, ◌*◌, ◌^◌, ◌++◌, [], ◌∷◌, not, filter, length, Contains, vec_len, vec_capacity, OnOk, OnErr, IfOk, IfErr, IfSome, MatchOption};
+ghost use Rattle.fz_model.specs.declared.answers.Entry.{Entry};
+ghost use Rattle.fz_model.specs.declared.limits.TheConstants.{TABLE_LIMIT};
 ghost use Rattle.fz_model.specs.Causes.{IsJudgedBy};
 ghost use Rattle.fz_model.specs.Events.{same_entry, not_held};
 ghost use Rattle.fz_model.specs.Pass.{entries_of};
+ghost use Rattle.fz_world.specs.Ready.{IsNextHeld};
 
+use fz_dirty::Flags;
 use fz_model::{Entry, Pick, Refusal};
-use std::alloc::{AllocError, Global};
+use std::alloc::Global;
 use std::marker::Model;
 
 /// Every entry ever queued, in order, and which of them aren't finished.
 #[derive(Drop)]
 pub(crate) struct Ready {
     queue: Vec<Entry>,
-    is_held: Vec<bool>,
+    /// The numbers of the held entries: a bit each, so that a walk over a long past costs next to nothing.
+    held: Flags<0>,
     outstanding: u64,
-    /// The place of the first entry that isn't finished, or the queue's length. It only grows, so all its moves together cost no more than
-    /// the queue is long.
-    first_held: usize,
 }
 
 impl Model for Ready {
-    ghost use Rattle.std.specs.Prelude.{◌≡◌, ◌-◌, min, length, vec_len, vec_capacity};
-    ghost use Rattle.std.specs.List.{position_or_len};
-    ghost use Rattle.fz_world.specs.Ready.{Ready, ready_code, flagged, AreNumbered};
+    ghost use Rattle.std.specs.Prelude.{◌-◌, min, vec_len, vec_capacity};
+    ghost use Rattle.fz_world.specs.Ready.{Ready, ready_code, numbered_in, IsReady};
 
     ghost Value = { Ready };
 
@@ -32,30 +32,38 @@ impl Model for Ready {
 
     ghost view = { λ r. record {
       queue = r.queue.items;
-      held = flagged r.queue.items r.is_held.items;
-      room = min (vec_capacity r.queue - vec_len r.queue) (vec_capacity r.is_held - vec_len r.is_held);
+      held = numbered_in r.held.members r.queue.items;
+      room = min (vec_capacity r.queue - vec_len r.queue) (r.held.size - vec_len r.queue);
     } };
 
-    ghost invariant = { λ r. (length r.is_held.items ≡ length r.queue.items) × AreNumbered 0 r.queue.items × (r.outstanding ≡ length (flagged r.queue.items r.is_held.items)) × (r.first_held ≡ position_or_len (λ b. b) r.is_held.items) };
+    ghost invariant = { λ r. IsReady r.queue.items r.held.members r.outstanding };
 }
 
-/// The place of the first flag that is up, or the number of flags.
-fn first_up(flags: &[bool]) -> usize
-    ensures { result ≡ position_or_len (λ b. b) flags.now }
+/// Makes room for `more` entries at the end of a queue; returns how many there may be then.
+fn reserve(queue: &mut Vec<Entry>, more: usize) -> Result<u64, Refusal>
+    requires { more ≤ TABLE_LIMIT }
+    ensures refused { IfErr result (λ r. r ≡ Refusal.NoMemory) }
+    ensures items { queue.new.items ≡ queue.old.items }
+    ensures room { IfOk result (λ entries. (entries ≡ vec_len queue.new + more) × (entries ≤ vec_capacity queue.new)) }
+    ensures capacity { vec_capacity queue.old ≤ vec_capacity queue.new }
+    ensures fits { IfOk result (λ entries. entries + 64 ≤ 2 ^ 64) }
 {
-    flags.iter().position(|flag| *flag).unwrap_or(flags.len())
+    queue.reserve(more)?;
+    Ok((queue.len() + more) as u64)
 }
 
 impl Ready {
-    pub(crate) fn new(alloc: Global) -> Ready
-        ensures { (result.queue ≡ []) × (result.held ≡ []) }
+    /// An empty queue, with no room.
+    pub(crate) fn new(alloc: Global) -> Result<Ready, Refusal>
+        ensures refused { IfErr result (λ r. r ≡ Refusal.NoMemory) }
+        ensures empty { IfOk result (λ ready. (ready.queue ≡ []) × (ready.held ≡ [])) }
     {
-        Ready {
+        let held = Flags::new(alloc, 0)?;
+        Ok(Ready {
             queue: Vec::new(alloc),
-            is_held: Vec::new(alloc),
+            held,
             outstanding: 0,
-            first_held: 0,
-        }
+        })
     }
 
     /// Every entry ever queued.
@@ -72,26 +80,25 @@ impl Ready {
         self.outstanding
     }
 
-    /// A copy of the entries that aren't finished, in their order.
-    pub(crate) fn held(&self, alloc: Global) -> Result<Vec<Entry>, AllocError>
-        ensures { IfOk result (λ held. held.items ≡ self.now.held) }
+    /// The first held entry whose number is at least `from`.
+    pub(crate) fn next_held(&self, from: u64) -> Option<Entry>
+        ensures next { MatchOption result ((e : Entry) → Contains self.now.held e → e.seq < from) (IsNextHeld self.now.held from) }
+        ensures within { IfSome result (λ e. (e.seq < length self.now.queue) × (length self.now.queue < 2 ^ 64)) }
     {
-        let mut held = Vec::new(alloc);
-        for place in self.first_held..self.queue.len() {
-            if self.is_held[place] {
-                held.push(self.queue[place])?;
-            }
-        }
-        Ok(held)
+        let place = self.held.next(from)?;
+        Some(self.queue[place as usize])
     }
 
-    /// Makes room for further entries.
-    pub(crate) fn reserve(&mut self, more: usize) -> Result<(), AllocError>
+    /// Makes room for further entries. `NoMemory` where an allocation failed.
+    pub(crate) fn reserve(&mut self, more: usize) -> Result<(), Refusal>
+        requires { more ≤ TABLE_LIMIT }
+        ensures refused { IfErr result (λ r. r ≡ Refusal.NoMemory) }
         ensures same { (self.new.queue ≡ self.old.queue) × (self.new.held ≡ self.old.held) }
+        ensures kept { self.old.room ≤ self.new.room }
         ensures room { OnOk result (more ≤ self.new.room) }
     {
-        self.queue.reserve(more)?;
-        self.is_held.reserve(more)
+        let entries = reserve(&mut self.queue, more)?;
+        self.held.extend_to(entries.div_ceil(64))
     }
 
     /// Puts an entry with the next number at the end, for which there has to be room.
@@ -103,7 +110,7 @@ impl Ready {
         ensures room { self.old.room ≤ self.new.room + 1 }
     {
         let _ = self.queue.push(entry);
-        let _ = self.is_held.push(true);
+        self.held.insert(entry.seq);
         self.outstanding += 1;
     }
 
@@ -112,6 +119,7 @@ impl Ready {
         requires { length picks.now ≤ self.old.room }
         ensures queue { self.new.queue ≡ self.old.queue ++ entries_of pass (length self.old.queue) picks.now }
         ensures held { self.new.held ≡ self.old.held ++ entries_of pass (length self.old.queue) picks.now }
+        ensures room { self.old.room ≤ self.new.room + length picks.now }
     {
         for pick in picks {
             let seq = self.queue().len() as u64;
@@ -127,14 +135,12 @@ impl Ready {
         }
     }
 
-    /// The place of an entry, which has to be held.
-    fn place_of(&self, entry: &Entry) -> Result<usize, Refusal>
-        ensures judged { IsJudgedBy (not_held self.now.held entry.now ∷ []) result }
-        ensures place { IfOk result (λ place. place ≡ entry.now.seq) }
+    /// Refuses an entry that isn't held: `NotHeld` where no held entry is the same in all its fields.
+    pub(crate) fn check_held(&self, entry: &Entry) -> Result<(), Refusal>
+        ensures { IsJudgedBy (not_held self.now.held entry.now ∷ []) result }
     {
-        let place = entry.seq as usize;
-        if place < self.queue.len() && self.is_held[place] && *entry == self.queue[place] {
-            Ok(place)
+        if self.held.contains(entry.seq) && *entry == self.queue[entry.seq as usize] {
+            Ok(())
         } else {
             Err(Refusal::NotHeld)
         }
@@ -148,11 +154,11 @@ impl Ready {
         ensures unchanged { OnErr result (self.new ≡ self.old) }
         ensures queue { self.new.queue ≡ self.old.queue }
         ensures held { OnOk result (self.new.held ≡ filter (λ h. not (same_entry entry.now h)) self.old.held) }
+        ensures room { self.old.room ≤ self.new.room }
     {
-        let place = self.place_of(entry)?;
-        self.is_held[place] = false;
+        self.check_held(entry)?;
+        self.held.remove(entry.seq);
         self.outstanding -= 1;
-        self.first_held += first_up(&self.is_held[self.first_held..]);
         Ok(())
     }
 }

@@ -1,31 +1,50 @@
-use Rattle.std.proofs.Common.{refl, sym, ap, ◌∙◌, subst, length, [], arith}
-use Rattle.fz_model.specs.State.{Core}
-use Rattle.fz_model.specs.Reachability.{Child, Computes, IsReachable}
-use Rattle.fz_model.specs.Events.{Collect}
-use Rattle.fz_model.proofs.Parts.{sound_accepted}
-use Rattle.fz_pass.specs.Sets.{has}
-use Rattle.fz_world.proofs.Does.{does_accepted}
-use Rattle.fz_world.proofs.Reaching.{core_inside, found_closed}
-use Rattle.fz_world.proofs.Passing.{fits, passed}
+use Rattle.std.proofs.Common.{◌≡◌, ℕ, ◌++◌, length, refl, sym, ap, ◌∙◌, subst, arith, IsTrue, IsFalse, true≢false}
+use Rattle.std.specs.FinSet.{contains}
+use Rattle.fz_model.specs.Reachability.{IsRoot}
+use Rattle.fz_marker.specs.Marking.{IsClosed}
+use Rattle.fz_world.specs.World.{WorldView}
+use Rattle.fz_world.proofs.Whole.{world_size, world_room, world_pick_room, world_none_picked}
+use Rattle.fz_world.proofs.Passing.{left_fit, pass_passes, pass_keeps}
 use Rattle.fz_world.proofs.world.World.pass.Goals as goal
 
-pub decide-requires-clause-closed : goal.decide-requires-clause-closed
-decide-requires-clause-closed c a b t child = found_closed c.args.self.now (has c.args.found.now) c.requires.found a b t (subst (λ (w : Core). Child w.objects a b) c.self.view_is child)
+pub decide-reclaimed-requires-clause-size : goal.decide-reclaimed-requires-clause-size
+decide-reclaimed-requires-clause-size c = world_size _ _ _ _ _ _ _ _ c.self.invariant.0
+
+pub decide-reclaimed-requires-clause-closed : goal.decide-reclaimed-requires-clause-closed
+decide-reclaimed-requires-clause-closed c = subst (λ (w : WorldView). IsClosed w.objects w.marked) (sym c.self.view_is) c.requires.closed
+
+pub decide-reclaimed-requires-clause-room : goal.decide-reclaimed-requires-clause-room
+decide-reclaimed-requires-clause-room c =
+    let none = ap length (world_none_picked _ _ _ _ _ _ _ _ c.self.invariant.0) in
+    let room = world_pick_room _ _ _ _ _ _ _ _ c.self.invariant.0 in
+    omega (arith, none, room)
 
 pub enqueue-requires : goal.enqueue-requires
 enqueue-requires c =
-    let picks = ap length c.as_slice.ensures.value in
-    let enough = fits c.self.inside c.args.found.now _ _ _ _ _ c.in_ok-reclaimed.ensures.decided c.new-picks.ensures.items c.reserve.new.self.room (omega (arith, c.in_ok-reserve.ensures.room, c.len.ensures.count)) in
-    omega (arith, picks, enough)
+    let d = c.decide-reclaimed.ensures.decided in
+    let items : c.as_slice.result.now ≡ d.0 = c.as_slice.ensures.value ∙ d.1 ∙ ap (λ ps. ps ++ d.0) (world_none_picked _ _ _ _ _ _ _ _ c.self.invariant.0) in
+    let count = ap length items in
+    let fit = left_fit c.self.inside c.decide-reclaimed.new.heap c.decide-reclaimed.new.table c.decide-reclaimed.new.short c.decide-reclaimed.new.long d.0 d.2 in
+    let room = world_room _ _ _ _ _ _ _ _ c.self.invariant.0 in
+    omega (arith, count, fit, room)
 
-pub invariant_of-self-2 : goal.invariant_of-self-2
-invariant_of-self-2 c =
-    let few = ap (λ (w : Core). w.passes) c.self.view_is in
-    let found = subst (λ (w : Core). Computes (has c.args.found.now) (IsReachable w)) (sym c.self.view_is) c.requires.found in
-    let done = passed c.self.inside c.args.found.now _ _ _ _ _ c.in_ok-reclaimed.ensures.decided c.new-picks.ensures.items (core_inside c.self.inside) c.reserve.new.self c.enqueue.new.self _ _ refl (omega (arith, few, c.requires.passes)) found c.reserve.ensures.same c.as_slice.ensures.value refl c.enqueue.ensures.queue c.enqueue.ensures.held in
-    sound_accepted (record { core = core_inside c.self.inside; moments = [] }) Collect _ _ c.self.invariant done.none done.accepts
+pub invariant_of-self : goal.invariant_of-self
+invariant_of-self c =
+    let d = c.decide-reclaimed.ensures.decided in
+    let none = world_none_picked _ _ _ _ _ _ _ _ c.self.invariant.0 in
+    let picked : c.decide-reclaimed.new.out.items ≡ d.0 = d.1 ∙ ap (λ ps. ps ++ d.0) none in
+    let idle : IsFalse c.self.inside.cycle = subst (λ (w : WorldView). IsFalse w.cycle) (sym c.self.view_is) c.requires.idle in
+    let closed : IsClosed c.self.inside.heap.objects c.self.inside.marker.marked = subst (λ (w : WorldView). IsClosed w.objects w.marked) (sym c.self.view_is) c.requires.closed in (
+      pass_keeps c.self.inside c.decide-reclaimed.new.heap c.decide-reclaimed.new.table c.decide-reclaimed.new.short c.decide-reclaimed.new.long d.0 d.2 c.enqueue.new.self c.as_slice.result.now _ _ idle (c.as_slice.ensures.value ∙ picked) refl c.decide-reclaimed.ensures.heap c.decide-reclaimed.ensures.table c.enqueue.ensures.queue c.enqueue.ensures.held c.decide-reclaimed.ensures.reclaimed
+          c.decide-reclaimed.new.marker _ _ _ _ closed (subst (λ (w : WorldView). (a : ℕ) → IsRoot w.core a → IsTrue (contains w.marked a)) (sym c.self.view_is) c.requires.roots)
+          (ap (λ m. m.size) c.decide-reclaimed.ensures.marker) (let room = c.decide-reclaimed.ensures.room in let same = c.clear.ensures.capacity in omega (arith, room, same)) c.enqueue.ensures.room c.clear.ensures.items c.self.invariant.0,
+      λ on. absurd (true≢false (sym on ∙ idle)),
+    )
 
-pub returns : goal.returns
-returns c =
-    let done = passed c.self.inside c.args.found.now _ _ _ _ _ c.in_ok-reclaimed.ensures.decided c.new-picks.ensures.items _ c.reserve.new.self c.enqueue.new.self _ _ c.self.view_is c.requires.passes c.requires.found c.reserve.ensures.same c.as_slice.ensures.value (c.len-2.ensures ∙ c.decide.new.out.ok.0) c.enqueue.ensures.queue c.enqueue.ensures.held in
-    does_accepted _ _ Collect _ refl tt done.none done.accepts
+pub returns-clause-passes : goal.returns-clause-passes
+returns-clause-passes c =
+    let d = c.decide-reclaimed.ensures.decided in
+    let none = world_none_picked _ _ _ _ _ _ _ _ c.self.invariant.0 in
+    let picked : c.decide-reclaimed.new.out.items ≡ d.0 = d.1 ∙ ap (λ ps. ps ++ d.0) none in
+    let idle : IsFalse c.self.inside.cycle = subst (λ (w : WorldView). IsFalse w.cycle) (sym c.self.view_is) c.requires.idle in
+    rw (← c.self.view_is) (pass_passes c.self.inside c.decide-reclaimed.new.heap c.decide-reclaimed.new.table c.decide-reclaimed.new.short c.decide-reclaimed.new.long d.0 d.2 c.enqueue.new.self c.as_slice.result.now _ _ idle (c.as_slice.ensures.value ∙ picked) (c.len-picked.ensures ∙ c.decide-reclaimed.new.out.ok.0 ∙ ap length picked) c.decide-reclaimed.ensures.heap c.decide-reclaimed.ensures.table c.enqueue.ensures.queue c.enqueue.ensures.held c.decide-reclaimed.ensures.reclaimed)

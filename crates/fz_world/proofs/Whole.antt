@@ -1,0 +1,291 @@
+-- Each change of a world's parts keeps what a world keeps of them.
+use Rattle.std.proofs.Common.{◌≡◌, ◌≤◌, ◌<◌, ◌+◌, ◌*◌, ℕ, Bool, true, false, not, List, [], ◌++◌, Some, None, refl, sym, ap, ◌∙◌, subst, arith, filter, IsTrue, IsFalse, true≢false, length, replicate, nat_cmp, ◌-◌, cond, nat_le, ◌&&◌, Option, is_some, slice_get, ◌≢◌, zero, suc, ◌∷◌}
+use Rattle.std.proofs.lemmas.Bool.{both_ways, not-false, leb-true, and_parts}
+use Rattle.std.proofs.lemmas.List.{length-replicate}
+use Rattle.std.specs.Cmp.{nat_cmp_total}
+use Rattle.std.specs.FinMap as map
+use Rattle.std.specs.FinMap.{get, contains_key, len-insert, len-remove, len-empty, empty_of_len, get-empty}
+use Rattle.std.specs.FinSet as sets
+use Rattle.fz_model.specs.declared.kinds.ObjKind.{ObjKind}
+use Rattle.fz_model.specs.declared.kinds.RegKind.{RegKind}
+use Rattle.fz_model.specs.declared.answers.Entry.{Entry}
+use Rattle.fz_model.specs.declared.answers.Pick.{Pick}
+use Rattle.fz_model.specs.declared.answers.Registration.{Registration}
+use Rattle.fz_model.specs.declared.limits.TheConstants.{BLOCK_WORDS, MAX_OBJECT_WORDS}
+use Rattle.fz_model.specs.State.{Map, Object, Core}
+use Rattle.fz_model.specs.Memory.{written, new_object}
+use Rattle.fz_model.specs.Allocation.{block_of, place_for}
+use Rattle.fz_model.specs.Causes.{first_cause, alloc_causes, start_causes}
+use Rattle.fz_model.specs.Parts.{AreSound}
+use Rattle.fz_model.proofs.Maps.{free_place, get-remove_other}
+use Rattle.fz_model.proofs.Parts.{none_stands, sound_opening, sound_made, sound_written, sound_registered, sound_removed, sound_filtered, sound_passed}
+use Rattle.fz_model.proofs.Lists.{contains_at}
+use Rattle.fz_model.proofs.Ranked.{before_differs, picks_ordered}
+use Rattle.std.proofs.lemmas.List.Elements.{All-contains}
+use Rattle.fz_model.specs.declared.answers.Passed.{Passed}
+use Rattle.fz_model.specs.Reachability.{IsReachable}
+use Rattle.fz_model.specs.Pass.{Passes, Decision, IsPicked, without_picks}
+use Rattle.fz_heap.specs.Contents.{Contents}
+use Rattle.fz_table.specs.Registered.{Registered}
+use Rattle.fz_dirty.specs.Flags.{Set, IsWithin}
+use Rattle.fz_dirty.specs.Pages.{Pages}
+use Rattle.fz_marker.specs.Marking.{Marking, CleanAreClosed, HasChildrenIn, is_newly_in, is_on_noted}
+use Rattle.fz_world.specs.Ready.{Ready}
+use Rattle.fz_world.specs.World.{IsWhole, IsWorld, with_in_cycle}
+use Rattle.fz_world.proofs.Keeping.{store_keeps, alloc_keeps}
+
+pub world_opening : (heap : Contents) (table : Registered) (ready : Ready) (marker : Marking) (pages : Pages) (blocks capacity : ℕ) (picks : List Pick) → heap.blocks ≡ blocks → heap.objects ≡ map.empty → table ≡ record { registrations = map.empty; next_number = 0 } → (ready.queue ≡ []) × (ready.held ≡ []) → marker.size ≡ BLOCK_WORDS * blocks → pages.pages ≡ blocks → picks ≡ [] → IsWorld heap table ready marker pages capacity picks false
+unfolding IsWorld
+world_opening heap table ready marker pages blocks capacity picks few none nothing empty size all none_picked = record {
+  sound =
+      let Sound = λ (objects : Map Object) (t : Registered) (queue held : List Entry). AreSound objects t.registrations t.next_number queue held in
+      let first : Sound heap.objects table ready.queue ready.held = rw none (rw nothing (rw empty.0 (rw empty.1 sound_opening))) in
+      first;
+  size = size ∙ ap (λ n. BLOCK_WORDS * n) (sym few);
+  pages_are = all ∙ sym few;
+  room = let zero_ = ap (λ (t : Registered). map.len t.registrations) nothing ∙ len-empty nat_cmp Registration in omega (arith, zero_);
+  pick_room = let zero_ = ap (λ (t : Registered). map.len t.registrations) nothing ∙ len-empty nat_cmp Registration in omega (arith, zero_);
+  none_picked = none_picked;
+  clean = λ on. absurd (true≢false (sym on));
+  once = λ on. absurd (true≢false (sym on));
+}
+
+module _ (heap : Contents) (table : Registered) (ready : Ready) (marker : Marking) (pages : Pages) (capacity : ℕ) (picks : List Pick) (cycle : Bool) where
+  pub world_size : IsWorld heap table ready marker pages capacity picks cycle → marker.size ≡ BLOCK_WORDS * heap.blocks
+  unfolding IsWorld
+  world_size h = h.size
+
+  pub world_pages : IsWorld heap table ready marker pages capacity picks cycle → pages.pages ≡ heap.blocks
+  unfolding IsWorld
+  world_pages h = h.pages_are
+
+  pub world_room : IsWorld heap table ready marker pages capacity picks cycle → map.len table.registrations ≤ ready.room
+  unfolding IsWorld
+  world_room h = h.room
+
+  pub world_pick_room : IsWorld heap table ready marker pages capacity picks cycle → map.len table.registrations ≤ capacity
+  unfolding IsWorld
+  world_pick_room h = h.pick_room
+
+  pub world_sound : IsWorld heap table ready marker pages capacity picks cycle → AreSound heap.objects table.registrations table.next_number ready.queue ready.held
+  unfolding IsWorld
+  world_sound h = h.sound
+
+  pub world_clean : IsWorld heap table ready marker pages capacity picks cycle → IsTrue cycle → CleanAreClosed heap.objects marker pages.noted
+  unfolding IsWorld
+  world_clean h = h.clean
+
+  pub world_once : IsWorld heap table ready marker pages capacity picks cycle → IsTrue cycle → marker.scans ≤ sets.len marker.scanned
+  unfolding IsWorld
+  world_once h = h.once
+
+  pub world_none_picked : IsWorld heap table ready marker pages capacity picks cycle → picks ≡ []
+  unfolding IsWorld
+  world_none_picked h = h.none_picked
+
+  -- other marks and pages, while no cycle is open
+  pub world_remarked : (condemned : Set) (other : Marking) (others : Pages) → other.size ≡ marker.size → others.pages ≡ pages.pages → IsWorld heap table ready marker pages capacity picks cycle → IsWorld (record heap { condemned = condemned }) table ready other others capacity picks false
+  unfolding IsWorld
+  world_remarked condemned other others size all h = record {
+    sound = h.sound;
+    size = size ∙ h.size;
+    pages_are = all ∙ h.pages_are;
+    room = h.room;
+    pick_room = h.pick_room;
+    none_picked = h.none_picked;
+    clean = λ on. absurd (true≢false (sym on));
+    once = λ on. absurd (true≢false (sym on));
+  }
+
+  -- a cycle opens where nothing is scanned
+  pub world_opened : marker.scanned ≡ sets.empty → marker.scans ≡ 0 → IsWorld heap table ready marker pages capacity picks cycle → IsWorld heap table ready marker pages capacity picks true
+  unfolding IsWorld
+  world_opened none zero_ h = record {
+    sound = h.sound;
+    size = h.size;
+    pages_are = h.pages_are;
+    room = h.room;
+    pick_room = h.pick_room;
+    none_picked = h.none_picked;
+    clean = λ on a scanned. absurd (true≢false (sym scanned ∙ ap (λ s. sets.contains s a) none ∙ sets.contains-empty nat_cmp a));
+    once = λ on. omega (arith, zero_);
+  }
+
+  -- marks come, and what is scanned has marked children
+  pub world_stepped : (new : Marking) → new.size ≡ marker.size → IsWithin marker.marked new.marked → ((a : ℕ) → IsTrue (is_newly_in marker.scanned new.scanned a) → HasChildrenIn heap.objects new.marked a) → new.scans ≤ sets.len new.scanned → IsWorld heap table ready marker pages capacity picks cycle → IsWorld heap table ready new pages capacity picks cycle
+  unfolding IsWorld
+  world_stepped new size kept closed once h = record {
+    sound = h.sound;
+    size = size ∙ h.size;
+    pages_are = h.pages_are;
+    room = h.room;
+    pick_room = h.pick_room;
+    none_picked = h.none_picked;
+    clean = λ on a scanned off. at a scanned off (h.clean on a) (sets.contains marker.scanned a) refl;
+    once = λ on. once;
+  }
+    where
+      at : (a : ℕ) → IsTrue (sets.contains new.scanned a) → IsFalse (is_on_noted heap.objects pages.noted a) → (IsTrue (sets.contains marker.scanned a) → IsFalse (is_on_noted heap.objects pages.noted a) → HasChildrenIn heap.objects marker.marked a) → (b : Bool) → sets.contains marker.scanned a ≡ b → HasChildrenIn heap.objects new.marked a
+      at a scanned off was true before = λ b child. kept b (was before off b child)
+      at a scanned off was false before = closed a (ap (λ t. t && not (sets.contains marker.scanned a)) scanned ∙ ap not before)
+
+  pub world_written : (place value : ℕ) → IsWorld heap table ready marker pages capacity picks cycle → IsWorld (record heap { objects = written place value heap.objects }) table ready marker (record pages { noted = with_in_cycle cycle pages.noted (block_of place) }) capacity picks cycle
+  unfolding IsWorld
+  world_written place value h = record {
+    sound = sound_written heap.objects table.registrations table.next_number ready.queue ready.held place value h.sound;
+    size = h.size;
+    pages_are = h.pages_are;
+    room = h.room;
+    pick_room = h.pick_room;
+    none_picked = h.none_picked;
+    clean = λ on. subst (λ b. CleanAreClosed (written place value heap.objects) marker (with_in_cycle b pages.noted (block_of place))) (sym on) (store_keeps heap.objects marker pages.noted place value (h.clean on));
+    once = h.once;
+  }
+
+  pub world_made : (size : ℕ) (kind : ObjKind) (a : ℕ) (condemned : Set) → first_cause (alloc_causes heap.objects heap.blocks heap.next_birth size kind) ≡ None → place_for heap.objects heap.blocks size kind ≡ Some a
+      → IsWorld heap table ready marker pages capacity picks cycle → IsWorld (record heap { objects = map.insert heap.objects a (new_object kind heap.next_birth size); condemned = condemned; next_birth = heap.next_birth + 1 }) table ready (record marker { marked = with_in_cycle cycle marker.marked a }) (record pages { noted = with_in_cycle cycle pages.noted (block_of a) }) capacity picks cycle
+  unfolding IsWorld
+  world_made size kind a condemned none place h = record {
+    sound = sound_made heap.objects table.registrations table.next_number ready.queue ready.held heap.blocks heap.next_birth heap.next_birth size kind a none place h.sound;
+    size = h.size;
+    pages_are = h.pages_are;
+    room = h.room;
+    pick_room = h.pick_room;
+    none_picked = h.none_picked;
+    clean = λ on. subst (λ b. CleanAreClosed (map.insert heap.objects a (new_object kind heap.next_birth size)) (record marker { marked = with_in_cycle b marker.marked a }) (with_in_cycle b pages.noted (block_of a))) (sym on)
+        (alloc_keeps heap.objects marker pages.noted a (new_object kind heap.next_birth size) (free_place heap.objects heap.blocks size a kind place) sized (h.clean on));
+    once = h.once;
+  }
+    where
+      sized : 0 < length {A = ℕ} (replicate size 0)
+      sized =
+          let good = (none_stands (alloc_causes heap.objects heap.blocks heap.next_birth size kind) none).0 in
+          let least : 1 ≤ size = leb-true 1 size (and_parts (nat_le 1 size) (nat_le size MAX_OBJECT_WORDS) (not-false (nat_le 1 size && nat_le size MAX_OBJECT_WORDS) good)).0 in
+          let n : length {A = ℕ} (replicate size 0) ≡ size = length-replicate {A = ℕ} size 0 in
+          omega (arith, least, n)
+
+  pub world_removed : (object : ℕ) → IsWorld heap table ready marker pages capacity picks cycle → IsWorld heap (record table { registrations = map.remove table.registrations object }) ready marker pages capacity picks cycle
+  unfolding IsWorld
+  world_removed object h = record {
+    sound = sound_removed heap.objects table.registrations table.next_number ready.queue ready.held object h.sound;
+    size = h.size;
+    pages_are = h.pages_are;
+    room = let few = fewer in let room = h.room in omega (arith, few, room);
+    pick_room = let few = fewer in let room = h.pick_room in omega (arith, few, room);
+    none_picked = h.none_picked;
+    clean = h.clean;
+    once = h.once;
+  }
+    where
+      fewer : map.len (map.remove table.registrations object) ≤ map.len table.registrations
+      fewer = let n = len-remove nat_cmp_total table.registrations object in elim (contains_key table.registrations object) as (λ b. map.len (map.remove table.registrations object) ≡ cond b (map.len table.registrations - 1) (map.len table.registrations) → map.len (map.remove table.registrations object) ≤ map.len table.registrations) [ true ↦ λ e. omega (arith, e) | false ↦ λ e. omega (arith, e) ] n
+
+  -- with room for one more registration
+  pub world_registered : (object : ℕ) (kind : RegKind) (proc cd rank : ℕ) (roomier : Ready) (larger : ℕ) (more : List Pick) → first_cause (start_causes heap.objects object) ≡ None → (roomier.queue ≡ ready.queue) × (roomier.held ≡ ready.held) → more ≡ picks
+      → map.len (map.insert table.registrations object (record { number = table.next_number; kind = kind; proc = proc; cd = cd; rank = rank })) ≤ roomier.room → map.len (map.insert table.registrations object (record { number = table.next_number; kind = kind; proc = proc; cd = cd; rank = rank })) ≤ larger
+      → IsWorld heap table ready marker pages capacity picks cycle → IsWorld heap (record { registrations = map.insert table.registrations object (record { number = table.next_number; kind = kind; proc = proc; cd = cd; rank = rank }); next_number = table.next_number + 1 }) roomier marker pages larger more cycle
+  unfolding IsWorld
+  world_registered object kind proc cd rank roomier larger more none same same_picks room pick_room h = record {
+    sound = subst (Sound roomier.held) (sym same.0) (subst (λ held. Sound held ready.queue) (sym same.1) (sound_registered heap.objects table.registrations table.next_number ready.queue ready.held object kind proc cd rank none h.sound));
+    size = h.size;
+    pages_are = h.pages_are;
+    room = room;
+    pick_room = pick_room;
+    none_picked = same_picks ∙ h.none_picked;
+    clean = h.clean;
+    once = h.once;
+  }
+    where
+      Sound : List Entry → List Entry → Type 0
+      Sound held queue = AreSound heap.objects (map.insert table.registrations object (record { number = table.next_number; kind = kind; proc = proc; cd = cd; rank = rank })) (table.next_number + 1) queue held
+
+  -- more room alone
+  pub world_roomier : (roomier : Ready) (larger : ℕ) (more : List Pick) → (roomier.queue ≡ ready.queue) × (roomier.held ≡ ready.held) → ready.room ≤ roomier.room → capacity ≤ larger → more ≡ picks → IsWorld heap table ready marker pages capacity picks cycle → IsWorld heap table roomier marker pages larger more cycle
+  unfolding IsWorld
+  world_roomier roomier larger more same room wider same_picks h = record {
+    sound = subst (λ q. AreSound heap.objects table.registrations table.next_number q roomier.held) (sym same.0) (subst (λ q. AreSound heap.objects table.registrations table.next_number ready.queue q) (sym same.1) h.sound);
+    size = h.size;
+    pages_are = h.pages_are;
+    room = let was = h.room in omega (arith, was, room);
+    pick_room = let was = h.pick_room in omega (arith, was, wider);
+    none_picked = same_picks ∙ h.none_picked;
+    clean = h.clean;
+    once = h.once;
+  }
+
+  pub world_finished : (keep : Entry → Bool) (fewer : Ready) → fewer.queue ≡ ready.queue → fewer.held ≡ filter keep ready.held → ready.room ≤ fewer.room → IsWorld heap table ready marker pages capacity picks cycle → IsWorld heap table fewer marker pages capacity picks cycle
+  unfolding IsWorld
+  world_finished keep fewer queue held room h = record {
+    sound = subst (λ q. AreSound heap.objects table.registrations table.next_number q fewer.held) (sym queue) (subst (λ q. AreSound heap.objects table.registrations table.next_number ready.queue q) (sym held) (sound_filtered heap.objects table.registrations table.next_number ready.queue ready.held keep h.sound));
+    size = h.size;
+    pages_are = h.pages_are;
+    room = let was = h.room in omega (arith, was, room);
+    pick_room = h.pick_room;
+    none_picked = h.none_picked;
+    clean = h.clean;
+    once = h.once;
+  }
+
+-- ---- room for one more registration
+
+pub room_kept : (registrations : Map Registration) (object room : ℕ) {found : Option Registration} {b : Bool} → get registrations object ≡ found → b ≡ is_some found → b ≡ true → map.len registrations ≤ room → (r : Registration) → map.len (map.insert registrations object r) ≤ room
+room_kept registrations object room here some on enough r =
+    let same = len-insert nat_cmp_total registrations object r ∙ ap (λ b. cond b (map.len registrations) (map.len registrations + 1)) (ap is_some here ∙ sym some ∙ on) in
+    omega (arith, same, enough)
+
+pub room_made : (registrations : Map Registration) (object room : ℕ) → map.len registrations + 1 ≤ room → (r : Registration) → map.len (map.insert registrations object r) ≤ room
+room_made registrations object room enough r =
+    elim (contains_key registrations object) as (λ b. map.len (map.insert registrations object r) ≡ cond b (map.len registrations) (map.len registrations + 1) → map.len (map.insert registrations object r) ≤ room) [
+      | true ↦ λ e. omega (arith, e, enough)
+      | false ↦ λ e. omega (arith, e, enough)
+    ] (len-insert nat_cmp_total registrations object r)
+
+-- ---- a pass
+
+-- no more picks than registrations
+some_in : {X : Type 0} (m : Map X) (k : ℕ) → contains_key m k ≡ true → 0 < map.len m
+some_in {X} m k here = cases (map.len m) refl
+  where
+    cases : (n : ℕ) → map.len m ≡ n → 0 < map.len m
+    cases zero e = absurd (true≢false (sym here ∙ ap is_some (ap (λ m. get m k) (empty_of_len m e) ∙ get-empty nat_cmp k)))
+    cases (suc n) e = omega (arith, e)
+
+stays : (registrations : Map Registration) (picks : List Pick) (a : ℕ) → ((k : ℕ) (p : Pick) → slice_get picks k ≡ Some p → a ≢ p.obj) → get (without_picks registrations picks) a ≡ get registrations a
+stays registrations [] a apart = refl
+stays registrations (p ∷ ps) a apart = get-remove_other (without_picks registrations ps) p.obj a (apart 0 p refl) ∙ stays registrations ps a (λ k q e. apart (suc k) q e)
+
+picks_fit : (registrations : Map Registration) (picks : List Pick) → ((k : ℕ) (p : Pick) → slice_get picks k ≡ Some p → contains_key registrations p.obj ≡ true) → ((i j : ℕ) (p q : Pick) → i < j → slice_get picks i ≡ Some p → slice_get picks j ≡ Some q → p.obj ≢ q.obj) → map.len (without_picks registrations picks) + length picks ≡ map.len registrations
+picks_fit registrations [] each apart = omega arith
+picks_fit registrations (p ∷ ps) each apart =
+    let rest = picks_fit registrations ps (λ k q e. each (suc k) q e) (λ i j q r l e f. apart (suc i) (suc j) q r (omega arith) e f) in
+    let left = without_picks registrations ps in
+    let here : contains_key left p.obj ≡ true = ap is_some (stays registrations ps p.obj (λ k q e. apart 0 (suc k) p q (omega arith) refl e)) ∙ each 0 p refl in
+    let some = some_in left p.obj here in
+    let gone : map.len (map.remove left p.obj) ≡ map.len left - 1 = len-remove nat_cmp_total left p.obj ∙ ap (λ b. cond b (map.len left - 1) (map.len left)) here in
+    omega (arith, rest, some, gone)
+
+-- the picks of a decision are of registrations, each of another object
+pub decided_fit : (objects : Map Object) (registrations : Map Registration) (short : Map ℕ) (found : ℕ → Bool) (d : Decision objects registrations short found) → map.len (without_picks registrations d.picks) + length d.picks ≡ map.len registrations
+decided_fit objects registrations short found d =
+    picks_fit registrations d.picks (λ k p e. ap is_some (All-contains (IsPicked objects registrations short found) d.picks p d.picks_are.each (contains_at d.picks k p e)).unreachable.registered)
+    (λ i j p q l e f. before_differs registrations p q (picks_ordered objects registrations short found d.picks d.picks_are i j p q l e f))
+
+module _ (c : Core) (found : ℕ → Bool) (passed : Passed) (new : Core) (p : Passes c found passed new) (reachable : (a : ℕ) → IsReachable c a → IsTrue (found a)) where
+  pub world_passed : (heap after : Contents) (table left : Registered) (ready later : Ready) (marker other : Marking) (pages : Pages) (capacity larger : ℕ) (picks : List Pick) → c.objects ≡ heap.objects → c.registrations ≡ table.registrations → c.next_number ≡ table.next_number → c.queue ≡ ready.queue → c.held ≡ ready.held
+      → new.objects ≡ after.objects → new.registrations ≡ left.registrations → new.next_number ≡ left.next_number → new.queue ≡ later.queue → new.held ≡ later.held → after.blocks ≡ heap.blocks → other.size ≡ marker.size → map.len left.registrations ≤ later.room → map.len left.registrations ≤ larger
+      → IsWorld heap table ready marker pages capacity picks false → IsWorld after left later other pages larger [] false
+  unfolding IsWorld
+  world_passed heap after table left ready later marker other pages capacity larger picks o1 o2 o3 o4 o5 n1 n2 n3 n4 n5 blocks size room pick_room h = record {
+    sound =
+        let Sound = λ (objects : Map Object) (registrations : Map Registration) (next : ℕ) (queue held : List Entry). AreSound objects registrations next queue held in
+        let before : Sound c.objects c.registrations c.next_number c.queue c.held = rw (o1, o2, o3, o4, o5) h.sound in
+        let after_ : Sound new.objects new.registrations new.next_number new.queue new.held = sound_passed c found passed new reachable p before in
+        rw (← n1, ← n2, ← n3, ← n4, ← n5) after_;
+    size = size ∙ h.size ∙ ap (λ n. BLOCK_WORDS * n) (sym blocks);
+    pages_are = h.pages_are ∙ sym blocks;
+    room = room;
+    pick_room = pick_room;
+    none_picked = refl;
+    clean = λ on. absurd (true≢false (sym on));
+    once = λ on. absurd (true≢false (sym on));
+  }

@@ -1,0 +1,193 @@
+//! Cycles: marking in steps beside the mutators, and the pass that ends them.
+
+ghost use Rattle.std.specs.Prelude.{◌≡◌, ◌≤◌, ◌<◌, ◌+◌, ◌↔◌, ℕ, false, IsTrue, IsFalse, IfOk, OnOk, OnErr};
+ghost use Rattle.std.specs.FinSet.{contains};
+ghost use Rattle.std.specs.FinSet as sets;
+ghost use Rattle.std.specs.FinMap.{len};
+ghost use Rattle.fz_model.specs.declared.limits.TheConstants.{COUNT_LIMIT};
+ghost use Rattle.fz_model.specs.Reachability.{IsRoot};
+ghost use Rattle.fz_model.specs.Pass.{Passes};
+ghost use Rattle.fz_model.specs.Causes.{IsJudgedBy};
+ghost use Rattle.fz_model.specs.Events.{Begin, Mark, Pause, Collect, causes};
+ghost use Rattle.fz_dirty.specs.Flags.{IsWithin};
+ghost use Rattle.fz_marker.specs.Marking.{IsClosed};
+ghost use Rattle.fz_world.specs.World.{KeepsMarks};
+ghost use Rattle.fz_world.specs.Cycles.{IsBegun, AreScanned, IsLedFromMarks};
+ghost use Rattle.fz_world.specs.Does.{Does};
+
+use crate::roots::mark_roots;
+use crate::world::World;
+use fz_model::{COUNT_LIMIT, Passed, Progress, Refusal};
+use fz_pass::decide;
+
+#[tactic(auto, using(crate::proofs::Does::does_refused))]
+impl World {
+    /// Opens a cycle: marks what the roots point to, and notes from now on the pages that are written.
+    ///
+    /// Refusals, in their order: `CycleOpen`, `Exhausted` at the 2^48th pass.
+    pub fn begin(&mut self) -> Result<(), Refusal>
+        ensures step { Does self.old Begin result self.new }
+        ensures caused { IsJudgedBy (causes self.old.core Begin) result }
+        ensures refused { OnErr result (self.new ≡ self.old) }
+        ensures begun { OnOk result (IsBegun self.old self.new) }
+    {
+        self.check_begin()?;
+        self.mark_anew();
+        self.cycle = true;
+        Ok(())
+    }
+
+    /// Scans at most `budget` marked objects that weren't scanned in the cycle: `Done` where none is left.
+    ///
+    /// Refusals, in their order: `BadCount` where the budget is 0, `NoCycle`.
+    pub fn mark(&mut self, budget: u64) -> Result<Progress, Refusal>
+        ensures step { Does self.old (Mark budget) result self.new }
+        ensures caused { IsJudgedBy (causes self.old.core (Mark budget)) result }
+        ensures refused { OnErr result (self.new ≡ self.old) }
+        ensures same { self.new ≡ record self.old { marked = self.new.marked; scanned = self.new.scanned; scans = self.new.scans } }
+        ensures kept { IsWithin self.old.marked self.new.marked }
+        ensures done { IfOk result (λ progress. progress ≡ Progress.Done ↔ AreScanned self.new) }
+        ensures more { IfOk result (λ progress. progress ≡ Progress.More → self.new.scans ≡ self.old.scans + budget) }
+        ensures budgeted { (self.old.scans ≤ self.new.scans) × (self.new.scans ≤ self.old.scans + budget) }
+    {
+        if budget == 0 {
+            return Err(Refusal::BadCount);
+        }
+        if !self.cycle {
+            return Err(Refusal::NoCycle);
+        }
+        Ok(self.marker.step(&self.heap, budget))
+    }
+
+    /// Ends the cycle: marks on from the roots as they are now, and from marked objects on noted pages, and carries out a pass.
+    ///
+    /// Refused `NoCycle` where no cycle is open.
+    pub fn pause(&mut self) -> Result<Passed, Refusal>
+        ensures step { Does self.old Pause result self.new }
+        ensures caused { IsJudgedBy (causes self.old.core Pause) result }
+        ensures refused { OnErr result (self.new ≡ self.old) }
+        ensures scans { self.old.scans ≤ self.new.scans }
+        ensures noted { self.new.noted ≡ self.old.noted }
+    {
+        if !self.cycle {
+            return Err(Refusal::NoCycle);
+        }
+        self.mark_rest();
+        Ok(self.pass())
+    }
+
+    /// A whole cycle in one step, as `GC_gcollect`: finds what is reachable, and carries out a pass.
+    ///
+    /// Refusals, in their order: `CycleOpen`, `Exhausted` at the 2^48th pass.
+    pub fn collect(&mut self) -> Result<Passed, Refusal>
+        ensures step { Does self.old Collect result self.new }
+        ensures caused { IsJudgedBy (causes self.old.core Collect) result }
+        ensures refused { OnErr result (self.new ≡ self.old) }
+        ensures few { OnOk result (self.new.scans ≤ len self.old.objects) }
+        ensures noted { OnOk result (self.new.noted ≡ sets.empty) }
+    {
+        self.check_begin()?;
+        self.mark_anew();
+        self.marker.finish(&self.heap, &self.dirty);
+        Ok(self.pass())
+    }
+
+    /// How many objects were scanned in the cycle begun last; 0 before any.
+    pub fn scans(&self) -> u64
+        ensures { result ≡ self.now.scans }
+    {
+        self.marker.scans()
+    }
+
+    /// How many pages were noted in the cycle begun last; 0 before any.
+    pub fn noted(&self) -> u64
+        ensures { result ≡ sets.len self.now.noted }
+    {
+        self.dirty.count()
+    }
+
+    /// Refuses to open a cycle: `CycleOpen` where one is open, `Exhausted` where passes have come to their end.
+    fn check_begin(&self) -> Result<(), Refusal>
+        ensures judged { IsJudgedBy (causes self.now.core Begin) result }
+        ensures idle { OnOk result (IsFalse self.now.cycle) }
+        ensures few { OnOk result (self.now.passes + 1 < COUNT_LIMIT) }
+    {
+        if self.cycle {
+            return Err(Refusal::CycleOpen);
+        }
+        if self.passes >= COUNT_LIMIT - 1 {
+            return Err(Refusal::Exhausted);
+        }
+        Ok(())
+    }
+
+    /// Sweeps what is condemned, forgets marks and pages, and marks what the roots point to. Asked only where no cycle is open.
+    fn mark_anew(&mut self)
+        requires { IsFalse self.old.cycle }
+        ensures core { self.new.core ≡ self.old.core }
+        ensures begun { IsBegun self.old self.new }
+    {
+        self.heap.sweep_all();
+        self.marker.begin();
+        self.dirty.take_all();
+        mark_roots(
+            &mut self.marker,
+            &self.heap,
+            &self.frames,
+            &self.table,
+            &self.ready,
+            self.closed,
+        );
+    }
+
+    /// Marks on from the roots and from objects on noted pages until the marks are closed, and closes the cycle. Asked only where one is open.
+    fn mark_rest(&mut self)
+        requires { IsTrue self.old.cycle }
+        ensures core { self.new.core ≡ record self.old.core { cycle = false } }
+        ensures roots { (a : ℕ) → IsRoot self.old.core a → IsTrue (contains self.new.marked a) }
+        ensures closed { IsClosed self.old.objects self.new.marked }
+        ensures led { (a : ℕ) → IsTrue (contains self.new.marked a) → IsLedFromMarks self.old a }
+        ensures scans { self.old.scans ≤ self.new.scans }
+        ensures noted { self.new.noted ≡ self.old.noted }
+        ensures passes { self.old.passes + 1 < COUNT_LIMIT }
+    {
+        mark_roots(
+            &mut self.marker,
+            &self.heap,
+            &self.frames,
+            &self.table,
+            &self.ready,
+            self.closed,
+        );
+        self.marker.finish(&self.heap, &self.dirty);
+        self.cycle = false;
+    }
+
+    /// A pass in which the marked objects are those that were found. It needs no memory: `register` made the room.
+    fn pass(&mut self) -> Passed
+        requires idle { IsFalse self.old.cycle }
+        requires roots { (a : ℕ) → IsRoot self.old.core a → IsTrue (contains self.old.marked a) }
+        requires closed { IsClosed self.old.objects self.old.marked }
+        requires passes { self.old.passes + 1 < COUNT_LIMIT }
+        ensures passes { Passes self.old.core (contains self.old.marked) result self.new.core }
+        ensures marks { KeepsMarks self.old self.new }
+    {
+        let reclaimed = decide(
+            &mut self.heap,
+            &mut self.marker,
+            &mut self.table,
+            &mut self.short,
+            &mut self.long,
+            &mut self.picks,
+        );
+        self.passes += 1;
+        self.ready.enqueue(self.passes, self.picks.as_slice());
+        let picked = self.picks.len() as u64;
+        self.picks.clear();
+        Passed {
+            pass: self.passes,
+            picked,
+            reclaimed,
+        }
+    }
+}

@@ -1,0 +1,65 @@
+//! Entries of the queue, and the end of a world.
+
+ghost use Rattle.std.specs.Prelude.{◌≡◌};
+ghost use Rattle.std.specs.declared.result.Result.TheVariants.{Ok};
+ghost use Rattle.fz_model.specs.Events.{Hold, Finish, Close, Outstanding, Queue};
+ghost use Rattle.fz_world.specs.World.{KeepsMarks};
+ghost use Rattle.fz_world.specs.Does.{Does};
+
+use crate::world::World;
+use fz_model::{Entry, Refusal};
+
+#[tactic(auto, using(fz_model::proofs::Judged::judged_more, fz_model::proofs::Judged::judged_err, crate::proofs::Whole::world_finished, crate::proofs::Does::does_refused, crate::proofs::Does::does_accepted))]
+impl World {
+    /// Puts the object of a held entry into the slot.
+    ///
+    /// Refusals, in their order: `BadSlot`, `NotHeld` where no held entry is the same in all its fields.
+    pub fn hold(&mut self, frame: u64, slot: u64, entry: &Entry) -> Result<(), Refusal>
+        ensures step { Does self.old (Hold frame slot entry.now) result self.new }
+        ensures marks { KeepsMarks self.old self.new }
+    {
+        self.frames.get(frame, slot)?;
+        self.ready.check_held(entry)?;
+        self.frames.set(frame, slot, entry.obj);
+        Ok(())
+    }
+
+    /// Ends the holding of an entry, which has to be held in all its fields.
+    ///
+    /// Refused `NotHeld` otherwise.
+    pub fn finish(&mut self, entry: &Entry) -> Result<(), Refusal>
+        ensures step { Does self.old (Finish entry.now) result self.new }
+        ensures marks { KeepsMarks self.old self.new }
+    {
+        self.ready.finish(entry)
+    }
+
+    /// Closes the world: every registered object is a root from now on, so no pass queues anything.
+    ///
+    /// Refused `Closed` where the world is closed.
+    pub fn close(&mut self) -> Result<(), Refusal>
+        ensures step { Does self.old Close result self.new }
+        ensures marks { KeepsMarks self.old self.new }
+    {
+        if self.closed {
+            return Err(Refusal::Closed);
+        }
+        self.closed = true;
+        Ok(())
+    }
+
+    /// The number of held entries.
+    pub fn outstanding(&self) -> u64
+        ensures { Does self.now Outstanding (Ok result) self.now }
+    {
+        self.ready.outstanding()
+    }
+
+    /// All entries ever queued, in their order.
+    pub fn queue(&self) -> &[Entry]
+        ensures queue { result.now ≡ self.now.queue }
+        ensures step { Does self.now Queue (Ok result.now) self.now }
+    {
+        self.ready.queue()
+    }
+}

@@ -1,0 +1,140 @@
+//! Objects, their words, and the slots that point to them.
+
+ghost use Rattle.std.specs.Prelude.{◌≡◌, ◌+◌, ◌*◌, IfOk, OnOk, OnErr};
+ghost use Rattle.fz_model.specs.declared.limits.TheConstants.{BLOCK_WORDS};
+ghost use Rattle.fz_model.specs.Extents.{IsInHeap};
+ghost use Rattle.fz_model.specs.Memory.{slot_word};
+ghost use Rattle.fz_model.specs.Allocation.{block_of};
+ghost use Rattle.fz_model.specs.Causes.{IsJudgedBy};
+ghost use Rattle.fz_model.specs.Events.{Alloc, Load, Store, Set, Copy, causes};
+ghost use Rattle.fz_world.specs.World.{KeepsMarks, with_in_cycle};
+ghost use Rattle.fz_world.specs.Does.{Does};
+
+use crate::world::World;
+use fz_dirty::Dirty;
+use fz_marker::Marker;
+use fz_model::{Addr, BLOCK_WORDS, HEAP_START, ObjKind, Refusal, Word};
+
+/// Notes the page of a word that was written in an open cycle.
+fn note_written(dirty: &mut Dirty, cycle: bool, address: Addr)
+    requires { IsInHeap dirty.old.pages address }
+    ensures { dirty.new ≡ record dirty.old { noted = with_in_cycle cycle dirty.old.noted (block_of address) } }
+{
+    if cycle {
+        dirty.mark((address - HEAP_START) / BLOCK_WORDS);
+    }
+}
+
+/// Marks an object that was made in an open cycle.
+fn mark_new(marker: &mut Marker, cycle: bool, start: Addr, blocks: u64)
+    requires size { marker.old.size ≡ BLOCK_WORDS * blocks }
+    requires in_heap { IsInHeap blocks start }
+    ensures { marker.new ≡ record marker.old { marked = with_in_cycle cycle marker.old.marked start } }
+{
+    if cycle {
+        marker.born(start);
+    }
+}
+
+#[tactic(auto, using(fz_model::proofs::Judged::judged_more, fz_model::proofs::Judged::judged_err, crate::proofs::Whole::world_size, crate::proofs::Whole::world_pages, crate::proofs::Whole::world_made, crate::proofs::Whole::world_written, crate::proofs::Does::does_refused, crate::proofs::Does::does_accepted, crate::proofs::Does::does_alloc))]
+impl World {
+    /// Makes an object of `size` words, all of them zero, and puts its address into the slot. Returns the address and the birth. An atomic
+    /// object is one of `GC_malloc_atomic`. In an open cycle the object is marked and its page noted.
+    ///
+    /// Refusals, in their order: `BadSlot`, `BadSize` outside 1 to 1,024 words, `Exhausted` after 2^48 births, `NoSpace`.
+    pub fn alloc(
+        &mut self,
+        frame: u64,
+        slot: u64,
+        size: u64,
+        kind: ObjKind,
+    ) -> Result<(Addr, u64), Refusal>
+        ensures step { Does self.old (Alloc frame slot size kind) result self.new }
+        // It takes no memory, since `open` made its room: so each refusal has its cause.
+        ensures caused { IsJudgedBy (causes self.old.core (Alloc frame slot size kind)) result }
+        ensures refused { OnErr result (self.new ≡ self.old) }
+        ensures marks { IfOk result (λ made. self.new ≡ record self.old { core = self.new.core; marked = with_in_cycle self.old.cycle self.old.marked made.0; noted = with_in_cycle self.old.cycle self.old.noted (block_of made.0) }) }
+    {
+        self.frames.get(frame, slot)?;
+        let (address, birth) = self.heap.alloc(size, kind)?;
+        self.frames.set(frame, slot, address);
+        mark_new(&mut self.marker, self.cycle, address, self.heap.blocks());
+        note_written(&mut self.dirty, self.cycle, address);
+        Ok((address, birth))
+    }
+
+    /// Reads the word at an offset, in words, from where the slot points into an object, and puts it into the second slot too.
+    ///
+    /// Refusals, in their order: `BadSlot` of either slot, `NotPointer`, `OutsideObject` where the word plus the offset leaves the object.
+    pub fn load(
+        &mut self,
+        frame: u64,
+        slot: u64,
+        offset: u64,
+        to_frame: u64,
+        to_slot: u64,
+    ) -> Result<Word, Refusal>
+        ensures step { Does self.old (Load frame slot offset to_frame to_slot) result self.new }
+        ensures marks { KeepsMarks self.old self.new }
+    {
+        let word = self.frames.get(frame, slot)?;
+        self.frames.get(to_frame, to_slot)?;
+        let read = self.heap.read(word, offset)?;
+        self.frames.set(to_frame, to_slot, read);
+        Ok(read)
+    }
+
+    /// Writes the second slot's word at an offset, in words, from where the first slot points into an object. In an open cycle the page of the
+    /// written word is noted.
+    ///
+    /// Refusals, in their order: `BadSlot` of either slot, `NotPointer`, `OutsideObject` where the word plus the offset leaves the object.
+    pub fn store(
+        &mut self,
+        frame: u64,
+        slot: u64,
+        offset: u64,
+        from_frame: u64,
+        from_slot: u64,
+    ) -> Result<(), Refusal>
+        ensures step { Does self.old (Store frame slot offset from_frame from_slot) result self.new }
+        ensures refused { OnErr result (self.new ≡ self.old) }
+        ensures marks { OnOk result (self.new ≡ record self.old { core = self.new.core; noted = with_in_cycle self.old.cycle self.old.noted (block_of (slot_word self.old.frames frame slot + offset)) }) }
+    {
+        let word = self.frames.get(frame, slot)?;
+        let value = self.frames.get(from_frame, from_slot)?;
+        self.heap.write(word, offset, value)?;
+        note_written(&mut self.dirty, self.cycle, word + offset);
+        Ok(())
+    }
+
+    /// Puts the word into the slot.
+    ///
+    /// Refused `BadSlot` where there is no such slot.
+    pub fn set(&mut self, frame: u64, slot: u64, word: Word) -> Result<(), Refusal>
+        ensures step { Does self.old (Set frame slot word) result self.new }
+        ensures marks { KeepsMarks self.old self.new }
+    {
+        self.frames.get(frame, slot)?;
+        self.frames.set(frame, slot, word);
+        Ok(())
+    }
+
+    /// Puts the slot's word into the second slot.
+    ///
+    /// Refused `BadSlot` where there is no such slot.
+    pub fn copy(
+        &mut self,
+        frame: u64,
+        slot: u64,
+        to_frame: u64,
+        to_slot: u64,
+    ) -> Result<(), Refusal>
+        ensures step { Does self.old (Copy frame slot to_frame to_slot) result self.new }
+        ensures marks { KeepsMarks self.old self.new }
+    {
+        let word = self.frames.get(frame, slot)?;
+        self.frames.get(to_frame, to_slot)?;
+        self.frames.set(to_frame, to_slot, word);
+        Ok(())
+    }
+}

@@ -1,0 +1,155 @@
+//! Registrations of finalizers.
+
+ghost use Rattle.std.specs.Prelude.{◌≡◌, ◌≤◌, ◌+◌, IsFalse, IfOk, IfErr, OnOk, OnErr, vec_capacity, ℕ};
+ghost use Rattle.std.specs.Option.{IsNone};
+ghost use Rattle.std.specs.FinMap.{get, len, insert};
+ghost use Rattle.fz_model.specs.declared.answers.Registration.{Registration};
+ghost use Rattle.fz_model.specs.declared.limits.TheConstants.{TABLE_LIMIT};
+ghost use Rattle.fz_model.specs.Memory.{slot_word};
+ghost use Rattle.fz_model.specs.Causes.{IsJudgedBy, IsJudgedOrLacks, start_causes, register_causes, is_off_heap, full};
+ghost use Rattle.fz_model.specs.Steps.{old_of};
+ghost use Rattle.fz_model.specs.Events.{Register, Unregister};
+ghost use Rattle.fz_world.specs.World.{KeepsMarks};
+ghost use Rattle.fz_world.specs.Does.{Does};
+
+use crate::ready::Ready;
+use crate::world::World;
+use fz_heap::Heap;
+use fz_model::{Addr, BLOCK_WORDS, HEAP_START, Old, Pick, Refusal, RegAnswer, RegKind, Word};
+use fz_table::Table;
+
+/// Whether the word is zero, or lies outside the heap.
+fn is_off_heap(heap: &Heap, word: Word) -> bool
+    ensures { result ≡ is_off_heap heap.now.blocks word }
+{
+    word < HEAP_START || word >= HEAP_START + BLOCK_WORDS * heap.blocks()
+}
+
+/// Refuses a word that isn't the start of an object.
+pub(crate) fn check_start(heap: &Heap, word: Word) -> Result<(), Refusal>
+    ensures judged { IsJudgedBy (start_causes heap.now.objects word) result }
+{
+    if heap.resolve(word).is_none() {
+        return Err(Refusal::NotPointer);
+    }
+    if heap.facts(word).is_none() {
+        return Err(Refusal::NotStart);
+    }
+    Ok(())
+}
+
+/// Makes room for the entry and the pick of an object's registration, if the object isn't registered: so no pass needs memory. `NoMemory` where an
+/// allocation failed.
+fn make_room(
+    table: &Table,
+    ready: &mut Ready,
+    picks: &mut Vec<Pick>,
+    object: Addr,
+) -> Result<(), Refusal>
+    requires free { IsFalse (full table.now.registrations object).0 }
+    requires room { len table.now.registrations ≤ ready.old.room }
+    requires pick_room { len table.now.registrations ≤ vec_capacity picks.old }
+    ensures refused { IfErr result (λ r. r ≡ Refusal.NoMemory) }
+    ensures growth { IfErr result (λ r. IsNone (get table.now.registrations object)) }
+    ensures same { (ready.new.queue ≡ ready.old.queue) × (ready.new.held ≡ ready.old.held) }
+    ensures roomier { ready.old.room ≤ ready.new.room }
+    ensures items { picks.new.items ≡ picks.old.items }
+    ensures wider { vec_capacity picks.old ≤ vec_capacity picks.new }
+    ensures room { OnOk result ((r : Registration) → len (insert table.now.registrations object r) ≤ ready.new.room) }
+    ensures pick_room { OnOk result ((r : Registration) → len (insert table.now.registrations object r) ≤ vec_capacity picks.new) }
+{
+    if table.get(object).is_some() {
+        return Ok(());
+    }
+    let more = table.len() + 1;
+    ready.reserve(more)?;
+    picks.reserve(more)?;
+    Ok(())
+}
+
+/// Registers an object, once there is room for its entry and its pick; returns the number and what was replaced. Refused as `Table::register` is; a
+/// refused call leaves no more than room behind.
+fn enroll(
+    table: &mut Table,
+    ready: &mut Ready,
+    picks: &mut Vec<Pick>,
+    object: Addr,
+    registration: (RegKind, u64, Word, u8),
+) -> Result<(u64, Option<Old>), Refusal>
+    requires room { len table.old.registrations ≤ ready.old.room }
+    requires pick_room { len table.old.registrations ≤ vec_capacity picks.old }
+    ensures judged { IsJudgedOrLacks (register_causes table.old.registrations table.old.next_number object) result }
+    ensures growth { IfErr result (λ r. r ≡ Refusal.NoMemory → IsNone (get table.old.registrations object)) }
+    ensures unchanged { OnErr result (table.new ≡ table.old) }
+    ensures number { IfOk result (λ answer. answer.0 ≡ table.old.next_number) }
+    ensures replaced { IfOk result (λ answer. answer.1 ≡ old_of table.old.registrations object) }
+    ensures registered { OnOk result (table.new ≡ record {
+      registrations = insert table.old.registrations object (record { number = table.old.next_number; kind = registration.0; proc = registration.1; cd = registration.2; rank = registration.3 });
+      next_number = table.old.next_number + 1;
+    }) }
+    ensures same { (ready.new.queue ≡ ready.old.queue) × (ready.new.held ≡ ready.old.held) }
+    ensures roomier { ready.old.room ≤ ready.new.room }
+    ensures items { picks.new.items ≡ picks.old.items }
+    ensures wider { vec_capacity picks.old ≤ vec_capacity picks.new }
+    ensures room { OnOk result (len table.new.registrations ≤ ready.new.room) }
+    ensures pick_room { OnOk result (len table.new.registrations ≤ vec_capacity picks.new) }
+{
+    let (kind, proc, cd, rank) = registration;
+    table.check(object)?;
+    make_room(table, ready, picks, object)?;
+    table.register(object, kind, proc, cd, rank)
+}
+
+#[tactic(auto, using(fz_model::proofs::Judged::judged_more, fz_model::proofs::Judged::judged_err, crate::proofs::Whole::world_room, crate::proofs::Whole::world_pick_room, crate::proofs::Whole::world_registered, crate::proofs::Whole::world_roomier, crate::proofs::Whole::world_removed, crate::proofs::Does::start_refused, crate::proofs::Does::does_refused, crate::proofs::Does::does_accepted))]
+impl World {
+    /// Registers a finalizer of the object that starts at the slot's word, as `GC_register_finalizer` does, or by its kind the `_ignore_self`
+    /// or `_no_order` one. A pass queues what is ready by rank, then address. A word that is zero or outside the heap is answered `Outside`, and
+    /// changes nothing.
+    ///
+    /// Refusals, in their order: `BadSlot`, `NotPointer`, `NotStart`, `Exhausted` after 2^48 numbers, `TableFull` for a 65,537th object, `NoMemory`.
+    pub fn register(
+        &mut self,
+        frame: u64,
+        slot: u64,
+        kind: RegKind,
+        proc: u64,
+        cd: Word,
+        rank: u8,
+    ) -> Result<RegAnswer, Refusal>
+        ensures step { Does self.old (Register frame slot kind proc cd rank) result self.new }
+        // Only the first registration of an object can want memory.
+        ensures inside { IfErr result (λ r. r ≡ Refusal.NoMemory → IsFalse (is_off_heap self.old.blocks (slot_word self.old.frames frame slot))) }
+        ensures growth { IfErr result (λ r. r ≡ Refusal.NoMemory → IsNone (get self.old.registrations (slot_word self.old.frames frame slot))) }
+        ensures marks { KeepsMarks self.old self.new }
+    {
+        let word = self.frames.get(frame, slot)?;
+        if is_off_heap(&self.heap, word) {
+            return Ok(RegAnswer::Outside);
+        }
+        check_start(&self.heap, word)?;
+        let (number, old) = enroll(
+            &mut self.table,
+            &mut self.ready,
+            &mut self.picks,
+            word,
+            (kind, proc, cd, rank),
+        )?;
+        Ok(RegAnswer::Number(number, old))
+    }
+
+    /// Removes the registration of the object that starts at the slot's word; returns its procedure and client data: `GC_register_finalizer` with
+    /// no procedure.
+    ///
+    /// Refusals, in their order: `BadSlot`, `NotPointer`, `NotStart`; a word that is zero or outside the heap has no registration.
+    pub fn unregister(&mut self, frame: u64, slot: u64) -> Result<Option<Old>, Refusal>
+        ensures step { Does self.old (Unregister frame slot) result self.new }
+        ensures marks { KeepsMarks self.old self.new }
+    {
+        let word = self.frames.get(frame, slot)?;
+        if is_off_heap(&self.heap, word) {
+            return Ok(None);
+        }
+        check_start(&self.heap, word)?;
+        Ok(self.table.remove(word))
+    }
+}
