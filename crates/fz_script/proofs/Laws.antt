@@ -1,10 +1,10 @@
 -- What is read is spelled so, and what is spelled so is read.
-use Rattle.std.proofs.Common.{◌≡◌, ℕ, ◌<◌, ◌^◌, List, [], ◌∷◌, ◌++◌, codes, decimal, Option, Some, None, ◌∙◌, ap, sym, cond, Bool, true, false, refl, map, ◌⊎◌, inl, inr, IfSome, subst, append-nil, not, ◌&&◌, ◌==◌, ◌+◌, ◌%◌, ne_eqb, nat_lt, ltb-true, arith, rules}
+use Rattle.std.proofs.Common.{◌≡◌, ℕ, ◌<◌, ◌^◌, List, [], ◌∷◌, ◌++◌, codes, decimal, Option, Some, None, ◌∙◌, ap, sym, cond, Bool, true, false, refl, map, ◌⊎◌, inl, inr, IfSome, subst, append-nil, not, ◌&&◌, ◌==◌, ◌+◌, ◌%◌, ne_eqb, nat_lt, ltb-true, lt-ltb, arith, rules}
 use Rattle.std.proofs.lemmas.Bool.{and_parts}
 use Rattle.std.specs.List.{join_with_byte, AllByRecursion, find}
 use Rattle.std.proofs.lemmas.Fmt.{decimal_by_steps}
 use Rattle.std.proofs.lemmas.List.Splits.{join_with_byte-slice_split}
-use Rattle.std.proofs.lemmas.Option.{some_pair_parts}
+use Rattle.std.proofs.lemmas.Option.{some_pair_parts, cond_some}
 use Rattle.std.proofs.lemmas.Str.{IsUtf8-from_ascii}
 use Rattle.std.proofs.lemmas.Str.Ascii.{IsAscii-nil, IsAscii-cons}
 use Rattle.std.specs.Str.{bytes_eq, IsUtf8, IsAscii}
@@ -17,8 +17,8 @@ use Rattle.fz_model.specs.declared.kinds.LinkKind.{LinkKind}
 use Rattle.fz_model.specs.declared.kinds.LinkKind.TheVariants.{Short, Long}
 use Rattle.fz_script.specs.declared.step.Step.{Step}
 use Rattle.fz_script.specs.declared.step.Step.TheVariants.{Open, New, Set, Copy, Load, Store, Register, Unregister, Link, Unlink, Move, Begin, Mark, Pause, Collect, Take, Hold, Finish, Forfeit, Close, Outstanding}
-use Rattle.fz_script.specs.Spelling.{Word, Number, Text, IsWord, obj_kind, reg_kind, link_kind, words, text, spelling, Fits}
-use Rattle.fz_script.specs.Reading.{◌>>=◌, with_rest, number, find_text, kind_at, number_at, obj_kind_at, reg_kind_at, link_kind_at, Fields, nothing, a_number, an_obj_kind, a_reg_kind, a_link_kind, two, three, Values, values_at, Verb, verbs, verb_named, word_at, words_of, step_at, end_at, step_in}
+use Rattle.fz_script.specs.Spelling.{Word, Number, Rank, Text, IsWord, obj_kind, reg_kind, link_kind, rank_words, words, text, spelling, Fits}
+use Rattle.fz_script.specs.Reading.{◌>>=◌, with_rest, number, find_text, kind_at, number_at, byte, byte_at, optional_at, obj_kind_at, reg_kind_at, link_kind_at, Fields, nothing, a_number, an_obj_kind, a_reg_kind, a_link_kind, a_rank, two, three, Values, values_at, Verb, verbs, verb_named, word_at, words_of, named_at, step_at, end_at, step_in}
 use Rattle.fz_script.proofs.Numbers.{number_takes, number_again}
 
 -- the cases of a bind and of a test
@@ -44,6 +44,7 @@ field_words a_number n = Number n ∷ []
 field_words an_obj_kind kind = Text (obj_kind kind) ∷ []
 field_words a_reg_kind kind = Text (reg_kind kind) ∷ []
 field_words a_link_kind which = Text (link_kind which) ∷ []
+field_words a_rank rank = rank_words rank
 field_words (two first second) x = field_words first x.0 ++ field_words second x.1
 field_words (three first second third) x = field_words first x.0 ++ (field_words second x.1 ++ field_words third x.2)
 
@@ -86,6 +87,27 @@ number_taken ws rest n h =
     let is = number_takes first.0.0 n t.0 in
     (word_takes ws first.0.1 first.0.0 first.1 ∙ ap (λ w. w ∷ first.0.1) is.0 ∙ ap (λ l. decimal n ∷ l) t.1, (is.1, tt))
 
+byte_takes : (word : List ℕ) (n : ℕ) → byte word ≡ Some n → (word ≡ decimal n) × (n < 2 ^ 8)
+byte_takes word n h =
+    let b = bind_some (number word) (λ n. cond (nat_lt n (2 ^ 8)) (Some n) None) n h in
+    let t = cond_some (nat_lt b.0 (2 ^ 8)) b.0 n b.2 in
+    let below = ltb-true b.0 (2 ^ 8) t.0 in
+    ((number_takes word b.0 b.1).0 ∙ ap decimal t.1, subst (λ n. n < 2 ^ 8) t.1 below)
+
+rank_taken : (ws rest : List (List ℕ)) (rank : Option ℕ) → optional_at byte_at ws ≡ Some (rank, rest) → HasTaken (rank_words rank) ws rest
+rank_taken [] rest rank h = let p = some_pair_parts None rank [] rest h in subst (λ rank. HasTaken (rank_words rank) [] rest) p.0 (p.1, tt)
+rank_taken (w ∷ ws) rest rank h =
+    let x = bind_some (byte_at (w ∷ ws)) (λ x. Some (Some x.0, x.1)) (rank, rest) h in
+    let p = some_pair_parts (Some x.0.0) rank x.0.1 rest x.2 in
+    let t = with_rest_some _ _ _ _ x.1 in
+    let is = byte_takes w x.0.0 t.0 in
+    subst (λ rank. HasTaken (rank_words rank) (w ∷ ws) rest) p.0 (ap (λ w. w ∷ ws) is.0 ∙ ap (λ l. decimal x.0.0 ∷ l) (t.1 ∙ p.1), (is.1, tt))
+
+byte_again : (n : ℕ) → n < 2 ^ 8 → byte (decimal n) ≡ Some n
+byte_again n lt =
+    let small : nat_lt n (2 ^ 8) ≡ true = lt-ltb n (2 ^ 8) lt in
+    rw (number_again n (omega (arith, lt)), small) refl
+
 obj_kind_again : (x : ObjKind) (rest : List (List ℕ)) → obj_kind_at (obj_kind x ∷ rest) ≡ Some (x, rest)
 obj_kind_again Scanned rest = refl
 obj_kind_again Atomic rest = refl
@@ -106,6 +128,7 @@ values_taken a_number ws rest x h = number_taken ws rest x h
 values_taken an_obj_kind ws rest x h = (kind_takes obj_kind (Scanned ∷ Atomic ∷ []) ws rest x h, (tt, tt))
 values_taken a_reg_kind ws rest x h = (kind_takes reg_kind (Normal ∷ IgnoreSelf ∷ NoOrder ∷ []) ws rest x h, (tt, tt))
 values_taken a_link_kind ws rest x h = (kind_takes link_kind (Short ∷ Long ∷ []) ws rest x h, (tt, tt))
+values_taken a_rank ws rest x h = rank_taken ws rest x h
 values_taken (two f g) ws rest x h =
     let a = bind_some (values_at f ws) (λ a. values_at g a.1 >>= λ b. Some ((a.0, b.0), b.1)) (x, rest) h in
     let b = bind_some (values_at g a.0.1) (λ b. Some ((a.0.0, b.0), b.1)) (x, rest) a.2 in
@@ -130,25 +153,38 @@ texts_of_two : (a b : List Word) (rest : List (List ℕ)) → map text (a ++ b) 
 texts_of_two [] b rest = refl
 texts_of_two (w ∷ a) b rest = ap (λ l. text w ∷ l) (texts_of_two a b rest)
 
+-- these words may follow the fields: none follow a rank
+abbrev MayFollow : Fields → List (List ℕ) → Type 0
+MayFollow a_rank rest = rest ≡ []
+MayFollow (two f g) rest = ((ws : List (List ℕ)) → MayFollow f ws) × MayFollow g rest
+MayFollow (three f g k) rest = ((ws : List (List ℕ)) → MayFollow f ws) × ((ws : List (List ℕ)) → MayFollow g ws) × MayFollow k rest
+MayFollow _ rest = Unit {0}
+
+rank_again : (rank : Option ℕ) → AllByRecursion IsWord (rank_words rank) → optional_at byte_at (map text (rank_words rank)) ≡ Some (rank, [])
+rank_again None h = refl
+rank_again (Some n) h = rw (byte_again n h.0) refl
+
 -- what is written is read
-values_again : (fields : Fields) (x : Values fields) (rest : List (List ℕ)) → AllByRecursion IsWord (field_words fields x) → values_at fields (map text (field_words fields x) ++ rest) ≡ Some (x, rest)
-values_again nothing x rest h = refl
-values_again a_number x rest h = ap (λ o. with_rest o rest) (number_again x h.0)
-values_again an_obj_kind x rest h = obj_kind_again x rest
-values_again a_reg_kind x rest h = reg_kind_again x rest
-values_again a_link_kind x rest h = link_kind_again x rest
-values_again (two f g) x rest h =
+values_again : (fields : Fields) (x : Values fields) (rest : List (List ℕ)) → MayFollow fields rest → AllByRecursion IsWord (field_words fields x) → values_at fields (map text (field_words fields x) ++ rest) ≡ Some (x, rest)
+values_again nothing x rest may h = refl
+values_again a_number x rest may h = ap (λ o. with_rest o rest) (number_again x h.0)
+values_again an_obj_kind x rest may h = obj_kind_again x rest
+values_again a_reg_kind x rest may h = reg_kind_again x rest
+values_again a_link_kind x rest may h = link_kind_again x rest
+values_again a_rank x rest may h =
+    subst (λ (ws : List (List ℕ)). values_at a_rank (map text (rank_words x) ++ ws) ≡ Some (x, ws)) (sym may) (ap (values_at a_rank) (append-nil (map text (rank_words x))) ∙ rank_again x h)
+values_again (two f g) x rest may h =
     let fit = two_fit (field_words f x.0) (field_words g x.1) h in
-    rw (texts_of_two (field_words f x.0) (field_words g x.1) rest, values_again f x.0 (map text (field_words g x.1) ++ rest) fit.0, values_again g x.1 rest fit.1) refl
-values_again (three f g k) x rest h =
+    rw (texts_of_two (field_words f x.0) (field_words g x.1) rest, values_again f x.0 (map text (field_words g x.1) ++ rest) (may.0 (map text (field_words g x.1) ++ rest)) fit.0, values_again g x.1 rest may.1 fit.1) refl
+values_again (three f g k) x rest may h =
     let fit = two_fit (field_words f x.0) (field_words g x.1 ++ field_words k x.2) h in
     let more = two_fit (field_words g x.1) (field_words k x.2) fit.1 in
     rw (
       texts_of_two (field_words f x.0) (field_words g x.1 ++ field_words k x.2) rest,
-      values_again f x.0 (map text (field_words g x.1 ++ field_words k x.2) ++ rest) fit.0,
+      values_again f x.0 (map text (field_words g x.1 ++ field_words k x.2) ++ rest) (may.0 (map text (field_words g x.1 ++ field_words k x.2) ++ rest)) fit.0,
       texts_of_two (field_words g x.1) (field_words k x.2) rest,
-      values_again g x.1 (map text (field_words k x.2) ++ rest) more.0,
-      values_again k x.2 rest more.1,
+      values_again g x.1 (map text (field_words k x.2) ++ rest) (may.1 (map text (field_words k x.2) ++ rest)) more.0,
+      values_again k x.2 rest may.2 more.1,
     ) refl
 
 -- words without spaces
@@ -170,6 +206,7 @@ ascii (b ∷ bs) h = let p = and_parts _ _ h in IsAscii-cons b bs (ltb-true b 12
 record IsSpelled (v : Verb) : Type 0 where
   readable : is_ascii v.name ≡ true
   unspaced : lacks_space v.name ≡ true
+  ends : MayFollow v.fields []
   written_as : (x : Values v.fields) → words (v.make x) ≡ Text v.name ∷ field_words v.fields x
 
 all_spelled : AllByRecursion IsSpelled verbs
@@ -185,6 +222,7 @@ found_in (x ∷ xs) w v all h = elim (chosen (bytes_eq x.name w) (Some x) (find 
 
 -- what is no text is no verb's name
 pub no_verb : (words : List (List ℕ)) (w : List ℕ) (rest : List (List ℕ)) → word_at words ≡ Some (w, rest) → (IsUtf8 w → ⊥) → step_at words ≡ None
+unfolding named_at
 no_verb words w rest first other = rw (first, unnamed (verb_named w) refl) refl
   where
     unnamed : (r : Option Verb) → verb_named w ≡ r → verb_named w ≡ None
@@ -201,6 +239,7 @@ none_of w [] h = refl
 none_of w (v ∷ vs) h = rw (differs v.name w (bytes_eq v.name w) refl h.0) (none_of w vs h.1)
 
 pub another_word : (words : List (List ℕ)) (w : List ℕ) (rest : List (List ℕ)) → word_at words ≡ Some (w, rest) → AllByRecursion (λ (v : Verb). w ≡ v.name → ⊥) verbs → step_at words ≡ None
+unfolding named_at
 another_word words w rest first others = rw (first, none_of w verbs others) refl
 
 -- a step is what a verb makes of its fields: a further verb is one more clause here
@@ -221,7 +260,7 @@ is_made (Set frame slot word) = made_by (codes "set") refl (frame, slot, word) r
 is_made (Copy frame slot to_frame to_slot) = made_by (codes "copy") refl ((frame, slot), (to_frame, to_slot)) refl
 is_made (Load frame slot offset to_frame to_slot) = made_by (codes "load") refl ((frame, slot, offset), (to_frame, to_slot)) refl
 is_made (Store frame slot offset from_frame from_slot) = made_by (codes "store") refl ((frame, slot, offset), (from_frame, from_slot)) refl
-is_made (Register frame slot kind procedure client_data) = made_by (codes "register") refl ((frame, slot), kind, (procedure, client_data)) refl
+is_made (Register frame slot kind procedure client_data rank) = made_by (codes "register") refl ((frame, slot), kind, (procedure, client_data, rank)) refl
 is_made (Unregister frame slot) = made_by (codes "unregister") refl (frame, slot) refl
 is_made (Link which frame slot offset target_frame target_slot) = made_by (codes "link") refl (which, (frame, slot, offset), (target_frame, target_slot)) refl
 is_made (Unlink which frame slot offset) = made_by (codes "unlink") refl (which, (frame, slot, offset)) refl
@@ -292,12 +331,17 @@ both_plain : (a b : List Word) → ArePlain a → ArePlain b → ArePlain (a ++ 
 both_plain [] b h k = k
 both_plain (w ∷ a) b h k = (h.0, both_plain a b h.1 k)
 
+rank_plain : (rank : Option ℕ) → AllByRecursion IsWord (rank_words rank) → ArePlain (rank_words rank)
+rank_plain None h = tt
+rank_plain (Some n) h = (lacks_space_decimal n (omega (arith, h.0)), tt)
+
 fields_plain : (fields : Fields) (x : Values fields) → AllByRecursion IsWord (field_words fields x) → ArePlain (field_words fields x)
 fields_plain nothing x h = tt
 fields_plain a_number x h = (lacks_space_decimal x h.0, tt)
 fields_plain an_obj_kind x h = (lacks_space_obj_kind x, tt)
 fields_plain a_reg_kind x h = (lacks_space_reg_kind x, tt)
 fields_plain a_link_kind x h = (lacks_space_link_kind x, tt)
+fields_plain a_rank x h = rank_plain x h
 fields_plain (two f g) x h = let fit = two_fit (field_words f x.0) (field_words g x.1) h in both_plain (field_words f x.0) (field_words g x.1) (fields_plain f x.0 fit.0) (fields_plain g x.1 fit.1)
 fields_plain (three f g k) x h =
     let fit = two_fit (field_words f x.0) (field_words g x.1 ++ field_words k x.2) h in
@@ -316,6 +360,7 @@ end_takes [] h = refl
 end_takes (w ∷ ws) h = cc
 
 step_takes : (ws rest : List (List ℕ)) (s : Step) → step_at ws ≡ Some (s, rest) → (ws ≡ map text (words s) ++ rest) × Fits s
+unfolding named_at
 step_takes ws rest s h =
     let w = bind_some (word_at ws) (λ w. verb_named w.0 >>= λ v. values_at v.fields w.1 >>= λ x. Some (v.make x.0, x.1)) (s, rest) h in
     let v = bind_some (verb_named w.0.0) (λ v. values_at v.fields w.0.1 >>= λ x. Some (v.make x.0, x.1)) (s, rest) w.2 in
@@ -336,12 +381,12 @@ step_in_takes ws s h =
 
 -- a step that a verb makes is read again
 made_again : (v : Verb) (x : Values v.fields) → IsSpelled v → verb_named v.name ≡ Some v → Fits (v.make x) → step_in (words_of (spelling (v.make x))) ≡ Some (v.make x)
-unfolding step_in
+unfolding step_in named_at
 made_again v x spelled named fits =
     let fit : AllByRecursion IsWord (field_words v.fields x) = (subst (AllByRecursion IsWord) (spelled.written_as x) fits).1 in
     let fields : List (List ℕ) = map text (field_words v.fields x) in
     let split : words_of (spelling (v.make x)) ≡ v.name ∷ fields = ap (λ l. words_of (join_with_byte 32 (map text l))) (spelled.written_as x) ∙ split_joined v.name fields spelled.unspaced (fields_plain v.fields x fit) in
-    let values : values_at v.fields fields ≡ Some (x, []) = ap (values_at v.fields) (sym (append-nil fields)) ∙ values_again v.fields x [] fit in
+    let values : values_at v.fields fields ≡ Some (x, []) = ap (values_at v.fields) (sym (append-nil fields)) ∙ values_again v.fields x [] spelled.ends fit in
     rw (split, named, values) refl
 
 step_again : (s : Step) → Fits s → step_in (words_of (spelling s)) ≡ Some s

@@ -1,12 +1,13 @@
 -- The parts of a line between its spaces.
-use Rattle.std.proofs.Common.{◌≡◌, ℕ, ◌≤◌, ◌+◌, ◌-◌, List, [], ◌∷◌, Some, None, ◌∙◌, ap, sym, take, drop, length, ◌==◌, Bool, true, false, cond, ltb-true, ltb-false, refl, arith}
+use Rattle.std.proofs.Common.{◌≡◌, ℕ, ◌≤◌, ◌+◌, ◌-◌, List, [], ◌∷◌, Option, is_some, not, IsTrue, ◌↔◌, Some, None, ◌∙◌, ap, sym, take, drop, length, ◌==◌, Bool, true, false, cond, ltb-true, ltb-false, refl, arith}
 use Rattle.std.proofs.lemmas.List.{take_rest}
 use Rattle.std.proofs.lemmas.List.Elements.{All-from_get_or}
 use Rattle.std.proofs.lemmas.List.Sums.{fails_before_first}
-use Rattle.std.proofs.lemmas.List.Splits.{slice_split_first, slice_split_none}
+use Rattle.std.proofs.lemmas.List.Splits.{slice_split_first, slice_split_none, length-slice_split}
 use Rattle.std.proofs.lemmas.Option.{cond_some}
 use Rattle.std.specs.List.{position, position_or_len, All}
-use Rattle.fz_script.specs.Reading.{words_of, word_at}
+use Rattle.fz_script.specs.Reading.{words_of, words_in, word_at}
+use denote.Bor.{Bor}
 
 cond_none : {A : Type 0} (b : Bool) (x : A) → cond b (Some x) None ≡ None → b ≡ false
 cond_none true x h = cc
@@ -29,3 +30,11 @@ only_word line words e found =
     All-from_get_or (λ x. (x == 32) ≡ false) line 0 (λ i lt. fails_before_first (λ b. b == 32) line i 0 (let far : length line ≤ position_or_len (λ b. b == 32) line = ltb-false _ _ t in omega arith)) in
     let parts : words ≡ line ∷ [] = e ∙ slice_split_none (λ b. b == 32) line none in
     rw parts refl
+
+-- a line has a word, be it an empty one
+pub none_left : (rest : Option (Bor (List ℕ))) (none : Bool) → is_some rest ≡ not none → IsTrue none ↔ (words_in rest ≡ [])
+none_left None true is = (λ _. refl, λ _. refl)
+none_left None false is = cc
+none_left (Some line) true is = cc
+none_left (Some line) false is =
+    (λ on. cc, λ empty. let some = length-slice_split (λ b. b == 32) line.now in let same = ap length empty in absurd (omega (arith, some, same)))

@@ -47,6 +47,10 @@ word_at (word ∷ rest) = Some (word, rest)
 unfoldable pub number : List ℕ → Option ℕ
 number word = let n = digits_value 10 word in if nat_lt n (2 ^ 64) && bytes_eq word (decimal n) then Some n else None
 
+-- the same below 256
+abbrev pub byte : List ℕ → Option ℕ
+byte word = number word >>= λ n. if nat_lt n (2 ^ 8) then Some n else None
+
 -- the first of these that is written so
 abbrev pub find_text : {A : Type 0} → (A → List ℕ) → List A → List ℕ → Option A
 find_text text xs word = find (λ x. bytes_eq (text x) word) xs
@@ -56,6 +60,14 @@ kind_at text xs words = word_at words >>= λ first. with_rest (find_text text xs
 
 abbrev pub number_at : List (List ℕ) → Option (ℕ × List (List ℕ))
 number_at words = word_at words >>= λ first. with_rest (number first.0) first.1
+
+abbrev pub byte_at : List (List ℕ) → Option (ℕ × List (List ℕ))
+byte_at words = word_at words >>= λ first. with_rest (byte first.0) first.1
+
+-- a field that may be left out at the end of a line
+abbrev pub optional_at : {A : Type 0} → (List (List ℕ) → Option (A × List (List ℕ))) → List (List ℕ) → Option (Option A × List (List ℕ))
+optional_at field [] = Some (None, [])
+optional_at field (word ∷ rest) = field (word ∷ rest) >>= λ x. Some (Some x.0, x.1)
 
 abbrev pub obj_kind_at : List (List ℕ) → Option (ObjKind × List (List ℕ))
 obj_kind_at words = kind_at obj_kind (Scanned ∷ Atomic ∷ []) words
@@ -80,6 +92,7 @@ pub data Fields : Type 0 where
   an_obj_kind : Fields
   a_reg_kind : Fields
   a_link_kind : Fields
+  a_rank : Fields
   two : (first second : Fields) → Fields
   three : (first second third : Fields) → Fields
 
@@ -89,6 +102,7 @@ Values a_number = ℕ
 Values an_obj_kind = ObjKind
 Values a_reg_kind = RegKind
 Values a_link_kind = LinkKind
+Values a_rank = Option ℕ
 Values (two first second) = Values first × Values second
 Values (three first second third) = Values first × Values second × Values third
 
@@ -98,6 +112,7 @@ values_at a_number words = number_at words
 values_at an_obj_kind words = obj_kind_at words
 values_at a_reg_kind words = reg_kind_at words
 values_at a_link_kind words = link_kind_at words
+values_at a_rank words = optional_at byte_at words
 values_at (two first second) words = two_at (values_at first) (values_at second) words
 values_at (three first second third) words = three_at (values_at first) (values_at second) (values_at third) words
 
@@ -125,7 +140,7 @@ verbs =
     ∷ verb (codes "copy") (two a_slot a_slot) (λ x. Copy x.0.0 x.0.1 x.1.0 x.1.1)
     ∷ verb (codes "load") (two a_place a_slot) (λ x. Load x.0.0 x.0.1 x.0.2 x.1.0 x.1.1)
     ∷ verb (codes "store") (two a_place a_slot) (λ x. Store x.0.0 x.0.1 x.0.2 x.1.0 x.1.1)
-    ∷ verb (codes "register") (three a_slot a_reg_kind (two a_number a_number)) (λ x. Register x.0.0 x.0.1 x.1 x.2.0 x.2.1)
+    ∷ verb (codes "register") (three a_slot a_reg_kind (three a_number a_number a_rank)) (λ x. Register x.0.0 x.0.1 x.1 x.2.0 x.2.1 x.2.2)
     ∷ verb (codes "unregister") a_slot (λ x. Unregister x.0 x.1)
     ∷ verb (codes "link") (three a_link_kind a_place a_slot) (λ x. Link x.0 x.1.0 x.1.1 x.1.2 x.2.0 x.2.1)
     ∷ verb (codes "unlink") (two a_link_kind a_place) (λ x. Unlink x.0 x.1.0 x.1.1 x.1.2)
@@ -145,9 +160,13 @@ verbs =
 abbrev pub verb_named : List ℕ → Option Verb
 verb_named word = find (λ (v : Verb). bytes_eq v.name word) verbs
 
+-- the step of a verb, whose fields come next
+unfoldable pub named_at : List ℕ → List (List ℕ) → Option (Step × List (List ℕ))
+named_at name words = verb_named name >>= λ v. values_at v.fields words >>= λ x. Some (v.make x.0, x.1)
+
 -- the step whose verb and fields come next
 abbrev pub step_at : List (List ℕ) → Option (Step × List (List ℕ))
-step_at words = word_at words >>= λ first. verb_named first.0 >>= λ v. values_at v.fields first.1 >>= λ x. Some (v.make x.0, x.1)
+step_at words = word_at words >>= λ first. named_at first.0 first.1
 
 -- done, if no word is left
 abbrev pub end_at : List (List ℕ) → Option (Unit {0})

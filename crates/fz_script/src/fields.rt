@@ -2,7 +2,7 @@
 
 ghost use Rattle.std.specs.Prelude.{◌≡◌, ◌<◌, ◌+◌, length, get_or, List, ℕ, Option, IfSome, None};
 ghost use Rattle.std.specs.Int.{IsInRange};
-ghost use Rattle.fz_script.specs.Reading.{words_left, with_rest, number, number_at, obj_kind_at, reg_kind_at, link_kind_at, two_at, three_at};
+ghost use Rattle.fz_script.specs.Reading.{words_left, with_rest, number, number_at, byte, byte_at, optional_at, obj_kind_at, reg_kind_at, link_kind_at, two_at, three_at};
 
 use crate::words::Words;
 use fz_model::{LinkKind, ObjKind, RegKind};
@@ -21,6 +21,26 @@ impl Field for u64 {
 
     fn read(words: &mut Words<'_>) -> Option<u64> {
         number_of(words.next()?)
+    }
+}
+
+impl Field for u8 {
+    ghost reads = { byte_at };
+
+    fn read(words: &mut Words<'_>) -> Option<u8> {
+        byte_of(words.next()?)
+    }
+}
+
+/// The last field of a line, which may be left out.
+impl<T: Field> Field for Option<T> {
+    ghost reads = { optional_at T.reads };
+
+    fn read(words: &mut Words<'_>) -> Option<Option<T>> {
+        if words.is_empty() {
+            return Some(None);
+        }
+        Some(Some(T::read(words)?))
     }
 }
 
@@ -87,6 +107,13 @@ fn number_of(word: &[u8]) -> Option<u64>
         [] | [b'0', _, ..] => None,
         _ => value_of(word),
     }
+}
+
+/// The same of a number that a `u8` holds.
+fn byte_of(word: &[u8]) -> Option<u8>
+    ensures { byte word.now ≡ result }
+{
+    u8::try_from(number_of(word)?).ok()
 }
 
 /// The value of decimal digits.

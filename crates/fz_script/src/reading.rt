@@ -1,9 +1,9 @@
 //! A line as a step.
 
-ghost use Rattle.std.specs.Prelude.{◌≡◌, Some, IfSome};
+ghost use Rattle.std.specs.Prelude.{◌≡◌, Some, IfSome, codes};
 ghost use Rattle.fz_script.specs.declared.step.Step.{Step};
 ghost use Rattle.fz_script.specs.Spelling.{Fits, spelling};
-ghost use Rattle.fz_script.specs.Reading.{words_of, words_left, with_rest, step_at, step_in};
+ghost use Rattle.fz_script.specs.Reading.{words_of, words_left, with_rest, named_at, step_at, step_in};
 
 use crate::step::Step;
 use crate::words::Words;
@@ -35,131 +35,223 @@ fn read_line(line: &[u8]) -> Option<Step>
 }
 
 /// The step whose verb and fields are the next words.
+#[tactic(auto, unfolding(crate::specs::Reading::named_at))]
 fn next_step(words: &mut Words<'_>) -> Option<Step>
     ensures { step_at (words_left words.old) ≡ with_rest result (words_left words.new) }
 {
-    Some(match words.verb()? {
-        "open" => {
-            let (blocks, frames, workers) = words.read()?;
-            Step::Open {
-                blocks,
-                frames,
-                workers,
-            }
-        }
-        "new" => {
-            let ((frame, slot), size, kind) = words.read()?;
-            Step::New {
-                frame,
-                slot,
-                size,
-                kind,
-            }
-        }
-        "set" => {
-            let (frame, slot, word) = words.read()?;
-            Step::Set { frame, slot, word }
-        }
-        "copy" => {
-            let ((frame, slot), (to_frame, to_slot)) = words.read()?;
-            Step::Copy {
-                frame,
-                slot,
-                to_frame,
-                to_slot,
-            }
-        }
-        "load" => {
-            let ((frame, slot, offset), (to_frame, to_slot)) = words.read()?;
-            Step::Load {
-                frame,
-                slot,
-                offset,
-                to_frame,
-                to_slot,
-            }
-        }
-        "store" => {
-            let ((frame, slot, offset), (from_frame, from_slot)) = words.read()?;
-            Step::Store {
-                frame,
-                slot,
-                offset,
-                from_frame,
-                from_slot,
-            }
-        }
-        "register" => {
-            let ((frame, slot), kind, (procedure, client_data)) = words.read()?;
-            Step::Register {
-                frame,
-                slot,
-                kind,
-                procedure,
-                client_data,
-            }
-        }
-        "unregister" => {
-            let (frame, slot) = words.read()?;
-            Step::Unregister { frame, slot }
-        }
-        "link" => {
-            let (which, (frame, slot, offset), (target_frame, target_slot)) = words.read()?;
-            Step::Link {
-                which,
-                frame,
-                slot,
-                offset,
-                target_frame,
-                target_slot,
-            }
-        }
-        "unlink" => {
-            let (which, (frame, slot, offset)) = words.read()?;
-            Step::Unlink {
-                which,
-                frame,
-                slot,
-                offset,
-            }
-        }
-        "move" => {
-            let (which, (frame, slot, offset), (to_frame, to_slot, to_offset)) = words.read()?;
-            Step::Move {
-                which,
-                frame,
-                slot,
-                offset,
-                to_frame,
-                to_slot,
-                to_offset,
-            }
-        }
-        "begin" => Step::Begin,
-        "mark" => Step::Mark {
-            budget: words.read()?,
-        },
-        "pause" => Step::Pause,
-        "collect" => Step::Collect,
-        "take" => Step::Take {
-            worker: words.read()?,
-        },
-        "hold" => {
-            let (worker, frame, slot) = words.read()?;
-            Step::Hold {
-                worker,
-                frame,
-                slot,
-            }
-        }
-        "finish" => Step::Finish {
-            worker: words.read()?,
-        },
-        "forfeit" => Step::Forfeit {
-            worker: words.read()?,
-        },
-        "close" => Step::Close,
-        "outstanding" => Step::Outstanding,
-        _ => return None,
+    match words.verb()? {
+        "open" => read_open(words),
+        "new" => read_new(words),
+        "set" => read_set(words),
+        "copy" => read_copy(words),
+        "load" => read_load(words),
+        "store" => read_store(words),
+        "register" => read_register(words),
+        "unregister" => read_unregister(words),
+        "link" => read_link(words),
+        "unlink" => read_unlink(words),
+        "move" => read_move(words),
+        "begin" => Some(Step::Begin),
+        "mark" => read_mark(words),
+        "pause" => Some(Step::Pause),
+        "collect" => Some(Step::Collect),
+        "take" => read_take(words),
+        "hold" => read_hold(words),
+        "finish" => read_finish(words),
+        "forfeit" => read_forfeit(words),
+        "close" => Some(Step::Close),
+        "outstanding" => Some(Step::Outstanding),
+        _ => None,
+    }
+}
+
+// For each verb with fields: reads them, as one tuple of their types, and makes the step.
+
+#[tactic(auto, unfolding(crate::specs::Reading::named_at))]
+fn read_open(words: &mut Words<'_>) -> Option<Step>
+    ensures { named_at (codes "open") (words_left words.old) ≡ with_rest result (words_left words.new) }
+{
+    let (blocks, frames, workers) = words.read()?;
+    Some(Step::Open {
+        blocks,
+        frames,
+        workers,
+    })
+}
+
+#[tactic(auto, unfolding(crate::specs::Reading::named_at))]
+fn read_new(words: &mut Words<'_>) -> Option<Step>
+    ensures { named_at (codes "new") (words_left words.old) ≡ with_rest result (words_left words.new) }
+{
+    let ((frame, slot), size, kind) = words.read()?;
+    Some(Step::New {
+        frame,
+        slot,
+        size,
+        kind,
+    })
+}
+
+#[tactic(auto, unfolding(crate::specs::Reading::named_at))]
+fn read_set(words: &mut Words<'_>) -> Option<Step>
+    ensures { named_at (codes "set") (words_left words.old) ≡ with_rest result (words_left words.new) }
+{
+    let (frame, slot, word) = words.read()?;
+    Some(Step::Set { frame, slot, word })
+}
+
+#[tactic(auto, unfolding(crate::specs::Reading::named_at))]
+fn read_copy(words: &mut Words<'_>) -> Option<Step>
+    ensures { named_at (codes "copy") (words_left words.old) ≡ with_rest result (words_left words.new) }
+{
+    let ((frame, slot), (to_frame, to_slot)) = words.read()?;
+    Some(Step::Copy {
+        frame,
+        slot,
+        to_frame,
+        to_slot,
+    })
+}
+
+#[tactic(auto, unfolding(crate::specs::Reading::named_at))]
+fn read_load(words: &mut Words<'_>) -> Option<Step>
+    ensures { named_at (codes "load") (words_left words.old) ≡ with_rest result (words_left words.new) }
+{
+    let ((frame, slot, offset), (to_frame, to_slot)) = words.read()?;
+    Some(Step::Load {
+        frame,
+        slot,
+        offset,
+        to_frame,
+        to_slot,
+    })
+}
+
+#[tactic(auto, unfolding(crate::specs::Reading::named_at))]
+fn read_store(words: &mut Words<'_>) -> Option<Step>
+    ensures { named_at (codes "store") (words_left words.old) ≡ with_rest result (words_left words.new) }
+{
+    let ((frame, slot, offset), (from_frame, from_slot)) = words.read()?;
+    Some(Step::Store {
+        frame,
+        slot,
+        offset,
+        from_frame,
+        from_slot,
+    })
+}
+
+#[tactic(auto, unfolding(crate::specs::Reading::named_at))]
+fn read_register(words: &mut Words<'_>) -> Option<Step>
+    ensures { named_at (codes "register") (words_left words.old) ≡ with_rest result (words_left words.new) }
+{
+    let ((frame, slot), kind, (procedure, client_data, rank)) = words.read()?;
+    Some(Step::Register {
+        frame,
+        slot,
+        kind,
+        procedure,
+        client_data,
+        rank,
+    })
+}
+
+#[tactic(auto, unfolding(crate::specs::Reading::named_at))]
+fn read_unregister(words: &mut Words<'_>) -> Option<Step>
+    ensures { named_at (codes "unregister") (words_left words.old) ≡ with_rest result (words_left words.new) }
+{
+    let (frame, slot) = words.read()?;
+    Some(Step::Unregister { frame, slot })
+}
+
+#[tactic(auto, unfolding(crate::specs::Reading::named_at))]
+fn read_link(words: &mut Words<'_>) -> Option<Step>
+    ensures { named_at (codes "link") (words_left words.old) ≡ with_rest result (words_left words.new) }
+{
+    let (which, (frame, slot, offset), (target_frame, target_slot)) = words.read()?;
+    Some(Step::Link {
+        which,
+        frame,
+        slot,
+        offset,
+        target_frame,
+        target_slot,
+    })
+}
+
+#[tactic(auto, unfolding(crate::specs::Reading::named_at))]
+fn read_unlink(words: &mut Words<'_>) -> Option<Step>
+    ensures { named_at (codes "unlink") (words_left words.old) ≡ with_rest result (words_left words.new) }
+{
+    let (which, (frame, slot, offset)) = words.read()?;
+    Some(Step::Unlink {
+        which,
+        frame,
+        slot,
+        offset,
+    })
+}
+
+#[tactic(auto, unfolding(crate::specs::Reading::named_at))]
+fn read_move(words: &mut Words<'_>) -> Option<Step>
+    ensures { named_at (codes "move") (words_left words.old) ≡ with_rest result (words_left words.new) }
+{
+    let (which, (frame, slot, offset), (to_frame, to_slot, to_offset)) = words.read()?;
+    Some(Step::Move {
+        which,
+        frame,
+        slot,
+        offset,
+        to_frame,
+        to_slot,
+        to_offset,
+    })
+}
+
+#[tactic(auto, unfolding(crate::specs::Reading::named_at))]
+fn read_mark(words: &mut Words<'_>) -> Option<Step>
+    ensures { named_at (codes "mark") (words_left words.old) ≡ with_rest result (words_left words.new) }
+{
+    Some(Step::Mark {
+        budget: words.read()?,
+    })
+}
+
+#[tactic(auto, unfolding(crate::specs::Reading::named_at))]
+fn read_take(words: &mut Words<'_>) -> Option<Step>
+    ensures { named_at (codes "take") (words_left words.old) ≡ with_rest result (words_left words.new) }
+{
+    Some(Step::Take {
+        worker: words.read()?,
+    })
+}
+
+#[tactic(auto, unfolding(crate::specs::Reading::named_at))]
+fn read_hold(words: &mut Words<'_>) -> Option<Step>
+    ensures { named_at (codes "hold") (words_left words.old) ≡ with_rest result (words_left words.new) }
+{
+    let (worker, frame, slot) = words.read()?;
+    Some(Step::Hold {
+        worker,
+        frame,
+        slot,
+    })
+}
+
+#[tactic(auto, unfolding(crate::specs::Reading::named_at))]
+fn read_finish(words: &mut Words<'_>) -> Option<Step>
+    ensures { named_at (codes "finish") (words_left words.old) ≡ with_rest result (words_left words.new) }
+{
+    Some(Step::Finish {
+        worker: words.read()?,
+    })
+}
+
+#[tactic(auto, unfolding(crate::specs::Reading::named_at))]
+fn read_forfeit(words: &mut Words<'_>) -> Option<Step>
+    ensures { named_at (codes "forfeit") (words_left words.old) ≡ with_rest result (words_left words.new) }
+{
+    Some(Step::Forfeit {
+        worker: words.read()?,
     })
 }

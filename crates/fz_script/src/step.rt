@@ -63,6 +63,8 @@ pub enum Step {
         procedure: u64,
         /// A word that is handed to the procedure, and keeps what it points to.
         client_data: u64,
+        /// Of the objects that one pass queues, those of lower rank come first. A line that names none means 0.
+        rank: Option<u8>,
     },
     /// Takes back the registration of the object that begins at the slot's word.
     Unregister {

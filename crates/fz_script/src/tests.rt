@@ -67,6 +67,7 @@ const EACH_VERB: [(&[u8], Step); 21] = [
             kind: RegKind::IgnoreSelf,
             procedure: 7,
             client_data: 65536,
+            rank: None,
         },
     ),
     (b"unregister 0 1", Step::Unregister { frame: 0, slot: 1 }),
@@ -150,7 +151,8 @@ fn reads_the_other_kinds(rt: HostRuntime) {
                 slot: 0,
                 kind,
                 procedure: 1,
-                client_data: 2
+                client_data: 2,
+                rank: None
             }),
             "at {kind:?}"
         );
@@ -158,8 +160,29 @@ fn reads_the_other_kinds(rt: HostRuntime) {
 }
 
 #[test]
+fn reads_ranks(rt: HostRuntime) {
+    for (line, rank) in [
+        (b"register 0 0 normal 1 2 0".as_slice(), 0u8),
+        (b"register 0 0 normal 1 2 255", 255),
+    ] {
+        assert_eq!(rt;
+            step_of(line),
+            Some(Step::Register {
+                frame: 0,
+                slot: 0,
+                kind: RegKind::Normal,
+                procedure: 1,
+                client_data: 2,
+                rank: Some(rank)
+            }),
+            "at {rank}"
+        );
+    }
+}
+
+#[test]
 fn reads_nothing_else(rt: HostRuntime) {
-    let lines: [&[u8]; 24] = [
+    let lines: [&[u8]; 29] = [
         b"",
         b" ",
         b"# collect",
@@ -183,6 +206,11 @@ fn reads_nothing_else(rt: HostRuntime) {
         b"gather",
         b"new 0 0 1 Scanned",
         b"register 0 0 no-order 1 2",
+        b"register 0 0 normal 1 2 256",
+        b"register 0 0 normal 1 2 01",
+        b"register 0 0 normal 1 2 ",
+        b"register 0 0 normal 1 2 3 4",
+        b"register 0 0 normal 1",
         b"link normal 0 0 0 0 1",
     ];
     for (at, line) in lines.into_iter().enumerate() {

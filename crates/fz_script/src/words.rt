@@ -1,12 +1,12 @@
 //! The words of a line, one by one.
 
-ghost use Rattle.std.specs.Prelude.{◌≡◌, ◌==◌, option_map, position, IfSome, Some, None};
+ghost use Rattle.std.specs.Prelude.{◌≡◌, ◌==◌, option_map, position, [], ◌↔◌, IsTrue, IfSome, Some, None};
 ghost use Rattle.fz_script.specs.Reading.{words_left, words_of, word_at, step_at, with_rest, end_at};
 
 use crate::fields::Field;
 use std::str;
 
-/// The words of a line that are still to be read.
+/// The rest of a line, from the next word on.
 ///
 /// A word is what stands between two spaces, so it may be empty: a space too many is a word that is
 /// no field. A word that was asked for is read, also where it isn't what was asked for.
@@ -58,6 +58,13 @@ impl<'a> Words<'a> {
         ensures { T.reads (words_left self.old) ≡ with_rest result (words_left self.new) }
     {
         T::read(self)
+    }
+
+    /// Whether no word is left.
+    pub(crate) fn is_empty(&self) -> bool
+        ensures { IsTrue result ↔ (words_left self.now ≡ []) }
+    {
+        self.rest.is_none()
     }
 
     /// Done, if no word is left. A further word is `None`, so that `?` ends the reading there as at
