@@ -4,20 +4,24 @@ use Rattle.std.proofs.lemmas.Bool.{lt-ltb, le-ltb}
 use Rattle.std.proofs.lemmas.List.{map-set, length-set}
 use Rattle.std.proofs.Math.Seq.{take-append_seam}
 use Rattle.std.specs.List.{refill}
+use Rattle.std.specs.Option.{unwrap_or}
 use Rattle.std.specs.Result.{IsErrAnd}
 use Rattle.std.proofs.lemmas.Option.{same_Some}
 use Rattle.fz_model.specs.declared.answers.Entry.{Entry}
 use Rattle.fz_model.specs.declared.refusal.Refusal.{Refusal}
 use Rattle.fz_model.specs.declared.refusal.Refusal.TheVariants.{NotHeld, SeatsMissing}
 use Rattle.fz_model.specs.Causes.{first_cause}
-use Rattle.fz_model.specs.Events.{Event, Finish, Answer}
+use Rattle.fz_model.specs.declared.kinds.RegKind.{RegKind}
+use Rattle.fz_model.specs.Events.{Event, Hold, Finish, Answer}
+use Rattle.fz_model.specs.Events as events
 use Rattle.fz_model.specs.Joint.{Worker, Joint, idle, JointEvent, Call, Take, HoldOwn, FinishOwn, Forfeit, JointAnswer, is_finish, worker_at, taken_by, own_causes, Acts, JointStep}
 use Rattle.fz_world.specs.Does.{StandsFor, Does}
 use Rattle.fz_world.specs.declared.world.World.{World}
 use Rattle.fz_script.specs.declared.step.Step.{Step}
+use Rattle.fz_script.specs.declared.step.Step.TheVariants.{Register}
 use Rattle.finalize.specs.declared.machine.Machine.{Machine}
 use Rattle.finalize.specs.declared.reply.Reply.{Reply}
-use Rattle.finalize.specs.Script.{has_come, event_of}
+use Rattle.finalize.specs.Script.{event_of}
 use Rattle.finalize.specs.Replies.{answer_words}
 use Rattle.finalize.specs.Report.{finishes, forfeits}
 use Rattle.finalize.specs.Machines.{StandsForJoint, JointDoes, Tells, StepDoes, CarriesOut, words_of, is_forfeit}
@@ -101,6 +105,14 @@ take_busy m w h e busy j s =
     let at = at_hand m j w h s e in
     (j, refused_step j (Take w) SeatsMissing (the_second _ _ _ _ (is_worker j w at.0) (ap is_some at.1 ∙ busy)), s)
 
+pub hold_missing : (m : Machine) (w frame slot : ℕ) → length m.hands.items ≤ w → JointDoes m (HoldOwn w frame slot) (Err SeatsMissing) m
+hold_missing m w frame slot l j s = (j, refused_step j (HoldOwn w frame slot) SeatsMissing (the_first _ _ _ _ (no_such m j w s l)), s)
+
+pub hold_idle : (m : Machine) (w frame slot : ℕ) → slice_get m.hands.items w ≡ Some None → JointDoes m (HoldOwn w frame slot) (Err NotHeld) m
+hold_idle m w frame slot e j s =
+    let at = at_hand m j w None s e in
+    (j, refused_step j (HoldOwn w frame slot) NotHeld (the_second _ _ _ _ (is_worker j w at.0) (ap is_none at.1)), s)
+
 pub finish_idle : (m : Machine) (w : ℕ) → slice_get m.hands.items w ≡ Some None → JointDoes m (FinishOwn w) (Err NotHeld) m
 finish_idle m w e j s =
     let at = at_hand m j w None s e in
@@ -132,6 +144,15 @@ took old new w None o is idle given world line hands j s =
     let at = at_hand old j w None s is in
     let next : slice_get j.state.queue j.taken ≡ o = ap (λ q. slice_get q j.taken) (ap (λ (c : _). c.queue) (sym s.world.core)) ∙ ap (slice_get old.world.queue) (sym s.line) ∙ sym given in
     (taken_by j w o, acting_step j (Take w) (Ok o) (taken_by j w o) (neither _ _ _ _ (is_worker j w at.0) (ap is_some at.1)) (ap Ok (sym next), ap (taken_by j w) (sym next)), hand_over old new j w o s is world line hands)
+
+-- the world's call for the entry in the worker's hand
+pub held : (old new : Machine) (w frame slot : ℕ) (e : Entry) (reply : Result (Unit {0}) Refusal) → slice_get old.hands.items w ≡ Some (Some e) → Does old.world (Hold frame slot e) reply new.world → new.line ≡ old.line → new.hands ≡ old.hands
+    → JointDoes old (HoldOwn w frame slot) reply new
+unfolding Does
+held old new w frame slot e reply is does line hands j s =
+    let at = at_hand old j w (Some e) s is in
+    let d = does j.state s.world in
+    (record j { state = d.0 }, acting_step j (HoldOwn w frame slot) reply (record j { state = d.0 }) (neither _ _ _ _ (is_worker j w at.0) (ap is_none at.1)) (e, at.1, d.1, refl), record { world = d.2; line = line ∙ s.line; hands = ap (λ (h : _). h.items) hands ∙ s.hands })
 
 pub finish_refused : (old new : Machine) (w : ℕ) (e : Entry) (r : Refusal) → slice_get old.hands.items w ≡ Some (Some e) → Does old.world (Finish e) (Err r) new.world → new.line ≡ old.line → new.hands ≡ old.hands → JointDoes old (FinishOwn w) (Err r) new
 unfolding Does
@@ -173,14 +194,14 @@ the_error (Err x) e h = ap Err h
 
 -- ---- a step of the script
 
--- a step that may come asks for this event
-pub record Asks (step : Step) (e : JointEvent) : Type 0 where
-  came : IsTrue (has_come step)
-  asked : event_of step ≡ Some e
-
 -- as a step that is known does
-pub asks : {step known : Step} {e : JointEvent} → step ≡ known → IsTrue (has_come known) → event_of known ≡ Some e → Asks step e
-asks is came asked = record { came = ap has_come is ∙ came; asked = ap event_of is ∙ asked }
+pub asks : {step known : Step} {e : JointEvent} → step ≡ known → event_of known ≡ Some e → event_of step ≡ Some e
+asks is asked = ap event_of is ∙ asked
+
+-- a line that names no rank asks for rank 0
+pub registers : (frame slot : ℕ) (kind : RegKind) (proc cd rank : ℕ) (named : Option ℕ) → rank ≡ unwrap_or named 0
+    → event_of (Register frame slot kind proc cd named) ≡ Some (Call (events.Register frame slot kind proc cd rank))
+registers frame slot kind proc cd rank named is = ap (λ rank. Some (Call (events.Register frame slot kind proc cd rank))) (sym is)
 
 refused : (old new : Machine) (step : Step) (e : JointEvent) (r : Refusal) → event_of step ≡ Some e → JointDoes old e (Err r) new → StepDoes old step (Err r) new
 refused old new step e r asked does = record { event = e; reply = Err r; asked = asked; does = does; tells = record { words = refl; refused = refl; finish = no_finish e; forfeit = no_forfeit e } }
@@ -199,22 +220,22 @@ refused old new step e r asked does = record { event = e; reply = Err r; asked =
     no_forfeit (FinishOwn w) = refl
     no_forfeit (Forfeit w) = refl
 
-pub accepted : (old new : Machine) (step : Step) (e : JointEvent) (answer : JointAnswer e) (reply : Reply) → Asks step e → JointDoes old e (Ok answer) new
+pub accepted : (old new : Machine) (step : Step) (e : JointEvent) (answer : JointAnswer e) (reply : Reply) → event_of step ≡ Some e → JointDoes old e (Ok answer) new
     → words_of reply ≡ answer_words e answer → machines.is_finish (Ok reply) ≡ finishes e (Ok answer) → is_forfeit (Ok reply) ≡ forfeits e (Ok answer) → CarriesOut old step (Ok (Some reply)) new
-accepted old new step e answer reply asks does words finish forfeit =
-    (asks.came, record { event = e; reply = Ok answer; asked = asks.asked; does = does; tells = record { words = words; refused = refl; finish = finish; forfeit = forfeit } })
+accepted old new step e answer reply asked does words finish forfeit =
+    record { event = e; reply = Ok answer; asked = asked; does = does; tells = record { words = words; refused = refl; finish = finish; forfeit = forfeit } }
 
 -- the error that a call gives back is the step's
-pub refuses : (old new : Machine) (step : Step) (e : JointEvent) (r : Refusal) (result : Result (Option Reply) Refusal) → Asks step e → JointDoes old e (Err r) new → IsErrAnd result (λ x. x ≡ r) → CarriesOut old step result new
-refuses old new step e r result asks does error = subst (λ x. CarriesOut old step x new) (sym (the_error result r error)) (asks.came, refused old new step e r asks.asked does)
+pub refuses : (old new : Machine) (step : Step) (e : JointEvent) (r : Refusal) (result : Result (Option Reply) Refusal) → event_of step ≡ Some e → JointDoes old e (Err r) new → IsErrAnd result (λ x. x ≡ r) → CarriesOut old step result new
+refuses old new step e r result asked does error = subst (λ x. CarriesOut old step x new) (sym (the_error result r error)) (refused old new step e r asked does)
 
 -- ---- a step that is a call of the world alone
 
-pub world_refuses : (m : Machine) (w : World) (step : Step) (e : Event) (r : Refusal) (result : Result (Option Reply) Refusal) → Asks step (Call e) → IsFalse (is_finish e) → Does m.world e (Err r) w
+pub world_refuses : (m : Machine) (w : World) (step : Step) (e : Event) (r : Refusal) (result : Result (Option Reply) Refusal) → event_of step ≡ Some (Call e) → IsFalse (is_finish e) → Does m.world e (Err r) w
     → IsErrAnd result (λ x. x ≡ r) → CarriesOut m step result (record m { world = w })
-world_refuses m w step e r result asks call does error = refuses m (record m { world = w }) step (Call e) r result asks (called m (record m { world = w }) e (Err r) call does refl refl) error
+world_refuses m w step e r result asked call does error = refuses m (record m { world = w }) step (Call e) r result asked (called m (record m { world = w }) e (Err r) call does refl refl) error
 
-pub world_accepts : (m : Machine) (w : World) (step : Step) (e : Event) (answer : Answer e) (reply : Reply) → Asks step (Call e) → IsFalse (is_finish e) → Does m.world e (Ok answer) w
+pub world_accepts : (m : Machine) (w : World) (step : Step) (e : Event) (answer : Answer e) (reply : Reply) → event_of step ≡ Some (Call e) → IsFalse (is_finish e) → Does m.world e (Ok answer) w
     → words_of reply ≡ answer_words (Call e) answer → machines.is_finish (Ok reply) ≡ false → is_forfeit (Ok reply) ≡ false → CarriesOut m step (Ok (Some reply)) (record m { world = w })
-world_accepts m w step e answer reply asks call does words finish forfeit =
-    accepted m (record m { world = w }) step (Call e) answer reply asks (called m (record m { world = w }) e (Ok answer) call does refl refl) words finish forfeit
+world_accepts m w step e answer reply asked call does words finish forfeit =
+    accepted m (record m { world = w }) step (Call e) answer reply asked (called m (record m { world = w }) e (Ok answer) call does refl refl) words finish forfeit

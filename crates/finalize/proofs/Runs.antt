@@ -26,7 +26,7 @@ use Rattle.finalize.specs.Report.{Course, Reports, opening_causes, summary_of, A
 use Rattle.finalize.specs.Report as report
 use Rattle.finalize.specs.declared.chunk.Chunk.{Chunk}
 use Rattle.finalize.specs.Lines.{unread, TakenFor, EndsInput}
-use Rattle.finalize.specs.Machines.{Gives, Given, answer_text, is_told, stop_of, bit, TellsAnswer, counts_after, counts_of, no_counts, summary_at, Finishes}
+use Rattle.finalize.specs.Machines.{Gives, Given, answer_text, is_told, stop_of, bit, TellsAnswer, counts_after, counts_of, no_counts, summary_at, ending_words, Finishes}
 use Rattle.std.proofs.KnownBytes.{Appends-trans}
 use Rattle.finalize.proofs.Balance.{balanced}
 use Rattle.finalize.proofs.Scripts.{Follows, follows_some, After, at_start, carried_out, same_summary, same_ending}
@@ -192,6 +192,9 @@ no_course : (course : Option Course) → Follows None course → course ≡ None
 no_course None f = refl
 no_course (Some course) f = absurd f
 
+said_part : (words words' : List Word) (part rest : List ℕ) → words ≡ words' → text_line words' ≡ part ++ rest → text_line words ≡ part ++ rest
+said_part words words' part rest e h = ap text_line e ∙ h
+
 pub finish_fault : (a r : Option (List ℕ)) (u y text : List ℕ) (w0 w1 w2 : Option (List ℕ)) (f f2 : ℕ) (number : ℕ) (machine : Option Machine) (counts : Counts) (result : Result Summary DriveFault)
     → Consumes a (prepend_known u r) y → IsAtEnd (prepend_known u r) → Appends w0 w1 text → Ended y number text machine counts → Finishes number machine counts w1 f result w2 f2
     → IfErr result (Stopped a r w0 w2)
@@ -204,7 +207,7 @@ finish_fault a r u y text w0 w1 w2 f f2 number machine counts (Err fault) took e
     read = took_ahead a r y u took;
     written = Appends-trans w0 w1 w2 text out.1.0 wrote out.1.4;
     explains = explained fault Output number y u (text ++ out.1.0) r out.0 fin.0
-        (text, out.1.0, out.1.1, refl, out.1.3, inr (closed.course, closed.at_end, end, ap text_line (sym (same_ending number machine closed.course counts closed.follows closed.counted)) ∙ out.1.2));
+        (text, out.1.0, out.1.1, refl, out.1.3, inr (closed.course, closed.at_end, end, said_part (closing_words number closed.course) (ending_words number machine counts) out.1.0 out.1.1 (sym (same_ending number machine closed.course counts closed.follows closed.counted)) out.1.2));
   }
   | inr bad ↦ record {
     bytes = y;
@@ -250,10 +253,10 @@ given_due number line old new None Opened few f told g = record { words = done; 
 given_due number line old new (Some course) Opened few f told g = absurd (subst (λ m. Follows m (Some course)) g.0 f)
 given_due number line old new None (Replied result) few f told g = absurd (subst (λ m. Follows m None) g.1 f)
 given_due number line old new (Some course) (Replied result) few f told g =
-    let does = g.7 in
+    let does = g.6 in
     let d = does.does course.end (subst (λ m. Follows m (Some course)) g.1 f) in
     let m : Move = record { event = does.event; reply = does.reply } in
-    record { words = reply_words m.event m.reply; due = Replies course g.4 m d.0 few g.5 g.6 does.asked d.1; said = ap text_line does.tells.words; why = tt }
+    record { words = reply_words m.event m.reply; due = Replies course g.4 m d.0 few g.5 does.asked d.1; said = ap text_line does.tells.words; why = tt }
 given_due number line old new None (answers.Ended refusal) few f told g = record { words = refused_words refusal; due = OpensNot refusal few g.2; said = refl; why = (refl, g.2, few) }
 given_due number line old new (Some course) (answers.Ended refusal) few f told g = absurd (subst (λ m. Follows m (Some course)) g.0 f)
 given_due number line old new course Malformed few f told g =

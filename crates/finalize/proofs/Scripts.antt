@@ -6,6 +6,7 @@ use Rattle.std.proofs.lemmas.List.Concat.{flat_map-append}
 use Rattle.std.proofs.lemmas.List.Sums.{sum_by_push, sum_by-cons}
 use Rattle.fz_model.specs.declared.answers.Entry.{Entry}
 use Rattle.fz_model.specs.declared.refusal.Refusal.{Refusal}
+use Rattle.fz_model.specs.State.{Core}
 use Rattle.fz_model.specs.Joint.{Worker, Joint, JointStep, Move, MovesTo, joint_opening}
 use Rattle.fz_script.specs.declared.step.Step.{Step}
 use Rattle.fz_script.specs.declared.step.Step.TheVariants.{Open}
@@ -15,7 +16,8 @@ use Rattle.finalize.specs.declared.reply.Reply.{Reply}
 use Rattle.finalize.specs.declared.answer.Answer.{Answer}
 use Rattle.finalize.specs.declared.answer.Answer.TheVariants.{Skipped, Opened, Replied, Ended, Malformed}
 use Rattle.finalize.specs.declared.run.Counts.{Counts}
-use Rattle.finalize.specs.Script.{is_kept, max_line, max_lines, IsScript, has_come, event_of}
+use Rattle.finalize.specs.declared.run.Summary.{Summary}
+use Rattle.finalize.specs.Script.{is_kept, max_line, max_lines, IsScript, event_of}
 use Rattle.finalize.specs.Replies.{text_line, done, reply_line, end_words}
 use Rattle.finalize.specs.Report.{Course, Reports, AsksFor, summary_of, closing_words, finishes, forfeits}
 use Rattle.finalize.specs.Machines.{StandsForJoint, Gives, answer_text, stop_of, bit, no_counts, counts_after, counts_of, result_words, summary_at, ending_words, is_finish, is_forfeit}
@@ -89,7 +91,6 @@ reports_skip lines text line (Some course) r short few skipped = record {
   workers = r.workers;
   steps = r.steps;
   script = script_skips lines (Open r.blocks r.frames r.workers ∷ r.steps) line r.script short few skipped;
-  came = r.came;
   asked = r.asked;
   opened = r.opened;
   run = r.run;
@@ -132,7 +133,6 @@ carried_out lines text line number old new counts Opened None r f e short few g 
         workers = g.5;
         steps = [];
         script = script_asks lines [] line (Open g.3 g.4 g.5) r.0 short few g.6;
-        came = All-nil (λ step. IsTrue (has_come step));
         asked = refl;
         opened = g.7;
         run = refl;
@@ -144,7 +144,7 @@ carried_out lines text line number old new counts Opened None r f e short few g 
 carried_out lines text line number old new counts Opened (Some course) r f e short few g go = absurd (subst (λ m. Follows m (Some course)) g.0 f)
 carried_out lines text line number old new counts (Replied result) None r f e short few g go = absurd (subst (λ m. Follows m None) g.1 f)
 carried_out lines text line number old new counts (Replied result) (Some course) r f e short few g go =
-    let does = g.7 in
+    let does = g.6 in
     let d = does.does course.end (subst (λ m. Follows m (Some course)) g.1 f) in
     let m : Move = record { event = does.event; reply = does.reply } in
     let course' : Course = with_move course m d.0 in record {
@@ -155,7 +155,6 @@ carried_out lines text line number old new counts (Replied result) (Some course)
         workers = r.workers;
         steps = r.steps ++ g.4 ∷ [];
         script = script_asks lines (Open r.blocks r.frames r.workers ∷ r.steps) line g.4 r.script short few g.5;
-        came = All-push (λ step. IsTrue (has_come step)) r.steps g.4 r.came g.6;
         asked = map-append event_of r.steps (g.4 ∷ []) ∙ ap (λ l. l ++ event_of g.4 ∷ []) r.asked ∙ ap (λ o. map (λ (n : Move). Some n.event) course.moves ++ o ∷ []) does.asked ∙ sym (map-append (λ (n : Move). Some n.event) course.moves (m ∷ []));
         opened = r.opened;
         run = moves_more (joint_opening r.blocks r.frames r.workers) course.end d.0 course.moves m r.run d.1;
@@ -181,10 +180,13 @@ in_hands (w ∷ ws) =
 
 pub same_summary : (machine : Machine) (course : Course) (counts : Counts) → StandsForJoint machine course.end → counts ≡ counts_of (Some course) → summary_at machine counts ≡ summary_of course
 same_summary machine course counts s e =
-    ap (summary_at machine) e
-    ∙ ap (λ (n : ℕ). record (summary_of course) { enqueued = n; in_hand = count_by is_some machine.hands.items; left = n - machine.line }) (ap (λ (c : _). length c.queue) s.world.core)
-    ∙ ap (λ (n : ℕ). record (summary_of course) { in_hand = count_by is_some machine.hands.items; left = length course.end.state.queue - n }) s.line
-    ∙ ap (λ (n : ℕ). record (summary_of course) { in_hand = n }) (ap (count_by is_some) s.hands ∙ in_hands course.end.workers)
+    same_numbers counts (counts_of (Some course)) (length machine.world.queue) (length course.end.state.queue) (count_by is_some machine.hands.items) (count_by (λ (w : Worker). is_some w.hand) course.end.workers) machine.line course.end.taken e
+    (ap (λ (c : Core). length c.queue) s.world.core) (ap (count_by is_some) s.hands ∙ in_hands course.end.workers) s.line
+  where
+    same_numbers : (c d : Counts) (q r h i l m : ℕ) → c ≡ d → q ≡ r → h ≡ i → l ≡ m
+        → ◌≡◌ {A = Summary} (record { steps = c.steps; refused = c.refused; enqueued = q; finished = c.finished; forfeited = c.forfeited; in_hand = h; left = q - l })
+        (record { steps = d.steps; refused = d.refused; enqueued = r; finished = d.finished; forfeited = d.forfeited; in_hand = i; left = r - m })
+    same_numbers c d q r h i l m e f g k = rw (e, f, g, k) refl
 
 pub same_ending : (number : ℕ) (machine : Option Machine) (course : Option Course) (counts : Counts) → Follows machine course → counts ≡ counts_of course → ending_words number machine counts ≡ closing_words number course
 same_ending number None None counts f e = refl

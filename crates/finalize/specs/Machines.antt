@@ -20,8 +20,8 @@ use Rattle.finalize.specs.declared.run.Counts.{Counts}
 use Rattle.finalize.specs.declared.run.DriveFault.{DriveFault}
 use Rattle.std.specs.Io.KnownBytes.{Appends}
 use Rattle.finalize.specs.Devices.{IsPart}
-use Rattle.finalize.specs.Script.{is_kept, max_lines, has_come, may_come, event_of}
-use Rattle.finalize.specs.Replies.{text_line, done, registered_words, unregistered_words, passed_words, taken_words, refused_words, reply_words, malformed_words, end_words}
+use Rattle.finalize.specs.Script.{is_kept, max_lines, may_come, event_of}
+use Rattle.finalize.specs.Replies.{text_line, done, registered_words, unregistered_words, linked_words, unlinked_words, moved_words, marked_words, passed_words, taken_words, refused_words, reply_words, malformed_words, end_words}
 use Rattle.finalize.specs.Report.{Course, opening_causes, AsksFor, IsRefusedOpening, finishes, forfeits}
 
 -- The machine is where the joint state is. What the workers took and forfeited is history, which it doesn't keep.
@@ -40,10 +40,15 @@ words_of (replies.Allocated address birth) = Text (codes "new") ∷ Number addre
 words_of (replies.Word word) = Text (codes "word") ∷ Number word ∷ []
 words_of (replies.Registered answer) = registered_words answer
 words_of (replies.Unregistered old) = unregistered_words old
+words_of (replies.Linked answer) = linked_words answer
+words_of (replies.Unlinked there) = unlinked_words there
+words_of (replies.Moved answer) = moved_words answer
+words_of (replies.Marked progress) = marked_words progress
 words_of (replies.Passed passed) = passed_words passed
 words_of (replies.Taken entry) = taken_words entry
 words_of replies.Finished = done
 words_of replies.Forfeited = done
+words_of (replies.Outstanding count) = Text (codes "outstanding") ∷ Number count ∷ []
 
 abbrev pub result_words : Result Reply Refusal → List Word
 result_words (Ok reply) = words_of reply
@@ -72,11 +77,11 @@ pub record StepDoes (old : Machine) (step : Step) (result : Result Reply Refusal
   pub does : JointDoes old event reply new
   pub tells : Tells event reply result
 
--- a step that may come does what it asks for; no other step changes anything
+-- a step that may come does what it asks for; an opening, which may not, changes nothing
 abbrev pub CarriesOut : Machine → Step → Result (Option Reply) Refusal → Machine → Type 0
-CarriesOut old step (Ok (Some reply)) new = IsTrue (has_come step) × StepDoes old step (Ok reply) new
-CarriesOut old step (Ok None) new = IsFalse (has_come step) × (new ≡ old)
-CarriesOut old step (Err refusal) new = IsTrue (has_come step) × StepDoes old step (Err refusal) new
+CarriesOut old step (Ok (Some reply)) new = StepDoes old step (Ok reply) new
+CarriesOut old step (Ok None) new = IsFalse (may_come true step) × (new ≡ old)
+CarriesOut old step (Err refusal) new = StepDoes old step (Err refusal) new
 
 -- what one line gives, before the opening and after it
 abbrev pub Gives : Option Machine → List ℕ → Answer → Option Machine → Type 0
@@ -85,7 +90,7 @@ Gives old line Opened new =
     (old ≡ None) × (machine : Machine) × (new ≡ Some machine) × (blocks : ℕ) × (frames : ℕ) × (workers : ℕ) × AsksFor line (Open blocks frames workers)
     × (first_cause (opening_causes blocks frames workers) ≡ None) × StandsForJoint machine (joint_opening blocks frames workers)
 Gives old line (Replied result) new =
-    (machine : Machine) × (old ≡ Some machine) × (machine' : Machine) × (new ≡ Some machine') × (step : Step) × AsksFor line step × IsTrue (has_come step) × StepDoes machine step result machine'
+    (machine : Machine) × (old ≡ Some machine) × (machine' : Machine) × (new ≡ Some machine') × (step : Step) × AsksFor line step × StepDoes machine step result machine'
 Gives old line (Ended refusal) new = (old ≡ None) × (new ≡ old) × IsRefusedOpening line refusal
 Gives old line Malformed new = (new ≡ old) × IsTrue (is_kept line) × ((step : Step) → Fits step → line ≡ spelling step → IsFalse (may_come (is_some old) step))
 
@@ -158,11 +163,11 @@ summary_at machine counts =
     record {
       steps = counts.steps;
       refused = counts.refused;
-      enqueued = length machine.world.queue;
+      enqueued = length machine.world.core.queue;
       finished = counts.finished;
       forfeited = counts.forfeited;
       in_hand = count_by is_some machine.hands.items;
-      left = length machine.world.queue - machine.line;
+      left = length machine.world.core.queue - machine.line;
     }
 
 -- the words that end a report

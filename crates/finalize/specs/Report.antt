@@ -14,7 +14,7 @@ use Rattle.fz_script.specs.Spelling.{Word, spelling, Fits}
 use Rattle.finalize.specs.declared.run.Summary.{Summary}
 use Rattle.finalize.specs.declared.run.DriveFault.{DriveFault}
 use Rattle.std.specs.Io.KnownBytes.{Consumes, Appends, IsAtEnd, prepend_known}
-use Rattle.finalize.specs.Script.{with_lf, IsOneLine, Lines, all_lines, is_kept, max_line, max_lines, IsScript, has_come, IsMalformed, event_of}
+use Rattle.finalize.specs.Script.{with_lf, IsOneLine, Lines, all_lines, is_kept, max_line, max_lines, IsScript, IsMalformed, event_of}
 use Rattle.finalize.specs.Replies.{text_line, done, refused_words, reply_words, reply_line, malformed_words, end_words}
 
 -- the causes of refusal of an opening
@@ -33,7 +33,6 @@ pub record HasRun (lines : List (List ℕ)) (text : List ℕ) (course : Course) 
   pub workers : ℕ
   pub steps : List Step
   pub script : IsScript lines (Open blocks frames workers ∷ steps)
-  pub came : All (λ step. IsTrue (has_come step)) steps
   pub asked : map event_of steps ≡ map (λ (m : Move). Some m.event) course.moves
   pub opened : first_cause (opening_causes blocks frames workers) ≡ None
   pub run : MovesTo (joint_opening blocks frames workers) course.moves course.end
@@ -112,7 +111,7 @@ IsRefusedOpening line refusal =
 pub data IsDue (number : ℕ) (line : List ℕ) : Option Course → List Word → Type 0 where
   Opens : (blocks frames workers : ℕ) → number ≤ max_lines → AsksFor line (Open blocks frames workers) → first_cause (opening_causes blocks frames workers) ≡ None → IsDue number line None done
   OpensNot : (refusal : Refusal) → number ≤ max_lines → IsRefusedOpening line refusal → IsDue number line None (refused_words refusal)
-  Replies : (course : Course) (step : Step) (m : Move) (new : Joint) → number ≤ max_lines → AsksFor line step → IsTrue (has_come step) → event_of step ≡ Some m.event → JointStep course.end m.event m.reply new → IsDue number line (Some course) (reply_words m.event m.reply)
+  Replies : (course : Course) (step : Step) (m : Move) (new : Joint) → number ≤ max_lines → AsksFor line step → event_of step ≡ Some m.event → JointStep course.end m.event m.reply new → IsDue number line (Some course) (reply_words m.event m.reply)
   Malformed : (course : Option Course) → IsMalformed (is_some course) number line → IsDue number line course (malformed_words number)
 
 -- the words of a report's end, after the last line: an input without an opening is malformed there

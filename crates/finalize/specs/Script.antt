@@ -1,6 +1,7 @@
 -- A script: the lines of its bytes, and the steps that they ask for.
 use Rattle.std.specs.Prelude.{◌≡◌, ◌≢◌, ℕ, ◌≤◌, ◌<◌, ◌^◌, Bool, true, false, not, ◌==◌, if◌then◌else◌, ◌⊎◌, List, [], ◌∷◌, ◌++◌, length, map, filter, flat_map, Option, Some, None, IsTrue, IsFalse}
 use Rattle.std.specs.List.{All}
+use Rattle.std.specs.Option.{unwrap_or}
 use Rattle.fz_model.specs.Events as events
 use Rattle.fz_model.specs.Joint.{JointEvent, Call, HoldOwn, FinishOwn}
 use Rattle.fz_model.specs.Joint as joint
@@ -45,34 +46,20 @@ pub record IsScript (lines : List (List ℕ)) (steps : List Step) : Type 0 where
   pub short : All (λ line. length line ≤ max_line) lines
   pub few : length lines ≤ max_lines
 
--- the steps that the driver carries out once the world is open
-abbrev pub has_come : Step → Bool
-has_come (New frame slot size kind) = true
-has_come (Set frame slot word) = true
-has_come (Copy frame slot to_frame to_slot) = true
-has_come (Load frame slot offset to_frame to_slot) = true
-has_come (Store frame slot offset from_frame from_slot) = true
-has_come (Register frame slot kind procedure client_data) = true
-has_come (Unregister frame slot) = true
-has_come Collect = true
-has_come (Take worker) = true
-has_come (Finish worker) = true
-has_come _ = false
-
 abbrev pub is_open : Step → Bool
 is_open (Open blocks frames workers) = true
 is_open _ = false
 
 -- the first step is the opening, and no later one is
 abbrev pub may_come : Bool → Step → Bool
-may_come opened step = if opened then has_come step else is_open step
+may_come opened step = if opened then not (is_open step) else is_open step
 
 -- the line breaks the rules: it is too long, one too many, or asks for no step that may come now
 abbrev pub IsMalformed : Bool → ℕ → List ℕ → Type 0
 IsMalformed opened number line =
     (max_line < length line) ⊎ ((max_lines < number) ⊎ (IsTrue (is_kept line) × ((step : Step) → Fits step → line ≡ spelling step → IsFalse (may_come opened step))))
 
--- the event of a joint run for which a step asks; the opening is none
+-- the event of a joint run for which a step asks; the opening is none; a line that names no rank means 0
 abbrev pub event_of : Step → Option JointEvent
 event_of (Open blocks frames workers) = None
 event_of (New frame slot size kind) = Some (Call (events.Alloc frame slot size kind))
@@ -80,7 +67,7 @@ event_of (Set frame slot word) = Some (Call (events.Set frame slot word))
 event_of (Copy frame slot to_frame to_slot) = Some (Call (events.Copy frame slot to_frame to_slot))
 event_of (Load frame slot offset to_frame to_slot) = Some (Call (events.Load frame slot offset to_frame to_slot))
 event_of (Store frame slot offset from_frame from_slot) = Some (Call (events.Store frame slot offset from_frame from_slot))
-event_of (Register frame slot kind procedure client_data) = Some (Call (events.Register frame slot kind procedure client_data))
+event_of (Register frame slot kind procedure client_data rank) = Some (Call (events.Register frame slot kind procedure client_data (unwrap_or rank 0)))
 event_of (Unregister frame slot) = Some (Call (events.Unregister frame slot))
 event_of (Link which frame slot offset target_frame target_slot) = Some (Call (events.Link which frame slot offset target_frame target_slot))
 event_of (Unlink which frame slot offset) = Some (Call (events.Unlink which frame slot offset))

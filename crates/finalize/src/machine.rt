@@ -2,7 +2,7 @@
 
 ghost use Rattle.std.specs.Prelude.{◌≡◌, ◌-◌, true, None, Some, IfOk, IfErr, OnOk, ◌<◌, slice_get, is_some, count_by, length, replicate, ◌≤◌};
 ghost use Rattle.fz_model.specs.Causes.{first_cause, IsRefusedFor};
-ghost use Rattle.fz_model.specs.Joint.{Take, FinishOwn, Forfeit, joint_opening};
+ghost use Rattle.fz_model.specs.Joint.{Take, HoldOwn, FinishOwn, Forfeit, joint_opening};
 ghost use Rattle.finalize.specs.Report.{opening_causes};
 ghost use Rattle.finalize.specs.Machines.{StandsForJoint, JointDoes, CarriesOut};
 
@@ -73,6 +73,16 @@ impl Machine {
         Ok(entry)
     }
 
+    /// The object of the entry in the worker's hand goes into the slot.
+    fn hold(&mut self, worker: u64, frame: u64, slot: u64) -> Result<(), Refusal>
+        ensures { JointDoes self.old (HoldOwn worker frame slot) result self.new }
+    {
+        let Some(entry) = self.hand(worker)? else {
+            return Err(Refusal::NotHeld);
+        };
+        self.world.hold(frame, slot, &entry)
+    }
+
     /// The worker has finished the entry in its hand. It keeps the entry where that is refused.
     fn finish(&mut self, worker: u64) -> Result<(), Refusal>
         ensures { JointDoes self.old (FinishOwn worker) result self.new }
@@ -96,7 +106,7 @@ impl Machine {
         Ok(())
     }
 
-    /// Carries out a step of an open world. `None`: it may not come in one.
+    /// Carries out a step of an open world. `None`: it is an opening, which may not come again.
     pub(crate) fn carry_out(&mut self, step: Step) -> Result<Option<Reply>, Refusal>
         ensures { CarriesOut self.old step result self.new }
     {
@@ -147,20 +157,72 @@ impl Machine {
                 kind,
                 procedure,
                 client_data,
+                rank,
             } => Reply::Registered(
-                self.world
-                    .register(frame, slot, kind, procedure, client_data)?,
+                self.world.register(frame, slot, kind, procedure, client_data, rank.unwrap_or(0))?,
             ),
             Step::Unregister { frame, slot } => Reply::Unregistered(
                 self.world.unregister(frame, slot)?,
             ),
+            Step::Link {
+                which,
+                frame,
+                slot,
+                offset,
+                target_frame,
+                target_slot,
+            } => Reply::Linked(
+                self.world
+                    .link(which, frame, slot, offset, target_frame, target_slot)?,
+            ),
+            Step::Unlink {
+                which,
+                frame,
+                slot,
+                offset,
+            } => Reply::Unlinked(self.world.unlink(which, frame, slot, offset)?),
+            Step::Move {
+                which,
+                frame,
+                slot,
+                offset,
+                to_frame,
+                to_slot,
+                to_offset,
+            } => Reply::Moved(
+                self.world
+                    .move_link(which, frame, slot, offset, to_frame, to_slot, to_offset)?,
+            ),
+            Step::Begin => {
+                self.world.begin()?;
+                Reply::Done
+            }
+            Step::Mark { budget } => Reply::Marked(self.world.mark(budget)?),
+            Step::Pause => Reply::Passed(self.world.pause()?),
             Step::Collect => Reply::Passed(self.world.collect()?),
             Step::Take { worker } => Reply::Taken(self.take(worker)?),
+            Step::Hold {
+                worker,
+                frame,
+                slot,
+            } => {
+                self.hold(worker, frame, slot)?;
+                Reply::Done
+            }
             Step::Finish { worker } => {
                 self.finish(worker)?;
                 Reply::Finished
             }
-            _ => return Ok(None),
+            Step::Forfeit { worker } => {
+                self.forfeit(worker)?;
+                Reply::Forfeited
+            }
+            Step::Close => {
+                self.world.close()?;
+                Reply::Done
+            }
+            Step::Outstanding => Reply::Outstanding(self.world.outstanding()),
+            Step::Open { .. } => return Ok(None),
         }))
     }
 

@@ -2,13 +2,13 @@
 
 ghost use Rattle.std.specs.Prelude.{◌≡◌};
 ghost use Rattle.finalize.specs.Devices.{Emits};
-ghost use Rattle.finalize.specs.Replies.{text_line, done, registered_words, unregistered_words, passed_words, taken_words, refused_words, malformed_words, end_words};
+ghost use Rattle.finalize.specs.Replies.{text_line, done, registered_words, unregistered_words, linked_words, unlinked_words, moved_words, marked_words, passed_words, taken_words, refused_words, malformed_words, end_words};
 ghost use Rattle.finalize.specs.Machines.{words_of, result_words};
 
 use crate::device::Sink;
 use crate::output::{Word, WriteFailed, write_line};
 use crate::run::Summary;
-use fz_model::{Addr, Entry, Old, Passed, Refusal, RegAnswer};
+use fz_model::{Addr, Entry, LinkAnswer, MoveAnswer, Old, Passed, Progress, Refusal, RegAnswer};
 
 /// What an accepted step answers.
 #[derive(Clone, Copy, Debug, PartialEq, Eq)]
@@ -18,10 +18,17 @@ pub(crate) enum Reply {
     Word(u64),
     Registered(RegAnswer),
     Unregistered(Option<Old>),
+    Linked(LinkAnswer),
+    /// Whether there was a link.
+    Unlinked(bool),
+    Moved(MoveAnswer),
+    Marked(Progress),
     Passed(Passed),
     Taken(Option<Entry>),
     Finished,
     Forfeited,
+    /// The number of held entries.
+    Outstanding(u64),
 }
 
 fn write_registered<W: Sink>(writer: &mut W, answer: RegAnswer) -> Result<(), WriteFailed>
@@ -59,6 +66,43 @@ fn write_unregistered<W: Sink>(writer: &mut W, old: Option<Old>) -> Result<(), W
                 Word::Number(old.cd),
             ],
         ),
+    }
+}
+
+fn write_linked<W: Sink>(writer: &mut W, answer: LinkAnswer) -> Result<(), WriteFailed>
+    ensures { Emits (W.written writer.old) (W.failures writer.old) (text_line (linked_words answer)) result (W.written writer.new) (W.failures writer.new) }
+{
+    match answer {
+        LinkAnswer::Success => write_line(writer, &[Word::Text("success")]),
+        LinkAnswer::Duplicate => write_line(writer, &[Word::Text("duplicate")]),
+    }
+}
+
+fn write_unlinked<W: Sink>(writer: &mut W, there: bool) -> Result<(), WriteFailed>
+    ensures { Emits (W.written writer.old) (W.failures writer.old) (text_line (unlinked_words there)) result (W.written writer.new) (W.failures writer.new) }
+{
+    match there {
+        true => write_line(writer, &[Word::Text("true")]),
+        false => write_line(writer, &[Word::Text("false")]),
+    }
+}
+
+fn write_moved<W: Sink>(writer: &mut W, answer: MoveAnswer) -> Result<(), WriteFailed>
+    ensures { Emits (W.written writer.old) (W.failures writer.old) (text_line (moved_words answer)) result (W.written writer.new) (W.failures writer.new) }
+{
+    match answer {
+        MoveAnswer::Success => write_line(writer, &[Word::Text("success")]),
+        MoveAnswer::Duplicate => write_line(writer, &[Word::Text("duplicate")]),
+        MoveAnswer::NotFound => write_line(writer, &[Word::Text("notfound")]),
+    }
+}
+
+fn write_marked<W: Sink>(writer: &mut W, progress: Progress) -> Result<(), WriteFailed>
+    ensures { Emits (W.written writer.old) (W.failures writer.old) (text_line (marked_words progress)) result (W.written writer.new) (W.failures writer.new) }
+{
+    match progress {
+        Progress::More => write_line(writer, &[Word::Text("more")]),
+        Progress::Done => write_line(writer, &[Word::Text("done")]),
     }
 }
 
@@ -170,10 +214,18 @@ fn write_accepted<W: Sink>(writer: &mut W, reply: Reply) -> Result<(), WriteFail
         Reply::Word(word) => write_line(writer, &[Word::Text("word"), Word::Number(word)]),
         Reply::Registered(answer) => write_registered(writer, answer),
         Reply::Unregistered(old) => write_unregistered(writer, old),
+        Reply::Linked(answer) => write_linked(writer, answer),
+        Reply::Unlinked(there) => write_unlinked(writer, there),
+        Reply::Moved(answer) => write_moved(writer, answer),
+        Reply::Marked(progress) => write_marked(writer, progress),
         Reply::Passed(passed) => write_passed(writer, passed),
         Reply::Taken(entry) => write_taken(writer, entry),
         Reply::Finished => write_done(writer),
         Reply::Forfeited => write_done(writer),
+        Reply::Outstanding(count) => write_line(
+            writer,
+            &[Word::Text("outstanding"), Word::Number(count)],
+        ),
     }
 }
 

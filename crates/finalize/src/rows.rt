@@ -79,6 +79,92 @@ pub(crate) const CHAIN_IN_ORDER: Row = Row {
     fault: None,
 };
 
+/// An object that leads to another is finalized first, whatever the ranks.
+pub(crate) const CHAIN_IN_ORDER_RANKED: Row = Row {
+    script: b"open 4 1 1\n\
+      new 0 0 1 scanned\n\
+      new 0 1 1 scanned\n\
+      store 0 0 0 0 1\n\
+      register 0 0 normal 1 0 255\n\
+      register 0 1 normal 2 0 0\n\
+      set 0 0 0\n\
+      set 0 1 0\n\
+      collect\n\
+      collect\n\
+      take 0\n\
+      finish 0\n\
+      collect\n\
+      take 0\n",
+    report: b"ok\n\
+      new 65536 0\n\
+      new 65537 1\n\
+      ok\n\
+      reg 0\n\
+      reg 1\n\
+      ok\n\
+      ok\n\
+      pass 1 picked 1 reclaimed 0\n\
+      pass 2 picked 0 reclaimed 0\n\
+      entry 0 1 0 65536 0 1 0\n\
+      ok\n\
+      pass 3 picked 1 reclaimed 1\n\
+      entry 1 3 1 65537 1 2 0\n\
+      end enqueued 2 finished 1 forfeited 0 in_hand 1 left 0\n",
+    fault: None,
+};
+
+/// One pass queues by rank, then address.
+pub(crate) const RANKS: Row = Row {
+    script: b"open 4 1 1\n\
+      new 0 0 1 scanned\n\
+      new 0 1 1 scanned\n\
+      new 0 2 1 scanned\n\
+      register 0 0 no_order 1 0 9\n\
+      register 0 1 normal 2 0\n\
+      register 0 2 normal 3 0 9\n\
+      set 0 0 0\n\
+      set 0 1 0\n\
+      set 0 2 0\n\
+      collect\n\
+      take 0\n\
+      finish 0\n\
+      take 0\n\
+      finish 0\n\
+      take 0\n",
+    report: b"ok\n\
+      new 65536 0\n\
+      new 65537 1\n\
+      new 65538 2\n\
+      reg 0\n\
+      reg 1\n\
+      reg 2\n\
+      ok\n\
+      ok\n\
+      ok\n\
+      pass 1 picked 3 reclaimed 0\n\
+      entry 0 1 1 65537 1 2 0\n\
+      ok\n\
+      entry 1 1 0 65536 0 1 0\n\
+      ok\n\
+      entry 2 1 2 65538 2 3 0\n\
+      end enqueued 3 finished 2 forfeited 0 in_hand 1 left 0\n",
+    fault: None,
+};
+
+/// The largest rank is 255.
+pub(crate) const RANK_TOO_LARGE: Row = Row {
+    script: b"open 4 1 1\n\
+      new 0 0 1 scanned\n\
+      register 0 0 normal 1 0 256\n",
+    report: b"ok\n\
+      new 65536 0\n\
+      line 3 refused 15 BadLine\n",
+    fault: Some(DriveFault {
+        refusal: Refusal::BadLine,
+        line: 3,
+    }),
+};
+
 /// Two normal objects that lead to one another are kept for good.
 pub(crate) const CYCLE_NEVER_PICKED: Row = Row {
     script: b"open 4 1 1\n\
@@ -426,6 +512,180 @@ pub(crate) const REPLACED_AND_REMOVED_REGISTRATION: Row = Row {
       pass 1 picked 1 reclaimed 0\n\
       entry 0 1 2 65536 0 9 0\n\
       end enqueued 1 finished 0 forfeited 0 in_hand 1 left 0\n",
+    fault: None,
+};
+
+/// Links are made, moved, cleared with their target, and removed.
+pub(crate) const MOVED_LINKS: Row = Row {
+    script: b"open 4 1 1\n\
+      new 0 0 3 atomic\n\
+      new 0 1 1 scanned\n\
+      new 0 2 1 scanned\n\
+      link short 0 0 0 0 1\n\
+      link short 0 0 0 0 2\n\
+      link short 0 0 1 0 1\n\
+      move short 0 0 0 0 0 1\n\
+      move short 0 0 0 0 0 0\n\
+      move short 0 0 2 0 0 1\n\
+      move short 0 0 0 0 0 2\n\
+      store 0 0 2 0 2\n\
+      set 0 2 0\n\
+      collect\n\
+      load 0 0 2 0 3\n\
+      unlink short 0 0 2\n\
+      unlink short 0 0 1\n\
+      unlink short 0 0 1\n",
+    report: b"ok\n\
+      new 65536 0\n\
+      new 65600 1\n\
+      new 65601 2\n\
+      success\n\
+      duplicate\n\
+      success\n\
+      duplicate\n\
+      success\n\
+      notfound\n\
+      success\n\
+      ok\n\
+      ok\n\
+      pass 1 picked 0 reclaimed 1\n\
+      word 0\n\
+      false\n\
+      true\n\
+      false\n\
+      end enqueued 0 finished 0 forfeited 0 in_hand 0 left 0\n",
+    fault: None,
+};
+
+/// References change places behind the marker, in a cycle of steps: both objects stay.
+pub(crate) const SWAP_BEHIND_THE_MARKER: Row = Row {
+    script: b"open 4 1 1\n\
+      new 0 0 2 scanned\n\
+      new 0 1 2 scanned\n\
+      new 0 2 1 scanned\n\
+      new 0 3 1 scanned\n\
+      register 0 2 normal 1 0\n\
+      register 0 3 normal 1 0\n\
+      store 0 1 0 0 2\n\
+      store 0 0 0 0 3\n\
+      set 0 2 0\n\
+      set 0 3 0\n\
+      begin\n\
+      mark 1\n\
+      load 0 1 0 0 2\n\
+      store 0 0 1 0 2\n\
+      load 0 0 0 0 3\n\
+      store 0 1 1 0 3\n\
+      set 0 2 0\n\
+      set 0 3 0\n\
+      store 0 1 0 0 2\n\
+      store 0 0 0 0 2\n\
+      pause\n",
+    report: b"ok\n\
+      new 65536 0\n\
+      new 65538 1\n\
+      new 65600 2\n\
+      new 65601 3\n\
+      reg 0\n\
+      reg 1\n\
+      ok\n\
+      ok\n\
+      ok\n\
+      ok\n\
+      ok\n\
+      more\n\
+      word 65600\n\
+      ok\n\
+      word 65601\n\
+      ok\n\
+      ok\n\
+      ok\n\
+      ok\n\
+      ok\n\
+      pass 1 picked 0 reclaimed 0\n\
+      end enqueued 0 finished 0 forfeited 0 in_hand 0 left 0\n",
+    fault: None,
+};
+
+/// A world that closes inside a cycle queues nothing.
+pub(crate) const CLOSE_INSIDE_A_CYCLE: Row = Row {
+    script: b"open 4 1 1\n\
+      new 0 0 1 atomic\n\
+      new 0 1 1 scanned\n\
+      store 0 0 0 0 1\n\
+      link short 0 0 0 0 1\n\
+      register 0 1 normal 1 0\n\
+      set 0 1 0\n\
+      begin\n\
+      close\n\
+      pause\n\
+      load 0 0 0 0 2\n\
+      close\n\
+      take 0\n",
+    report: b"ok\n\
+      new 65536 0\n\
+      new 65600 1\n\
+      ok\n\
+      success\n\
+      reg 0\n\
+      ok\n\
+      ok\n\
+      ok\n\
+      pass 1 picked 0 reclaimed 0\n\
+      word 65600\n\
+      refused 11 Closed\n\
+      empty\n\
+      end enqueued 0 finished 0 forfeited 0 in_hand 0 left 0\n",
+    fault: None,
+};
+
+/// Entries hold their objects until they are finished, and a worker gets at the object of its entry.
+pub(crate) const HELD_UNTIL_FINISHED: Row = Row {
+    script: b"open 4 1 2\n\
+      new 0 0 1 scanned\n\
+      new 0 1 2 scanned\n\
+      new 0 2 3 scanned\n\
+      register 0 0 normal 1 0\n\
+      register 0 2 normal 2 0\n\
+      set 0 2 0\n\
+      collect\n\
+      set 0 0 0\n\
+      collect\n\
+      take 0\n\
+      take 1\n\
+      outstanding\n\
+      new 0 3 3 scanned\n\
+      finish 0\n\
+      collect\n\
+      new 0 4 3 scanned\n\
+      finish 0\n\
+      hold 1 0 5\n\
+      finish 1\n\
+      collect\n\
+      take 0\n",
+    report: b"ok\n\
+      new 65536 0\n\
+      new 65600 1\n\
+      new 65664 2\n\
+      reg 0\n\
+      reg 1\n\
+      ok\n\
+      pass 1 picked 1 reclaimed 0\n\
+      ok\n\
+      pass 2 picked 1 reclaimed 0\n\
+      entry 0 1 1 65664 2 2 0\n\
+      entry 1 2 0 65536 0 1 0\n\
+      outstanding 2\n\
+      new 65667 3\n\
+      ok\n\
+      pass 3 picked 0 reclaimed 1\n\
+      new 65664 4\n\
+      refused 10 NotHeld\n\
+      ok\n\
+      ok\n\
+      pass 4 picked 0 reclaimed 0\n\
+      empty\n\
+      end enqueued 2 finished 2 forfeited 0 in_hand 0 left 0\n",
     fault: None,
 };
 

@@ -1,6 +1,6 @@
 //! A script from its first byte to its last.
 
-ghost use Rattle.std.specs.Prelude.{◌≡◌, ◌<◌, ◌^◌, ◌+◌, IfOk, IfErr};
+ghost use Rattle.std.specs.Prelude.{None, ◌≡◌, ◌<◌, ◌^◌, ◌+◌, IfOk, IfErr};
 ghost use Rattle.finalize.specs.Report.{Reported, Stopped, failures_of};
 ghost use Rattle.finalize.specs.Machines.{counts_after, summary_at, TellsAnswer, Finishes};
 
@@ -134,9 +134,26 @@ pub(crate) fn drive<R: Source, W: Sink>(
     ensures reads { R.failures reader.new ≡ R.failures reader.old + failures_of Refusal.Input result }
     ensures writes { W.failures writer.new ≡ W.failures writer.old + failures_of Refusal.Output result }
 {
+    let mut machine = None;
+    carry_out_lines(alloc, reader, writer, &mut machine)
+}
+
+/// Carries out the lines of a script, one after another, on a machine that isn't open yet.
+fn carry_out_lines<R: Source, W: Sink>(
+    alloc: Global,
+    reader: &mut R,
+    writer: &mut W,
+    machine: &mut Option<Machine>,
+) -> Result<Summary, DriveFault>
+    requires { machine.old ≡ None }
+    ensures ok { IfOk result (Reported (R.remaining reader.old) (R.remaining reader.new) (W.written writer.old) (W.written writer.new)) }
+    ensures balanced { IfOk result (λ summary. summary.enqueued ≡ summary.finished + summary.forfeited + summary.in_hand + summary.left) }
+    ensures fault { IfErr result (Stopped (R.remaining reader.old) (R.remaining reader.new) (W.written writer.old) (W.written writer.new)) }
+    ensures reads { R.failures reader.new ≡ R.failures reader.old + failures_of Refusal.Input result }
+    ensures writes { W.failures writer.new ≡ W.failures writer.old + failures_of Refusal.Output result }
+{
     let mut chunk = Chunk::new();
     let mut line = ArrayVec::new();
-    let mut machine = None;
     let mut counts = NO_COUNTS;
     let mut number = 1;
     'lines: loop {
@@ -144,16 +161,16 @@ pub(crate) fn drive<R: Source, W: Sink>(
             return Err(fault(Refusal::Input, number));
         };
         if let Ending::Nothing = ending {
-            return finish(writer, number, &machine, counts);
+            return finish(writer, number, machine, counts);
         }
-        let answer = answer_at(alloc, &mut machine, number, ending, line.as_slice());
+        let answer = answer_at(alloc, machine, number, ending, line.as_slice());
         if let Err(fault) = tell(writer, number, answer) {
             return Err(fault);
         }
         counts = counts.after(answer);
         number += 1;
         if let Ending::Last = ending {
-            return finish(writer, number, &machine, counts);
+            return finish(writer, number, machine, counts);
         }
     }
 }

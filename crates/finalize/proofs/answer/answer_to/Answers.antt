@@ -25,8 +25,7 @@ returns-in-Ok-Some c =
       refl,
       c.in-Some.step,
       (sym c.is_kept.ensures ∙ c.if-not-is_kept.false, c.in-Some.ensures.found.0, c.in-Some.ensures.found.1),
-      out.0,
-      out.1,
+      out,
     )
 
 pub returns-in-Err-carry_out : goal.returns-in-Err-carry_out
@@ -37,6 +36,5 @@ returns-in-Err-carry_out c = (
   refl,
   c.in-Some.step,
   (sym c.is_kept.ensures ∙ c.if-not-is_kept.false, c.in-Some.ensures.found.0, c.in-Some.ensures.found.1),
-  c.in-Err-carry_out.ensures.0,
-  c.in-Err-carry_out.ensures.1,
+  c.in-Err-carry_out.ensures,
 )

@@ -16,8 +16,8 @@ pub returns-in_err-finish : goal.returns-in_err-finish
 returns-in_err-finish c =
     let r = the_error c.from_residual-in_err-finish.result _ c.from_residual-in_err-finish.ensures.1 in
     subst (λ r. JointDoes c.args.self.now (FinishOwn c.args.worker) r (record c.args.self.now { world = c.finish.new.self })) (sym r)
-    (finish_refused _ _ _ c.in-Some.entry c.in_err-finish.field-0.0 (c.in_ok-entry.ensures.found ∙ ap Some c.in-Some.is) c.in_err-finish.ensures refl refl)
+    (finish_refused _ _ _ c.in-Some.entry c.in_err-finish.field-0.0 (c.in_ok-entry.ensures.found ∙ ap Some c.in-Some.is) c.in_err-finish.ensures.step refl refl)
 
 pub returns : goal.returns
 returns c =
-    finished _ _ _ c.in-Some.entry tt (c.in_ok-entry.ensures.found ∙ ap Some c.in-Some.is) c.in_ok-finish.ensures refl (one_written c.args.self.now.hands.items _ c.args.worker None c.deref_mut.ensures.value)
+    finished _ _ _ c.in-Some.entry tt (c.in_ok-entry.ensures.found ∙ ap Some c.in-Some.is) c.in_ok-finish.ensures.step refl (one_written c.args.self.now.hands.items _ c.args.worker None c.deref_mut.ensures.value)

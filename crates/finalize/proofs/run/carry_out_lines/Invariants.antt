@@ -2,7 +2,7 @@ use Rattle.std.proofs.Common.{◌≡◌, ◌<◌, ◌≤◌, ◌^◌, ℕ, ◌+�
 use Rattle.finalize.specs.Lines.{unread}
 use Rattle.std.specs.Io.KnownBytes.{Consumes, Appends, prepend_known}
 use Rattle.finalize.proofs.Runs.{Position}
-use Rattle.finalize.proofs.run.drive.Given as goal
+use Rattle.finalize.proofs.run.carry_out_lines.Given as goal
 
 abbrev pub invariant-lines : goal.invariant-lines
 invariant-lines g l = record {

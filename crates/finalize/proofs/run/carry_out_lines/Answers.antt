@@ -4,15 +4,15 @@ use Rattle.finalize.specs.declared.run.DriveFault.{DriveFault}
 use Rattle.std.specs.Io.KnownBytes.{Consumes, prepend_known}
 use Rattle.finalize.specs.Script.{with_lf}
 use Rattle.finalize.specs.Report.{Explains}
-use Rattle.finalize.specs.Machines.{answer_text, is_told}
+use Rattle.finalize.specs.Machines.{answer_text, is_told, no_counts}
 use Rattle.finalize.proofs.Runs.{Position, Ended, at_first, fresh, took_start, took_ahead, finish_ok, finish_fault, finish_failures, tell_fault, tell_failures, reach, close_here, close_last, break_off, goes_on, position_more, whole_taken, IsBelow, counts_bound, no_more, report_balanced}
 use Rattle.std.proofs.KnownBytes.{Appends-trans, Consumes-trans}
 use Rattle.finalize.proofs.Writing.{wrote_none}
-use Rattle.finalize.proofs.run.drive.Goals as goal
+use Rattle.finalize.proofs.run.carry_out_lines.Goals as goal
 
 pub lines-init : goal.lines-init
 lines-init g c = record {
-  position = ([], [], took_start _ _ (fresh c.new-chunk.result c.new-chunk.ensures), wrote_none _, at_first);
+  position = ([], [], took_start _ _ (fresh c.new-chunk.result c.new-chunk.ensures), wrote_none _, subst (λ m. Position [] 1 [] m no_counts) (sym c.requires) at_first);
   in_time = omega arith;
   steps = omega arith;
   refused = omega arith;
