@@ -3,7 +3,7 @@
 use crate::outcome::Outcome;
 use fz_heap::Heap;
 use fz_model::ObjKind::Scanned;
-use fz_model::{Addr, BLOCK_WORDS, Refusal, Word};
+use fz_model::{Addr, BLOCK_WORDS, MAX_BLOCKS, Refusal, Word};
 use std::alloc::Global;
 
 /// A heap of just the blocks that `count` objects of this size take.
@@ -45,14 +45,25 @@ fn list_all(heap: &Heap, starts: &[Addr]) -> Result<u64, Refusal> {
     Ok(sum)
 }
 
-/// The same, and reclaims each object once it is looked up.
+/// The same; condemns each object once it is looked up, and then sweeps all blocks.
 fn reclaim_all(heap: &mut Heap, starts: &[Addr]) -> Result<u64, Refusal> {
+    let sum = condemn_all(heap, starts)?;
+    for block in 0..MAX_BLOCKS {
+        if block < heap.blocks() {
+            heap.sweep(block);
+        }
+    }
+    Ok(sum)
+}
+
+/// Condemns each object once it is looked up; returns the sum of the starts.
+fn condemn_all(heap: &mut Heap, starts: &[Addr]) -> Result<u64, Refusal> {
     let mut sum = 0u64;
     for start in starts {
         if heap.facts(*start).is_none() {
             return Err(Refusal::NotStart);
         }
-        heap.reclaim(*start);
+        heap.condemn(*start);
         sum = sum.wrapping_add(*start);
     }
     Ok(sum)
@@ -101,7 +112,7 @@ fn list(alloc: Global, count: u64, size: u64) -> Result<u64, Refusal> {
     list_all(&heap, &starts)
 }
 
-/// A heap that was filled and of which each object was reclaimed, and the sum of their starts.
+/// A heap that was filled and of which each object was condemned and swept, and the sum of their starts.
 fn emptied(alloc: Global, count: u64, size: u64) -> Result<(Heap, u64), Refusal> {
     let mut heap = filled(alloc, count, size)?;
     let starts: Vec<Addr> = heap.objects().collect(alloc)?;
@@ -167,7 +178,7 @@ pub extern "C" fn heap_bench_list(alloc: Global, count: u64, size: u64) -> Outco
     Outcome::of(list(alloc, count, size))
 }
 
-/// The same, and reclaims each object once it is looked up.
+/// The same; condemns each object once it is looked up, and then sweeps all blocks.
 #[unsafe(no_mangle)]
 pub extern "C" fn heap_bench_empty(alloc: Global, count: u64, size: u64) -> Outcome {
     Outcome::of(empty(alloc, count, size))

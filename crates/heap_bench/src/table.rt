@@ -9,7 +9,7 @@ use std::alloc::Global;
 fn register_all(table: &mut Table, objects: &[Addr]) -> Result<u64, Refusal> {
     let mut sum = 0u64;
     for object in objects {
-        let (number, _) = table.register(*object, RegKind::Normal, 1, *object)?;
+        let (number, _) = table.register(*object, RegKind::Normal, 1, *object, 0)?;
         sum = sum.wrapping_add(number);
     }
     Ok(sum)

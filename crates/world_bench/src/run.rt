@@ -37,13 +37,18 @@ fn run(alloc: Global, plan: &Plan, words: &[Word]) -> Result<Outcome, Refusal> {
             frames: 1,
         },
     )?;
-    let addresses = make(&mut world, plan.objects, plan.size)?;
-    write(&mut world, words)?;
-    let numbers = register(&mut world, plan)?;
+    carry_out(&mut world, plan, words)
+}
+
+/// Carries the plan out in a world that was just opened.
+fn carry_out(world: &mut World, plan: &Plan, words: &[Word]) -> Result<Outcome, Refusal> {
+    let addresses = make(world, plan.objects, plan.size)?;
+    write(world, words)?;
+    let numbers = register(world, plan)?;
     world.set(0, OBJECT, plan.root)?;
     world.set(0, STORED, 0)?;
-    let (queued, reclaimed) = collect(&mut world, plan.collections)?;
-    let finished = finish(&mut world, plan.finished)?;
+    let (queued, reclaimed) = collect(world, plan.collections)?;
+    let finished = finish(world, plan.finished)?;
     Ok(Outcome {
         addresses,
         numbers,
@@ -87,7 +92,7 @@ fn register(world: &mut World, plan: &Plan) -> Result<u64, Refusal> {
     let mut sum = 0u64;
     for _ in 0..plan.registered {
         world.set(0, OBJECT, object)?;
-        if let RegAnswer::Number(number, _) = world.register(0, OBJECT, kind, 1, 0)? {
+        if let RegAnswer::Number(number, _) = world.register(0, OBJECT, kind, 1, 0, 0)? {
             sum = sum.wrapping_add(number);
         }
         object = object.wrapping_add(plan.size);
