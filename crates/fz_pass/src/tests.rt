@@ -9,8 +9,8 @@ use fz_dirty::Dirty;
 use fz_heap::Heap;
 use fz_links::Links;
 use fz_marker::Marker;
-use fz_model::RegKind::{IgnoreSelf, Normal};
-use fz_model::{Addr, HEAP_START, ObjKind, Pick, RegKind, Word};
+use fz_model::RegKind::{IgnoreSelf, NoOrder, Normal};
+use fz_model::{Addr, HEAP_START, MAX_BLOCKS, ObjKind, Pick, RegKind, Word};
 use fz_table::Table;
 use std::alloc::Global;
 use std::test::Fail;
@@ -137,5 +137,136 @@ fn a_cycle_waits(rt: HostRuntime) -> Result<(), Fail> {
     assert!(rt; picked(rt.alloc(), &pair, &normal)?.is_empty());
     let ignore_self = [(FIRST, IgnoreSelf, 0), (SECOND, IgnoreSelf, 0)];
     assert!(rt; picked(rt.alloc(), &pair, &ignore_self)?.is_empty());
+    Ok(())
+}
+
+/// A word that leads back to its own object holds back a normal one alone.
+#[test]
+fn a_self_reference_counts_by_kind(rt: HostRuntime) -> Result<(), Fail> {
+    let words = [FIRST, SECOND, THIRD];
+    let registered = [
+        (FIRST, Normal, 0),
+        (SECOND, IgnoreSelf, 0),
+        (THIRD, NoOrder, 0),
+    ];
+    let objects = picked(rt.alloc(), &words, &registered)?;
+    assert_eq!(rt; objects.as_slice(), [SECOND, THIRD].as_slice());
+    Ok(())
+}
+
+/// A no-order object holds nothing back, and waits for a normal one that leads to it.
+#[test]
+fn no_order_waits_for_normal(rt: HostRuntime) -> Result<(), Fail> {
+    let chain = [SECOND, THIRD, 0];
+    let registered = [
+        (FIRST, NoOrder, 0),
+        (SECOND, Normal, 0),
+        (THIRD, NoOrder, 0),
+    ];
+    let objects = picked(rt.alloc(), &chain, &registered)?;
+    assert_eq!(rt; objects.as_slice(), [FIRST, SECOND].as_slice());
+    Ok(())
+}
+
+#[test]
+fn ranks_come_before_addresses(rt: HostRuntime) -> Result<(), Fail> {
+    let registered = [
+        (FIRST, Normal, 255),
+        (SECOND, NoOrder, 1),
+        (THIRD, Normal, 255),
+        (FOURTH, Normal, 0),
+    ];
+    let objects = picked(rt.alloc(), &[0; 4], &registered)?;
+    assert_eq!(rt;
+        objects.as_slice(),
+        [FOURTH, SECOND, FIRST, THIRD].as_slice()
+    );
+    Ok(())
+}
+
+/// What is tried with one heap and its tables, which one function owns and lends.
+#[derive(Clone, Copy)]
+enum Example {
+    ShortLink,
+    LongLink,
+    LargestHeap,
+}
+
+fn holds(alloc: Global, example: Example) -> Result<bool, Fail> {
+    let mut parts = open(alloc, MAX_BLOCKS)?;
+    match example {
+        Example::ShortLink => clears_short_links_first(alloc, &mut parts),
+        Example::LongLink => long_link_waits(alloc, &mut parts),
+        Example::LargestHeap => picks_by_address(alloc, &mut parts),
+    }
+}
+
+/// Two objects lead to one another, the first by a word that is a short link. It is zeroed before the order is judged.
+fn clears_short_links_first(alloc: Global, parts: &mut Parts) -> Result<bool, Fail> {
+    make(parts, &[SECOND, FIRST])?;
+    register(parts, &[(FIRST, Normal, 0), (SECOND, Normal, 0)])?;
+    parts.short.register(FIRST, SECOND)?;
+    let (picks, reclaimed) = pass(alloc, parts, 0)?;
+    let is_second = picks.iter().all(|pick| pick.obj == SECOND);
+    let is_cleared = parts.heap.read(FIRST, 0) == Ok(0) && parts.short.get(FIRST).is_none();
+    Ok(picks.len() == 1 && is_second && reclaimed == 0 && is_cleared)
+}
+
+/// A long link of a found object stands while its target is kept for its finalizer, and is cleared when the target is reclaimed.
+fn long_link_waits(alloc: Global, parts: &mut Parts) -> Result<bool, Fail> {
+    make(parts, &[5, 0])?;
+    register(parts, &[(SECOND, Normal, 0)])?;
+    parts.long.register(FIRST, SECOND)?;
+    pass(alloc, parts, FIRST)?;
+    let stood = parts.heap.read(FIRST, 0) == Ok(5) && parts.long.get(FIRST) == Some(SECOND);
+    pass(alloc, parts, FIRST)?;
+    let is_cleared = parts.heap.read(FIRST, 0) == Ok(0) && parts.long.get(FIRST).is_none();
+    Ok(stood && is_cleared)
+}
+
+/// The heap is full of registered objects of half a block each: one pass picks them all, and the next reclaims them.
+fn picks_by_address(alloc: Global, parts: &mut Parts) -> Result<bool, Fail> {
+    fill(parts)?;
+    let (picks, kept) = pass(alloc, parts, 0)?;
+    let all = picks.len() == 8_192 && first_out_of_place(&picks).is_none();
+    let (none, reclaimed) = pass(alloc, parts, 0)?;
+    Ok(all && kept == 0 && none.is_empty() && reclaimed == 8_192)
+}
+
+fn fill(parts: &mut Parts) -> Result<(), Fail> {
+    for _ in 0..2 * MAX_BLOCKS {
+        let (start, _) = parts.heap.alloc(32, ObjKind::Scanned)?;
+        parts.table.register(start, NoOrder, 7, 8, 3)?;
+    }
+    Ok(())
+}
+
+/// The first pick that isn't the object of its place.
+fn first_out_of_place(picks: &[Pick]) -> Option<usize> {
+    let mut want = HEAP_START;
+    for (place, pick) in picks.iter().enumerate() {
+        if pick.obj != want {
+            return Some(place);
+        }
+        want = want.checked_add(32)?;
+    }
+    None
+}
+
+#[test]
+fn short_links_are_cleared_first(rt: HostRuntime) -> Result<(), Fail> {
+    assert!(rt; holds(rt.alloc(), Example::ShortLink)?);
+    Ok(())
+}
+
+#[test]
+fn a_long_link_waits_for_its_target(rt: HostRuntime) -> Result<(), Fail> {
+    assert!(rt; holds(rt.alloc(), Example::LongLink)?);
+    Ok(())
+}
+
+#[test]
+fn the_largest_heap_is_picked_by_address(rt: HostRuntime) -> Result<(), Fail> {
+    assert!(rt; holds(rt.alloc(), Example::LargestHeap)?);
     Ok(())
 }
