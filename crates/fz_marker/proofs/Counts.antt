@@ -20,6 +20,17 @@ count_two p q r each (x ∷ xs) =
     let c = count_cons r x xs in
     omega (arith, here, rest, a, b, c)
 
+-- a test that passes only where one of two others does
+pub count_either : (p q r : ℕ → Bool) → ((a : ℕ) → count_is (p a) ≤ count_is (q a) + count_is (r a)) → (xs : List ℕ) → count_by p xs ≤ count_by q xs + count_by r xs
+count_either p q r each [] = omega arith
+count_either p q r each (x ∷ xs) =
+    let here = each x in
+    let rest = count_either p q r each xs in
+    let a = count_cons p x xs in
+    let b = count_cons q x xs in
+    let c = count_cons r x xs in
+    omega (arith, here, rest, a, b, c)
+
 module _ (p q : ℕ → Bool) (weaker : (a : ℕ) → IsTrue (p a) → IsTrue (q a)) where
   one_le : (s t : Bool) → (IsTrue s → IsTrue t) → cond s 1 0 ≤ cond t 1 0
   one_le true true h = omega arith

@@ -1,9 +1,11 @@
 pub mod Gaining
 pub mod Scanning
 pub mod Counts
+pub mod Members
 pub mod Proceeding
 pub mod Waiting
 pub mod Standing
+pub mod Noted
 pub mod Forgetting
 pub mod Tracing
 pub mod Marked

@@ -67,7 +67,7 @@ module _ (objects : Map Object) where
 
   -- ---- its start, and the first words of pages
 
-  extent_here : (a : ℕ) (o : Object) → get objects a ≡ Some o → get (extents objects) a ≡ Some (extent_of o)
+  pub extent_here : (a : ℕ) (o : Object) → get objects a ≡ Some o → get (extents objects) a ≡ Some (extent_of o)
   extent_here a o is = get-extents objects a ∙ ap (option_map extent_of) is
 
   pub word_stands : AreApart (extents objects) → (page a : ℕ) → HasWordOn objects page a → StandsOn objects page a

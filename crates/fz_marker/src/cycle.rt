@@ -4,6 +4,7 @@ ghost use Rattle.std.specs.Prelude.{◌⊎◌, [], ◌≡◌, ◌≤◌, ◌<◌
 ghost use Rattle.std.specs.FinSet.{contains, len};
 ghost use Rattle.fz_model.specs.declared.limits.TheConstants.{BLOCK_WORDS, MAX_BLOCKS};
 ghost use Rattle.fz_model.specs.Allocation.{block_start};
+ghost use Rattle.fz_model.specs.Extents.{extents, AreApart};
 ghost use Rattle.fz_model.specs.Reachability.{Child};
 ghost use Rattle.fz_dirty.specs.Flags.{Set};
 ghost use Rattle.fz_marker.specs.Frontiers.{Gains, IsAmong};
@@ -98,6 +99,7 @@ impl Cycle {
         ensures few { len self.new.scanned.members ≤ self.new.scanned.size }
         ensures gone { (a : ℕ) → IsTrue (contains self.new.scanned.members a) → IsTrue (contains self.old.scanned.members a) × (HasWordOn heap.now.objects page a → ⊥) }
         ensures others { (a : ℕ) → IsTrue (contains self.old.scanned.members a) → IsTrue (contains self.new.scanned.members a) ⊎ StandsOn heap.now.objects page a }
+        ensures apart { AreApart (extents heap.now.objects) }
     {
         self.scanned.clear_word(page);
         // An object of several pages may have begun before.
@@ -117,6 +119,8 @@ impl Cycle {
         ensures few { len self.new.scanned.members ≤ self.new.scanned.size }
         ensures gone { (a : ℕ) → IsTrue (contains self.new.scanned.members a) → IsTrue (contains self.old.scanned.members a) × IsFalse (is_on_noted heap.now.objects dirty.now.noted a) }
         ensures others { (a : ℕ) → IsTrue (contains self.old.scanned.members a) → IsTrue (contains self.new.scanned.members a) ⊎ IsOnNotedFrom heap.now.objects dirty.now.noted 0 a }
+        // Only the walk over noted pages asks the heap.
+        ensures apart { (page : ℕ) → IsTrue (contains dirty.now.noted page) → AreApart (extents heap.now.objects) }
     {
         let mut from = 0;
         while let Some(page) = dirty.next(from) {

@@ -130,6 +130,8 @@ impl Marker {
         ensures led { (a : ℕ) → IsTrue (contains self.new.marked a) → IsLedFrom heap.now.objects self.old.marked a }
         ensures closed { CleanAreClosed heap.now.objects self.old dirty.now.noted → IsClosed heap.now.objects self.new.marked }
         ensures few { (self.old.scans ≤ self.new.scans) × (self.new.scans ≤ self.old.scans + readable_count heap.now.objects (is_to_scan heap.now.objects self.old dirty.now.noted self.new.marked)) }
+        // Each scan but of an object that wasn't scanned is owed to a noted page: no more objects stand on a page than it has words.
+        ensures again { self.new.scans ≤ self.old.scans + readable_count heap.now.objects (is_newly_in self.old.scanned self.new.marked) + BLOCK_WORDS * len dirty.now.noted }
         ensures size { self.new.size ≡ self.old.size }
         ensures emptied { (self.new.traced ≡ empty) × (self.new.listed ≡ empty) }
     {

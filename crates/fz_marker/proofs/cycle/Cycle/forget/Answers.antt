@@ -28,6 +28,7 @@ loop-page-preserved c =
                 (cases_lt q c.loop-page.from))
                 (cases_eq q page),
           );
+      apart = λ q low on. now.apart;
       others = λ a h.
           ⊎_elim
           (λ still. ⊎_elim inl (λ stands. inr (page, omega arith, next.member, stands)) (now.others a still))
@@ -45,3 +46,10 @@ returns-clause-gone c a h =
           ⊎_elim (λ (less : page < from). parts.1 page less on word) (λ (ge : from ≤ page). both_ways (contains noted page) (c.in_default.ensures.next page ge) on)
           (cases_lt page from)),
     )
+
+pub returns-clause-apart : goal.returns-clause-apart
+returns-clause-apart c page on =
+    let noted = c.args.dirty.now.noted in
+    let from = c.loop-page.from in
+    ⊎_elim (λ (less : page < from). c.loop-page.invariant.apart page less on) (λ (ge : from ≤ page). absurd (both_ways (contains noted page) (c.in_default.ensures.next page ge) on))
+    (cases_lt page from)

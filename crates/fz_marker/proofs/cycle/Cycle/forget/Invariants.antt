@@ -1,5 +1,6 @@
 use Rattle.std.proofs.Common.{◌≡◌, ◌≤◌, ◌<◌, ◌-◌, ◌⊎◌, ℕ, IsTrue}
 use Rattle.std.specs.FinSet.{contains, len}
+use Rattle.fz_model.specs.Extents.{extents, AreApart}
 use Rattle.fz_marker.specs.Standing.{HasWordOn, IsOnNotedFrom}
 use Rattle.fz_marker.proofs.cycle.Cycle.forget.Given as goal
 
@@ -11,6 +12,7 @@ invariant-loop-page l = record {
   size : l.self.scanned.size ≡ l.initial.self.scanned.size;
   few : len l.self.scanned.members ≤ l.self.scanned.size;
   gone : (a : ℕ) → IsTrue (contains l.self.scanned.members a) → IsTrue (contains l.initial.self.scanned.members a) × ((page : ℕ) → page < l.from → IsTrue (contains l.dirty.noted page) → HasWordOn l.heap.objects page a → ⊥);
+  apart : (page : ℕ) → page < l.from → IsTrue (contains l.dirty.noted page) → AreApart (extents l.heap.objects);
   others : (a : ℕ) → IsTrue (contains l.initial.self.scanned.members a) → IsTrue (contains l.self.scanned.members a) ⊎ IsOnNotedFrom l.heap.objects l.dirty.noted 0 a;
 }
 

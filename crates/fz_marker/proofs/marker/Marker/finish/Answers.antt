@@ -1,10 +1,12 @@
-use Rattle.std.proofs.Common.{◌≡◌, ◌≤◌, ◌+◌, ℕ, nat_cmp, IsTrue, Contains, subst, sym, ap, ◌∙◌, refl, arith, ⊎_elim}
+use Rattle.std.proofs.Common.{◌≡◌, ◌≤◌, ◌+◌, ◌*◌, ℕ, nat_cmp, IsTrue, Contains, subst, sym, ap, ◌∙◌, refl, arith, ⊎_elim}
 use Rattle.std.specs.FinSet.{contains, len, len-empty}
+use Rattle.fz_model.specs.declared.limits.TheConstants.{BLOCK_WORDS}
 use Rattle.fz_dirty.specs.Flags.{Flagged}
 use Rattle.fz_model.specs.declared.answers.Progress.TheVariants.{More, Done}
 use Rattle.fz_marker.specs.Frontiers.{Frontier}
-use Rattle.fz_marker.specs.Marking.{Marking, IsLedFrom, CleanAreClosed, is_to_scan, readable_count}
+use Rattle.fz_marker.specs.Marking.{Marking, IsLedFrom, CleanAreClosed, is_newly_in, is_to_scan, readable_count}
 use Rattle.fz_marker.proofs.Proceeding.{proceeds_on}
+use Rattle.fz_marker.proofs.Noted.{few_to_scan}
 use Rattle.fz_marker.proofs.Tracing.{nothing_waits}
 use Rattle.fz_marker.proofs.Marked.{forgotten_cycle, forgotten_waits, finish_closed, finish_few}
 use Rattle.fz_marker.proofs.marker.Marker.finish.Goals.{After-clear-2}
@@ -75,3 +77,16 @@ returns-clause-few c =
     let p = proceeds_on objects c.forget.new.self c.rescan.new.self new c.rescan.ensures.proceeds c.step.ensures.proceeds in
     subst (λ (m : Marking). (m.scans ≤ new.scans) × (new.scans ≤ m.scans + readable_count objects (is_to_scan objects m c.args.dirty.now.noted new.marks.members))) c.self.view_is
     (finish_few objects c.args.dirty.now.noted c.self.inside.cycle c.forget.new.self f.marks f.scans f.size f.few f.gone f.others new p (all_scanned c))
+
+pub returns-clause-again : goal.returns-clause-again
+returns-clause-again c =
+    let objects = c.args.heap.now.objects in
+    let noted = c.args.dirty.now.noted in
+    let f = c.forget.ensures in
+    let new = c.step.new.self in
+    let p = proceeds_on objects c.forget.new.self c.rescan.new.self new c.rescan.ensures.proceeds c.step.ensures.proceeds in
+    let old = c.self.inside.cycle in
+    let few = (finish_few objects noted old c.forget.new.self f.marks f.scans f.size f.few f.gone f.others new p (all_scanned c)).1 in
+    let all = few_to_scan objects noted f.apart old.scanned.members new.marks.members p.cycle.low in
+    let again : new.scans ≤ old.scans + readable_count objects (is_newly_in old.scanned.members new.marks.members) + BLOCK_WORDS * len noted = omega (arith, few, all) in
+    subst (λ (m : Marking). new.scans ≤ m.scans + readable_count objects (is_newly_in m.scanned new.marks.members) + BLOCK_WORDS * len noted) c.self.view_is again
