@@ -1,6 +1,6 @@
 -- Each change of a world's parts keeps what a world keeps of them.
-use Rattle.std.proofs.Common.{◌≡◌, ◌≤◌, ◌<◌, ◌+◌, ◌*◌, ℕ, Bool, true, false, not, List, [], ◌++◌, Some, None, refl, sym, ap, ◌∙◌, subst, arith, filter, IsTrue, IsFalse, true≢false, length, replicate, nat_cmp, ◌-◌, cond, nat_le, ◌&&◌, Option, is_some, slice_get, ◌≢◌, zero, suc, ◌∷◌}
-use Rattle.std.proofs.lemmas.Bool.{both_ways, not-false, leb-true, and_parts}
+use Rattle.std.proofs.Common.{◌≡◌, ◌≤◌, ◌<◌, ◌+◌, ◌*◌, ℕ, Bool, true, false, not, List, [], Some, None, refl, sym, ap, ◌∙◌, subst, arith, filter, IsTrue, IsFalse, true≢false, length, replicate, nat_cmp, ◌-◌, cond, nat_le, ◌&&◌, Option, is_some, slice_get, ◌≢◌, zero, suc, ◌∷◌}
+use Rattle.std.proofs.lemmas.Bool.{not-false, leb-true, and_parts}
 use Rattle.std.proofs.lemmas.List.{length-replicate}
 use Rattle.std.specs.Cmp.{nat_cmp_total}
 use Rattle.std.specs.FinMap as map
@@ -29,10 +29,11 @@ use Rattle.fz_heap.specs.Contents.{Contents}
 use Rattle.fz_table.specs.Registered.{Registered}
 use Rattle.fz_dirty.specs.Flags.{Set, IsWithin}
 use Rattle.fz_dirty.specs.Pages.{Pages}
-use Rattle.fz_marker.specs.Marking.{Marking, CleanAreClosed, HasChildrenIn, is_newly_in, is_on_noted}
+use Rattle.fz_marker.specs.Marking.{Marking, CleanAreClosed, HasChildrenIn, is_newly_in, is_on_noted, readable_count}
 use Rattle.fz_world.specs.Ready.{Ready}
-use Rattle.fz_world.specs.World.{IsWhole, IsWorld, with_in_cycle}
+use Rattle.fz_world.specs.World.{IsWorld, with_in_cycle}
 use Rattle.fz_world.proofs.Keeping.{store_keeps, alloc_keeps}
+use Rattle.fz_world.proofs.Scans.{readable_made, readable_more, readable_within, readable_written}
 
 pub world_opening : (heap : Contents) (table : Registered) (ready : Ready) (marker : Marking) (pages : Pages) (blocks capacity : ℕ) (picks : List Pick) → heap.blocks ≡ blocks → heap.objects ≡ map.empty → table ≡ record { registrations = map.empty; next_number = 0 } → (ready.queue ≡ []) × (ready.held ≡ []) → marker.size ≡ BLOCK_WORDS * blocks → pages.pages ≡ blocks → picks ≡ [] → IsWorld heap table ready marker pages capacity picks false
 unfolding IsWorld
@@ -75,9 +76,12 @@ module _ (heap : Contents) (table : Registered) (ready : Ready) (marker : Markin
   unfolding IsWorld
   world_clean h = h.clean
 
-  pub world_once : IsWorld heap table ready marker pages capacity picks cycle → IsTrue cycle → marker.scans ≤ sets.len marker.scanned
+  pub world_once : IsWorld heap table ready marker pages capacity picks cycle → IsTrue cycle → marker.scans ≤ readable_count heap.objects (sets.contains marker.scanned)
   unfolding IsWorld
   world_once h = h.once
+
+  pub world_unfinished : IsWorld heap table ready marker pages capacity picks cycle → IsTrue cycle → marker.scans ≤ sets.len marker.scanned
+  world_unfinished h on = let once = world_once h on in let few = readable_within heap.objects marker.scanned in omega (arith, once, few)
 
   pub world_none_picked : IsWorld heap table ready marker pages capacity picks cycle → picks ≡ []
   unfolding IsWorld
@@ -112,9 +116,9 @@ module _ (heap : Contents) (table : Registered) (ready : Ready) (marker : Markin
   }
 
   -- marks come, and what is scanned has marked children
-  pub world_stepped : (new : Marking) → new.size ≡ marker.size → IsWithin marker.marked new.marked → ((a : ℕ) → IsTrue (is_newly_in marker.scanned new.scanned a) → HasChildrenIn heap.objects new.marked a) → new.scans ≤ sets.len new.scanned → IsWorld heap table ready marker pages capacity picks cycle → IsWorld heap table ready new pages capacity picks cycle
+  pub world_stepped : (new : Marking) → new.size ≡ marker.size → IsWithin marker.marked new.marked → ((a : ℕ) → IsTrue (is_newly_in marker.scanned new.scanned a) → HasChildrenIn heap.objects new.marked a) → IsWithin marker.scanned new.scanned → new.scans ≤ marker.scans + readable_count heap.objects (is_newly_in marker.scanned new.scanned) → IsWorld heap table ready marker pages capacity picks cycle → IsWorld heap table ready new pages capacity picks cycle
   unfolding IsWorld
-  world_stepped new size kept closed once h = record {
+  world_stepped new size kept closed still each_once h = record {
     sound = h.sound;
     size = size ∙ h.size;
     pages_are = h.pages_are;
@@ -122,7 +126,7 @@ module _ (heap : Contents) (table : Registered) (ready : Ready) (marker : Markin
     pick_room = h.pick_room;
     none_picked = h.none_picked;
     clean = λ on a scanned off. at a scanned off (h.clean on a) (sets.contains marker.scanned a) refl;
-    once = λ on. once;
+    once = λ on. let was = h.once on in let more = readable_more heap.objects marker.scanned new.scanned still in omega (arith, was, more, each_once);
   }
     where
       at : (a : ℕ) → IsTrue (sets.contains new.scanned a) → IsFalse (is_on_noted heap.objects pages.noted a) → (IsTrue (sets.contains marker.scanned a) → IsFalse (is_on_noted heap.objects pages.noted a) → HasChildrenIn heap.objects marker.marked a) → (b : Bool) → sets.contains marker.scanned a ≡ b → HasChildrenIn heap.objects new.marked a
@@ -139,7 +143,7 @@ module _ (heap : Contents) (table : Registered) (ready : Ready) (marker : Markin
     pick_room = h.pick_room;
     none_picked = h.none_picked;
     clean = λ on. subst (λ b. CleanAreClosed (written place value heap.objects) marker (with_in_cycle b pages.noted (block_of place))) (sym on) (store_keeps heap.objects marker pages.noted place value (h.clean on));
-    once = h.once;
+    once = λ on. let was = h.once on in let same = readable_written heap.objects place value (sets.contains marker.scanned) in omega (arith, was, same);
   }
 
   pub world_made : (size : ℕ) (kind : ObjKind) (a : ℕ) (condemned : Set) → first_cause (alloc_causes heap.objects heap.blocks heap.next_birth size kind) ≡ None → place_for heap.objects heap.blocks size kind ≡ Some a
@@ -154,7 +158,7 @@ module _ (heap : Contents) (table : Registered) (ready : Ready) (marker : Markin
     none_picked = h.none_picked;
     clean = λ on. subst (λ b. CleanAreClosed (map.insert heap.objects a (new_object kind heap.next_birth size)) (record marker { marked = with_in_cycle b marker.marked a }) (with_in_cycle b pages.noted (block_of a))) (sym on)
         (alloc_keeps heap.objects marker pages.noted a (new_object kind heap.next_birth size) (free_place heap.objects heap.blocks size a kind place) sized (h.clean on));
-    once = h.once;
+    once = λ on. let was = h.once on in let more = readable_made heap.objects a (new_object kind heap.next_birth size) (sets.contains marker.scanned) (free_place heap.objects heap.blocks size a kind place) in omega (arith, was, more);
   }
     where
       sized : 0 < length {A = ℕ} (replicate size 0)

@@ -3,19 +3,18 @@
 use Rattle.std.specs.Prelude.{◌≡◌, ℕ, ◌+◌, ◌<◌, ◌≤◌, ◌*◌, Bool, List, [], if◌then◌else◌, IsTrue, refl}
 use Rattle.std.specs.Coded.{Coded, code_by, coded×, coded_ℕ}
 use Rattle.std.specs.FinSet as sets
-use Rattle.std.specs.FinSet.{insert, len}
+use Rattle.std.specs.FinSet.{contains, insert}
 use Rattle.std.specs.FinMap as map
 use Rattle.fz_model.specs.declared.answers.Pick.{Pick}
 use Rattle.fz_model.specs.declared.limits.TheConstants.{BLOCK_WORDS, COUNT_LIMIT}
 use Rattle.fz_model.specs.State.{Map, Core}
 use Rattle.fz_model.specs.Codes.{core_code}
-use Rattle.fz_model.specs.Allocation.{block_of}
 use Rattle.fz_model.specs.Parts.{AreSound}
 use Rattle.fz_heap.specs.Contents.{Contents}
 use Rattle.fz_table.specs.Registered.{Registered}
 use Rattle.fz_dirty.specs.Flags.{Set}
 use Rattle.fz_dirty.specs.Pages.{Pages}
-use Rattle.fz_marker.specs.Marking.{Marking, CleanAreClosed}
+use Rattle.fz_marker.specs.Marking.{Marking, CleanAreClosed, readable_count}
 use Rattle.fz_world.specs.Ready.{Ready}
 
 pub record WorldView : Type 0 where
@@ -71,7 +70,7 @@ pub record IsWhole (heap : Contents) (table : Registered) (ready : Ready) (marke
   pub none_picked : picks ≡ []
   -- in an open cycle a scanned object that stands on no noted page has marked children alone, and no object was scanned twice
   pub clean : IsTrue cycle → CleanAreClosed heap.objects marker pages.noted
-  pub once : IsTrue cycle → marker.scans ≤ len marker.scanned
+  pub once : IsTrue cycle → marker.scans ≤ readable_count heap.objects (contains marker.scanned)
 
 unfoldable pub IsWorld : Contents → Registered → Ready → Marking → Pages → ℕ → List Pick → Bool → Type 0
 IsWorld heap table ready marker pages capacity picks cycle = IsWhole heap table ready marker pages capacity picks cycle

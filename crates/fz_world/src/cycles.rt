@@ -1,10 +1,10 @@
 //! Cycles: marking in steps beside the mutators, and the pass that ends them.
 
-ghost use Rattle.std.specs.Prelude.{◌≡◌, ◌≤◌, ◌<◌, ◌+◌, ◌↔◌, ℕ, false, IsTrue, IsFalse, IfOk, OnOk, OnErr};
+ghost use Rattle.std.specs.Prelude.{◌≡◌, ◌≤◌, ◌<◌, ◌+◌, ◌*◌, ◌↔◌, ℕ, false, IsTrue, IsFalse, IfOk, OnOk, OnErr};
 ghost use Rattle.std.specs.FinSet.{contains};
 ghost use Rattle.std.specs.FinSet as sets;
 ghost use Rattle.std.specs.FinMap.{len};
-ghost use Rattle.fz_model.specs.declared.limits.TheConstants.{COUNT_LIMIT};
+ghost use Rattle.fz_model.specs.declared.limits.TheConstants.{BLOCK_WORDS, COUNT_LIMIT};
 ghost use Rattle.fz_model.specs.Reachability.{IsRoot};
 ghost use Rattle.fz_model.specs.Pass.{Passes};
 ghost use Rattle.fz_model.specs.Causes.{IsJudgedBy};
@@ -67,6 +67,8 @@ impl World {
         ensures caused { IsJudgedBy (causes self.old.core Pause) result }
         ensures refused { OnErr result (self.new ≡ self.old) }
         ensures scans { self.old.scans ≤ self.new.scans }
+        // Over the whole cycle: each object once, and at the end once more those of noted pages, of which each has no more than words.
+        ensures few { OnOk result (self.new.scans ≤ len self.old.objects + BLOCK_WORDS * sets.len self.old.noted) }
         ensures noted { self.new.noted ≡ self.old.noted }
     {
         if !self.cycle {
@@ -148,6 +150,7 @@ impl World {
         ensures closed { IsClosed self.old.objects self.new.marked }
         ensures led { (a : ℕ) → IsTrue (contains self.new.marked a) → IsLedFromMarks self.old a }
         ensures scans { self.old.scans ≤ self.new.scans }
+        ensures few { self.new.scans ≤ len self.old.objects + BLOCK_WORDS * sets.len self.old.noted }
         ensures noted { self.new.noted ≡ self.old.noted }
         ensures passes { self.old.passes + 1 < COUNT_LIMIT }
     {

@@ -1,13 +1,14 @@
-use Rattle.std.proofs.Common.{◌≡◌, ◌≤◌, ◌⊎◌, ℕ, true, refl, sym, ap, ◌∙◌, subst, inl, inr, ⊎_elim, IsTrue, true≢false}
+use Rattle.std.proofs.Common.{◌≡◌, ◌≤◌, true, refl, sym, ap, ◌∙◌, subst, arith, inl, inr, ⊎_elim, IsTrue, true≢false}
+use Rattle.std.specs.FinMap as map
 use Rattle.std.specs.FinSet.{contains, len}
 use Rattle.fz_model.specs.Reachability.{IsRoot}
-use Rattle.fz_dirty.specs.Flags.{Set}
-use Rattle.fz_marker.specs.Marking.{Marking, IsClosed}
+use Rattle.fz_marker.specs.Marking.{Marking, IsClosed, readable_count}
 use Rattle.fz_world.specs.Cycles.{IsLedFromMarks}
 use Rattle.fz_world.specs.World.{WorldView}
 use Rattle.fz_world.proofs.Inside.{core_inside}
 use Rattle.fz_world.proofs.Rooted.{registered_here, held_here, is_here, is_root}
-use Rattle.fz_world.proofs.Whole.{world_size, world_pages, world_sound, world_clean, world_once, world_remarked}
+use Rattle.fz_world.proofs.Scans.{readable_apart}
+use Rattle.fz_world.proofs.Whole.{world_size, world_pages, world_sound, world_clean, world_once, world_unfinished, world_remarked}
 use Rattle.fz_world.proofs.world.World.mark_rest.Goals as goal
 
 pub mark_roots-requires-clause-size : goal.mark_roots-requires-clause-size
@@ -28,7 +29,7 @@ finish-requires-clause-pages c = world_pages _ _ _ _ _ _ _ _ c.self.invariant.0
 pub finish-requires-clause-unfinished : goal.finish-requires-clause-unfinished
 finish-requires-clause-unfinished c =
     let on : c.self.inside.cycle ≡ true = ap (λ (v : WorldView). v.core.cycle) c.self.view_is ∙ c.requires in
-    subst (λ (m : Marking). m.scans ≤ len m.scanned) (sym c.mark_roots.ensures.same) (world_once _ _ _ _ _ _ _ _ c.self.invariant.0 on)
+    subst (λ (m : Marking). m.scans ≤ len m.scanned) (sym c.mark_roots.ensures.same) (world_unfinished _ _ _ _ _ _ _ _ c.self.invariant.0 on)
 
 pub invariant_of-self : goal.invariant_of-self
 invariant_of-self c = (
@@ -52,3 +53,14 @@ pub returns-clause-led : goal.returns-clause-led
 returns-clause-led c a t =
     let from = c.finish.ensures.led a t in
     subst (λ (v : WorldView). IsLedFromMarks v a) c.self.view_is (from.0, ⊎_elim inl (λ root. inr (is_root (core_inside c.self.inside) from.0 root)) ((c.mark_roots.ensures.members from.0).0 from.1), from.2)
+
+pub returns-clause-few : goal.returns-clause-few
+returns-clause-few c =
+    let w = c.self.inside in
+    let on : w.cycle ≡ true = ap (λ (v : WorldView). v.core.cycle) c.self.view_is ∙ c.requires in
+    let once = subst (λ (m : Marking). m.scans ≤ readable_count w.heap.objects (contains m.scanned)) (sym c.mark_roots.ensures.same) (world_once _ _ _ _ _ _ _ _ c.self.invariant.0 on) in
+    let again = c.finish.ensures.again in
+    let all = readable_apart w.heap.objects c.mark_roots.new.marker.scanned c.finish.new.self.marked in
+    let objects = ap (λ (v : WorldView). map.len v.objects) c.self.view_is in
+    let noted = ap (λ (v : WorldView). len v.noted) c.self.view_is in
+    omega (arith, once, again, all, objects, noted)

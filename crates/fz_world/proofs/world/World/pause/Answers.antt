@@ -1,4 +1,4 @@
-use Rattle.std.proofs.Common.{◌≡◌, ◌≤◌, ℕ, true, false, None, refl, sym, ap, ◌∙◌, subst, IsTrue, rules}
+use Rattle.std.proofs.Common.{◌≡◌, true, false, None, sym, ap, subst, arith, rules}
 use Rattle.std.specs.FinSet.{contains}
 use Rattle.fz_model.specs.State.{Core}
 use Rattle.fz_model.specs.Reachability.{IsRoot}
@@ -25,3 +25,9 @@ returns-clause-step c =
     let none : first_cause (causes c.args.self.now.core Pause) ≡ None = search rules in
     let passes = same_pass c.args.self.now.core (contains c.mark_rest.new.self.marked) c.pass.result c.pass.new.self.core (subst (λ (k : Core). Passes k (contains c.mark_rest.new.self.marked) c.pass.result c.pass.new.self.core) c.mark_rest.ensures.core c.pass.ensures.passes) in
     does_pause c.args.self.now c.pass.new.self c.mark_rest.new.self.marked c.pass.result none on c.mark_rest.ensures.roots c.mark_rest.ensures.closed c.mark_rest.ensures.led passes (ap (λ (k : Core). k.cycle) passes.is)
+
+pub returns-clause-few : goal.returns-clause-few
+returns-clause-few c =
+    let scans = ap (λ (v : WorldView). v.scans) c.pass.ensures.marks in
+    let few = c.mark_rest.ensures.few in
+    omega (arith, scans, few)
