@@ -1,8 +1,8 @@
 -- Each change of a world's parts keeps what a world keeps of them.
-use Rattle.std.proofs.Common.{◌≡◌, ◌≤◌, ◌<◌, ◌+◌, ◌*◌, ℕ, Bool, true, false, not, List, [], Some, None, refl, sym, ap, ◌∙◌, subst, arith, filter, IsTrue, IsFalse, true≢false, length, replicate, nat_cmp, ◌-◌, cond, nat_le, ◌&&◌, Option, is_some, slice_get, ◌≢◌, zero, suc, ◌∷◌}
+use Rattle.std.proofs.Common.{◌≡◌, ◌≤◌, ◌<◌, ◌+◌, ◌*◌, ℕ, Bool, true, false, not, List, [], Some, None, refl, sym, ap, ◌∙◌, subst, arith, filter, IsTrue, IsFalse, true≢false, length, replicate, nat_cmp, ◌-◌, cond, nat_le, nat_lt, Equal, ◌&&◌, Option, is_some, slice_get, ◌≢◌, zero, suc, ◌∷◌}
 use Rattle.std.proofs.lemmas.Bool.{not-false, leb-true, and_parts}
 use Rattle.std.proofs.lemmas.List.{length-replicate}
-use Rattle.std.specs.Cmp.{nat_cmp_total}
+use Rattle.std.specs.Cmp.{nat_cmp_total, ranked}
 use Rattle.std.specs.FinMap as map
 use Rattle.std.specs.FinMap.{get, contains_key, len-insert, len-remove, len-empty, empty_of_len, get-empty}
 use Rattle.std.specs.FinSet as sets
@@ -14,7 +14,8 @@ use Rattle.fz_model.specs.declared.answers.Registration.{Registration}
 use Rattle.fz_model.specs.declared.limits.TheConstants.{BLOCK_WORDS, MAX_OBJECT_WORDS}
 use Rattle.fz_model.specs.State.{Map, Object, Core}
 use Rattle.fz_model.specs.Memory.{written, new_object}
-use Rattle.fz_model.specs.Allocation.{block_of, place_for}
+use Rattle.fz_model.specs.Allocation.{block_of, blocks_for, place_for}
+use Rattle.fz_model.specs.Condemned.{swept}
 use Rattle.fz_model.specs.Causes.{first_cause, alloc_causes, start_causes}
 use Rattle.fz_model.specs.Parts.{AreSound}
 use Rattle.fz_model.proofs.Maps.{free_place, get-remove_other}
@@ -28,12 +29,24 @@ use Rattle.fz_model.specs.Pass.{Passes, Decision, IsPicked, without_picks}
 use Rattle.fz_heap.specs.Contents.{Contents}
 use Rattle.fz_table.specs.Registered.{Registered}
 use Rattle.fz_dirty.specs.Flags.{Set, IsWithin}
+use Rattle.fz_dirty.proofs.Words.{same_members}
 use Rattle.fz_dirty.specs.Pages.{Pages}
 use Rattle.fz_marker.specs.Marking.{Marking, CleanAreClosed, HasChildrenIn, is_newly_in, is_on_noted, readable_count}
 use Rattle.fz_world.specs.Ready.{Ready}
 use Rattle.fz_world.specs.World.{IsWorld, with_in_cycle}
 use Rattle.fz_world.proofs.Keeping.{store_keeps, alloc_keeps}
 use Rattle.fz_world.proofs.Scans.{readable_made, readable_more, readable_within, readable_written}
+
+-- where nothing is condemned, nothing is after a sweep
+abbrev is_left : ℕ → ℕ → ℕ → Bool
+is_left first count a = not (nat_le first (block_of a) && nat_lt (block_of a) (first + count))
+
+still_swept : (condemned : Set) (first count : ℕ) → condemned ≡ sets.empty → swept condemned first count ≡ sets.empty
+still_swept condemned first count none =
+    same_members _ _ (λ q.
+    sets.contains-retain condemned (is_left first count) q (λ x e. ap (is_left first count) (sym (ranked q x Equal (sym e))))
+    ∙ ap (λ b. b && is_left first count q) (ap (λ (s : Set). sets.contains s q) none ∙ sets.contains-empty nat_cmp q)
+    ∙ sym (sets.contains-empty nat_cmp q))
 
 pub world_opening : (heap : Contents) (table : Registered) (ready : Ready) (marker : Marking) (pages : Pages) (blocks capacity : ℕ) (picks : List Pick) → heap.blocks ≡ blocks → heap.objects ≡ map.empty → table ≡ record { registrations = map.empty; next_number = 0 } → (ready.queue ≡ []) × (ready.held ≡ []) → marker.size ≡ BLOCK_WORDS * blocks → pages.pages ≡ blocks → picks ≡ [] → IsWorld heap table ready marker pages capacity picks false
 unfolding IsWorld
@@ -49,6 +62,7 @@ world_opening heap table ready marker pages blocks capacity picks few none nothi
   none_picked = none_picked;
   clean = λ on. absurd (true≢false (sym on));
   once = λ on. absurd (true≢false (sym on));
+  none_condemned = λ on. absurd (true≢false (sym on));
 }
 
 module _ (heap : Contents) (table : Registered) (ready : Ready) (marker : Marking) (pages : Pages) (capacity : ℕ) (picks : List Pick) (cycle : Bool) where
@@ -83,6 +97,10 @@ module _ (heap : Contents) (table : Registered) (ready : Ready) (marker : Markin
   pub world_unfinished : IsWorld heap table ready marker pages capacity picks cycle → IsTrue cycle → marker.scans ≤ sets.len marker.scanned
   world_unfinished h on = let once = world_once h on in let few = readable_within heap.objects marker.scanned in omega (arith, once, few)
 
+  pub world_none_condemned : IsWorld heap table ready marker pages capacity picks cycle → IsTrue cycle → heap.condemned ≡ sets.empty
+  unfolding IsWorld
+  world_none_condemned h = h.none_condemned
+
   pub world_none_picked : IsWorld heap table ready marker pages capacity picks cycle → picks ≡ []
   unfolding IsWorld
   world_none_picked h = h.none_picked
@@ -99,20 +117,22 @@ module _ (heap : Contents) (table : Registered) (ready : Ready) (marker : Markin
     none_picked = h.none_picked;
     clean = λ on. absurd (true≢false (sym on));
     once = λ on. absurd (true≢false (sym on));
+    none_condemned = λ on. absurd (true≢false (sym on));
   }
 
-  -- a cycle opens where nothing is scanned
-  pub world_opened : marker.scanned ≡ sets.empty → marker.scans ≡ 0 → IsWorld heap table ready marker pages capacity picks cycle → IsWorld heap table ready marker pages capacity picks true
+  -- marks begun anew after a sweep, in an open cycle or outside one
+  pub world_anew : (other : Marking) (others : Pages) (opens : Bool) → other.size ≡ marker.size → others.pages ≡ pages.pages → other.scanned ≡ sets.empty → other.scans ≡ 0 → IsWorld heap table ready marker pages capacity picks cycle → IsWorld (record heap { condemned = sets.empty }) table ready other others capacity picks opens
   unfolding IsWorld
-  world_opened none zero_ h = record {
+  world_anew other others opens size all none zero_ h = record {
     sound = h.sound;
-    size = h.size;
-    pages_are = h.pages_are;
+    size = size ∙ h.size;
+    pages_are = all ∙ h.pages_are;
     room = h.room;
     pick_room = h.pick_room;
     none_picked = h.none_picked;
     clean = λ on a scanned. absurd (true≢false (sym scanned ∙ ap (λ s. sets.contains s a) none ∙ sets.contains-empty nat_cmp a));
     once = λ on. omega (arith, zero_);
+    none_condemned = λ on. refl;
   }
 
   -- marks come, and what is scanned has marked children
@@ -127,6 +147,7 @@ module _ (heap : Contents) (table : Registered) (ready : Ready) (marker : Markin
     none_picked = h.none_picked;
     clean = λ on a scanned off. at a scanned off (h.clean on a) (sets.contains marker.scanned a) refl;
     once = λ on. let was = h.once on in let more = readable_more heap.objects marker.scanned new.scanned still in omega (arith, was, more, each_once);
+    none_condemned = h.none_condemned;
   }
     where
       at : (a : ℕ) → IsTrue (sets.contains new.scanned a) → IsFalse (is_on_noted heap.objects pages.noted a) → (IsTrue (sets.contains marker.scanned a) → IsFalse (is_on_noted heap.objects pages.noted a) → HasChildrenIn heap.objects marker.marked a) → (b : Bool) → sets.contains marker.scanned a ≡ b → HasChildrenIn heap.objects new.marked a
@@ -144,12 +165,13 @@ module _ (heap : Contents) (table : Registered) (ready : Ready) (marker : Markin
     none_picked = h.none_picked;
     clean = λ on. subst (λ b. CleanAreClosed (written place value heap.objects) marker (with_in_cycle b pages.noted (block_of place))) (sym on) (store_keeps heap.objects marker pages.noted place value (h.clean on));
     once = λ on. let was = h.once on in let same = readable_written heap.objects place value (sets.contains marker.scanned) in omega (arith, was, same);
+    none_condemned = h.none_condemned;
   }
 
-  pub world_made : (size : ℕ) (kind : ObjKind) (a : ℕ) (condemned : Set) → first_cause (alloc_causes heap.objects heap.blocks heap.next_birth size kind) ≡ None → place_for heap.objects heap.blocks size kind ≡ Some a
-      → IsWorld heap table ready marker pages capacity picks cycle → IsWorld (record heap { objects = map.insert heap.objects a (new_object kind heap.next_birth size); condemned = condemned; next_birth = heap.next_birth + 1 }) table ready (record marker { marked = with_in_cycle cycle marker.marked a }) (record pages { noted = with_in_cycle cycle pages.noted (block_of a) }) capacity picks cycle
+  pub world_made : (size : ℕ) (kind : ObjKind) (a : ℕ) → first_cause (alloc_causes heap.objects heap.blocks heap.next_birth size kind) ≡ None → place_for heap.objects heap.blocks size kind ≡ Some a
+      → IsWorld heap table ready marker pages capacity picks cycle → IsWorld (record heap { objects = map.insert heap.objects a (new_object kind heap.next_birth size); condemned = swept heap.condemned (block_of a) (blocks_for size); next_birth = heap.next_birth + 1 }) table ready (record marker { marked = with_in_cycle cycle marker.marked a }) (record pages { noted = with_in_cycle cycle pages.noted (block_of a) }) capacity picks cycle
   unfolding IsWorld
-  world_made size kind a condemned none place h = record {
+  world_made size kind a none place h = record {
     sound = sound_made heap.objects table.registrations table.next_number ready.queue ready.held heap.blocks heap.next_birth heap.next_birth size kind a none place h.sound;
     size = h.size;
     pages_are = h.pages_are;
@@ -159,6 +181,7 @@ module _ (heap : Contents) (table : Registered) (ready : Ready) (marker : Markin
     clean = λ on. subst (λ b. CleanAreClosed (map.insert heap.objects a (new_object kind heap.next_birth size)) (record marker { marked = with_in_cycle b marker.marked a }) (with_in_cycle b pages.noted (block_of a))) (sym on)
         (alloc_keeps heap.objects marker pages.noted a (new_object kind heap.next_birth size) (free_place heap.objects heap.blocks size a kind place) sized (h.clean on));
     once = λ on. let was = h.once on in let more = readable_made heap.objects a (new_object kind heap.next_birth size) (sets.contains marker.scanned) (free_place heap.objects heap.blocks size a kind place) in omega (arith, was, more);
+    none_condemned = λ on. still_swept heap.condemned (block_of a) (blocks_for size) (h.none_condemned on);
   }
     where
       sized : 0 < length {A = ℕ} (replicate size 0)
@@ -179,6 +202,7 @@ module _ (heap : Contents) (table : Registered) (ready : Ready) (marker : Markin
     none_picked = h.none_picked;
     clean = h.clean;
     once = h.once;
+    none_condemned = h.none_condemned;
   }
     where
       fewer : map.len (map.remove table.registrations object) ≤ map.len table.registrations
@@ -198,6 +222,7 @@ module _ (heap : Contents) (table : Registered) (ready : Ready) (marker : Markin
     none_picked = same_picks ∙ h.none_picked;
     clean = h.clean;
     once = h.once;
+    none_condemned = h.none_condemned;
   }
     where
       Sound : List Entry → List Entry → Type 0
@@ -215,6 +240,7 @@ module _ (heap : Contents) (table : Registered) (ready : Ready) (marker : Markin
     none_picked = same_picks ∙ h.none_picked;
     clean = h.clean;
     once = h.once;
+    none_condemned = h.none_condemned;
   }
 
   pub world_finished : (keep : Entry → Bool) (fewer : Ready) → fewer.queue ≡ ready.queue → fewer.held ≡ filter keep ready.held → ready.room ≤ fewer.room → IsWorld heap table ready marker pages capacity picks cycle → IsWorld heap table fewer marker pages capacity picks cycle
@@ -228,6 +254,7 @@ module _ (heap : Contents) (table : Registered) (ready : Ready) (marker : Markin
     none_picked = h.none_picked;
     clean = h.clean;
     once = h.once;
+    none_condemned = h.none_condemned;
   }
 
 -- ---- room for one more registration
@@ -292,4 +319,5 @@ module _ (c : Core) (found : ℕ → Bool) (passed : Passed) (new : Core) (p : P
     none_picked = refl;
     clean = λ on. absurd (true≢false (sym on));
     once = λ on. absurd (true≢false (sym on));
+    none_condemned = λ on. absurd (true≢false (sym on));
   }

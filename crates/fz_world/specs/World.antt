@@ -71,6 +71,8 @@ pub record IsWhole (heap : Contents) (table : Registered) (ready : Ready) (marke
   -- in an open cycle a scanned object that stands on no noted page has marked children alone, and no object was scanned twice
   pub clean : IsTrue cycle → CleanAreClosed heap.objects marker pages.noted
   pub once : IsTrue cycle → marker.scans ≤ readable_count heap.objects (contains marker.scanned)
+  -- and no cell is condemned: a sweep came first
+  pub none_condemned : IsTrue cycle → heap.condemned ≡ sets.empty
 
 unfoldable pub IsWorld : Contents → Registered → Ready → Marking → Pages → ℕ → List Pick → Bool → Type 0
 IsWorld heap table ready marker pages capacity picks cycle = IsWhole heap table ready marker pages capacity picks cycle

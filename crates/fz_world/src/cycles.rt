@@ -32,8 +32,7 @@ impl World {
         ensures begun { OnOk result (IsBegun self.old self.new) }
     {
         self.check_begin()?;
-        self.mark_anew();
-        self.cycle = true;
+        self.mark_anew(true);
         Ok(())
     }
 
@@ -89,7 +88,7 @@ impl World {
         ensures noted { OnOk result (self.new.noted ≡ sets.empty) }
     {
         self.check_begin()?;
-        self.mark_anew();
+        self.mark_anew(false);
         self.marker.finish(&self.heap, &self.dirty);
         Ok(self.pass())
     }
@@ -123,10 +122,12 @@ impl World {
         Ok(())
     }
 
-    /// Sweeps what is condemned, forgets marks and pages, and marks what the roots point to. Asked only where no cycle is open.
-    fn mark_anew(&mut self)
-        requires { IsFalse self.old.cycle }
-        ensures core { self.new.core ≡ self.old.core }
+    /// Sweeps what is condemned, forgets marks and pages, and marks what the roots point to; opens a cycle if `opens`. Asked only where none is
+    /// open, and where the next pass has a number.
+    fn mark_anew(&mut self, opens: bool)
+        requires idle { IsFalse self.old.cycle }
+        requires few { self.old.passes + 1 < COUNT_LIMIT }
+        ensures core { self.new.core ≡ record self.old.core { cycle = opens } }
         ensures begun { IsBegun self.old self.new }
     {
         self.heap.sweep_all();
@@ -140,6 +141,7 @@ impl World {
             &self.ready,
             self.closed,
         );
+        self.cycle = opens;
     }
 
     /// Marks on from the roots and from objects on noted pages until the marks are closed, and closes the cycle. Asked only where one is open.

@@ -1,4 +1,4 @@
-use Rattle.std.proofs.Common.{◌≡◌, ◌≤◌, ℕ, Bool, false, refl, sym, ap, ◌∙◌, subst, arith, IsTrue, true≢false, vec_capacity, nat_cmp}
+use Rattle.std.proofs.Common.{◌≡◌, ℕ, Bool, false, refl, sym, ap, ◌∙◌, subst, arith, IsTrue, true≢false, vec_capacity, nat_cmp}
 use Rattle.std.specs.FinMap.{len}
 use Rattle.std.specs.FinSet.{contains, contains-empty}
 use Rattle.fz_model.specs.State.{Core}
@@ -15,6 +15,9 @@ use Rattle.fz_world.proofs.Scans.{readable_few}
 use Rattle.fz_world.proofs.Whole.{world_size, world_pages, world_remarked}
 use Rattle.fz_world.proofs.world.World.collect.Goals as goal
 
+still_idle : (k : Core) → k.cycle ≡ false → record k { cycle = false } ≡ k
+still_idle k off = ap (λ b. record k { cycle = b }) (sym off)
+
 pub finish-requires-clause-size : goal.finish-requires-clause-size
 finish-requires-clause-size c = world_size _ _ _ _ _ _ _ _ c.self.invariant.0
 
@@ -24,14 +27,14 @@ finish-requires-clause-pages c = world_pages _ _ _ _ _ _ _ _ c.self.invariant.0
 pub invariant_of-self : goal.invariant_of-self
 invariant_of-self c =
     let w = c.self.inside in
-    let off : w.cycle ≡ false = ap (λ (v : WorldView). v.core.cycle) c.self.view_is ∙ ap (λ (k : Core). k.cycle) c.mark_anew.ensures.core ∙ c.in_ok-check_begin.ensures.idle in (
+    let off : w.cycle ≡ false = ap (λ (v : WorldView). v.core.cycle) c.self.view_is ∙ ap (λ (k : Core). k.cycle) c.mark_anew.ensures.core in (
       subst (λ (b : Bool). IsWorld w.heap w.table w.ready c.finish.new.self w.dirty (vec_capacity w.picks) w.picks.items b) (sym off) (world_remarked _ _ _ _ _ _ _ _ w.heap.condemned c.finish.new.self w.dirty c.finish.ensures.size refl c.self.invariant.0),
       c.self.invariant.1,
     )
 
 pub pass-requires-clause-roots : goal.pass-requires-clause-roots
 pass-requires-clause-roots c a root =
-    let core = ap (λ (v : WorldView). v.core) c.self.view_is ∙ c.mark_anew.ensures.core in
+    let core = ap (λ (v : WorldView). v.core) c.self.view_is ∙ c.mark_anew.ensures.core ∙ still_idle c.args.self.now.core c.in_ok-check_begin.ensures.idle in
     c.finish.ensures.kept a (subst (λ (v : WorldView). IsTrue (contains v.marked a)) (sym c.self.view_is) ((c.mark_anew.ensures.begun.marked a).1 (subst (λ (k : Core). IsRoot k a) core root)))
 
 pub pass-requires-clause-closed : goal.pass-requires-clause-closed
@@ -43,7 +46,7 @@ pub returns-clause-step : goal.returns-clause-step
 returns-clause-step c =
     let w = c.self.inside in
     let marked = c.finish.new.self.marked in
-    let core = ap (λ (v : WorldView). v.core) c.self.view_is ∙ c.mark_anew.ensures.core in
+    let core = ap (λ (v : WorldView). v.core) c.self.view_is ∙ c.mark_anew.ensures.core ∙ still_idle c.args.self.now.core c.in_ok-check_begin.ensures.idle in
     let none = ap (λ (v : WorldView). v.scanned) c.self.view_is ∙ c.mark_anew.ensures.begun.scanned in
     let closed : IsClosed w.heap.objects marked = c.finish.ensures.closed (λ a scanned. absurd (true≢false (sym scanned ∙ ap (λ (s : Set). contains s a) none ∙ contains-empty nat_cmp a))) in
     let roots : (a : ℕ) → IsRoot (core_inside w) a → IsTrue (contains marked a) = λ a root.

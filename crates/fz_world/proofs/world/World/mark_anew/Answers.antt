@@ -1,8 +1,8 @@
-use Rattle.std.proofs.Common.{◌≡◌, ◌↔◌, ◌*◌, ℕ, Bool, false, refl, sym, ap, ◌∙◌, subst, IsTrue, All, vec_capacity}
+use Rattle.std.proofs.Common.{◌≡◌, ◌↔◌, ◌+◌, ◌*◌, ◌<◌, sym, ap, ◌∙◌, subst, IsTrue, All, vec_capacity}
 use Rattle.std.specs.FinMap.{contains_key}
 use Rattle.std.specs.FinSet.{contains, empty}
 use Rattle.fz_model.specs.declared.answers.Entry.{Entry}
-use Rattle.fz_model.specs.declared.limits.TheConstants.{BLOCK_WORDS}
+use Rattle.fz_model.specs.declared.limits.TheConstants.{BLOCK_WORDS, COUNT_LIMIT}
 use Rattle.fz_model.specs.Reachability.{IsRoot}
 use Rattle.fz_heap.specs.Contents.{Contents}
 use Rattle.fz_dirty.specs.Pages.{Pages}
@@ -11,7 +11,7 @@ use Rattle.fz_world.specs.Roots.{Marks, IsRootHere}
 use Rattle.fz_world.specs.World.{WorldView, IsWorld}
 use Rattle.fz_world.proofs.Inside.{core_inside}
 use Rattle.fz_world.proofs.Rooted.{registered_here, held_here, just_roots}
-use Rattle.fz_world.proofs.Whole.{world_size, world_sound, world_remarked}
+use Rattle.fz_world.proofs.Whole.{world_size, world_sound, world_anew}
 use Rattle.fz_world.proofs.world.World.mark_anew.Goals as goal
 
 pub mark_roots-requires-clause-size : goal.mark_roots-requires-clause-size
@@ -26,16 +26,19 @@ pub mark_roots-requires-clause-held : goal.mark_roots-requires-clause-held
 mark_roots-requires-clause-held c =
     subst (λ (h : Contents). All (λ (e : Entry). IsTrue (contains_key h.objects e.obj)) c.self.inside.ready.held) (sym c.sweep_all.ensures) (held_here (core_inside c.self.inside) (world_sound _ _ _ _ _ _ _ _ c.self.invariant.0))
 
+pub mark_roots-requires-clause-swept : goal.mark_roots-requires-clause-swept
+mark_roots-requires-clause-swept c = ap (λ (h : Contents). h.condemned) c.sweep_all.ensures
+
 pub invariant_of-self : goal.invariant_of-self
 invariant_of-self c =
     let w = c.self.inside in
-    let off : w.cycle ≡ false = ap (λ (v : WorldView). v.core.cycle) c.self.view_is ∙ c.requires in
     let size = ap (λ (m : Marking). m.size) c.mark_roots.ensures.same ∙ ap (λ (m : Marking). m.size) c.begin.ensures in
-    let pages = ap (λ (p : Pages). p.pages) c.take_all.ensures in (
-      subst (λ (h : Contents). IsWorld h w.table w.ready c.mark_roots.new.marker c.take_all.new.self (vec_capacity w.picks) w.picks.items w.cycle) (sym c.sweep_all.ensures)
-          (subst (λ (b : Bool). IsWorld (record w.heap { condemned = empty }) w.table w.ready c.mark_roots.new.marker c.take_all.new.self (vec_capacity w.picks) w.picks.items b) (sym off)
-          (world_remarked _ _ _ _ _ _ _ _ empty c.mark_roots.new.marker c.take_all.new.self size pages c.self.invariant.0)),
-      c.self.invariant.1,
+    let pages = ap (λ (p : Pages). p.pages) c.take_all.ensures in
+    let scanned = ap (λ (m : Marking). m.scanned) c.mark_roots.ensures.same ∙ ap (λ (m : Marking). m.scanned) c.begin.ensures in
+    let scans = ap (λ (m : Marking). m.scans) c.mark_roots.ensures.same ∙ ap (λ (m : Marking). m.scans) c.begin.ensures in (
+      subst (λ (h : Contents). IsWorld h w.table w.ready c.mark_roots.new.marker c.take_all.new.self (vec_capacity w.picks) w.picks.items c.args.opens) (sym c.sweep_all.ensures)
+          (world_anew _ _ _ _ _ _ _ _ c.mark_roots.new.marker c.take_all.new.self c.args.opens size pages scanned scans c.self.invariant.0),
+      λ on. subst (λ (v : WorldView). v.core.passes + 1 < COUNT_LIMIT) (sym c.self.view_is) c.requires.few,
     )
 
 pub returns-clause-begun : goal.returns-clause-begun

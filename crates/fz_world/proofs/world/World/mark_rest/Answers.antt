@@ -8,7 +8,7 @@ use Rattle.fz_world.specs.World.{WorldView}
 use Rattle.fz_world.proofs.Inside.{core_inside}
 use Rattle.fz_world.proofs.Rooted.{registered_here, held_here, is_here, is_root}
 use Rattle.fz_world.proofs.Scans.{readable_apart}
-use Rattle.fz_world.proofs.Whole.{world_size, world_pages, world_sound, world_clean, world_once, world_unfinished, world_remarked}
+use Rattle.fz_world.proofs.Whole.{world_size, world_pages, world_sound, world_clean, world_once, world_unfinished, world_none_condemned, world_remarked}
 use Rattle.fz_world.proofs.world.World.mark_rest.Goals as goal
 
 pub mark_roots-requires-clause-size : goal.mark_roots-requires-clause-size
@@ -19,6 +19,11 @@ mark_roots-requires-clause-registered c = registered_here (core_inside c.self.in
 
 pub mark_roots-requires-clause-held : goal.mark_roots-requires-clause-held
 mark_roots-requires-clause-held c = held_here (core_inside c.self.inside) (world_sound _ _ _ _ _ _ _ _ c.self.invariant.0)
+
+pub mark_roots-requires-clause-swept : goal.mark_roots-requires-clause-swept
+mark_roots-requires-clause-swept c =
+    let on : c.self.inside.cycle ≡ true = ap (λ (v : WorldView). v.core.cycle) c.self.view_is ∙ c.requires in
+    world_none_condemned _ _ _ _ _ _ _ _ c.self.invariant.0 on
 
 pub finish-requires-clause-size : goal.finish-requires-clause-size
 finish-requires-clause-size c = ap (λ (m : Marking). m.size) c.mark_roots.ensures.same ∙ world_size _ _ _ _ _ _ _ _ c.self.invariant.0
