@@ -10,6 +10,7 @@
 static uintptr_t *hidden;      /* the objects, by pointers that bdwgc doesn't see as such */
 #define OBJECT(i) ((void **)GC_REVEAL_POINTER(hidden[i]))
 static void *volatile root;    /* the one pointer to them that it sees */
+static void **volatile words;  /* an atomic object, in whose words links stand */
 static void finalizer(void *object, void *data) { (void)object; (void)data; }
 static void NOINLINE clear_stack(void) { volatile char a[256 * 1024]; memset((void *)a, 0, sizeof a); __asm__ volatile("" :: "r"(a) : "memory"); }
 
@@ -25,11 +26,41 @@ static void NOINLINE make(const Objects *objects, bool live) {
     root = live ? OBJECT(objects->first) : NULL;
 }
 
+/* one word more than links */
+static void NOINLINE make_words(size_t n) {
+    words = GC_malloc_atomic((n + 1) * sizeof *words);
+    if (!words) fail("no memory");
+    for (size_t i = 0; i < n; i++) words[i] = (void *)hidden[i];
+    words[n] = NULL;
+}
+
 static double NOINLINE enter(size_t n, Kind kind) {
+    size_t linked = 0;
     double t = now();
-    if (kind == NORMAL) for (size_t i = 0; i < n; i++) GC_register_finalizer(OBJECT(i), finalizer, 0, 0, 0);
+    if (kind == NORMAL || kind == RANKED) for (size_t i = 0; i < n; i++) GC_register_finalizer(OBJECT(i), finalizer, 0, 0, 0);
     if (kind == NO_ORDER) for (size_t i = 0; i < n; i++) GC_register_finalizer_no_order(OBJECT(i), finalizer, 0, 0, 0);
-    return now() - t;
+    if (kind == LINKED) for (size_t i = 0; i < n; i++) linked += GC_general_register_disappearing_link(&words[i], OBJECT(i)) == GC_SUCCESS;
+    t = now() - t;
+    if (linked != (kind == LINKED ? n : 0)) fail("another number of links");
+    return t;
+}
+
+static double NOINLINE move_links(size_t n) {
+    size_t moved = 0;
+    double t = now();
+    for (size_t i = n; i-- > 0;) moved += GC_move_disappearing_link(&words[i], &words[i + 1]) == GC_SUCCESS;
+    t = now() - t;
+    if (moved != n) fail("another number of moved links");
+    return t;
+}
+
+static double NOINLINE unlink_all(size_t n) {
+    size_t removed = 0;
+    double t = now();
+    for (size_t i = 0; i < n; i++) removed += GC_unregister_disappearing_link(&words[i]) != 0;
+    t = now() - t;
+    if (removed != n) fail("another number of removed links");
+    return t;
 }
 
 static double collect(void) {
@@ -42,7 +73,14 @@ static double collect(void) {
     return t;
 }
 
-/* Calls all procedures that are queued. A few words on the stack may keep a few objects, or the chain's first. */
+/* A few words on the stack may keep a few objects, or the chain's first: here, and in the next function. */
+static void check_cleared(size_t n) {
+    size_t cleared = 0;
+    for (size_t i = 0; i < n; i++) cleared += !words[i];
+    if (cleared + 16 < n) fail("another number of cleared links");
+}
+
+/* Calls all procedures that are queued. */
 static double invoke(size_t expected) {
     clear_stack();
     double t = now();
@@ -58,9 +96,14 @@ static double run(const Row *row, const Objects *objects, bool with_call) {
     GC_set_markers_count(1); GC_INIT(); GC_set_finalize_on_demand(1); GC_disable();
     collect();
     make(objects, row->live);
+    if (row->kind == LINKED) make_words(objects->count);
     double t = enter(objects->count, row->kind);
-    if (row->call == REGISTER) return t;
+    if (row->call == ENTER) return t;
+    if (row->call == MOVE) return move_links(objects->count);
+    if (row->call == UNLINK) return unlink_all(objects->count);
+    if (row->call != COLLECT && row->call != FINISH) fail("it has no such call");
     t = collect();
+    if (row->kind == LINKED) check_cleared(objects->count);
     if (row->live) {
         t = 0;
         for (int i = 0; i < COLLECTIONS; i++) t += collect();

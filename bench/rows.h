@@ -9,7 +9,7 @@
 #include <time.h>
 #include <unistd.h>
 
-enum { TOO_LARGE = -1, MOST_WORDS = 262144, MOST_REGISTERED = 65536, GRAPH_WORDS = 8, MOST_OF_GRAPH = MOST_WORDS / GRAPH_WORDS, COLLECTIONS = 9 };
+enum { TOO_LARGE = -1, MOST_WORDS = 262144, MOST_IN_TABLE = 65536, LARGE = 8, MOST_LARGE = MOST_WORDS / LARGE, COLLECTIONS = 9 };
 
 static void fail(const char *what) { fprintf(stderr, "bench: %s\n", what); exit(1); }
 static void *memory(size_t bytes) { void *p = malloc(bytes); if (!p) fail("no memory"); return p; }
@@ -20,15 +20,25 @@ static double now(void) { struct timespec t; clock_gettime(CLOCK_PROCESS_CPUTIME
 static uint64_t seed = 88172645463325252ull;
 static size_t below(size_t n) { seed ^= seed << 13; seed ^= seed >> 7; seed ^= seed << 17; return (seed >> 33) % n; }
 
-/* A row: its objects, whether a root leads to them, and the call that is timed: of live objects, COLLECTIONS collections after the first. */
-typedef enum { LOOSE, CHAIN, MIXED_CHAIN, GRAPH } Shape;
-typedef enum { UNREGISTERED, NORMAL, NO_ORDER } Kind;
-typedef enum { REGISTER, COLLECT, FINISH } Call;
+/* A row: its objects, what table each of them is entered in, whether a root leads to them, and the call that is timed. ENTER enters them; COLLECT is
+   one collection, or of live objects COLLECTIONS of them after the first. RANKED ones are normal too, with ranks 0 to 255 in turn. LINKED ones are the
+   targets of short links, which stand in words of other objects, which are live and atomic: one more than links, so that each link can MOVE one further. LARGE
+   objects have so many words, and there is one for so many calls: these STORE into each word. */
+typedef enum { LOOSE, LOOSE_LARGE, CHAIN, MIXED_CHAIN, GRAPH } Shape;
+typedef enum { UNREGISTERED, NORMAL, RANKED, NO_ORDER, LINKED } Kind;
+typedef enum { ENTER, COLLECT, FINISH, MOVE, UNLINK, STORE, STORE_IN_CYCLE } Call;
 typedef struct { const char *name; Shape shape; Kind kind; bool live; Call call; } Row;
 static const Row rows[] = {
-    { "register", LOOSE, NORMAL, false, REGISTER },
+    { "register", LOOSE, NORMAL, false, ENTER },
+    { "link", LOOSE, LINKED, false, ENTER },
+    { "move_link", LOOSE, LINKED, false, MOVE },
+    { "unlink", LOOSE, LINKED, false, UNLINK },
+    { "store", LOOSE_LARGE, UNREGISTERED, false, STORE },
+    { "store_in_cycle", LOOSE_LARGE, UNREGISTERED, false, STORE_IN_CYCLE },
     { "dead", LOOSE, UNREGISTERED, false, COLLECT },
+    { "dead_linked", LOOSE, LINKED, false, COLLECT },
     { "dead_queued", LOOSE, NORMAL, false, COLLECT },
+    { "dead_ranked", LOOSE, RANKED, false, COLLECT },
     { "dead_no_order", LOOSE, NO_ORDER, false, COLLECT },
     { "dead_chain", CHAIN, NORMAL, false, COLLECT },
     { "live_chain", CHAIN, UNREGISTERED, true, COLLECT },
@@ -38,17 +48,20 @@ static const Row rows[] = {
     { "finish", LOOSE, NORMAL, false, FINISH },
 };
 
-/* how many times the call is timed in one run */
-static inline size_t calls(const Row *row) { return row->live ? COLLECTIONS : 1; }
+static inline bool is_registered(const Row *row) { return row->kind == NORMAL || row->kind == RANKED || row->kind == NO_ORDER; }
+static inline bool is_large(const Row *row) { return row->shape == LOOSE_LARGE || row->shape == GRAPH; }
+
+/* how many times the call is timed for each object in one run */
+static inline size_t calls(const Row *row) { return row->live ? COLLECTIONS : row->shape == LOOSE_LARGE ? LARGE : 1; }
 
 /* how many entries a collection queues of n objects */
-static inline size_t queued(const Row *row, size_t n) { return row->live || row->kind == UNREGISTERED ? 0 : row->shape == CHAIN ? 1 : n; }
+static inline size_t queued(const Row *row, size_t n) { return row->live || !is_registered(row) ? 0 : row->shape == CHAIN ? 1 : n; }
 
 /* The objects of a row. Word k of object i points to object links[i * size + k] - 1, or is zero where that is 0; no links: all words are zero. */
 typedef struct { size_t count, size, first; uint64_t *links; } Objects;
 static Objects objects_of(const Row *row, size_t n) {
-    Objects o = { n, row->shape == GRAPH ? GRAPH_WORDS : 1, 0, NULL };
-    if (row->shape == LOOSE) return o;
+    Objects o = { n, is_large(row) ? LARGE : 1, 0, NULL };
+    if (row->shape == LOOSE || row->shape == LOOSE_LARGE) return o;
     uint64_t *order = memory(n * sizeof *order);
     for (size_t i = 0; i < n; i++) order[i] = i;
     if (row->shape == MIXED_CHAIN) for (size_t i = n - 1; i > 0; i--) { size_t j = below(i + 1); uint64_t x = order[i]; order[i] = order[j]; order[j] = x; }
@@ -98,10 +111,11 @@ static double difference(Run run, const Row *row, const Objects *objects) {
     return more > less ? more - less : 0;
 }
 
-/* the nanoseconds of a row for each of n objects. A graph of as many objects as can be registered has but as many as fit. */
+/* the nanoseconds of a row for each of n objects, or of n stores. A graph of as many objects as a table holds has but as many as fit. */
 static double figure(Run run, const Row *row, size_t n) {
-    if (n > (row->kind != UNREGISTERED || row->shape == GRAPH ? MOST_REGISTERED : MOST_WORDS)) return TOO_LARGE;
-    if (row->shape == GRAPH && n > MOST_OF_GRAPH) n = MOST_OF_GRAPH;
+    if (n > (row->kind != UNREGISTERED || row->shape == GRAPH ? MOST_IN_TABLE : MOST_WORDS)) return TOO_LARGE;
+    if (row->shape == LOOSE_LARGE) n = (n + LARGE - 1) / LARGE;
+    if (row->shape == GRAPH && n > MOST_LARGE) n = MOST_LARGE;
     Objects objects = objects_of(row, n);
     return difference(run, row, &objects) / calls(row) / n;
 }

@@ -4,8 +4,10 @@
 //! between the times of two plans, of which one has the call and the other hasn't.
 #![tactic(auto)]
 
+mod links;
 mod plan;
 mod run;
+mod stores;
 
 pub use plan::{Outcome, Plan};
 pub use run::world_bench_run;

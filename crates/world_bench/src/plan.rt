@@ -8,6 +8,8 @@ use fz_model::Word;
 pub struct Plan {
     /// The blocks of the world, from 1 to 4,096.
     pub blocks: u64,
+    /// The frames of the world, from 1 to 8: one for each 16 holders, and frame 0.
+    pub frames: u64,
     /// How many scanned objects it makes.
     pub objects: u64,
     /// How many words each of them has: a divisor of 64, so that their words lie one after another from the heap's first word on.
@@ -16,10 +18,26 @@ pub struct Plan {
     pub registered: u64,
     /// Whether these registrations are of the kind no-order. They are normal otherwise.
     pub no_order: bool,
-    /// The word of the only slot that isn't zero while it collects.
+    /// Whether they have the ranks 0 to 255 in turn. All have rank 0 otherwise.
+    pub ranked: bool,
+    /// How many holders it makes: atomic objects of 1,024 words, each in a slot of its own, in whose words links stand.
+    pub holders: u64,
+    /// How many short links it registers: from one word of the holders after another to one object after another.
+    pub linked: u64,
+    /// The word of the only slot of frame 0 that isn't zero while it collects.
     pub root: Word,
     /// How many times it collects.
     pub collections: u64,
+    /// How many links it moves, from the last of so many on: each to the word after its own.
+    pub moved: u64,
+    /// In how many words of the holders it removes a link, from the first on.
+    pub unlinked: u64,
+    /// Whether it opens a cycle.
+    pub begun: bool,
+    /// Of how many objects it loads the last word, from the first object on.
+    pub loaded: u64,
+    /// Whether it stores the first object's address into each word of such an object before.
+    pub stored: bool,
     /// How many entries of the queue it reads and finishes, from the first on.
     pub finished: u64,
 }
@@ -32,10 +50,20 @@ pub struct Outcome {
     pub addresses: u64,
     /// The sum of the registrations' numbers.
     pub numbers: u64,
+    /// How many links were new.
+    pub linked: u64,
     /// How many entries the collections queued.
     pub queued: u64,
     /// How many objects they reclaimed.
     pub reclaimed: u64,
+    /// How many links were moved.
+    pub moved: u64,
+    /// How many links were removed.
+    pub unlinked: u64,
+    /// The sum of the words that were loaded.
+    pub loaded: u64,
+    /// How many pages were noted.
+    pub noted: u64,
     /// The sum of the addresses in the entries that were finished.
     pub finished: u64,
     /// Whether no call was refused. The other fields mean nothing if one was.

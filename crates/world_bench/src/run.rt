@@ -1,16 +1,18 @@
 //! A run: a plan carried out in a world of its own.
 
+use crate::links::{link, make_holders, move_links, unlink};
 use crate::plan::{Outcome, Plan};
+use crate::stores::store_and_load;
 use fz_model::ObjKind::Scanned;
 use fz_model::{HEAP_START, Refusal, RegAnswer, RegKind, Word};
 use fz_world::{Config, World};
 use std::alloc::Global;
 
 /// The slot of frame 0 that points to the object of a call, and to the root while the world collects.
-const OBJECT: u64 = 0;
+pub(crate) const OBJECT: u64 = 0;
 
 /// The slot of frame 0 whose word is stored.
-const STORED: u64 = 1;
+pub(crate) const STORED: u64 = 1;
 
 /// Carries the plan out in a new world, which it drops at the end. `words` are what the objects' words are set to, from the heap's first word
 /// on: as many as the plan's objects have, or none.
@@ -21,8 +23,13 @@ pub extern "C" fn world_bench_run(alloc: Global, plan: &Plan, words: &[Word]) ->
         Err(_) => Outcome {
             addresses: 0,
             numbers: 0,
+            linked: 0,
             queued: 0,
             reclaimed: 0,
+            moved: 0,
+            unlinked: 0,
+            loaded: 0,
+            noted: 0,
             finished: 0,
             done: false,
         },
@@ -34,7 +41,7 @@ fn run(alloc: Global, plan: &Plan, words: &[Word]) -> Result<Outcome, Refusal> {
         alloc,
         Config {
             blocks: plan.blocks,
-            frames: 1,
+            frames: plan.frames,
         },
     )?;
     carry_out(&mut world, plan, words)
@@ -45,15 +52,25 @@ fn carry_out(world: &mut World, plan: &Plan, words: &[Word]) -> Result<Outcome, 
     let addresses = make(world, plan.objects, plan.size)?;
     write(world, words)?;
     let numbers = register(world, plan)?;
+    make_holders(world, plan.holders)?;
+    let linked = link(world, plan)?;
     world.set(0, OBJECT, plan.root)?;
     world.set(0, STORED, 0)?;
     let (queued, reclaimed) = collect(world, plan.collections)?;
+    let moved = move_links(world, plan.moved)?;
+    let unlinked = unlink(world, plan.unlinked)?;
+    let loaded = store_and_load(world, plan)?;
     let finished = finish(world, plan.finished)?;
     Ok(Outcome {
         addresses,
         numbers,
+        linked,
         queued,
         reclaimed,
+        moved,
+        unlinked,
+        loaded,
+        noted: world.noted(),
         finished,
         done: true,
     })
@@ -89,13 +106,15 @@ fn register(world: &mut World, plan: &Plan) -> Result<u64, Refusal> {
         RegKind::Normal
     };
     let mut object = HEAP_START;
+    let mut rank = 0u8;
     let mut sum = 0u64;
     for _ in 0..plan.registered {
         world.set(0, OBJECT, object)?;
-        if let RegAnswer::Number(number, _) = world.register(0, OBJECT, kind, 1, 0, 0)? {
+        if let RegAnswer::Number(number, _) = world.register(0, OBJECT, kind, 1, 0, rank)? {
             sum = sum.wrapping_add(number);
         }
         object = object.wrapping_add(plan.size);
+        rank = rank.wrapping_add(u8::from(plan.ranked));
     }
     Ok(sum)
 }
