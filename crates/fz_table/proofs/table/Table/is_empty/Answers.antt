@@ -1,6 +1,6 @@
 use Rattle.std.proofs.Common.{◌∙◌, ap, sym}
 use Rattle.fz_table.specs.Registered.{Registered}
-use Rattle.fz_table.proofs.Entries.{empty_made, none_made}
+use Rattle.fz_model.proofs.KeyedEntries.{empty_made, none_made}
 use Rattle.fz_table.proofs.table.Table.is_empty.Goals as goal
 
 pub returns : goal.returns

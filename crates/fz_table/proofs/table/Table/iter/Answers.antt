@@ -2,7 +2,7 @@ use Rattle.std.proofs.Common.{◌≤◌, ◌∙◌, ap, sym, subst}
 use Rattle.std.specs.FinMap.{len}
 use Rattle.fz_model.specs.declared.limits.TheConstants.{TABLE_LIMIT}
 use Rattle.fz_table.specs.Registered.{Registered}
-use Rattle.fz_table.proofs.Entries.{len_made}
+use Rattle.fz_model.proofs.KeyedEntries.{len_made}
 use Rattle.fz_table.proofs.table.Table.iter.Goals as goal
 
 pub returns-clause-count : goal.returns-clause-count

@@ -7,7 +7,8 @@ use Rattle.fz_model.specs.Causes.{full}
 use Rattle.fz_model.specs.Steps.{old_of}
 use Rattle.fz_model.proofs.Tables.{get_made, made_inserted}
 use Rattle.fz_table.specs.Registered.{Registered}
-use Rattle.fz_table.proofs.Entries.{pair_of, limit_inserted}
+use Rattle.fz_model.proofs.KeyedEntries.{limit_inserted}
+use Rattle.fz_table.proofs.Entries.{pair_of}
 use Rattle.fz_table.proofs.table.Table.register.Goals as goal
 
 IfErr-always : {A E : Type 0} {P : E → Type 0} (result : Result A E) → ((e : E) → P e) → IfErr result P
