@@ -1,12 +1,13 @@
 -- The bits of a word, as tests of their places.
 use Rattle.std.proofs.Common.{◌≡◌, ◌≢◌, ℕ, suc, ◌+◌, ◌-◌, ◌*◌, ◌/◌, ◌%◌, ◌^◌, ◌<◌, ◌≤◌, Bool, true, false, not, ◌||◌, ◌&&◌, ◌==◌, bit_and, bit_or, nat_eq, nat_le, refl, sym, ap, ◌∙◌, subst, ⊎_elim, arith, w64, mul-le-mul_right, suc-mul, pow-suc}
 use Rattle.std.proofs.Math.Nat.{div-add-mod, mul_comm, div-lt_iff_lt-mul, le-div_iff_mul-le}
-use Rattle.std.proofs.lemmas.Bool.{and_from, cases_eq, cases_lt, cases_Bool, eq-eqb, ne_eqb, eqb-true, eqb-false, and_parts, both_ways, true≢false, leb-true}
+use Rattle.std.proofs.lemmas.Bool.{and_from, cases_eq, cases_lt, cases_Bool, eq-eqb, ne_eqb, eqb-true, and_parts, both_ways, true≢false, leb-true}
 use Rattle.std.proofs.lemmas.Nat.{leading_top, and_le_l, and_mask, pow_pos}
-use Rattle.std.proofs.lemmas.Nat.Bits.{bit_at-zero, bit_at_and, bit_at_or, bit_at_not, bit_at-trailing_zeros, bit_at_set_same, bit_at_set_other, bit_at_clear_same, bit_at_clear_other, bit_at_above, bit_at_ones, bit_at_ones_above, ones_shr, same_from_bits, bit_at-lt}
+use Rattle.std.proofs.lemmas.Nat.Bits.{bit_at_and, bit_at_or, bit_at-trailing_zeros, bit_at_set_same, bit_at_set_other, bit_at_clear_same, bit_at_clear_other, bit_at_above, bit_at_ones, bit_at_ones_above, ones_shr, same_from_bits, bit_at-lt}
 use Rattle.std.specs.Int.{bit_at, bit_not, trailing_zeros}
 use Rattle.std.specs.Int.Count.{count_leading_zeros}
-use Rattle.fz_blocks.specs.BlockSets.{has_bit}
+use Rattle.fz_model.specs.Bits.{has_bit}
+use Rattle.fz_model.proofs.Bits.{bit_on, bit_off, on_bit, off_bit, no_bits, not_bit}
 use Rattle.fz_blocks.specs.Cells.{is_cell}
 
 pub same_test : (x y : Bool) → (x ≡ true → y ≡ true) → (y ≡ true → x ≡ true) → x ≡ y
@@ -15,21 +16,6 @@ same_test false true f g = absurd (true≢false (sym (g refl)))
 same_test false false f g = refl
 
 -- ---- one bit
-
-pub bit_on : (n i : ℕ) → has_bit n i ≡ true → bit_at n i ≡ 1
-bit_on n i on = eqb-true (bit_at n i) 1 on
-
-pub bit_off : (n i : ℕ) → has_bit n i ≡ false → bit_at n i ≡ 0
-bit_off n i off = let two = bit_at-lt n i in let ne = eqb-false (bit_at n i) 1 off in omega (arith, two, ne)
-
-pub on_bit : (n i : ℕ) → bit_at n i ≡ 1 → has_bit n i ≡ true
-on_bit n i one = eq-eqb (bit_at n i) 1 one
-
-pub off_bit : (n i : ℕ) → bit_at n i ≡ 0 → has_bit n i ≡ false
-off_bit n i zero = ne_eqb (bit_at n i) 1 (λ one. omega (arith, zero, one))
-
-pub no_bits : (i : ℕ) → has_bit 0 i ≡ false
-no_bits i = off_bit 0 i (bit_at-zero i)
 
 pub none_past : (n i : ℕ) → n < 2 ^ 64 → 64 ≤ i → has_bit n i ≡ false
 none_past n i fits past = off_bit n i (bit_at_above n 64 i fits past)
@@ -59,13 +45,6 @@ pub and_bits : (a b i : ℕ) → has_bit (bit_and a b) i ≡ true → (has_bit a
 and_bits a b i on =
     let both = bit_at_and a b i in let one = bit_on (bit_and a b) i on in let two = bit_at-lt a i in let three = bit_at-lt b i in
     (on_bit a i (omega (arith, both, one, two, three)), on_bit b i (omega (arith, both, one, two, three)))
-
-pub not_bit : (n i : ℕ) → n < 2 ^ 64 → i < 64 → has_bit (bit_not w64 n) i ≡ not (has_bit n i)
-not_bit n i fits lt = at (has_bit n i) refl
-  where
-    at : (t : Bool) → has_bit n i ≡ t → has_bit (bit_not w64 n) i ≡ not t
-    at true on = let inverse = bit_at_not w64 n i fits lt in let one = bit_on n i on in off_bit (bit_not w64 n) i (omega (arith, inverse, one))
-    at false off = let inverse = bit_at_not w64 n i fits lt in let zero = bit_off n i off in on_bit (bit_not w64 n) i (omega (arith, inverse, zero))
 
 pub and_is : (a b i : ℕ) → has_bit (bit_and a b) i ≡ (has_bit a i && has_bit b i)
 and_is a b i = same_test _ _ (λ on. let parts = and_bits a b i on in and_from (has_bit a i) (has_bit b i) parts.0 parts.1) (λ on. let parts = and_parts (has_bit a i) (has_bit b i) on in and_bit a b i parts.0 parts.1)

@@ -6,10 +6,11 @@ use Rattle.std.proofs.Math.Nat.{mod-eq_of_lt, zero-mod}
 use Rattle.std.proofs.lemmas.Nat.Bits.{same_from_bits}
 use Rattle.std.specs.Int.{bit_at, bit_not, trailing_zeros}
 use Rattle.fz_blocks.specs.declared.block.Block.{Block}
-use Rattle.fz_blocks.specs.BlockSets.{has_bit}
+use Rattle.fz_model.specs.Bits.{has_bit}
 use Rattle.fz_blocks.specs.Cells.{is_cell, AreCells}
 use Rattle.fz_blocks.specs.Blocks.{starts_at, is_bare, is_full, IsCellOf}
-use Rattle.fz_blocks.proofs.Bits.{same_test, fits_word, bit_on, bit_off, no_bits, within_word, and_bit, and_bits, not_bit, set_bit, lowest, cell_fits, cells_apart, multiples_apart, cell_parts}
+use Rattle.fz_blocks.proofs.Bits.{same_test, fits_word, within_word, and_bit, and_bits, set_bit, lowest, cell_fits, cells_apart, multiples_apart, cell_parts}
+use Rattle.fz_model.proofs.Bits.{bit_on, bit_off, no_bits, not_bit}
 
 pub same_bits : (a b : ℕ) → ((i : ℕ) → has_bit a i ≡ has_bit b i) → a ≡ b
 same_bits a b same = same_from_bits a b (λ i. at i (has_bit a i) refl)

@@ -5,10 +5,11 @@ use Rattle.std.proofs.lemmas.Nat.{and_le_l, or_lt, zero_from_ones, ones_le_self}
 use Rattle.std.specs.Int.{bit_not, trailing_zeros}
 use Rattle.std.specs.Int.Count.{ones}
 use Rattle.fz_blocks.specs.declared.block.Block.{Block}
-use Rattle.fz_blocks.specs.BlockSets.{has_bit}
+use Rattle.fz_model.specs.Bits.{has_bit}
 use Rattle.fz_blocks.specs.Cells.{AreAmong, AreSeparate}
 use Rattle.fz_blocks.specs.Blocks.{starts_at}
-use Rattle.fz_blocks.proofs.Bits.{same_test, no_bits, and_is, and_bits, or_is, without_is, lowest}
+use Rattle.fz_blocks.proofs.Bits.{same_test, and_is, and_bits, or_is, without_is, lowest}
+use Rattle.fz_model.proofs.Bits.{no_bits}
 use Rattle.fz_blocks.proofs.Blocks.{objects_fit, same_bits}
 use Rattle.fz_blocks.proofs.Condemned.{condemned_fit, ones-or}
 

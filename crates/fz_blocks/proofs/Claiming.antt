@@ -9,7 +9,7 @@ use Rattle.fz_model.specs.declared.kinds.ObjKind.{ObjKind}
 use Rattle.fz_model.specs.Allocation as allocation
 use Rattle.fz_model.specs.Allocation.{block_start, block_of, has_run, blocks_for, place_in}
 use Rattle.fz_blocks.specs.declared.block.Block.{Block}
-use Rattle.fz_blocks.specs.BlockSets.{has_bit}
+use Rattle.fz_model.specs.Bits.{has_bit}
 use Rattle.fz_blocks.specs.Classes.{class_of}
 use Rattle.fz_blocks.specs.Cells.{is_cell}
 use Rattle.fz_blocks.specs.Blocks.{starts_at, is_full, extent_of, Claims}
@@ -18,7 +18,8 @@ use Rattle.fz_blocks.specs.Claimed.{swept}
 use Rattle.fz_blocks.specs.Runs.{IsRun, IsFirstRun, TakesRun, WritesRun}
 use Rattle.fz_blocks.specs.Tables.{IsFirst}
 use Rattle.fz_blocks.specs.Claims.{IsClaimed}
-use Rattle.fz_blocks.proofs.Bits.{no_bits, cell_fits}
+use Rattle.fz_blocks.proofs.Bits.{cell_fits}
+use Rattle.fz_model.proofs.Bits.{no_bits}
 use Rattle.fz_blocks.proofs.Condemned.{swept_is}
 use Rattle.fz_blocks.proofs.Places.{one_class, no_place, place_in_room, place_in_run, no_room, no_cells, is_bare-block, item_at, IsNowhere}
 use Rattle.fz_blocks.proofs.Runs.{run_runs, run_extents}

@@ -18,13 +18,14 @@ use Rattle.fz_model.specs.Allocation.{block_start, block_of}
 use Rattle.fz_model.specs.Extents.{IsInHeap, heap_end}
 use Rattle.fz_model.specs.declared.limits.TheConstants.{HEAP_START}
 use Rattle.fz_blocks.specs.declared.block.Block.{Block}
-use Rattle.fz_blocks.specs.BlockSets.{has_bit}
+use Rattle.fz_model.specs.Bits.{has_bit}
 use Rattle.fz_blocks.specs.Blocks.{Condemns}
 use Rattle.fz_blocks.specs.Tabulated.{Addresses, gathered}
 use Rattle.fz_blocks.specs.Claimed.{swept}
 use Rattle.fz_blocks.specs.Layout.{is_condemned, condemned_in, waiting_in}
 use Rattle.fz_blocks.specs.Runs.{FreesLater}
-use Rattle.fz_blocks.proofs.Bits.{no_bits, none_past, bit_on, bit_off, fits_word, cell_fits, or_is}
+use Rattle.fz_blocks.proofs.Bits.{none_past, fits_word, cell_fits, or_is}
+use Rattle.fz_model.proofs.Bits.{no_bits, bit_on, bit_off}
 use Rattle.fz_blocks.proofs.Tables.{slice_get-set, contains-inserted}
 use Rattle.fz_blocks.proofs.Places.{item_at}
 

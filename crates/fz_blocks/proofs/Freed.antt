@@ -6,7 +6,7 @@ use Rattle.std.specs.Cmp.{nat_cmp_total}
 use Rattle.std.specs.FinMap.{same_map, nat_cmp-IsAntisymmetric}
 use Rattle.fz_model.specs.Allocation.{blocks_for}
 use Rattle.fz_blocks.specs.declared.block.Block.{Block}
-use Rattle.fz_blocks.specs.BlockSets.{has_bit}
+use Rattle.fz_model.specs.Bits.{has_bit}
 use Rattle.fz_blocks.specs.Blocks.{starts_at, extent_of, extent_in, IsAlike, Detaches}
 use Rattle.fz_blocks.specs.Layout.{extent_at, extents_in, IsLater, AreRuns}
 use Rattle.fz_blocks.specs.Runs.{FreesLater}

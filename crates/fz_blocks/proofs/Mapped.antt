@@ -12,7 +12,7 @@ use Rattle.std.specs.Option.{option_map_or}
 use Rattle.fz_model.specs.declared.extent.Extent.{Extent}
 use Rattle.fz_model.specs.Allocation.{block_start, blocks_for}
 use Rattle.fz_blocks.specs.declared.block.Block.{Block}
-use Rattle.fz_blocks.specs.BlockSets.{has_bit}
+use Rattle.fz_model.specs.Bits.{has_bit}
 use Rattle.fz_blocks.specs.Blocks.{starts_at, extent_of, extent_in, IsAlike, Condemns, CondemnsAll}
 use Rattle.fz_blocks.specs.Claimed.{Claimed, stands_at, swept}
 use Rattle.fz_blocks.specs.Layout.{extent_at, extents_in, is_condemned, condemned_in, AreRuns, IsMap}

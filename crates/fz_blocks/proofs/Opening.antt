@@ -10,7 +10,8 @@ use Rattle.std.specs.FinMap.{same_map, nat_cmp-IsAntisymmetric, get-empty}
 use Rattle.std.specs.FinSet as sets
 use Rattle.std.specs.FinSet.{contains, contains-empty, same_set}
 use Rattle.fz_blocks.specs.declared.block.Block.{Block}
-use Rattle.fz_blocks.specs.BlockSets.{Roomed, no_room, has_bit}
+use Rattle.fz_blocks.specs.BlockSets.{Roomed, no_room}
+use Rattle.fz_model.specs.Bits.{has_bit}
 use Rattle.std.specs.Int.Count.{ones}
 use Rattle.std.proofs.lemmas.Nat.{ones_le_self}
 use Rattle.std.proofs.lemmas.List.Folds.{sum_by-replicate}
@@ -18,7 +19,7 @@ use Rattle.fz_blocks.specs.Blocks.{is_bare, starts_at, extent_of, extent_in}
 use Rattle.fz_blocks.specs.Layout.{extents_in, condemned_in, waiting_in, has_room, IsMap}
 use Rattle.fz_blocks.specs.Tables.{AreListed, AreNew}
 use Rattle.fz_blocks.proofs.Blocks.{none_bare}
-use Rattle.fz_blocks.proofs.Bits.{no_bits}
+use Rattle.fz_model.proofs.Bits.{no_bits}
 use Rattle.fz_blocks.proofs.Condemned.{contains-condemned_in}
 use Rattle.fz_blocks.proofs.Extents.{get-extents_in}
 

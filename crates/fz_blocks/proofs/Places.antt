@@ -22,8 +22,9 @@ use Rattle.fz_blocks.specs.Classes.{class_of}
 use Rattle.fz_blocks.specs.Cells.{is_cell}
 use Rattle.fz_blocks.specs.Blocks.{starts_at, is_bare, is_full, extent_of, extent_in}
 use Rattle.fz_blocks.specs.Layout.{extents_in, has_room, AreRuns}
-use Rattle.fz_blocks.proofs.Bits.{same_test, no_bits, cell_parts}
-use Rattle.fz_blocks.specs.BlockSets.{has_bit}
+use Rattle.fz_blocks.proofs.Bits.{same_test, cell_parts}
+use Rattle.fz_model.proofs.Bits.{no_bits}
+use Rattle.fz_model.specs.Bits.{has_bit}
 use Rattle.fz_blocks.proofs.Blocks.{none_bare, some_start, start_within, full_cells}
 use Rattle.fz_blocks.proofs.Ranges.{find_first, find_nowhere, find_mapped, search_first, search_nowhere}
 use Rattle.fz_blocks.proofs.Extents.{get-extents_in, opened, extent_is_at, extent_here, covered, Here, Back, IsFound}

@@ -7,15 +7,17 @@ use Rattle.std.specs.Int.{trailing_zeros}
 use Rattle.std.specs.FinSet.{contains}
 use Rattle.fz_blocks.specs.declared.block.Block.{Block}
 use Rattle.fz_blocks.specs.Blocks.{is_bare}
-use Rattle.fz_blocks.specs.BlockSets.{Blocks, has_bit, has_pair_bit, has_block, blocks_of, AreRunsOf, HasRun, IsLeastRun}
+use Rattle.fz_blocks.specs.BlockSets.{Blocks, has_pair_bit, blocks_of, AreRunsOf, HasRun, IsLeastRun}
+use Rattle.fz_model.specs.Bits.{has_bit, has_flag}
 use Rattle.fz_blocks.specs.Runs.{IsRun, IsFirstRun}
-use Rattle.fz_blocks.proofs.Bits.{lowest, no_bits}
+use Rattle.fz_blocks.proofs.Bits.{lowest}
+use Rattle.fz_model.proofs.Bits.{no_bits}
 use Rattle.fz_blocks.proofs.Sets.{contains-blocks_of}
 
 -- ---- among the words of a set
 
 module _ (words : List ℕ) (row word next : ℕ) (word_is : word ≡ slice_index words row) (next_is : next ≡ slice_index words (row + 1)) where
-  pair_bit : (p : ℕ) → p < 128 → has_pair_bit word next p ≡ has_block words (64 * row + p)
+  pair_bit : (p : ℕ) → p < 128 → has_pair_bit word next p ≡ has_flag words (64 * row + p)
   pair_bit p small =
       ⊎_elim
       (λ (lt : p < 64).
@@ -34,12 +36,12 @@ module _ (words : List ℕ) (row word next : ℕ) (word_is : word ≡ slice_inde
     run_here : (p : ℕ) → p < 64 → has_bit runs p ≡ true → HasRun (blocks_of words) count (64 * row + p)
     run_here p small on k lt =
         let at : 64 * row + p + k ≡ 64 * row + (p + k) = omega arith in
-        contains-blocks_of words (64 * row + p + k) ∙ ap (has_block words) at ∙ sym (pair_bit (p + k) (omega (arith, small, lt, few))) ∙ are.all p k small on lt
+        contains-blocks_of words (64 * row + p + k) ∙ ap (has_flag words) at ∙ sym (pair_bit (p + k) (omega (arith, small, lt, few))) ∙ are.all p k small on lt
 
     bit_here : (p : ℕ) → p < 64 → HasRun (blocks_of words) count (64 * row + p) → has_bit runs p ≡ true
     bit_here p small run = are.each p small (λ k lt.
         let at : 64 * row + p + k ≡ 64 * row + (p + k) = omega arith in
-        pair_bit (p + k) (omega (arith, small, lt, few)) ∙ ap (has_block words) (sym at) ∙ sym (contains-blocks_of words (64 * row + p + k)) ∙ run k lt)
+        pair_bit (p + k) (omega (arith, small, lt, few)) ∙ ap (has_flag words) (sym at) ∙ sym (contains-blocks_of words (64 * row + p + k)) ∙ run k lt)
 
     -- the first bit is the least run of those from the word on
     pub least_run : (z : ℕ) → runs ≢ 0 → runs < 18446744073709551616 → z ≡ trailing_zeros w64 runs → ((b : ℕ) → b < 64 * row → HasRun (blocks_of words) count b → ⊥) → IsLeastRun (blocks_of words) count (64 * row + z)

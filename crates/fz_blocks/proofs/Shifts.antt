@@ -4,7 +4,8 @@ use Rattle.std.proofs.lemmas.Bool.{cond-true, cond-false, cases_eq, cases_lt, lt
 use Rattle.std.proofs.lemmas.Nat.{shr-shr, and_mask, pow_pos}
 use Rattle.std.proofs.lemmas.Nat.Bits.{bit_at-zero, bit_at_and, bit_at_or, bit_at_above, bit_at_ones, bit_at-lt, bit_at_cat_low, bit_at_cat_high}
 use Rattle.std.specs.Int.{bit_at}
-use Rattle.fz_blocks.specs.BlockSets.{has_bit, has_pair_bit, AreRunsOf}
+use Rattle.fz_blocks.specs.BlockSets.{has_pair_bit, AreRunsOf}
+use Rattle.fz_model.specs.Bits.{has_bit}
 use Rattle.fz_blocks.proofs.Bits.{and_bit, and_bits}
 
 -- what is kept of a shift to the left

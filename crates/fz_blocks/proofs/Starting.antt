@@ -17,11 +17,12 @@ use Rattle.fz_model.specs.State.{Map}
 use Rattle.fz_model.proofs.MapEntries.{get_at}
 use Rattle.fz_blocks.specs.declared.block.Block.{Block}
 use Rattle.fz_blocks.specs.Tabulated.{tabulated}
-use Rattle.fz_blocks.specs.BlockSets.{has_bit}
+use Rattle.fz_model.specs.Bits.{has_bit}
 use Rattle.fz_blocks.specs.Blocks.{starts_at, extent_of, extent_in}
 use Rattle.fz_blocks.specs.Layout.{extent_at, extents_in}
 use Rattle.fz_blocks.specs.Starts.{IsFirstStart, starts_from}
-use Rattle.fz_blocks.proofs.Bits.{no_bits, lowest}
+use Rattle.fz_blocks.proofs.Bits.{lowest}
+use Rattle.fz_model.proofs.Bits.{no_bits}
 use Rattle.fz_blocks.proofs.Blocks.{objects_fit, start_within}
 use Rattle.fz_blocks.proofs.Tabulating.{get-tabulated}
 

@@ -2,13 +2,13 @@
 use Rattle.std.proofs.Common.{◌≡◌, ◌≢◌, ℕ, suc, zero, ◌<◌, ◌≤◌, Bool, true, false, cond, not, ◌||◌, ◌&&◌, ◌==◌, List, [], ◌∷◌, length, Option, Some, None, MatchOption, slice_get, slice_index_or, set, nat_le, nat_eq, nat_cmp, refl, sym, ap, ◌∙◌, subst, ⊎_elim, arith, length-set}
 use Rattle.std.proofs.lemmas.Bool.{cases_eq, eq-eqb, ne_eqb, eqb-true, and_parts, leb-true, cond-true, cond-false, both_ways}
 use Rattle.std.proofs.lemmas.List.{get_or-set_same, get_or-set_other}
-use Rattle.std.specs.Cmp.{nat_cmp_total, unsigned_tied}
 use Rattle.std.specs.Option.{option_map_or}
 use Rattle.std.specs.FinSet as sets
-use Rattle.std.specs.FinSet.{contains, empty, contains-insert, contains-remove, contains-empty}
+use Rattle.std.specs.FinSet.{contains, empty, contains-empty}
 use Rattle.fz_model.specs.declared.kinds.ObjKind.{ObjKind}
 use Rattle.fz_model.specs.declared.kinds.ObjKind.TheVariants.{Scanned, Atomic}
 use Rattle.fz_model.specs.Allocation.{same_kind}
+use Rattle.fz_model.proofs.Sets.{has_inserted, has_removed}
 use Rattle.fz_blocks.specs.declared.block.Block.{Block}
 use Rattle.fz_blocks.specs.BlockSets.{Blocks, Roomed, no_room, members_at, room_at, IsLeast}
 use Rattle.fz_blocks.specs.Classes.{class_of}
@@ -41,10 +41,10 @@ module _ {X : Type 0} where
 -- ---- sets
 
 pub contains-inserted : (s : Blocks) (b q : ℕ) → contains (sets.insert s b) q ≡ cond (nat_eq q b) true (contains s q)
-contains-inserted s b q = contains-insert nat_cmp_total s b q ∙ ap (λ t. t || contains s q) (unsigned_tied q b) ∙ elim (nat_eq q b) as (λ t. (t || contains s q) ≡ cond t true (contains s q)) [ true ↦ refl | false ↦ refl ]
+contains-inserted s b q = has_inserted s b q ∙ elim (nat_eq q b) as (λ t. (t || contains s q) ≡ cond t true (contains s q)) [ true ↦ refl | false ↦ refl ]
 
 pub contains-removed : (s : Blocks) (b q : ℕ) → contains (sets.remove s b) q ≡ cond (nat_eq q b) false (contains s q)
-contains-removed s b q = contains-remove nat_cmp_total s b q ∙ ap (λ t. not t && contains s q) (unsigned_tied q b) ∙ elim (nat_eq q b) as (λ t. (not t && contains s q) ≡ cond t false (contains s q)) [ true ↦ refl | false ↦ refl ]
+contains-removed s b q = has_removed s b q ∙ elim (nat_eq q b) as (λ t. (not t && contains s q) ≡ cond t false (contains s q)) [ true ↦ refl | false ↦ refl ]
 
 -- ---- the set of a block's class
 

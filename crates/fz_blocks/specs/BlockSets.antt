@@ -1,11 +1,11 @@
 -- Sets of block numbers, and how up to 64 words with a summary hold one.
-use Rattle.std.specs.Prelude.{◌≡◌, ℕ, ◌+◌, ◌-◌, nat_lt, ◌*◌, ◌/◌, ◌%◌, ◌<◌, ◌≤◌, refl, Bool, ◌==◌, if◌then◌else◌, List, length, slice_index, slice_index_or, IsTrue, IsFalse}
+use Rattle.std.specs.Prelude.{◌≡◌, ℕ, ◌+◌, ◌-◌, nat_lt, ◌*◌, ◌<◌, ◌≤◌, refl, Bool, ◌==◌, if◌then◌else◌, List, length, slice_index, slice_index_or, IsTrue, IsFalse}
 use Rattle.std.specs.List.{range_with_len}
 use Rattle.std.specs.Ordering.{nat_cmp}
 use Rattle.std.specs.Int.{bit_at}
 use Rattle.std.specs.FinSet.{FinSet, code, empty, contains, from_list, retain}
 use Rattle.std.specs.Coded.{Coded, code_by, coded×, coded_ℕ}
-pub use Rattle.fz_model.specs.Condemned.{has_bit}
+use Rattle.fz_model.specs.Bits.{has_bit, has_flag}
 
 abbrev pub Blocks : Type 0
 Blocks = FinSet nat_cmp
@@ -33,13 +33,9 @@ pub record IsLeast (blocks : Blocks) (least : ℕ) : Type 0 where
   pub member : IsTrue (contains blocks least)
   pub before : (b : ℕ) → b < least → IsFalse (contains blocks b)
 
--- whether the block's bit is set, among words of 64 bits
-abbrev pub has_block : List ℕ → ℕ → Bool
-has_block words b = has_bit (slice_index words (b / 64)) (b % 64)
-
 -- the blocks whose bits are set
 abbrev pub blocks_of : List ℕ → Blocks
-blocks_of words = retain (from_list (range_with_len 0 (64 * length words))) (has_block words)
+blocks_of words = retain (from_list (range_with_len 0 (64 * length words))) (has_flag words)
 
 -- a bit for each of the words that isn't zero
 pub record IsSummary (words : List ℕ) (summary : ℕ) : Type 0 where

@@ -4,7 +4,7 @@ use Rattle.fz_model.specs.declared.limits.TheConstants.{BLOCK_WORDS}
 use Rattle.fz_model.specs.declared.extent.Extent.{Extent}
 use Rattle.fz_model.specs.Allocation.{same_kind}
 use Rattle.fz_blocks.specs.declared.block.Block.{Block}
-use Rattle.fz_blocks.specs.BlockSets.{has_bit}
+use Rattle.fz_model.specs.Bits.{has_bit}
 use Rattle.fz_blocks.specs.Cells.{is_cell}
 
 -- whether an object starts at this place of the block

@@ -1,7 +1,7 @@
 -- Where the cells of a block start, and which bits of a word say so.
 use Rattle.std.specs.Prelude.{◌≡◌, ℕ, ◌+◌, ◌%◌, Bool, ◌||◌, ◌&&◌, ◌==◌, nat_le, IsTrue, IsFalse}
 use Rattle.fz_model.specs.declared.limits.TheConstants.{BLOCK_WORDS}
-use Rattle.fz_blocks.specs.BlockSets.{has_bit}
+use Rattle.fz_model.specs.Bits.{has_bit}
 
 -- whether a cell of this size starts at this place of a block: cells lie end to end, as many as fit whole; one that is longer than a block
 -- starts where the block does

@@ -7,7 +7,7 @@ use Rattle.fz_model.specs.Allocation.{block_of}
 use Rattle.fz_model.specs.State.{Map}
 use Rattle.fz_blocks.specs.declared.block.Block.{Block}
 use Rattle.fz_blocks.specs.Tabulated.{tabulated, Addresses, gathered}
-use Rattle.fz_blocks.specs.BlockSets.{has_bit}
+use Rattle.fz_model.specs.Bits.{has_bit}
 use Rattle.std.specs.Int.Count.{ones}
 use Rattle.std.specs.List.{sum_by}
 use Rattle.std.specs.Option.{option_map_or}

@@ -43,7 +43,7 @@ impl BlockMap {
     ghost use Rattle.fz_model.specs.Extents.{points_in, IsInHeap, AreApart, AreWithin};
     ghost use Rattle.fz_model.specs.Allocation.{block_start, block_of, blocks_for, place_in};
     ghost use Rattle.fz_model.specs.Causes.{IsJudgedBy, IsJudgedOrLacks, bad_count};
-    ghost use Rattle.fz_blocks.specs.BlockSets.{has_bit};
+    ghost use Rattle.fz_model.specs.Bits.{has_bit};
     ghost use Rattle.fz_blocks.specs.Claimed.{claim_causes, stands_at, swept, AreGone};
 
     /// A map of 1 to 4,096 blocks without objects. It makes all the room that other calls need.

@@ -4,7 +4,8 @@ use Rattle.std.proofs.lemmas.Bool.{both_ways, cases_eq, ne_eqb}
 use Rattle.std.specs.FinSet.{contains, insert, empty, len, len-empty, contains-empty}
 use Rattle.fz_dirty.specs.Flags.{Flagged}
 use Rattle.fz_dirty.specs.Pages.{ArePages}
-use Rattle.fz_dirty.proofs.Words.{has_inserted, len_inserted, few_members, inserted_again}
+use Rattle.fz_dirty.proofs.Words.{few_members}
+use Rattle.fz_model.proofs.Sets.{has_inserted, len_inserted, inserted_again}
 
 pub no_pages : (flags : Flagged) (pages : ℕ) → flags.members ≡ empty → pages ≤ flags.size → ArePages flags pages 0
 no_pages flags pages none room = record {

@@ -1,49 +1,28 @@
 -- Sets of numbers by the bits of words.
-use Rattle.std.proofs.Common.{◌≡◌, ◌≢◌, ℕ, zero, suc, ◌+◌, ◌-◌, ◌*◌, ◌/◌, ◌%◌, ◌^◌, ◌<◌, ◌≤◌, Bool, true, false, cond, not, ◌&&◌, ◌||◌, List, length, set, slice_index, replicate, nat_eq, nat_le, nat_cmp, refl, sym, ap, ◌∙◌, subst, ⊎_elim, arith, w64, bit_and, bit_or, get_or, add-zero}
+use Rattle.std.proofs.Common.{◌≡◌, ◌≢◌, ℕ, zero, suc, ◌+◌, ◌-◌, ◌*◌, ◌/◌, ◌%◌, ◌^◌, ◌<◌, ◌≤◌, Bool, true, false, cond, not, ◌&&◌, ◌||◌, List, length, set, slice_index, replicate, nat_eq, nat_le, nat_cmp, refl, sym, ap, ◌∙◌, ⊎_elim, arith, w64, bit_and, bit_or, get_or, add-zero}
 use Rattle.std.proofs.Math.Nat.{mod-eq_of_lt, div-mul-le_self}
 use Rattle.std.proofs.Math.Pow.{pow-lt}
-use Rattle.std.proofs.lemmas.Bool.{cond-true, cond-false, cases_eq, cases_lt, eq-eqb, ne_eqb, eqb-false, and_parts, or_left, or_right, le-leb, lt-leb, leb-true, both_ways}
-use Rattle.std.proofs.lemmas.List.{get_or_past, get_or_read, get_or-set_same, get_or-set_other, get_or-replicate, length-set, length-replicate}
+use Rattle.std.proofs.lemmas.Bool.{cases_eq, cases_lt, eq-eqb, ne_eqb, eqb-false, and_parts, le-leb, lt-leb, leb-true, both_ways}
+use Rattle.std.proofs.lemmas.List.{get_or_past, get_or_read, get_or-set_same, get_or-set_other, get_or-replicate, length-replicate}
 use Rattle.std.proofs.lemmas.Nat.{shr-shr, pow_pos}
-use Rattle.std.proofs.lemmas.Nat.Bits.{bit_at-zero, bit_at-lt, bit_at-trailing_zeros, bit_at_cat_low, bit_at_cat_high, and_pow, shr_and_one, bit_at_set_same, bit_at_set_other, bit_at_clear_same, bit_at_clear_other}
-use Rattle.std.specs.Cmp.{nat_cmp_total, unsigned_tied, ranked}
+use Rattle.std.proofs.lemmas.Nat.Bits.{bit_at-lt, bit_at-trailing_zeros, bit_at_cat_low, bit_at_cat_high, and_pow, shr_and_one, bit_at_set_same, bit_at_set_other, bit_at_clear_same, bit_at_clear_other}
+use Rattle.std.specs.Cmp.{nat_cmp_total, ranked}
 use Rattle.std.specs.Int.{bit_at, bit_not, trailing_zeros}
 use Rattle.std.specs.List.{list_any, range_with_len}
 use Rattle.std.specs.declared.cmp.Ordering.TheVariants.{Equal}
-use Rattle.std.specs.FinSet.{contains, insert, remove, empty, len, len-empty, len-insert, len-remove, contains-remove, from_list, contains-retain, contains-from_list_nat, contains-insert, contains-empty, same_set, nat_cmp-IsAntisymmetric}
-use Rattle.fz_dirty.specs.Flags.{Set, has_bit, has_flag, flagged, Flagged, HasRoom, IsNext, IsRest}
-
--- ---- what a set of numbers has
-
-pub has_inserted : (s : Set) (n q : ℕ) → contains (insert s n) q ≡ (nat_eq q n || contains s q)
-has_inserted s n q = contains-insert nat_cmp_total s n q ∙ ap (λ t. t || contains s q) (unsigned_tied q n)
-
-pub same_members : (s t : Set) → ((q : ℕ) → contains s q ≡ contains t q) → s ≡ t
-same_members s t = same_set nat_cmp_total nat_cmp-IsAntisymmetric s t
-
-pub inserted_again : (s : Set) (n : ℕ) → contains s n ≡ true → insert s n ≡ s
-inserted_again s n has = same_members _ _ (λ q. has_inserted s n q ∙ ⊎_elim (λ (is : q ≡ n). ap (λ t. t || contains s q) (eq-eqb q n is) ∙ sym (ap (contains s) is ∙ has)) (λ (ne : q ≢ n). ap (λ t. t || contains s q) (ne_eqb q n ne)) (cases_eq q n))
-
-pub len_inserted : (s : Set) (n : ℕ) → contains s n ≡ false → len (insert s n) ≡ len s + 1
-len_inserted s n fresh = len-insert nat_cmp_total s n ∙ ap (λ t. cond t (len s) (len s + 1)) fresh
-
-in_range : (a n q : ℕ) → a ≤ q → q < a + n → list_any (λ y. nat_eq y q) (range_with_len a n) ≡ true
-in_range a zero q low high = absurd (omega arith)
-in_range a (suc n) q low high =
-    ⊎_elim
-    (λ (is : a ≡ q). or_left (nat_eq a q) _ (eq-eqb a q is))
-    (λ (ne : a ≢ q). or_right (nat_eq a q) _ (in_range (a + 1) n q (omega arith) (omega arith)))
-    (cases_eq a q)
+use Rattle.std.specs.FinSet.{contains, insert, remove, empty, len, len-empty, len-remove, from_list, contains-retain, contains-from_list_nat, contains-empty}
+use Rattle.fz_dirty.specs.Flags.{Set, flagged, Flagged, HasRoom, IsNext, IsRest}
+use Rattle.fz_model.specs.Bits.{has_bit, has_flag}
+use Rattle.fz_model.proofs.Sets.{has_inserted, has_removed, same_members}
+use Rattle.fz_model.proofs.Bits.{no_bits, has_flag-set}
+use Rattle.fz_model.proofs.Lists.{any_of_range}
 
 below_range : (a n q : ℕ) → q < a → list_any (λ y. nat_eq y q) (range_with_len a n) ≡ false
 below_range a zero q low = refl
 below_range a (suc n) q low = ap (λ t. t || list_any (λ y. nat_eq y q) (range_with_len (a + 1) n)) (ne_eqb a q (omega arith)) ∙ below_range (a + 1) n q (omega arith)
 
-bit_of_zero : (i : ℕ) → has_bit 0 i ≡ false
-bit_of_zero i = ap (λ n. nat_eq n 1) (bit_at-zero i)
-
 pub past_words : (words : List ℕ) (place : ℕ) → length words ≤ place / 64 → has_flag words place ≡ false
-past_words words place past = ap (λ w. has_bit w (place % 64)) (get_or_past words (place / 64) 0 past) ∙ bit_of_zero (place % 64)
+past_words words place past = ap (λ w. has_bit w (place % 64)) (get_or_past words (place / 64) 0 past) ∙ no_bits (place % 64)
 
 pub contains-flagged : (first : ℕ) (words : List ℕ) (n : ℕ) → contains (flagged first words) n ≡ (nat_le first n && has_flag words (n - first))
 contains-flagged first words n =
@@ -64,7 +43,7 @@ contains-flagged first words n =
     from_first : first ≤ n → (there && has_flag words (n - first)) ≡ (nat_le first n && has_flag words (n - first))
     from_first low =
         ⊎_elim
-        (λ (lt : n < first + 64 * length words). ap (λ t. t && has_flag words (n - first)) (in_range first (64 * length words) n low lt ∙ sym (le-leb first n low)))
+        (λ (lt : n < first + 64 * length words). ap (λ t. t && has_flag words (n - first)) (any_of_range (λ y. nat_eq y n) first (64 * length words) n low lt (eq-eqb n n refl) ∙ sym (le-leb first n low)))
         (λ (past : first + 64 * length words ≤ n).
         let off = past_words words (n - first) (omega arith) in
         neither there (has_flag words (n - first)) off ∙ sym (neither (nat_le first n) (has_flag words (n - first)) off))
@@ -78,28 +57,6 @@ pub contains_from : (first : ℕ) (words : List ℕ) (n : ℕ) → first ≤ n �
 contains_from first words n low = contains-flagged first words n ∙ ap (λ t. t && has_flag words (n - first)) (le-leb first n low)
 
 -- ---- a word is put in
-
--- a word whose bit for place k is new, and whose other bits are as they were
-pub has_flag-set : (words : List ℕ) (k x : ℕ) (v : Bool) → k / 64 < length words → has_bit x (k % 64) ≡ v → ((i : ℕ) → i < 64 → i ≢ k % 64 → bit_at x i ≡ bit_at (slice_index words (k / 64)) i) → (q : ℕ) → has_flag (set words (k / 64) x) q ≡ cond (nat_eq q k) v (has_flag words q)
-has_flag-set words k x v within new others q =
-    ⊎_elim
-    (λ (is : q ≡ k).
-    subst (λ q. has_flag (set words (k / 64) x) q ≡ v) (sym is) (ap (λ w. has_bit w (k % 64)) (get_or-set_same words (k / 64) x 0 within) ∙ new)
-    ∙ sym (cond-true (nat_eq q k) v (has_flag words q) (eq-eqb q k is)))
-    (λ (ne : q ≢ k). kept ne ∙ sym (cond-false (nat_eq q k) v (has_flag words q) (ne_eqb q k ne)))
-    (cases_eq q k)
-  where
-    kept : q ≢ k → has_flag (set words (k / 64) x) q ≡ has_flag words q
-    kept ne =
-        ⊎_elim
-        (λ (same : q / 64 ≡ k / 64).
-        let apart : q % 64 ≢ k % 64 = omega arith in
-        ap (λ j. has_bit (slice_index (set words (k / 64) x) j) (q % 64)) same
-        ∙ ap (λ w. has_bit w (q % 64)) (get_or-set_same words (k / 64) x 0 within)
-        ∙ ap (λ n. nat_eq n 1) (others (q % 64) (omega arith) apart)
-        ∙ ap (λ j. has_bit (slice_index words j) (q % 64)) (sym same))
-        (λ (ne : q / 64 ≢ k / 64). ap (λ w. has_bit w (q % 64)) (get_or-set_other words (k / 64) (q / 64) x 0 ne))
-        (cases_eq (q / 64) (k / 64))
 
 -- a number is told from another by its place
 shifted : (first n q : ℕ) → first ≤ n → first ≤ q → nat_eq (q - first) (n - first) ≡ nat_eq q n
@@ -141,9 +98,6 @@ flag_inserted first words n word low within read = same_members _ _ each
         (cases_lt q first)
         ∙ sym (has_inserted (flagged first words) n q)
 
-pub has_removed : (s : Set) (n q : ℕ) → contains (remove s n) q ≡ (not (nat_eq q n) && contains s q)
-has_removed s n q = contains-remove nat_cmp_total s n q ∙ ap (λ t. not t && contains s q) (unsigned_tied q n)
-
 pub flag_removed : (first : ℕ) (words : List ℕ) (n word : ℕ) → first ≤ n → (n - first) / 64 < length words → word ≡ get_or words ((n - first) / 64) word → flagged first (set words ((n - first) / 64) (bit_and word (bit_not w64 (1 * 2 ^ ((n - first) % 64) % 18446744073709551616)))) ≡ remove (flagged first words) n
 flag_removed first words n word low within read = same_members _ _ each
   where
@@ -179,10 +133,6 @@ flag_removed first words n word low within read = same_members _ _ each
         (cases_lt q first)
         ∙ sym (has_removed (flagged first words) n q)
 
--- what isn't there leaves nothing
-pub removed_again : (s : Set) (n : ℕ) → contains s n ≡ false → remove s n ≡ s
-removed_again s n none = same_members _ _ (λ q. has_removed s n q ∙ ⊎_elim (λ (is : q ≡ n). ap (λ t. not t && contains s q) (eq-eqb q n is) ∙ sym (ap (contains s) is ∙ none)) (λ (ne : q ≢ n). ap (λ t. not t && contains s q) (ne_eqb q n ne)) (cases_eq q n))
-
 -- ---- words that are zero
 
 pub no_flags : (first n : ℕ) (words : List ℕ) → words ≡ replicate n 0 → flagged first words ≡ empty
@@ -198,7 +148,7 @@ no_flags first n words is = same_members _ _ (λ q. contains-flagged first words
     none : (p : ℕ) → has_flag words p ≡ false
     none p =
         ⊎_elim
-        (λ (lt : p / 64 < n). ap (λ w. has_bit w (p % 64)) (ap (λ ws. slice_index ws (p / 64)) is ∙ get_or-replicate n (p / 64) 0 0 lt) ∙ bit_of_zero (p % 64))
+        (λ (lt : p / 64 < n). ap (λ w. has_bit w (p % 64)) (ap (λ ws. slice_index ws (p / 64)) is ∙ get_or-replicate n (p / 64) 0 0 lt) ∙ no_bits (p % 64))
         (λ (past : n ≤ p / 64). past_words words p (omega (arith, len, past)))
         (cases_lt (p / 64) n)
 
@@ -244,7 +194,7 @@ word_cleared first words word n within =
 
     same : p / 64 ≡ word → has_flag (set words word 0) p ≡ (has_flag words p && not (nat_eq (p / 64) word))
     same is =
-        ap (λ w. has_bit w (p % 64)) (ap (λ k. slice_index (set words word 0) k) is ∙ get_or-set_same words word 0 0 within) ∙ bit_of_zero (p % 64)
+        ap (λ w. has_bit w (p % 64)) (ap (λ k. slice_index (set words word 0) k) is ∙ get_or-set_same words word 0 0 within) ∙ no_bits (p % 64)
         ∙ sym (ap (λ t. has_flag words p && not t) (eq-eqb (p / 64) word is) ∙ nothing (has_flag words p))
 
     other : p / 64 ≢ word → has_flag (set words word 0) p ≡ (has_flag words p && not (nat_eq (p / 64) word))
@@ -293,7 +243,7 @@ few_members first (suc n) s within =
     one_less false e fewer = omega (arith, e, fewer)
 
     inner : (q : ℕ) → contains (remove s (first + n)) q ≡ true → (first ≤ q) × (q < first + n)
-    inner q is = both (nat_eq q (first + n)) (contains s q) refl refl (sym (contains-remove nat_cmp_total s (first + n) q ∙ ap (λ t. not t && contains s q) (unsigned_tied q (first + n))) ∙ is)
+    inner q is = both (nat_eq q (first + n)) (contains s q) refl refl (sym (has_removed s (first + n) q) ∙ is)
       where
         both : (t u : Bool) → nat_eq q (first + n) ≡ t → contains s q ≡ u → (not t && u) ≡ true → (first ≤ q) × (q < first + n)
         both true u same has never = absurd (both_ways false refl never)
@@ -352,7 +302,7 @@ module _ (first : ℕ) (set : Set) (from : ℕ) where
       let at : first + 64 * index + j ≡ n = omega (arith, ge) in
       let late : from - first ≤ 64 * index + j = omega (arith, ge, above) in
       let bits = are.bits j (omega (arith, ge, lt)) in
-      ap (contains set) (sym at) ∙ sym (bits ∙ ap (λ t. t && contains set (first + 64 * index + j)) (le-leb (from - first) (64 * index + j) late)) ∙ ap (λ w. has_bit w j) none ∙ bit_of_zero j)
+      ap (contains set) (sym at) ∙ sym (bits ∙ ap (λ t. t && contains set (first + 64 * index + j)) (le-leb (from - first) (64 * index + j) late)) ∙ ap (λ w. has_bit w j) none ∙ no_bits j)
       (cases_lt n (first + 64 * index))
 
   pub rest_next : (index rest word : ℕ) → IsRest first set from index rest → rest ≡ 0 → (from - first) / 64 ≤ index → ((place : ℕ) → place < 64 → has_bit word place ≡ contains set (first + 64 * (index + 1) + place)) → IsRest first set from (index + 1) word
@@ -413,7 +363,7 @@ module _ (first : ℕ) (set : Set) (from : ℕ) where
 
       smaller : (place : ℕ) → place < 64 → place < k → has_bit rest place ≡ (nat_le (from - first) (64 * index + place) && contains set (first + 64 * index + place))
       smaller place lt less =
-          ap (λ r. has_bit r place) cleared ∙ ap (λ b. nat_eq b 1) (bit_at_cat_low (word / 2 ^ k) k 0 place less) ∙ bit_of_zero place
+          ap (λ r. has_bit r place) cleared ∙ ap (λ b. nat_eq b 1) (bit_at_cat_low (word / 2 ^ k) k 0 place less) ∙ no_bits place
           ∙ sym (ap (λ t. t && contains set (first + 64 * index + place)) (lt-leb (from - first) (64 * index + place) (omega (arith, less))))
 
       larger : (place : ℕ) → place < 64 → k ≤ place → has_bit rest place ≡ (nat_le (from - first) (64 * index + place) && contains set (first + 64 * index + place))

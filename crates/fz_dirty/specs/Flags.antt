@@ -1,11 +1,11 @@
 -- Sets of numbers, and how the bits of words hold one.
-use Rattle.std.specs.Prelude.{◌≡◌, ◌^◌, ℕ, nat_le, ◌&&◌, ◌+◌, ◌-◌, ◌*◌, ◌/◌, ◌%◌, ◌<◌, ◌≤◌, Bool, ◌==◌, List, length, slice_index, filter, [], Option, None, Some, IsTrue, IsFalse, refl}
+use Rattle.std.specs.Prelude.{◌≡◌, ◌^◌, ℕ, nat_le, ◌&&◌, ◌+◌, ◌-◌, ◌*◌, ◌/◌, ◌<◌, ◌≤◌, List, length, filter, [], Option, None, Some, IsTrue, IsFalse, refl}
 use Rattle.std.specs.Coded.{Coded, code_by, coded×, coded_ℕ}
 use Rattle.std.specs.List.{range_with_len}
 use Rattle.std.specs.Ordering.{nat_cmp}
-use Rattle.std.specs.Int.{bit_at}
 use Rattle.std.specs.FinSet as sets
-use Rattle.std.specs.FinSet.{FinSet, contains, from_list, retain, insert}
+use Rattle.std.specs.FinSet.{FinSet, contains, from_list, retain}
+use Rattle.fz_model.specs.Bits.{has_bit, has_flag}
 
 abbrev pub Set : Type 0
 Set = FinSet nat_cmp
@@ -18,17 +18,9 @@ pub record Flagged : Type 0 where
 abbrev pub flagged_code : Coded Flagged
 flagged_code = code_by (ℕ × Set) (coded× coded_ℕ (sets.code coded_ℕ)) (λ f. (f.size, f.members)) (λ p. record { size = p.0; members = p.1 }) (λ _. refl)
 
--- whether the bit at a place of a word is set
-abbrev pub has_bit : ℕ → ℕ → Bool
-has_bit word place = bit_at word place == 1
-
 -- the word that has a number's bit
 abbrev pub word_of : ℕ → ℕ → ℕ
 word_of first n = (n - first) / 64
-
--- whether the bit at a place is set, among words of 64 bits
-abbrev pub has_flag : List ℕ → ℕ → Bool
-has_flag words place = has_bit (slice_index words (place / 64)) (place % 64)
 
 -- the numbers whose bits are set, where the first bit is that of the first number
 abbrev pub flagged : ℕ → List ℕ → Set

@@ -3,7 +3,8 @@
 ghost use Rattle.std.specs.Prelude.{◌≡◌, ◌≤◌, ◌<◌, ◌+◌, ◌*◌, ◌==◌, ◌&&◌, ◌^◌, not, slice_index, filter, ℕ, IsFalse, IfOk, IfErr, OnOk, OnErr, IfSome, MatchOption};
 ghost use Rattle.std.specs.List.{range_with_len};
 ghost use Rattle.std.specs.FinSet.{contains, insert, remove, empty, len};
-ghost use Rattle.fz_dirty.specs.Flags.{IsNext, IsRest, HasRoom, word_of, has_bit};
+ghost use Rattle.fz_dirty.specs.Flags.{IsNext, IsRest, HasRoom, word_of};
+ghost use Rattle.fz_model.specs.Bits.{has_bit};
 
 use crate::members::Members;
 use fz_model::Refusal;

@@ -7,7 +7,8 @@ ghost use Rattle.fz_model.specs.declared.limits.TheConstants.{BLOCK_WORDS, MAX_B
 ghost use Rattle.fz_model.specs.Extents.{IsInHeap, extents, AreApart};
 ghost use Rattle.fz_model.specs.Memory.{points, word_at, written, new_object};
 ghost use Rattle.fz_model.specs.Allocation.{place_for, block_of, block_start, blocks_for};
-ghost use Rattle.fz_model.specs.Condemned.{has_bit, stands_at, swept};
+ghost use Rattle.fz_model.specs.Condemned.{stands_at, swept};
+ghost use Rattle.fz_model.specs.Bits.{has_bit};
 ghost use Rattle.fz_heap.specs.Contents.{AreGone, pointers_of};
 ghost use Rattle.fz_model.specs.Causes.{IsJudgedBy, IsJudgedOrLacks, bad_count, alloc_causes, place_causes};
 

@@ -8,7 +8,7 @@ use Rattle.fz_model.specs.declared.limits.TheConstants.{HEAP_START}
 use Rattle.fz_model.specs.State.{Map, Object}
 use Rattle.fz_model.specs.Memory.{points}
 use Rattle.fz_dirty.specs.Flags.{Set}
-use Rattle.fz_dirty.proofs.Words.{has_inserted, len_inserted}
+use Rattle.fz_model.proofs.Sets.{has_inserted, len_inserted}
 use Rattle.fz_marker.specs.Frontiers.{Frontier, Gains, IsAmong, IsPointedAt}
 
 pub not_on : (b : Bool) → not b ≡ true → b ≡ false

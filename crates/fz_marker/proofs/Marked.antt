@@ -6,7 +6,7 @@ use Rattle.std.specs.FinMap.{keys}
 use Rattle.fz_model.specs.declared.limits.TheConstants.{BLOCK_WORDS, MAX_BLOCKS}
 use Rattle.fz_model.specs.State.{Map, Object}
 use Rattle.fz_dirty.specs.Flags.{Set, Flagged}
-use Rattle.fz_dirty.proofs.Words.{same_members}
+use Rattle.fz_model.proofs.Sets.{same_members}
 use Rattle.fz_marker.specs.declared.cycle.Cycle.{Cycle}
 use Rattle.fz_marker.specs.Frontiers.{Frontier, Gains}
 use Rattle.fz_marker.specs.Marking.{HasChildrenIn, IsClosed, is_on_noted, is_readable, is_newly_in, readable_count}

@@ -1,6 +1,6 @@
 -- On which pages an object stands, by its words and by its start.
-use Rattle.std.proofs.Common.{◌≡◌, ◌≢◌, ℕ, zero, suc, ◌+◌, ◌≤◌, ◌<◌, ◌||◌, Bool, true, false, length, Option, Some, None, refl, sym, ap, ◌∙◌, subst, inl, inr, ⊎_elim, arith, IsTrue, IsFalse, option_map}
-use Rattle.std.proofs.lemmas.Bool.{both_ways, cases_eq, or_left, or_right}
+use Rattle.std.proofs.Common.{◌≡◌, ◌≢◌, ℕ, ◌+◌, ◌≤◌, ◌<◌, Bool, true, false, length, Option, Some, None, refl, sym, ap, ◌∙◌, subst, inl, inr, ⊎_elim, arith, IsTrue, IsFalse, option_map}
+use Rattle.std.proofs.lemmas.Bool.{both_ways, cases_eq}
 use Rattle.std.proofs.lemmas.Option.{none-some, same_Some}
 use Rattle.std.specs.List.{list_any, range_with_len}
 use Rattle.std.specs.Option.{option_map_or}
@@ -10,6 +10,7 @@ use Rattle.fz_model.specs.declared.extent.Extent.{Extent}
 use Rattle.fz_model.specs.State.{Map, Object}
 use Rattle.fz_model.specs.Extents.{extents, extent_of, AreApart}
 use Rattle.fz_model.specs.Allocation.{block_of, block_start}
+use Rattle.fz_model.proofs.Lists.{any_in_range, any_of_range}
 use Rattle.fz_model.proofs.Maps.{get-extents}
 use Rattle.fz_model.proofs.Objects.{points_target, points_at, from_covers, to_covers}
 use Rattle.fz_dirty.specs.Flags.{Set}
@@ -17,26 +18,6 @@ use Rattle.fz_marker.specs.Marking.{is_on_noted}
 use Rattle.fz_marker.specs.Cycles.{has_pointers}
 use Rattle.fz_marker.specs.Standing.{HasWordOn, StandsOn}
 use Rattle.fz_marker.proofs.Scanning.{pointers_words}
-
--- ---- tests of a range
-
-pub any_in_range : (test : ℕ → Bool) (a n : ℕ) → list_any test (range_with_len a n) ≡ true → (x : ℕ) × (a ≤ x) × (x < a + n) × IsTrue (test x)
-any_in_range test a zero h = absurd (both_ways false refl h)
-any_in_range test a (suc n) h = at (any_in_range test (a + 1) n) (test a) refl
-  where
-    at : (list_any test (range_with_len (a + 1) n) ≡ true → (x : ℕ) × (a + 1 ≤ x) × (x < a + 1 + n) × IsTrue (test x)) → (b : Bool) → test a ≡ b → (x : ℕ) × (a ≤ x) × (x < a + suc n) × IsTrue (test x)
-    at later true on = (a, omega arith, omega arith, on)
-    at later false off =
-        let rest = later (subst (λ b. (b || list_any test (range_with_len (a + 1) n)) ≡ true) off h) in
-        (rest.0, (let low = rest.1 in omega (arith, low)), (let high = rest.2 in omega (arith, high)), rest.3)
-
-pub any_of_range : (test : ℕ → Bool) (a n x : ℕ) → a ≤ x → x < a + n → IsTrue (test x) → list_any test (range_with_len a n) ≡ true
-any_of_range test a zero x low high h = absurd (omega (arith, low, high))
-any_of_range test a (suc n) x low high h =
-    ⊎_elim
-    (λ (is : x ≡ a). or_left (test a) _ (subst (λ y. IsTrue (test y)) is h))
-    (λ (ne : x ≢ a). or_right (test a) _ (any_of_range test (a + 1) n x (omega (arith, low, ne)) (omega (arith, high)) h))
-    (cases_eq x a)
 
 -- ---- an object's words
 

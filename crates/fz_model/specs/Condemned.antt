@@ -1,17 +1,13 @@
 -- Condemned cells, by their starts: which of a block a word of bits names, and which a sweep leaves.
 use Rattle.std.specs.Prelude.{ℕ, ◌+◌, ◌-◌, ◌%◌, Bool, ◌==◌, not, ◌&&◌, nat_le, nat_lt}
 use Rattle.std.specs.Ordering.{nat_cmp}
-use Rattle.std.specs.Int.{bit_at}
 use Rattle.std.specs.FinSet.{FinSet, retain}
 use Rattle.fz_model.specs.declared.limits.TheConstants.{HEAP_START, BLOCK_WORDS}
 use Rattle.fz_model.specs.Allocation.{block_of}
+use Rattle.fz_model.specs.Bits.{has_bit}
 
 abbrev pub Addresses : Type 0
 Addresses = FinSet nat_cmp
-
--- whether the bit at a place of a word is set
-abbrev pub has_bit : ℕ → ℕ → Bool
-has_bit word place = bit_at word place == 1
 
 -- whether an address stands in the block, at one of these places: a bit each, the first place's lowest
 abbrev pub stands_at : ℕ → ℕ → ℕ → Bool

@@ -5,6 +5,7 @@ pub mod Memory
 pub mod Reachability
 pub mod Pass
 pub mod Allocation
+pub mod Bits
 pub mod Condemned
 pub mod Causes
 pub mod Events

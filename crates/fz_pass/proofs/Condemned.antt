@@ -1,27 +1,18 @@
 -- Objects that are condemned, block by block.
-use Rattle.std.proofs.Common.{◌≡◌, ℕ, ◌+◌, ◌-◌, ◌*◌, ◌%◌, ◌^◌, ◌<◌, ◌≤◌, ◌==◌, ◌||◌, ◌&&◌, not, Bool, true, false, cond, zero, suc, Option, Some, None, is_some, refl, sym, ap, ◌∙◌, ⊎_elim, arith, nat_le, All}
+use Rattle.std.proofs.Common.{◌≡◌, ℕ, ◌+◌, ◌-◌, ◌*◌, ◌%◌, ◌<◌, ◌≤◌, ◌==◌, ◌||◌, ◌&&◌, not, Bool, true, false, cond, Option, Some, None, is_some, refl, sym, ap, ◌∙◌, ⊎_elim, arith, nat_le, All}
 use Rattle.std.proofs.lemmas.Bool.{true≢false, cases_lt, le-leb, lt-leb, eq-eqb, ne_eqb, cases_eq}
-use Rattle.std.proofs.lemmas.Nat.Bits.{bit_at_not, bit_at-lt}
 use Rattle.std.proofs.lemmas.List.Elements.{All-contains}
-use Rattle.std.specs.Int.{bit_at, bit_not, w64}
 use Rattle.std.specs.Cmp.{nat_cmp_total}
 use Rattle.std.specs.FinMap.{get, keys, retain_keys, contains_key, same_map, nat_cmp-IsAntisymmetric}
 use Rattle.fz_model.specs.State.{Map}
 use Rattle.fz_model.specs.declared.limits.TheConstants.{HEAP_START, BLOCK_WORDS}
 use Rattle.fz_model.specs.Allocation.{block_of}
-use Rattle.fz_model.specs.Condemned.{has_bit, stands_at}
+use Rattle.fz_model.specs.Condemned.{stands_at}
+use Rattle.fz_model.specs.Bits.{has_bit}
 use Rattle.fz_model.specs.Extents.{IsInHeap}
 use Rattle.fz_model.proofs.Lists.{contains_at}
 use Rattle.fz_model.proofs.MapEntries.{key_in}
 use Rattle.fz_model.proofs.Maps.{get-retain}
-
-flip : (k : ℕ) → k < 2 → ((1 - k) == 1) ≡ not (k == 1)
-flip zero lt = refl
-flip (suc zero) lt = refl
-flip (suc (suc k)) lt = absurd (omega (arith, lt))
-
-pub not_bit : (n place : ℕ) → n < 2 ^ 64 → place < 64 → has_bit (bit_not w64 n) place ≡ not (has_bit n place)
-not_bit n place fits lt = ap (λ k. k == 1) (bit_at_not w64 n place fits lt) ∙ flip (bit_at n place) (bit_at-lt n place)
 
 -- what is left when the blocks before one have been gone over
 abbrev pub is_left : (ℕ → Bool) → ℕ → ℕ → Bool

@@ -1,7 +1,7 @@
 use Rattle.std.proofs.Common.{◌≡◌, ◌∙◌, ◌||◌, ◌&&◌, Bool, true, false, nat_eq, refl, sym, ap}
 use Rattle.std.specs.FinSet.{contains}
 use Rattle.fz_dirty.specs.Flags.{Flagged}
-use Rattle.fz_dirty.proofs.Words.{has_inserted}
+use Rattle.fz_model.proofs.Sets.{has_inserted}
 use Rattle.fz_marker.specs.Marking.{Marking}
 use Rattle.fz_model.specs.Pass.{is_outside}
 use Rattle.fz_pass.proofs.leading.list_if_outside.Goals as goal

@@ -4,10 +4,12 @@ use Rattle.std.specs.FinSet.{contains}
 use Rattle.std.specs.FinMap.{retain_keys, contains_key}
 use Rattle.fz_model.specs.State.{Map, Object}
 use Rattle.fz_model.specs.declared.limits.TheConstants.{HEAP_START, BLOCK_WORDS}
-use Rattle.fz_model.specs.Condemned.{has_bit, stands_at}
+use Rattle.fz_model.specs.Condemned.{stands_at}
+use Rattle.fz_model.specs.Bits.{has_bit}
 use Rattle.fz_model.specs.Extents.{IsInHeap}
 use Rattle.fz_heap.specs.Contents.{Contents}
-use Rattle.fz_pass.proofs.Condemned.{is_left, left_first, left_step, left_last, not_bit, has_retained, retain_on, retain_all, retain_twice, of_keys, condemned_step}
+use Rattle.fz_model.proofs.Bits.{not_bit}
+use Rattle.fz_pass.proofs.Condemned.{is_left, left_first, left_step, left_last, has_retained, retain_on, retain_all, retain_twice, of_keys, condemned_step}
 use Rattle.fz_pass.proofs.reclaiming.condemn_outside.Goals as goal
 
 none_yet : (there left was : Bool) → left ≡ true → was ≡ ((there && not left) || was)

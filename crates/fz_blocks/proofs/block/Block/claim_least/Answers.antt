@@ -1,9 +1,10 @@
 use Rattle.std.proofs.Common.{arith, refl, sym, ap, ◌∙◌, ◌||◌, ◌==◌, ◌≡◌, true, subst, bit_and, w64, ⊎_elim}
 use Rattle.std.proofs.lemmas.Bool.{cases_Bool, eqb-true, both_ways}
 use Rattle.std.specs.Int.{bit_not, trailing_zeros}
-use Rattle.fz_blocks.specs.BlockSets.{has_bit}
+use Rattle.fz_model.specs.Bits.{has_bit}
 use Rattle.fz_blocks.specs.Blocks.{Claims}
-use Rattle.fz_blocks.proofs.Bits.{set_bit, no_bits}
+use Rattle.fz_blocks.proofs.Bits.{set_bit}
+use Rattle.fz_model.proofs.Bits.{no_bits}
 use Rattle.fz_blocks.proofs.Blocks.{least_within, least_cell, least_free, before_least}
 use Rattle.fz_blocks.proofs.block.Block.claim_least.Goals as goal
 

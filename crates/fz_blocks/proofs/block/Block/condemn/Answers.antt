@@ -2,7 +2,7 @@ use Rattle.std.proofs.Common.{arith, refl, sym, ap, ◌∙◌, not, ◌||◌, �
 use Rattle.std.proofs.lemmas.Bool.{and_parts, cases_Bool, eqb-true, not-true}
 use Rattle.std.proofs.lemmas.Nat.{and_le_l}
 use Rattle.std.specs.Int.{bit_not}
-use Rattle.fz_blocks.specs.BlockSets.{has_bit}
+use Rattle.fz_model.specs.Bits.{has_bit}
 use Rattle.fz_blocks.proofs.Bits.{clear_bit, set_bit}
 use Rattle.fz_blocks.proofs.Blocks.{objects_fit, start_within}
 use Rattle.fz_blocks.proofs.block.Block.condemn.Goals as goal

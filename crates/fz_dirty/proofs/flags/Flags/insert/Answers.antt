@@ -1,7 +1,8 @@
-use Rattle.std.proofs.Common.{◌≡◌, ℕ, ◌≤◌, ◌<◌, ◌+◌, ◌-◌, ◌*◌, ◌/◌, ◌%◌, ◌^◌, ◌∙◌, sym, ap, arith, not, length, slice_index, bit_or, set}
+use Rattle.std.proofs.Common.{◌≡◌, ◌<◌, ◌-◌, ◌*◌, ◌/◌, ◌%◌, ◌^◌, ◌∙◌, sym, ap, arith, not, length, slice_index, bit_or, set}
 use Rattle.std.specs.FinSet.{contains, insert}
 use Rattle.std.proofs.lemmas.List.{length-set, get_or_read}
-use Rattle.fz_dirty.specs.Flags.{Flagged, flagged, has_bit}
+use Rattle.fz_dirty.specs.Flags.{Flagged}
+use Rattle.fz_model.specs.Bits.{has_bit}
 use Rattle.fz_dirty.proofs.Words.{flag_inserted, few_flags, bit_missing, contains_from}
 use Rattle.fz_dirty.proofs.flags.Flags.insert.Goals as goal
 

@@ -3,7 +3,8 @@ use Rattle.std.specs.Int.{bit_not, w64}
 use Rattle.std.specs.FinSet.{contains, remove}
 use Rattle.std.proofs.lemmas.List.{length-set}
 use Rattle.fz_dirty.specs.Flags.{Flagged, flagged}
-use Rattle.fz_dirty.proofs.Words.{flag_removed, removed_again, member_within}
+use Rattle.fz_dirty.proofs.Words.{flag_removed, member_within}
+use Rattle.fz_model.proofs.Sets.{removed_again}
 use Rattle.fz_dirty.proofs.flags.Flags.remove.Goals as goal
 
 pub returns-then-not-contains-clause-removed : goal.returns-then-not-contains-clause-removed

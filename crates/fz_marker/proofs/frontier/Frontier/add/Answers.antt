@@ -1,7 +1,7 @@
 use Rattle.std.proofs.Common.{◌≡◌, ◌≤◌, ◌+◌, ◌∷◌, [], ◌++◌, ◌∙◌, IsTrue, Contains, length, length-append, sym, ap, subst, arith, vec_capacity}
 use Rattle.std.specs.FinSet.{contains, len}
 use Rattle.fz_dirty.specs.Flags.{Flagged}
-use Rattle.fz_dirty.proofs.Words.{len_inserted, inserted_again}
+use Rattle.fz_model.proofs.Sets.{len_inserted, inserted_again}
 use Rattle.fz_marker.specs.Frontiers.{Frontier, Gains, HasRoom, IsAmong}
 use Rattle.fz_marker.proofs.Gaining.{gains_known, gains_one, push_within, not_on, not_off}
 use Rattle.fz_marker.proofs.frontier.Frontier.add.Goals as goal
