@@ -1,7 +1,7 @@
 -- A list of blocks and its sets, as one block changes.
-use Rattle.std.proofs.Common.{◌≡◌, ◌≢◌, ℕ, suc, zero, ◌<◌, ◌≤◌, Bool, true, false, cond, not, ◌||◌, ◌&&◌, ◌==◌, List, [], ◌∷◌, length, Option, Some, None, MatchOption, slice_get, slice_index_or, set, nat_le, nat_eq, nat_cmp, refl, sym, ap, ◌∙◌, subst, ⊎_elim, arith, length-set}
+use Rattle.std.proofs.Common.{◌≡◌, ◌≢◌, ℕ, suc, zero, ◌*◌, ◌<◌, ◌≤◌, Bool, true, false, cond, not, ◌||◌, ◌&&◌, ◌==◌, List, [], ◌∷◌, length, Option, Some, None, MatchOption, slice_get, slice_index_or, set, nat_le, nat_eq, nat_cmp, refl, sym, ap, ◌∙◌, subst, ⊎_elim, arith, length-set}
 use Rattle.std.proofs.lemmas.Bool.{cases_eq, eq-eqb, ne_eqb, eqb-true, and_parts, leb-true, cond-true, cond-false, both_ways}
-use Rattle.std.proofs.lemmas.List.{get_or-set_same, get_or-set_other}
+use Rattle.std.proofs.lemmas.List.{get_or_read, get_or-set_same, get_or-set_other}
 use Rattle.std.specs.Option.{option_map_or}
 use Rattle.std.specs.FinSet as sets
 use Rattle.std.specs.FinSet.{contains, empty, contains-empty}
@@ -67,61 +67,72 @@ class_below block on = at block.size block.kind block.sized (class_small block o
     at size Atomic sized small = omega arith
 
 module _ (rooms : List Roomed) (block : Block) (at : ℕ) where
-  class : ℕ
-  class = class_of block.size block.kind
-
   pub leaves_none : has_free_cell block ≡ false → Leaves rooms rooms block at
   leaves_none off = record { long = refl; room = λ d. refl; are = λ d q. sym (ap (λ t. not (t && q == at) && contains (members_at rooms d) q) (room_is d block ∙ ap (λ t. t && (class_of block.size block.kind == d)) off)) }
 
   pub joins_none : has_free_cell block ≡ false → Joins rooms rooms block at
   joins_none off = record { long = refl; room = λ d. refl; are = λ d q. sym (ap (λ t. t && q == at || contains (members_at rooms d) q) (room_is d block ∙ ap (λ t. t && (class_of block.size block.kind == d)) off)) }
 
-  module _ (on : has_free_cell block ≡ true) (i : ℕ) (read : Roomed) (is : i ≡ class_of block.size block.kind) (lt : i < length rooms) (read_is : read ≡ slice_index_or rooms i no_room) where
-    own : (d : ℕ) → d ≡ i → has_room d block ≡ true
-    own d same = room_is d block ∙ ap (λ t. t && (class_of block.size block.kind == d)) on ∙ eq-eqb _ d (sym (same ∙ is))
+  module _ (on : has_free_cell block ≡ true) (i : ℕ) (is : i ≡ class_of block.size block.kind) (classes : length rooms ≡ 128) where
+    within : i < length rooms
+    within = let below = class_below block on in omega (arith, below, is, classes)
 
-    other : (d : ℕ) → d ≢ i → has_room d block ≡ false
-    other d ne = room_is d block ∙ ap (λ t. t && (class_of block.size block.kind == d)) on ∙ ne_eqb _ d (λ e. ne (sym e ∙ sym is))
+    module _ (read : Roomed) (here : read ≡ slice_index_or rooms i read) where
+      read_is : slice_index_or rooms i read ≡ slice_index_or rooms i no_room
+      read_is = sym here ∙ get_or_read rooms i read within here no_room
 
-    pub leaves_room : Leaves rooms (set rooms i (record read { members = sets.remove read.members at })) block at
-    leaves_room = record {
-      long = length-set rooms i (record read { members = sets.remove read.members at });
-      room = λ d.
-          ⊎_elim
-          (λ (same : d ≡ i). ap (λ j. room_at (set rooms i (record read { members = sets.remove read.members at })) j) same ∙ ap (λ (s : Roomed). s.room) (get_or-set_same rooms i (record read { members = sets.remove read.members at }) no_room lt) ∙ ap (λ (s : Roomed). s.room) (read_is ∙ ap (λ j. slice_index_or rooms j no_room) (sym same)))
-          (λ (ne : d ≢ i). ap (λ (s : Roomed). s.room) (get_or-set_other rooms i d (record read { members = sets.remove read.members at }) no_room ne))
-          (cases_eq d i);
-      are = λ d q.
-          ⊎_elim
-          (λ (same : d ≡ i). ap (λ j. contains (members_at (set rooms i (record read { members = sets.remove read.members at })) j) q) same ∙ ap (λ (s : Roomed). contains s.members q) (get_or-set_same rooms i (record read { members = sets.remove read.members at }) no_room lt) ∙ contains-removed read.members at q ∙ ap (λ (s : Roomed). cond (nat_eq q at) false (contains s.members q)) (read_is ∙ ap (λ j. slice_index_or rooms j no_room) (sym same))
-          ∙ flip (nat_eq q at) (contains (members_at rooms d) q) ∙ sym (ap (λ t. not (t && q == at) && contains (members_at rooms d) q) (own d same)))
-          (λ (ne : d ≢ i). ap (λ (s : Roomed). contains s.members q) (get_or-set_other rooms i d (record read { members = sets.remove read.members at }) no_room ne) ∙ sym (ap (λ t. not (t && q == at) && contains (members_at rooms d) q) (other d ne)))
-          (cases_eq d i);
-    }
-      where
-        flip : (t u : Bool) → cond t false u ≡ (not t && u)
-        flip true u = refl
-        flip false u = refl
+      -- the set that is read has room for what each has room for
+      pub room_read : ((d : ℕ) → d < 128 → at < 64 * room_at rooms d) → at < 64 * (slice_index_or rooms i read).room
+      room_read room =
+          let some = room i (omega (arith, class_below block on, is)) in
+          let same = ap (λ (s : Roomed). s.room) read_is in
+          omega (arith, some, same)
 
-    pub joins_room : Joins rooms (set rooms i (record read { members = sets.insert read.members at })) block at
-    joins_room = record {
-      long = length-set rooms i (record read { members = sets.insert read.members at });
-      room = λ d.
-          ⊎_elim
-          (λ (same : d ≡ i). ap (λ j. room_at (set rooms i (record read { members = sets.insert read.members at })) j) same ∙ ap (λ (s : Roomed). s.room) (get_or-set_same rooms i (record read { members = sets.insert read.members at }) no_room lt) ∙ ap (λ (s : Roomed). s.room) (read_is ∙ ap (λ j. slice_index_or rooms j no_room) (sym same)))
-          (λ (ne : d ≢ i). ap (λ (s : Roomed). s.room) (get_or-set_other rooms i d (record read { members = sets.insert read.members at }) no_room ne))
-          (cases_eq d i);
-      are = λ d q.
-          ⊎_elim
-          (λ (same : d ≡ i). ap (λ j. contains (members_at (set rooms i (record read { members = sets.insert read.members at })) j) q) same ∙ ap (λ (s : Roomed). contains s.members q) (get_or-set_same rooms i (record read { members = sets.insert read.members at }) no_room lt) ∙ contains-inserted read.members at q ∙ ap (λ (s : Roomed). cond (nat_eq q at) true (contains s.members q)) (read_is ∙ ap (λ j. slice_index_or rooms j no_room) (sym same))
-          ∙ either (nat_eq q at) (contains (members_at rooms d) q) ∙ sym (ap (λ t. t && q == at || contains (members_at rooms d) q) (own d same)))
-          (λ (ne : d ≢ i). ap (λ (s : Roomed). contains s.members q) (get_or-set_other rooms i d (record read { members = sets.insert read.members at }) no_room ne) ∙ sym (ap (λ t. t && q == at || contains (members_at rooms d) q) (other d ne)))
-          (cases_eq d i);
-    }
-      where
-        either : (t u : Bool) → cond t true u ≡ (t || u)
-        either true u = refl
-        either false u = refl
+      -- the set of the class changes at the block
+      module _ (change : Bool → Bool → Bool) (unchanged : (u : Bool) → change false u ≡ u) (members : Blocks) (are : (q : ℕ) → contains members q ≡ change (nat_eq q at) (contains (slice_index_or rooms i read).members q)) where
+        abbrev now : Roomed
+        now = record (slice_index_or rooms i read) { members = members }
+
+        own : (d : ℕ) → d ≡ i → has_room d block ≡ true
+        own d same = room_is d block ∙ ap (λ t. t && (class_of block.size block.kind == d)) on ∙ eq-eqb _ d (sym (same ∙ is))
+
+        other : (d : ℕ) → d ≢ i → has_room d block ≡ false
+        other d ne = room_is d block ∙ ap (λ t. t && (class_of block.size block.kind == d)) on ∙ ne_eqb _ d (λ e. ne (sym e ∙ sym is))
+
+        room_kept : (d : ℕ) → room_at (set rooms i now) d ≡ room_at rooms d
+        room_kept d =
+            ⊎_elim
+            (λ (same : d ≡ i). ap (room_at (set rooms i now)) same ∙ ap (λ (s : Roomed). s.room) (get_or-set_same rooms i now no_room within) ∙ ap (λ (s : Roomed). s.room) read_is ∙ ap (room_at rooms) (sym same))
+            (λ (ne : d ≢ i). ap (λ (s : Roomed). s.room) (get_or-set_other rooms i d now no_room ne))
+            (cases_eq d i)
+
+        changed : (d q : ℕ) → contains (members_at (set rooms i now) d) q ≡ change (has_room d block && q == at) (contains (members_at rooms d) q)
+        changed d q =
+            ⊎_elim
+            (λ (same : d ≡ i).
+            ap (λ j. contains (members_at (set rooms i now) j) q) same
+            ∙ ap (λ (s : Roomed). contains s.members q) (get_or-set_same rooms i now no_room within)
+            ∙ are q
+            ∙ ap (λ (s : Roomed). change (q == at) (contains s.members q)) (read_is ∙ ap (λ j. slice_index_or rooms j no_room) (sym same))
+            ∙ ap (λ t. change (t && q == at) (contains (members_at rooms d) q)) (sym (own d same)))
+            (λ (ne : d ≢ i).
+            ap (λ (s : Roomed). contains s.members q) (get_or-set_other rooms i d now no_room ne)
+            ∙ sym (ap (λ t. change (t && q == at) (contains (members_at rooms d) q)) (other d ne) ∙ unchanged (contains (members_at rooms d) q)))
+            (cases_eq d i)
+
+      pub leaves_room : Leaves rooms (set rooms i (record (slice_index_or rooms i read) { members = sets.remove (slice_index_or rooms i read).members at })) block at
+      leaves_room = record {
+        long = length-set rooms i _;
+        room = room_kept (λ t u. not t && u) (λ u. refl) _ (has_removed (slice_index_or rooms i read).members at);
+        are = changed (λ t u. not t && u) (λ u. refl) _ (has_removed (slice_index_or rooms i read).members at);
+      }
+
+      pub joins_room : Joins rooms (set rooms i (record (slice_index_or rooms i read) { members = sets.insert (slice_index_or rooms i read).members at })) block at
+      joins_room = record {
+        long = length-set rooms i _;
+        room = room_kept (λ t u. t || u) (λ u. refl) _ (has_inserted (slice_index_or rooms i read).members at);
+        are = changed (λ t u. t || u) (λ u. refl) _ (has_inserted (slice_index_or rooms i read).members at);
+      }
 
 -- ---- a block becomes another
 
