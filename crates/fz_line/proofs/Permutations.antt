@@ -1,44 +1,13 @@
 -- Lists that weigh the same, however their entries are weighed, have the same entries.
-use Rattle.std.proofs.Common.{◌≡◌, ℕ, ◌+◌, ◌<◌, List, [], ◌∷◌, Bool, true, false, true≢false, cond, ◌&&◌, refl, sym, ap, ◌∙◌, subst, arith, eqb, eq-eqb}
-use Rattle.std.proofs.lemmas.Bool.{eqb-true}
-use Rattle.std.specs.Cmp.Derive.{both_true}
+use Rattle.std.proofs.Common.{◌≡◌, ℕ, ◌+◌, ◌<◌, List, [], ◌∷◌, Bool, true, false, cond, refl, sym, ap, ◌∙◌, subst, arith}
 use Rattle.std.specs.List.{sum_by}
 use Rattle.std.specs.List.Sorted.{IsPermutation}
 use Rattle.std.proofs.lemmas.List.Sums.{sum_by-cons}
 use Rattle.std.proofs.lemmas.List.Sorted.{IsPermutation-refl, IsPermutation-sym, IsPermutation-cons, IsPermutation-trans, IsPermutation-middle, sum_by-IsPermutation}
 use Rattle.fz_model.specs.declared.answers.Entry.{Entry}
+use Rattle.fz_model.specs.Events.{same_entry}
+use Rattle.fz_model.proofs.Events.{one_entry, same_itself}
 use Rattle.fz_line.specs.Views.{total}
-
-same_entry : Entry → Entry → Bool
-same_entry a b = eqb a.seq b.seq && (eqb a.pass b.pass && (eqb a.reg b.reg && (eqb a.obj b.obj && (eqb a.birth b.birth && (eqb a.proc b.proc && eqb a.cd b.cd)))))
-
-and_true : (s t : Bool) → (s && t) ≡ true → (s ≡ true) × (t ≡ true)
-and_true true t e = (refl, e)
-and_true false t e = absurd (true≢false (sym e))
-
-same_is : (a b : Entry) → same_entry a b ≡ true → a ≡ b
-unfolding same_entry
-same_is a b e =
-    let p = and_true (eqb a.seq b.seq) _ e in
-    let q = and_true (eqb a.pass b.pass) _ p.1 in
-    let r = and_true (eqb a.reg b.reg) _ q.1 in
-    let s = and_true (eqb a.obj b.obj) _ r.1 in
-    let t = and_true (eqb a.birth b.birth) _ s.1 in
-    let u = and_true (eqb a.proc b.proc) (eqb a.cd b.cd) t.1 in
-    λ i. record {
-      seq = eqb-true a.seq b.seq p.0 i;
-      pass = eqb-true a.pass b.pass q.0 i;
-      reg = eqb-true a.reg b.reg r.0 i;
-      obj = eqb-true a.obj b.obj s.0 i;
-      birth = eqb-true a.birth b.birth t.0 i;
-      proc = eqb-true a.proc b.proc u.0 i;
-      cd = eqb-true a.cd b.cd u.1 i;
-    }
-
-same_itself : (a : Entry) → same_entry a a ≡ true
-unfolding same_entry
-same_itself a =
-    both_true (eq-eqb a.seq a.seq refl) (both_true (eq-eqb a.pass a.pass refl) (both_true (eq-eqb a.reg a.reg refl) (both_true (eq-eqb a.obj a.obj refl) (both_true (eq-eqb a.birth a.birth refl) (both_true (eq-eqb a.proc a.proc refl) (eq-eqb a.cd a.cd refl))))))
 
 abbrev hit : Entry → Entry → ℕ
 hit a b = cond (same_entry a b) 1 0
@@ -55,7 +24,7 @@ abbrev Pulls : Entry → List Entry → Type 0
 Pulls x ys = (rest : List Entry) × IsPermutation ys (x ∷ rest)
 
 pull_by : (x y : Entry) (ys : List Entry) (b : Bool) → same_entry x y ≡ b → 0 < hit x y + total (hit x) ys → (0 < total (hit x) ys → Pulls x ys) → Pulls x (y ∷ ys)
-pull_by x y ys true e some_one more = (ys, subst (λ (z : Entry). IsPermutation (y ∷ ys) (z ∷ ys)) (sym (same_is x y e)) (IsPermutation-refl (y ∷ ys)))
+pull_by x y ys true e some_one more = (ys, subst (λ (z : Entry). IsPermutation (y ∷ ys) (z ∷ ys)) (sym (one_entry x y e)) (IsPermutation-refl (y ∷ ys)))
 pull_by x y ys false e some_one more =
     let none : hit x y ≡ 0 = ap (λ (b : Bool). cond b 1 0) e in
     let rest = more (omega arith) in

@@ -17,6 +17,7 @@ use Rattle.fz_model.specs.Causes.{slot_causes}
 use Rattle.fz_model.specs.Steps.{IsReached, move_answer, moved_to}
 use Rattle.fz_model.specs.CallLaws.{HasLink, IsLinked, LinksAreMade, IsMoved, LinksAreMoved, HoldGivesTheObject}
 use Rattle.fz_model.proofs.Lists.{contains_at, any_at}
+use Rattle.fz_model.proofs.Events.{one_entry}
 use Rattle.fz_model.proofs.MapEntries.{place_of_key}
 use Rattle.fz_model.proofs.Maps.{get-insert_same, get-insert_other, get-remove_same, get-remove_other}
 use Rattle.fz_model.proofs.Sound.{first_none}
@@ -134,25 +135,6 @@ links_are_moved s frame slot offset to_frame to_slot to_offset = record {
 }
 
 -- ---- a hold
-
--- entries that agree in all fields are one
-one_entry : (d e : Entry) → same_entry d e ≡ true → d ≡ e
-one_entry d e h =
-    let seq = and_parts (d.seq == e.seq) _ h in
-    let pass = and_parts (d.pass == e.pass) _ seq.1 in
-    let reg = and_parts (d.reg == e.reg) _ pass.1 in
-    let obj = and_parts (d.obj == e.obj) _ reg.1 in
-    let birth = and_parts (d.birth == e.birth) _ obj.1 in
-    let last = and_parts (d.proc == e.proc) (d.cd == e.cd) birth.1 in
-    λ i. record {
-      seq = eqb-true d.seq e.seq seq.0 i;
-      pass = eqb-true d.pass e.pass pass.0 i;
-      reg = eqb-true d.reg e.reg reg.0 i;
-      obj = eqb-true d.obj e.obj obj.0 i;
-      birth = eqb-true d.birth e.birth birth.0 i;
-      proc = eqb-true d.proc e.proc last.0 i;
-      cd = eqb-true d.cd e.cd last.1 i;
-    }
 
 held_one : (held : List Entry) (e : Entry) → list_any (same_entry e) held ≡ true → Contains held e
 held_one held e h =
