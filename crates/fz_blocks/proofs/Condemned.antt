@@ -26,7 +26,8 @@ use Rattle.fz_blocks.specs.Layout.{is_condemned, condemned_in, waiting_in}
 use Rattle.fz_blocks.specs.Runs.{FreesLater}
 use Rattle.fz_blocks.proofs.Bits.{none_past, fits_word, cell_fits, or_is}
 use Rattle.fz_model.proofs.Bits.{no_bits, bit_on, bit_off}
-use Rattle.fz_blocks.proofs.Tables.{slice_get-set, contains-inserted}
+use Rattle.fz_blocks.proofs.Tables.{slice_get-set}
+use Rattle.fz_model.proofs.Sets.{contains-inserted}
 use Rattle.fz_blocks.proofs.Places.{item_at}
 
 -- ---- the set that a test gathers

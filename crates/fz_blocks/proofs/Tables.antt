@@ -38,14 +38,6 @@ module _ {X : Type 0} where
       (λ (ne : j ≢ i). slice_get-set_other xs i j x ne ∙ sym (cond-false (nat_eq j i) (Some x) (slice_get xs j) (ne_eqb j i ne)))
       (cases_eq j i)
 
--- ---- sets
-
-pub contains-inserted : (s : Blocks) (b q : ℕ) → contains (sets.insert s b) q ≡ cond (nat_eq q b) true (contains s q)
-contains-inserted s b q = has_inserted s b q ∙ elim (nat_eq q b) as (λ t. (t || contains s q) ≡ cond t true (contains s q)) [ true ↦ refl | false ↦ refl ]
-
-pub contains-removed : (s : Blocks) (b q : ℕ) → contains (sets.remove s b) q ≡ cond (nat_eq q b) false (contains s q)
-contains-removed s b q = has_removed s b q ∙ elim (nat_eq q b) as (λ t. (not t && contains s q) ≡ cond t false (contains s q)) [ true ↦ refl | false ↦ refl ]
-
 -- ---- the set of a block's class
 
 pub room_is : (class : ℕ) (block : Block) → has_room class block ≡ (has_free_cell block && (class_of block.size block.kind == class))

@@ -2,7 +2,7 @@
 use Rattle.std.proofs.Common.{◌≡◌, ◌≢◌, ℕ, zero, suc, ◌+◌, ◌-◌, ◌*◌, ◌/◌, ◌%◌, ◌^◌, ◌<◌, ◌≤◌, Bool, true, false, cond, not, ◌&&◌, ◌||◌, List, length, set, slice_index, replicate, nat_eq, nat_le, nat_cmp, refl, sym, ap, ◌∙◌, ⊎_elim, arith, w64, bit_and, bit_or, get_or, add-zero}
 use Rattle.std.proofs.Math.Nat.{mod-eq_of_lt, div-mul-le_self}
 use Rattle.std.proofs.Math.Pow.{pow-lt}
-use Rattle.std.proofs.lemmas.Bool.{cases_eq, cases_lt, eq-eqb, ne_eqb, eqb-false, and_parts, le-leb, lt-leb, leb-true, both_ways}
+use Rattle.std.proofs.lemmas.Bool.{cond-false, cases_eq, cases_lt, eq-eqb, ne_eqb, eqb-false, and_parts, le-leb, lt-leb, leb-true, both_ways}
 use Rattle.std.proofs.lemmas.List.{get_or_past, get_or_read, get_or-set_same, get_or-set_other, get_or-replicate, length-replicate}
 use Rattle.std.proofs.lemmas.Nat.{shr-shr, pow_pos}
 use Rattle.std.proofs.lemmas.Nat.Bits.{bit_at-lt, bit_at-trailing_zeros, bit_at_cat_low, bit_at_cat_high, and_pow, shr_and_one, bit_at_set_same, bit_at_set_other, bit_at_clear_same, bit_at_clear_other}
@@ -13,7 +13,7 @@ use Rattle.std.specs.declared.cmp.Ordering.TheVariants.{Equal}
 use Rattle.std.specs.FinSet.{contains, insert, remove, empty, len, len-empty, len-remove, from_list, contains-retain, contains-from_list_nat, contains-empty}
 use Rattle.fz_dirty.specs.Flags.{Set, flagged, Flagged, HasRoom, IsNext, IsRest}
 use Rattle.fz_model.specs.Bits.{has_bit, has_flag}
-use Rattle.fz_model.proofs.Sets.{has_inserted, has_removed, same_members}
+use Rattle.fz_model.proofs.Sets.{has_removed, contains-inserted, contains-removed, same_members}
 use Rattle.fz_model.proofs.Bits.{no_bits, has_flag-set}
 use Rattle.fz_model.proofs.Lists.{any_of_range}
 
@@ -63,75 +63,34 @@ shifted : (first n q : ℕ) → first ≤ n → first ≤ q → nat_eq (q - firs
 shifted first n q low above =
     ⊎_elim (λ (is : q ≡ n). eq-eqb (q - first) (n - first) (omega arith) ∙ sym (eq-eqb q n is)) (λ (ne : q ≢ n). ne_eqb (q - first) (n - first) (omega arith) ∙ sym (ne_eqb q n ne)) (cases_eq q n)
 
+module _ (first : ℕ) (words : List ℕ) (n x : ℕ) (low : first ≤ n) (within : (n - first) / 64 < length words) (others : (i : ℕ) → i < 64 → i ≢ (n - first) % 64 → bit_at x i ≡ bit_at (slice_index words ((n - first) / 64)) i) where
+  flag_set : (v : Bool) → has_bit x ((n - first) % 64) ≡ v → (q : ℕ) → contains (flagged first (set words ((n - first) / 64) x)) q ≡ cond (nat_eq q n) v (contains (flagged first words) q)
+  flag_set v new q =
+      contains-flagged first (set words ((n - first) / 64) x) q
+      ∙ ⊎_elim
+      (λ (below : q < first).
+      ap (λ t. t && has_flag (set words ((n - first) / 64) x) (q - first)) (lt-leb first q below)
+      ∙ sym (cond-false (nat_eq q n) v (contains (flagged first words) q) (ne_eqb q n (omega arith)) ∙ none_below first words q below))
+      (λ (above : first ≤ q).
+      ap (λ t. t && has_flag (set words ((n - first) / 64) x) (q - first)) (le-leb first q above)
+      ∙ has_flag-set words (n - first) x v within new others (q - first)
+      ∙ ap (λ t. cond t v (has_flag words (q - first))) (shifted first n q low above)
+      ∙ ap (cond (nat_eq q n) v) (sym (contains_from first words q above)))
+      (cases_lt q first)
+
 pub flag_inserted : (first : ℕ) (words : List ℕ) (n word : ℕ) → first ≤ n → (n - first) / 64 < length words → word ≡ get_or words ((n - first) / 64) word → flagged first (set words ((n - first) / 64) (bit_or word (1 * 2 ^ ((n - first) % 64) % 18446744073709551616))) ≡ insert (flagged first words) n
-flag_inserted first words n word low within read = same_members _ _ each
-  where
-    k : ℕ
-    k = n - first
-
-    x : ℕ
-    x = bit_or word (1 * 2 ^ (k % 64) % 18446744073709551616)
-
-    in_word : k % 64 < 64
-    in_word = omega arith
-
-    either : (s t : Bool) → cond s true t ≡ (s || t)
-    either true t = refl
-    either false t = refl
-
-    here : (q : ℕ) → has_flag (set words (k / 64) x) q ≡ cond (nat_eq q k) true (has_flag words q)
-    here = has_flag-set words k x true within (eq-eqb _ 1 (bit_at_set_same w64 word (k % 64) in_word)) (λ i lt ne. bit_at_set_other w64 word (k % 64) in_word i ne ∙ ap (λ w. bit_at w i) (get_or_read words (k / 64) word within read 0))
-
-    each : (q : ℕ) → contains (flagged first (set words (k / 64) x)) q ≡ contains (insert (flagged first words) n) q
-    each q =
-        contains-flagged first (set words (k / 64) x) q
-        ∙ ⊎_elim
-        (λ (below : q < first).
-        ap (λ t. t && has_flag (set words (k / 64) x) (q - first)) (lt-leb first q below)
-        ∙ sym (ap (λ t. t || contains (flagged first words) q) (ne_eqb q n (omega arith)) ∙ contains-flagged first words q ∙ ap (λ t. t && has_flag words (q - first)) (lt-leb first q below)))
-        (λ (above : first ≤ q).
-        ap (λ t. t && has_flag (set words (k / 64) x) (q - first)) (le-leb first q above)
-        ∙ here (q - first)
-        ∙ either (nat_eq (q - first) k) (has_flag words (q - first))
-        ∙ ap (λ t. t || has_flag words (q - first)) (shifted first n q low above)
-        ∙ ap (λ t. nat_eq q n || t) (sym (contains_from first words q above)))
-        (cases_lt q first)
-        ∙ sym (has_inserted (flagged first words) n q)
+flag_inserted first words n word low within read =
+    let in_word : (n - first) % 64 < 64 = omega arith in
+    let x = bit_or word (1 * 2 ^ ((n - first) % 64) % 18446744073709551616) in
+    let others : (i : ℕ) → i < 64 → i ≢ (n - first) % 64 → bit_at x i ≡ bit_at (slice_index words ((n - first) / 64)) i = λ i lt ne. bit_at_set_other w64 word ((n - first) % 64) in_word i ne ∙ ap (λ w. bit_at w i) (get_or_read words ((n - first) / 64) word within read 0) in
+    same_members _ _ (λ q. flag_set first words n x low within others true (eq-eqb _ 1 (bit_at_set_same w64 word ((n - first) % 64) in_word)) q ∙ sym (contains-inserted (flagged first words) n q))
 
 pub flag_removed : (first : ℕ) (words : List ℕ) (n word : ℕ) → first ≤ n → (n - first) / 64 < length words → word ≡ get_or words ((n - first) / 64) word → flagged first (set words ((n - first) / 64) (bit_and word (bit_not w64 (1 * 2 ^ ((n - first) % 64) % 18446744073709551616)))) ≡ remove (flagged first words) n
-flag_removed first words n word low within read = same_members _ _ each
-  where
-    k : ℕ
-    k = n - first
-
-    x : ℕ
-    x = bit_and word (bit_not w64 (1 * 2 ^ (k % 64) % 18446744073709551616))
-
-    in_word : k % 64 < 64
-    in_word = omega arith
-
-    either : (s t : Bool) → cond s false t ≡ (not s && t)
-    either true t = refl
-    either false t = refl
-
-    here : (q : ℕ) → has_flag (set words (k / 64) x) q ≡ cond (nat_eq q k) false (has_flag words q)
-    here = has_flag-set words k x false within (ap (λ b. nat_eq b 1) (bit_at_clear_same w64 word (k % 64) in_word)) (λ i lt ne. bit_at_clear_other w64 word (k % 64) in_word i lt ne ∙ ap (λ w. bit_at w i) (get_or_read words (k / 64) word within read 0))
-
-    each : (q : ℕ) → contains (flagged first (set words (k / 64) x)) q ≡ contains (remove (flagged first words) n) q
-    each q =
-        contains-flagged first (set words (k / 64) x) q
-        ∙ ⊎_elim
-        (λ (below : q < first).
-        ap (λ t. t && has_flag (set words (k / 64) x) (q - first)) (lt-leb first q below)
-        ∙ sym (ap (λ t. not t && contains (flagged first words) q) (ne_eqb q n (omega arith)) ∙ contains-flagged first words q ∙ ap (λ t. t && has_flag words (q - first)) (lt-leb first q below)))
-        (λ (above : first ≤ q).
-        ap (λ t. t && has_flag (set words (k / 64) x) (q - first)) (le-leb first q above)
-        ∙ here (q - first)
-        ∙ either (nat_eq (q - first) k) (has_flag words (q - first))
-        ∙ ap (λ t. not t && has_flag words (q - first)) (shifted first n q low above)
-        ∙ ap (λ t. not (nat_eq q n) && t) (sym (contains_from first words q above)))
-        (cases_lt q first)
-        ∙ sym (has_removed (flagged first words) n q)
+flag_removed first words n word low within read =
+    let in_word : (n - first) % 64 < 64 = omega arith in
+    let x = bit_and word (bit_not w64 (1 * 2 ^ ((n - first) % 64) % 18446744073709551616)) in
+    let others : (i : ℕ) → i < 64 → i ≢ (n - first) % 64 → bit_at x i ≡ bit_at (slice_index words ((n - first) / 64)) i = λ i lt ne. bit_at_clear_other w64 word ((n - first) % 64) in_word i lt ne ∙ ap (λ w. bit_at w i) (get_or_read words ((n - first) / 64) word within read 0) in
+    same_members _ _ (λ q. flag_set first words n x low within others false (ap (λ b. nat_eq b 1) (bit_at_clear_same w64 word ((n - first) % 64) in_word)) q ∙ sym (contains-removed (flagged first words) n q))
 
 -- ---- words that are zero
 

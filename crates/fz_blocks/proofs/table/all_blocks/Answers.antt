@@ -3,7 +3,7 @@ use Rattle.std.proofs.lemmas.Bool.{le-ltb}
 use Rattle.std.specs.Ordering.{nat_cmp}
 use Rattle.std.specs.FinSet.{contains, contains-empty}
 use Rattle.fz_blocks.specs.BlockSets.{Roomed}
-use Rattle.fz_blocks.proofs.Tables.{contains-inserted}
+use Rattle.fz_model.proofs.Sets.{contains-inserted}
 use Rattle.fz_blocks.proofs.Opening.{one_more}
 use Rattle.fz_blocks.proofs.table.all_blocks.Goals as goal
 

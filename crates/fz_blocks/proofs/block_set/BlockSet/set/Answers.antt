@@ -1,7 +1,7 @@
 use Rattle.std.proofs.Common.{◌∙◌, ap, sym, cond, nat_eq}
 use Rattle.std.specs.FinSet.{contains}
 use Rattle.fz_blocks.specs.BlockSets.{Roomed}
-use Rattle.fz_blocks.proofs.Tables.{contains-inserted, contains-removed}
+use Rattle.fz_model.proofs.Sets.{contains-inserted, contains-removed}
 use Rattle.fz_blocks.proofs.block_set.BlockSet.set.Goals as goal
 
 pub returns-then-member-clause-members : goal.returns-then-member-clause-members
