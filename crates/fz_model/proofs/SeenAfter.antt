@@ -1,17 +1,15 @@
 -- An accepted call keeps what was seen closed under children, and but for a pause it doesn't hang on what was seen.
-use Rattle.std.proofs.Common.{◌≡◌, ℕ, Bool, true, false, if◌then◌else◌, [], ◌∷◌, List, Some, None, refl, sym, ap, ◌∙◌, subst, inl, IsFalse, true≢false}
-use Rattle.std.proofs.lemmas.Bool.{cond-false, both_ways}
+use Rattle.std.proofs.Common.{◌≡◌, ℕ, Bool, true, false, if◌then◌else◌, List, Some, None, refl, ap, ◌∙◌, IsFalse, true≢false}
 use Rattle.fz_model.specs.declared.kinds.LinkKind.{LinkKind}
 use Rattle.fz_model.specs.declared.kinds.LinkKind.TheVariants.{Short, Long}
 use Rattle.fz_model.specs.State.{Map, Core, State}
 use Rattle.fz_model.specs.Memory.{points, slot_word}
-use Rattle.fz_model.specs.Reachability.{Child}
 use Rattle.fz_model.specs.Seen.{SeenIsClosed}
 use Rattle.fz_model.specs.Causes.{first_cause, is_off_heap}
 use Rattle.fz_model.specs.Events.{Event, Alloc, Load, Store, Set, Copy, Register, Unregister, Link, Unlink, MoveLink, Begin, Mark, Pause, Collect, Hold, Finish, Close, Outstanding, Queue, Answer, causes}
 use Rattle.fz_model.specs.Steps.{Accepts, moments_after, with_links}
 use Rattle.fz_model.proofs.Parts.{none_stands}
-use Rattle.fz_model.proofs.SeenKept.{FramesWhole, seen_kept, store_seen, alloc_seen, begin_seen}
+use Rattle.fz_model.proofs.SeenKept.{FramesWhole, same_heap, ended, store_seen, alloc_seen, begin_seen}
 
 -- what else has to be known: that the frames are whole, and that a word points to the new object
 abbrev pub IsShown : Core → (e : Event) → Answer e → Core → Type 0
@@ -22,9 +20,7 @@ IsShown old _ answer new = Unit {0}
 module _ (s t : State) (h : SeenIsClosed s) (moments : t.moments ≡ moments_after s t.core) where
   -- a call that leaves the objects
   same : (new : Core) → t.core ≡ new → new.objects ≡ s.objects → new.cycle ≡ s.cycle → SeenIsClosed t
-  same new is objects cycle =
-      seen_kept s t h moments (λ a b c. inl (subst (λ o. Child o a b) (ap (λ (x : Core). x.objects) is ∙ objects) c))
-      (λ on. inl (sym (ap (λ (x : Core). x.cycle) is ∙ cycle) ∙ on))
+  same new is objects cycle = same_heap s t h (ap (λ (x : Core). x.objects) is ∙ objects) (ap (λ (x : Core). x.cycle) is ∙ cycle) moments
 
   same_either : (b : Bool) (new : Core) → t.core ≡ (if b then s.core else new) → new.objects ≡ s.objects → new.cycle ≡ s.cycle → SeenIsClosed t
   same_either true new is objects cycle = same s.core is refl refl
@@ -33,14 +29,6 @@ module _ (s t : State) (h : SeenIsClosed s) (moments : t.moments ≡ moments_aft
   same_links : (which : LinkKind) (links : Map ℕ) → t.core ≡ with_links s.core which links → SeenIsClosed t
   same_links Short links is = same _ is refl refl
   same_links Long links is = same _ is refl refl
-
-  -- one that ends the cycle
-  ended : t.cycle ≡ false → SeenIsClosed t
-  ended off = record {
-    outside = λ _. moments ∙ cond-false t.cycle (t.core ∷ s.moments) [] off;
-    reachable = λ on. absurd (both_ways t.cycle off on);
-    closed = λ on. absurd (both_ways t.cycle off on);
-  }
 
   pub accepted_seen : (e : Event) (answer : Answer e) → IsShown s.core e answer t.core → first_cause (causes s.core e) ≡ None → Accepts s e answer t.core → SeenIsClosed t
   accepted_seen (Alloc frame slot size kind) answer shown none a = alloc_seen s t frame slot size kind answer h shown.0 (none_stands (causes s.core (Alloc frame slot size kind)) none).0 shown.1 a moments
@@ -56,8 +44,8 @@ module _ (s t : State) (h : SeenIsClosed s) (moments : t.moments ≡ moments_aft
   accepted_seen (MoveLink which _ _ _ _ _ _) answer shown none a = same_links which _ a.1
   accepted_seen Begin answer shown none a = begin_seen s t h (none_stands (causes s.core Begin) none).0 a moments
   accepted_seen (Mark _) answer shown none a = same _ a.1 refl refl
-  accepted_seen Pause answer shown none a = ended (ap (λ (x : Core). x.cycle) a.2.is)
-  accepted_seen Collect answer shown none a = ended (ap (λ (x : Core). x.cycle) a.2.is)
+  accepted_seen Pause answer shown none a = ended s t (ap (λ (x : Core). x.cycle) a.2.is) moments
+  accepted_seen Collect answer shown none a = ended s t (ap (λ (x : Core). x.cycle) a.2.is) moments
   accepted_seen (Hold _ _ _) answer shown none a = same _ a refl refl
   accepted_seen (Finish _) answer shown none a = same _ a refl refl
   accepted_seen Close answer shown none a = same _ a refl refl
