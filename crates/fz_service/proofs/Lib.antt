@@ -1,0 +1,4 @@
+pub mod Growing
+pub mod Finishing
+pub mod Keeps
+pub mod Seated

@@ -1,0 +1,84 @@
+-- What a service opened with, and what contracts see under its lock.
+use Rattle.std.specs.Prelude.{◌≡◌, ℕ, ◌+◌, ◌<◌, ◌≤◌, Bool, not, List, [], length, take, filter, Some, Contains, refl}
+use Rattle.std.specs.Coded.{Coded, code_by, coded×, coded_ℕ, coded_list}
+use Rattle.std.specs.FinMap.{get}
+use Rattle.fz_model.specs.declared.answers.Entry.{Entry}
+use Rattle.fz_model.specs.Codes.{entry_code}
+use Rattle.fz_model.specs.State.{Object, State, opening}
+use Rattle.fz_model.specs.Events.{Event, same_entry}
+use Rattle.fz_model.specs.Steps.{StepsTo, any_call}
+use Rattle.fz_model.specs.Joint.{is_finish}
+use Rattle.fz_line.specs.States.{Line, SeatState, OwnerState, owner_state}
+use Rattle.fz_line.specs.Views.{first_room}
+use Rattle.fz_world.specs.World.{WorldView, world_code}
+use Rattle.fz_world.specs.Does.{StandsFor}
+
+-- by what a service is told from every other, and what it opened with
+pub record Origin : Type 0 where
+  pub line : Line
+  pub workers : ℕ
+  pub finishes : ℕ  -- the name of its book of finished duties
+  pub blocks : ℕ
+  pub frames : ℕ
+
+pub record LockedState : Type 0 where
+  pub world : WorldView
+  pub sent : List Entry  -- what the line was sent, as its owner knows it
+  pub published : ℕ  -- the number of entries that were sent, which stands beside the world
+  pub finished : ℕ  -- the number of finished duties, by the book
+
+abbrev pub locked_state : WorldView → List Entry → ℕ → ℕ → LockedState
+locked_state world sent published finished = record { world = world; sent = sent; published = published; finished = finished }
+
+abbrev pub locked_code : Coded LockedState
+locked_code =
+    code_by (WorldView × (List Entry × (ℕ × ℕ))) (coded× world_code (coded× (coded_list entry_code) (coded× coded_ℕ coded_ℕ)))
+    (λ s. (s.world, (s.sent, (s.published, s.finished)))) (λ p. record { world = p.0; sent = p.1.0; published = p.1.1.0; finished = p.1.1.1 }) (λ _. refl)
+
+-- the world stands for a state that steps reach from the opening
+pub record IsReachedFrom (origin : Origin) (world : WorldView) : Type 0 where
+  pub state : State
+  pub steps : StepsTo any_call (opening origin.blocks origin.frames) state
+  pub stands : StandsFor world state
+
+-- what holds whenever the lock is taken
+pub record IsInOrder (origin : Origin) (s : LockedState) : Type 0 where
+  pub reached : IsReachedFrom origin s.world
+  -- what was sent is the first entries of the queue, so the outbox is the rest
+  pub sent : s.sent ≡ take s.published s.world.queue
+  pub within : s.published ≤ length s.world.queue
+  -- what is held no more was finished
+  pub finished : s.finished + length s.world.held ≡ length s.world.queue
+
+-- the owner sends to the service's line and has popped nothing, and every share of the book was given away. Means only.
+pub record IsReady (origin : Origin) (owner : OwnerState) (parts amount : ℕ) : Type 0 where
+  pub owner_is : owner ≡ owner_state origin.line origin.workers owner.sent []
+  pub no_parts : parts ≡ 0
+  pub no_amount : amount ≡ 0
+
+-- nothing but the world may differ
+abbrev pub KeepsLine : LockedState → LockedState → Type 0
+KeepsLine old new = new ≡ record old { world = new.world }
+
+-- more may be sent, and nothing else differs but the world; where entries are left in the outbox a push was refused, as none of the first 64 is
+pub record SendsMore (old new : LockedState) : Type 0 where
+  pub same : new ≡ record old { world = new.world; sent = new.sent; published = new.published }
+  pub more : old.published ≤ new.published
+  pub room : new.published < length new.world.queue → first_room ≤ new.published
+
+-- the entry was held, and its object had its birth; now it is held no more
+pub record LetsGo (old new : WorldView) (entry : Entry) : Type 0 where
+  pub held : Contains old.held entry
+  pub object : (o : Object) × (get old.objects entry.obj ≡ Some o) × (o.birth ≡ entry.birth)
+  pub gone : new.held ≡ filter (λ other. not (same_entry entry other)) old.held
+
+abbrev pub is_no_finish : Event → Bool
+is_no_finish e = not (is_finish e)
+
+-- calls other than `finish` lead from the old world to the new
+abbrev pub RunsCalls : WorldView → WorldView → Type 0
+RunsCalls old new = (s : State) → StandsFor old s → (t : State) × StepsTo is_no_finish s t × StandsFor new t
+
+-- a seat of this line that has finished nothing
+abbrev pub IsNewAt : Line → SeatState → Type 0
+IsNewAt line seat = (seat.line ≡ line) × (seat.finished ≡ 0)

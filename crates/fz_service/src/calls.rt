@@ -1,0 +1,272 @@
+//! The calls of a world, under the lock.
+
+ghost use Rattle.std.specs.Prelude.{◌≡◌, OnOk, OnErr};
+ghost use Rattle.std.specs.FinSet as sets;
+ghost use Rattle.std.specs.declared.result.Result.TheVariants.{Ok};
+ghost use Rattle.fz_model.specs.Events.{Alloc, Load, Store, Set, Copy, Register, Unregister, Link, Unlink, MoveLink, Begin, Mark, Pause, Collect, Hold, Close, Outstanding, Queue};
+ghost use Rattle.fz_world.specs.Does.{Does};
+ghost use Rattle.fz_service.specs.States.{KeepsLine, SendsMore};
+
+use crate::locked::Locked;
+use crate::opening::Opening;
+use fz_model::{
+    Addr, Entry, LinkAnswer, LinkKind, MoveAnswer, ObjKind, Old, Passed, Progress, Refusal,
+    RegAnswer, RegKind, Word,
+};
+
+/// Each call is the step of the same name of the world, and leaves the line as it is, but for what `pause` and `collect` send.
+impl<O: Opening> Locked<O> {
+    /// Makes an object of `size` words, all of them zero, and puts its address into the slot; returns the address and the birth.
+    ///
+    /// Refusals, in their order: `BadSlot`, `BadSize`, `Exhausted`, `NoSpace`.
+    pub fn alloc(
+        &mut self,
+        frame: u64,
+        slot: u64,
+        size: u64,
+        kind: ObjKind,
+    ) -> Result<(Addr, u64), Refusal>
+        ensures step { Does self.old.world (Alloc frame slot size kind) result self.new.world }
+        ensures line { KeepsLine self.old self.new }
+    {
+        self.world.alloc(frame, slot, size, kind)
+    }
+
+    /// Reads the word at an offset from where the slot points into an object, and puts it into the second slot too.
+    ///
+    /// Refusals, in their order: `BadSlot` of either slot, `NotPointer`, `OutsideObject`.
+    pub fn load(
+        &mut self,
+        frame: u64,
+        slot: u64,
+        offset: u64,
+        to_frame: u64,
+        to_slot: u64,
+    ) -> Result<Word, Refusal>
+        ensures step { Does self.old.world (Load frame slot offset to_frame to_slot) result self.new.world }
+        ensures line { KeepsLine self.old self.new }
+    {
+        self.world.load(frame, slot, offset, to_frame, to_slot)
+    }
+
+    /// Writes the second slot's word at an offset from where the first slot points into an object.
+    ///
+    /// Refusals, in their order: `BadSlot` of either slot, `NotPointer`, `OutsideObject`.
+    pub fn store(
+        &mut self,
+        frame: u64,
+        slot: u64,
+        offset: u64,
+        from_frame: u64,
+        from_slot: u64,
+    ) -> Result<(), Refusal>
+        ensures step { Does self.old.world (Store frame slot offset from_frame from_slot) result self.new.world }
+        ensures line { KeepsLine self.old self.new }
+    {
+        self.world.store(frame, slot, offset, from_frame, from_slot)
+    }
+
+    /// Puts the word into the slot.
+    ///
+    /// Refused `BadSlot` where there is no such slot.
+    pub fn set(&mut self, frame: u64, slot: u64, word: Word) -> Result<(), Refusal>
+        ensures step { Does self.old.world (Set frame slot word) result self.new.world }
+        ensures line { KeepsLine self.old self.new }
+    {
+        self.world.set(frame, slot, word)
+    }
+
+    /// Puts the slot's word into the second slot.
+    ///
+    /// Refused `BadSlot` where there is no such slot.
+    pub fn copy(
+        &mut self,
+        frame: u64,
+        slot: u64,
+        to_frame: u64,
+        to_slot: u64,
+    ) -> Result<(), Refusal>
+        ensures step { Does self.old.world (Copy frame slot to_frame to_slot) result self.new.world }
+        ensures line { KeepsLine self.old self.new }
+    {
+        self.world.copy(frame, slot, to_frame, to_slot)
+    }
+
+    /// Registers a finalizer of the object that starts at the slot's word.
+    ///
+    /// Refusals, in their order: `BadSlot`, `NotPointer`, `NotStart`, `Exhausted`, `TableFull`, `NoMemory`.
+    pub fn register(
+        &mut self,
+        frame: u64,
+        slot: u64,
+        kind: RegKind,
+        proc: u64,
+        cd: Word,
+        rank: u8,
+    ) -> Result<RegAnswer, Refusal>
+        ensures step { Does self.old.world (Register frame slot kind proc cd rank) result self.new.world }
+        ensures line { KeepsLine self.old self.new }
+    {
+        self.world.register(frame, slot, kind, proc, cd, rank)
+    }
+
+    /// Removes the registration of the object that starts at the slot's word; returns its procedure and client data.
+    ///
+    /// Refusals, in their order: `BadSlot`, `NotPointer`, `NotStart`.
+    pub fn unregister(&mut self, frame: u64, slot: u64) -> Result<Option<Old>, Refusal>
+        ensures step { Does self.old.world (Unregister frame slot) result self.new.world }
+        ensures line { KeepsLine self.old self.new }
+    {
+        self.world.unregister(frame, slot)
+    }
+
+    /// Makes the word at an offset from where the slot points a link to the object that starts at the target slot's word.
+    ///
+    /// Refusals, in their order: `BadSlot` of either slot, `NotPointer` and `OutsideObject` of the place, `NotPointer` and `NotStart` of the target,
+    /// `TableFull`, `NoMemory`.
+    pub fn link(
+        &mut self,
+        which: LinkKind,
+        frame: u64,
+        slot: u64,
+        offset: u64,
+        target_frame: u64,
+        target_slot: u64,
+    ) -> Result<LinkAnswer, Refusal>
+        ensures step { Does self.old.world (Link which frame slot offset target_frame target_slot) result self.new.world }
+        ensures line { KeepsLine self.old self.new }
+    {
+        self.world
+            .link(which, frame, slot, offset, target_frame, target_slot)
+    }
+
+    /// Removes the link at an offset from where the slot points, and returns whether there was one.
+    ///
+    /// Refusals, in their order: `BadSlot`, `NotPointer`, `OutsideObject`.
+    pub fn unlink(
+        &mut self,
+        which: LinkKind,
+        frame: u64,
+        slot: u64,
+        offset: u64,
+    ) -> Result<bool, Refusal>
+        ensures step { Does self.old.world (Unlink which frame slot offset) result self.new.world }
+        ensures line { KeepsLine self.old self.new }
+    {
+        self.world.unlink(which, frame, slot, offset)
+    }
+
+    /// Moves a link, with its target, from one place to another. No word changes.
+    ///
+    /// Refusals, in their order: `BadSlot` of either slot, `NotPointer` and `OutsideObject` of the old place, the same of the new one, `NoMemory`.
+    pub fn move_link(
+        &mut self,
+        which: LinkKind,
+        frame: u64,
+        slot: u64,
+        offset: u64,
+        to_frame: u64,
+        to_slot: u64,
+        to_offset: u64,
+    ) -> Result<MoveAnswer, Refusal>
+        ensures step { Does self.old.world (MoveLink which frame slot offset to_frame to_slot to_offset) result self.new.world }
+        ensures line { KeepsLine self.old self.new }
+    {
+        self.world
+            .move_link(which, frame, slot, offset, to_frame, to_slot, to_offset)
+    }
+
+    /// Opens a cycle.
+    ///
+    /// Refusals, in their order: `CycleOpen`, `Exhausted` at the 2^48th pass.
+    pub fn begin(&mut self) -> Result<(), Refusal>
+        ensures step { Does self.old.world Begin result self.new.world }
+        ensures line { KeepsLine self.old self.new }
+    {
+        self.world.begin()
+    }
+
+    /// Scans at most `budget` marked objects that weren't scanned in the cycle: `Done` where none is left.
+    ///
+    /// Refusals, in their order: `BadCount` where the budget is 0, `NoCycle`.
+    pub fn mark(&mut self, budget: u64) -> Result<Progress, Refusal>
+        ensures step { Does self.old.world (Mark budget) result self.new.world }
+        ensures line { KeepsLine self.old self.new }
+    {
+        self.world.mark(budget)
+    }
+
+    /// Puts the object of a held entry into the slot.
+    ///
+    /// Refusals, in their order: `BadSlot`, `NotHeld` where no held entry is the same in all its fields.
+    pub fn hold(&mut self, frame: u64, slot: u64, entry: &Entry) -> Result<(), Refusal>
+        ensures step { Does self.old.world (Hold frame slot entry.now) result self.new.world }
+        ensures line { KeepsLine self.old self.new }
+    {
+        self.world.hold(frame, slot, entry)
+    }
+
+    /// Closes the world: every registered object is a root from now on, so no pass queues anything.
+    ///
+    /// Refused `Closed` where the world is closed.
+    pub fn close(&mut self) -> Result<(), Refusal>
+        ensures step { Does self.old.world Close result self.new.world }
+        ensures line { KeepsLine self.old self.new }
+    {
+        self.world.close()
+    }
+    /// Ends the cycle with a pass, and sends what it queued.
+    ///
+    /// Refused `NoCycle` where no cycle is open.
+    pub fn pause(&mut self) -> Result<Passed, Refusal>
+        ensures step { Does self.old.world Pause result self.new.world }
+        ensures sent { OnOk result (SendsMore self.old self.new) }
+        ensures refused { OnErr result (KeepsLine self.old self.new) }
+    {
+        let passed = self.world.pause()?;
+        self.publish();
+        Ok(passed)
+    }
+
+    /// A whole cycle in one step, which sends what it queued.
+    ///
+    /// Refusals, in their order: `CycleOpen`, `Exhausted` at the 2^48th pass.
+    pub fn collect(&mut self) -> Result<Passed, Refusal>
+        ensures step { Does self.old.world Collect result self.new.world }
+        ensures sent { OnOk result (SendsMore self.old self.new) }
+        ensures refused { OnErr result (KeepsLine self.old self.new) }
+    {
+        let passed = self.world.collect()?;
+        self.publish();
+        Ok(passed)
+    }
+
+    /// The number of held entries.
+    pub fn outstanding(&self) -> u64
+        ensures { Does self.now.world Outstanding (Ok result) self.now.world }
+    {
+        self.world.outstanding()
+    }
+
+    /// All entries ever queued, in their order.
+    pub fn queue(&self) -> &[Entry]
+        ensures queue { result.now ≡ self.now.world.queue }
+        ensures step { Does self.now.world Queue (Ok result.now) self.now.world }
+    {
+        self.world.queue()
+    }
+
+    /// How many objects were scanned in the cycle begun last; 0 before any.
+    pub fn scans(&self) -> u64
+        ensures { result ≡ self.now.world.scans }
+    {
+        self.world.scans()
+    }
+
+    /// How many pages were noted in the cycle begun last; 0 before any.
+    pub fn noted(&self) -> u64
+        ensures { result ≡ sets.len self.now.world.noted }
+    {
+        self.world.noted()
+    }
+}

@@ -1,0 +1,18 @@
+//! The finalization service: a world under one lock, the ready line outside of it, and the workers that take from the line.
+//!
+//! `Service::prepare` makes all that a service needs, and `Service::open`, under a marker that names this one opening, gives the service and its
+//! seats. `enter` takes the lock and lends `Locked`, which has the calls of a world.
+#![tactic(auto)]
+
+mod calls;
+mod locked;
+mod opening;
+mod prepared;
+mod seat;
+mod service;
+
+pub use locked::Locked;
+pub use opening::{Finishes, Opening};
+pub use prepared::Prepared;
+pub use seat::{Duty, Seat, Take};
+pub use service::{Guard, Service};

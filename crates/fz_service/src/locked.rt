@@ -1,0 +1,120 @@
+//! What the lock holds.
+
+ghost use Rattle.std.specs.Prelude.{◌≡◌, ◌+◌, ◌<◌, ◌≤◌, [], ◌++◌, drop, length, take, IfOk, IfErr, OnOk};
+ghost use Rattle.fz_model.specs.Events.{Finish};
+ghost use Rattle.fz_model.specs.State.{opening};
+ghost use Rattle.fz_line.specs.States.{owner_state};
+ghost use Rattle.fz_line.specs.Views.{first_room};
+ghost use Rattle.fz_world.specs.Does.{Does, StandsFor};
+ghost use Rattle.fz_service.specs.States.{locked_state, IsInOrder, LetsGo, RunsCalls, KeepsLine};
+ghost use Rattle.fz_service.specs.Takes.{reply_of};
+
+use crate::opening::{Finishes, Opening};
+use crate::seat::{Duty, Seat};
+use fz_line::Owner;
+use fz_model::{Entry, Refusal};
+use fz_world::World;
+use std::alloc::Global;
+use std::marker::Model;
+use std::sync::ledger::{Book, Share};
+
+/// A world, the owner's end of the line to which its ready entries are sent, and the book of finished duties.
+///
+/// A contract sees the world, what the line was sent, how many entries that is, and the number of finished duties.
+#[derive(Drop)]
+pub struct Locked<O: Opening> {
+    pub(crate) alloc: Global,
+    pub(crate) world: World,
+    pub(crate) owner: Owner,
+    pub(crate) published: usize,
+    pub(crate) book: Book<Finishes<O>>,
+    /// What is left of the book's shares, once each seat has its own: no part.
+    pub(crate) rest: Share<Finishes<O>>,
+}
+
+impl<O: Opening> Model for Locked<O> {
+    ghost use Rattle.fz_service.specs.States.{LockedState, locked_code, locked_state, IsInOrder, IsReady};
+
+    ghost Value = { LockedState };
+
+    ghost coded = { locked_code };
+
+    ghost view = { λ s. locked_state s.world s.owner.sent s.published s.book.total };
+
+    ghost invariant = { λ s. IsInOrder O.origin (locked_state s.world s.owner.sent s.published s.book.total) × IsReady O.origin s.owner s.rest.parts s.rest.amount };
+}
+
+impl<O: Opening> Locked<O> {
+    /// A new world and a new line, once each share of the book was given away.
+    pub(crate) fn new(
+        alloc: Global,
+        world: World,
+        owner: Owner,
+        book: Book<Finishes<O>>,
+        rest: Share<Finishes<O>>,
+    ) -> Locked<O>
+        requires world { StandsFor world (opening O.origin.blocks O.origin.frames) }
+        requires owner { owner ≡ owner_state O.origin.line O.origin.workers [] [] }
+        requires book { (book.total ≡ 0) × (rest.parts ≡ 0) × (rest.amount ≡ 0) }
+    {
+        Locked {
+            alloc,
+            world,
+            owner,
+            published: 0,
+            book,
+            rest,
+        }
+    }
+
+    /// Does nothing: it tells what every hold of the lock may rely on.
+    pub(crate) fn look(&self)
+        ensures { IsInOrder O.origin self.now }
+    {
+        let _ = &self.published;
+    }
+
+    /// The entries that weren't sent: the queue from the published count on.
+    pub fn outbox(&self) -> &[Entry]
+        ensures { result.now ≡ drop self.now.published self.now.world.queue }
+    {
+        &self.world.queue()[self.published..]
+    }
+
+    /// Sends the entries of the outbox, the oldest first; returns how many were sent.
+    ///
+    /// It stops early only where a push found no memory, as none of the first 64 entries does. What isn't sent stays in the outbox.
+    pub fn publish(&mut self) -> usize
+        ensures sent { self.new ≡ record self.old { sent = self.old.sent ++ take result (drop self.old.published self.old.world.queue); published = self.old.published + result } }
+        ensures within { self.new.published ≤ length self.old.world.queue }
+        ensures room { self.new.published < length self.old.world.queue → first_room ≤ self.new.published }
+    {
+        let outbox = &self.world.queue()[self.published..];
+        let count = self.owner.publish(outbox);
+        self.published += count;
+        count
+    }
+
+    /// Ends the duty with its work done: the entry is held no more.
+    ///
+    /// Refused `NotHeld`, with the duty, where no held entry is the same in all its fields.
+    pub fn finish(&mut self, duty: Duty<O>) -> Result<Seat<O>, (Refusal, Duty<O>)>
+        ensures step { Does self.old.world (Finish duty.entry) (reply_of result) self.new.world }
+        ensures done { IfOk result (λ seat. seat ≡ record duty.seat { finished = duty.seat.finished + 1 }) }
+        ensures counted { OnOk result (self.new ≡ record self.old { world = self.new.world; finished = self.old.finished + 1 }) }
+        ensures gone { OnOk result (LetsGo self.old.world self.new.world duty.entry) }
+        ensures refused { IfErr result (λ refused. (refused ≡ (Refusal.NotHeld, duty)) × (self.new ≡ self.old)) }
+    {
+        match self.world.finish(duty.entry()) {
+            Err(refusal) => Err((refusal, duty)),
+            Ok(()) => {
+                let Duty { duty, mut share } = duty;
+                self.book.add(&mut share, 1);
+                Ok(Seat {
+                    seat: duty.done(),
+                    share,
+                })
+            }
+        }
+    }
+}

@@ -1,0 +1,107 @@
+//! All that a service needs, before a marker names it.
+
+ghost use Rattle.std.specs.Prelude.{◌≡◌, ◌≤◌, [], length, vec_capacity};
+ghost use Rattle.std.specs.List.{AllByRecursion};
+ghost use Rattle.fz_line.specs.States.{new_seats};
+ghost use Rattle.fz_service.specs.States.{IsNewAt};
+
+use crate::locked::Locked;
+use crate::opening::{Finishes, Opening};
+use crate::seat::Seat;
+use crate::service::Service;
+use fz_line::{Owner, retire_all};
+use fz_world::{Config, World};
+use std::alloc::Global;
+use std::marker::Model;
+use std::sync::Mutex;
+use std::sync::ledger::{Blank, Share};
+
+/// A world, a line with its seats, and a book, which no marker names yet.
+///
+/// A contract sees by what the service will be told from every other.
+pub struct Prepared {
+    pub(crate) alloc: Global,
+    pub(crate) config: Config,
+    pub(crate) world: World,
+    pub(crate) owner: Owner,
+    pub(crate) seats: Vec<fz_line::Seat>,
+    pub(crate) blank: Blank,
+}
+
+impl Model for Prepared {
+    ghost use Rattle.std.specs.Prelude.{◌≡◌, []};
+    ghost use Rattle.fz_model.specs.State.{opening};
+    ghost use Rattle.fz_line.specs.States.{owner_state, new_seats};
+    ghost use Rattle.fz_world.specs.Does.{StandsFor};
+    ghost use Rattle.fz_service.specs.States.{Origin};
+
+    ghost Value = { Origin };
+
+    ghost view = { λ p. record { line = p.owner.line; workers = p.owner.seats; finishes = p.blank.name; blocks = p.config.blocks; frames = p.config.frames } };
+
+    ghost invariant = { λ p. (p.owner ≡ owner_state p.owner.line p.owner.seats [] []) × (p.seats.items ≡ new_seats p.owner.line p.owner.seats) × (p.blank.parts ≡ p.owner.seats) × StandsFor p.world (opening p.config.blocks p.config.frames) };
+}
+
+/// What isn't opened goes, and its seats are retired.
+impl Drop for Prepared {
+    fn drop(self) {
+        let Self {
+            alloc: _,
+            config: _,
+            world,
+            owner,
+            seats,
+            blank,
+        } = self;
+        drop(world);
+        drop(owner);
+        drop(blank);
+        retire_all(seats);
+    }
+}
+
+impl Prepared {
+    /// The service and its seats, in room for them.
+    pub(crate) fn into_service<O: Opening>(self, room: Vec<Seat<O>>) -> (Service<O>, Vec<Seat<O>>)
+        requires origin { self ≡ O.origin }
+        requires room { (room.items ≡ []) × (self.workers ≤ vec_capacity room) }
+        ensures { result.1.items ≡ new_seats O.origin.line O.origin.workers }
+    {
+        let Self {
+            alloc,
+            config: _,
+            world,
+            owner,
+            seats,
+            blank,
+        } = self;
+        let (book, all) = blank.open::<Finishes<O>>();
+        let (seats, rest) = share_out(seats, room, all);
+        let locked = Locked::new(alloc, world, owner, book, rest);
+        let service = Service {
+            lock: Mutex::new(locked),
+        };
+        (service, seats)
+    }
+}
+
+/// Gives each seat its share of the book, in room for all seats.
+fn share_out<O: Opening>(
+    mut seats: Vec<fz_line::Seat>,
+    mut shared: Vec<Seat<O>>,
+    mut all: Share<Finishes<O>>,
+) -> (Vec<Seat<O>>, Share<Finishes<O>>)
+    requires seats { AllByRecursion (IsNewAt O.origin.line) seats.items }
+    requires room { (shared.items ≡ []) × (length seats.items ≤ vec_capacity shared) }
+    requires all { (all.parts ≡ length seats.items) × (all.amount ≡ 0) }
+    ensures seats { result.0.items ≡ seats.items }
+    ensures rest { (result.1.parts ≡ 0) × (result.1.amount ≡ 0) }
+{
+    while seats.len() > 0 {
+        let seat = seats.remove(0);
+        let share = all.split_off(1, 0);
+        shared.push_reserved(Seat { seat, share });
+    }
+    seats.destroy_empty();
+    (shared, all)
+}

@@ -1,0 +1,95 @@
+//! The lock, and how a service opens.
+
+ghost use Rattle.std.specs.Prelude.{◌≡◌, ◌++◌, ◌∷◌, [], IfOk, IfErr};
+ghost use Rattle.std.specs.Sync.Mutex.{mutex_guard_value};
+ghost use Rattle.fz_model.specs.Causes.{IsJudgedBy, IsJudgedOrLacks, bad_count};
+ghost use Rattle.fz_model.specs.declared.limits.TheConstants.{MAX_WORKERS};
+ghost use Rattle.fz_line.specs.States.{new_seats};
+ghost use Rattle.fz_world.specs.Does.{open_causes};
+ghost use Rattle.fz_service.specs.States.{IsInOrder};
+
+use crate::locked::Locked;
+use crate::opening::Opening;
+use crate::prepared::Prepared;
+use crate::seat::Seat;
+use fz_line::{line, retire_all};
+use fz_model::{MAX_BLOCKS, MAX_FRAMES, Refusal};
+use fz_world::{Config, World};
+use std::alloc::Global;
+use std::marker::Brand;
+use std::sync::ledger::Blank;
+use std::sync::{Mutex, MutexGuard, Wait};
+
+/// The lock, held: it lends `Locked`.
+pub type Guard<'a, O> = MutexGuard<'a, Locked<O>>;
+
+/// A world and the owner's end of its line, under one lock.
+#[derive(Drop)]
+pub struct Service<O: Opening> {
+    pub(crate) lock: Mutex<Locked<O>>,
+}
+
+/// Refuses a world outside its limits.
+fn check_config(config: Config) -> Result<(), Refusal>
+    ensures { IsJudgedBy (open_causes config.blocks config.frames) result }
+{
+    if config.blocks < 1 || config.blocks > MAX_BLOCKS {
+        return Err(Refusal::BadCount);
+    }
+    if config.frames < 1 || config.frames > MAX_FRAMES {
+        return Err(Refusal::BadCount);
+    }
+    Ok(())
+}
+
+impl Service<Brand> {
+    /// All that a service with a world of this size and so many workers needs.
+    ///
+    /// Refusals, in their order: `BadCount` where blocks, frames or workers are outside their limits, `NoMemory` where an allocation failed.
+    pub fn prepare(alloc: Global, config: Config, workers: u64) -> Result<Prepared, Refusal>
+        ensures judged { IsJudgedOrLacks (open_causes config.blocks config.frames ++ bad_count MAX_WORKERS workers ∷ []) result }
+        ensures prepared { IfOk result (λ made. (made.blocks ≡ config.blocks) × (made.frames ≡ config.frames) × (made.workers ≡ workers)) }
+    {
+        check_config(config)?;
+        let (owner, seats) = line(alloc, workers)?;
+        let blank = Blank::new(workers);
+        match World::open(alloc, config) {
+            Ok(world) => Ok(Prepared {
+                alloc,
+                config,
+                world,
+                owner,
+                seats,
+                blank,
+            }),
+            Err(refusal) => {
+                retire_all(seats);
+                Err(refusal)
+            }
+        }
+    }
+}
+
+impl<O: Opening> Service<O> {
+    /// A service under a marker that names this one opening, and its seats by index.
+    ///
+    /// Refused `NoMemory` where an allocation failed; what was prepared is dropped then.
+    pub fn open(prepared: Prepared) -> Result<(Service<O>, Vec<Seat<O>>), Refusal>
+        requires { prepared ≡ O.origin }
+        ensures seats { IfOk result (λ opened. opened.1.items ≡ new_seats O.origin.line O.origin.workers) }
+        ensures refused { IfErr result (λ refusal. refusal ≡ Refusal.NoMemory) }
+    {
+        let room = Vec::with_capacity(prepared.alloc, prepared.seats.len())?;
+        Ok(prepared.into_service(room))
+    }
+
+    /// Takes the lock. Whenever it is taken, the world stands for a state that steps reach from the opening, what was sent is the beginning of
+    /// its queue, and what is held no more was finished by a duty.
+    pub fn enter<'a, R: Wait>(&'a self, rt: &R) -> Guard<'a, O>
+        ensures { IsInOrder O.origin (mutex_guard_value result) }
+    {
+        let guard = self.lock.lock(rt);
+        guard.look();
+        guard
+    }
+}
