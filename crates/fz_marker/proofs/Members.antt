@@ -15,7 +15,7 @@ use Rattle.fz_model.specs.State.{Map}
 use Rattle.fz_model.proofs.Lists.{count_cons, map_at}
 use Rattle.fz_model.proofs.MapEntries.{T-first, T-second, below_at, own_key, other_key}
 use Rattle.fz_dirty.specs.Flags.{Set}
-use Rattle.fz_dirty.proofs.Words.{same_members}
+use Rattle.fz_model.proofs.Sets.{same_members}
 
 -- ---- a map's keys stand in their list once each
 

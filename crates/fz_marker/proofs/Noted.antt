@@ -15,7 +15,8 @@ use Rattle.fz_dirty.specs.Flags.{Set}
 use Rattle.fz_marker.specs.Marking.{is_newly_in, is_on_noted, is_readable, readable_count}
 use Rattle.fz_marker.proofs.Counts.{count_is, count_either}
 use Rattle.fz_marker.proofs.Members.{keys_once, member_of, still_in, one_fewer, len_listed, count_members}
-use Rattle.fz_marker.proofs.Standing.{any_of_range, extent_here, noted_word}
+use Rattle.fz_marker.proofs.Standing.{extent_here, noted_word}
+use Rattle.fz_model.proofs.Lists.{any_of_range}
 
 -- ---- the words of pages
 
