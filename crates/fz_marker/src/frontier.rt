@@ -82,6 +82,8 @@ impl Frontier {
     }
 
     /// Adds all objects to which the words point.
+    // Each scan calls it, mostly for few words: a call of its own would take as long as one of them.
+    #[inline(always)]
     pub(crate) fn add_targets(&mut self, heap: &Heap, words: &[Word])
         requires size { self.old.size ≡ BLOCK_WORDS * heap.now.blocks }
         requires room { len self.old.members ≤ self.old.size }
