@@ -6,7 +6,7 @@ ghost use Rattle.finalize.specs.Replies.{text_line, done, registered_words, unre
 ghost use Rattle.finalize.specs.Machines.{words_of, result_words};
 
 use crate::device::Sink;
-use crate::output::{Word, WriteFailed, write_line};
+use crate::output::{Word, WriteFailed, write_all, write_line};
 use crate::run::Summary;
 use fz_model::{Addr, Entry, LinkAnswer, MoveAnswer, Old, Passed, Progress, Refusal, RegAnswer};
 
@@ -146,7 +146,7 @@ fn write_taken<W: Sink>(writer: &mut W, entry: Option<Entry>) -> Result<(), Writ
 pub(crate) fn write_done<W: Sink>(writer: &mut W) -> Result<(), WriteFailed>
     ensures { Emits (W.written writer.old) (W.failures writer.old) (text_line done) result (W.written writer.new) (W.failures writer.new) }
 {
-    write_line(writer, &[Word::Text("ok")])
+    write_all(writer, b"ok\n")
 }
 
 pub(crate) fn write_refused<W: Sink>(writer: &mut W, refusal: Refusal) -> Result<(), WriteFailed>
