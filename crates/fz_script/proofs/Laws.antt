@@ -17,12 +17,12 @@ use Rattle.fz_model.specs.declared.kinds.LinkKind.{LinkKind}
 use Rattle.fz_model.specs.declared.kinds.LinkKind.TheVariants.{Short, Long}
 use Rattle.fz_script.specs.declared.step.Step.{Step}
 use Rattle.fz_script.specs.declared.step.Step.TheVariants.{Open, New, Set, Copy, Load, Store, Register, Unregister, Link, Unlink, Move, Begin, Mark, Pause, Collect, Take, Hold, Finish, Forfeit, Close, Outstanding}
-use Rattle.fz_script.specs.Spelling.{Word, Number, Rank, Text, IsWord, obj_kind, reg_kind, link_kind, rank_words, words, text, spelling, Fits}
+use Rattle.fz_script.specs.Spelling.{Word, Number, Text, IsWord, obj_kind, reg_kind, link_kind, rank_words, words, text, spelling, Fits}
 use Rattle.fz_script.specs.Reading.{◌>>=◌, with_rest, number, find_text, kind_at, number_at, byte, byte_at, optional_at, obj_kind_at, reg_kind_at, link_kind_at, Fields, nothing, a_number, an_obj_kind, a_reg_kind, a_link_kind, a_rank, two, three, Values, values_at, Verb, verbs, verb_named, word_at, words_of, named_at, step_at, end_at, step_in}
 use Rattle.fz_script.proofs.Numbers.{number_takes, number_again}
 
 -- the cases of a bind and of a test
-bind_some : {A B : Type 0} (r : Option A) (f : A → Option B) (y : B) → (r >>= f) ≡ Some y → (x : A) × (r ≡ Some x) × (f x ≡ Some y)
+pub bind_some : {A B : Type 0} (r : Option A) (f : A → Option B) (y : B) → (r >>= f) ≡ Some y → (x : A) × (r ≡ Some x) × (f x ≡ Some y)
 bind_some None f y h = cc
 bind_some (Some x) f y h = (x, refl, h)
 
@@ -30,7 +30,7 @@ chosen : {A : Type 0} (b : Bool) (x y z : A) → cond b x y ≡ z → ((b ≡ tr
 chosen true x y z h = inl (refl, h)
 chosen false x y z h = inr (refl, h)
 
-some_same : {A : Type 0} (x y : A) → ◌≡◌ {A = Option A} (Some x) (Some y) → x ≡ y
+pub some_same : {A : Type 0} (x y : A) → ◌≡◌ {A = Option A} (Some x) (Some y) → x ≡ y
 some_same x y h = cc
 
 with_rest_some : {A : Type 0} (o : Option A) (ws rest : List (List ℕ)) (x : A) → with_rest o ws ≡ Some (x, rest) → (o ≡ Some x) × (ws ≡ rest)
@@ -38,7 +38,7 @@ with_rest_some None ws rest x h = cc
 with_rest_some (Some y) ws rest x h = let p = some_pair_parts y x ws rest h in (ap Some p.0, p.1)
 
 -- the words of fields
-abbrev field_words : (fields : Fields) → Values fields → List Word
+abbrev pub field_words : (fields : Fields) → Values fields → List Word
 field_words nothing x = []
 field_words a_number n = Number n ∷ []
 field_words an_obj_kind kind = Text (obj_kind kind) ∷ []
@@ -49,7 +49,7 @@ field_words (two first second) x = field_words first x.0 ++ field_words second x
 field_words (three first second third) x = field_words first x.0 ++ (field_words second x.1 ++ field_words third x.2)
 
 -- these words were the fields
-abbrev HasTaken : List Word → List (List ℕ) → List (List ℕ) → Type 0
+abbrev pub HasTaken : List Word → List (List ℕ) → List (List ℕ) → Type 0
 HasTaken taken ws rest = (ws ≡ map text taken ++ rest) × AllByRecursion IsWord taken
 
 both_taken : (a b : List Word) (ws between rest : List (List ℕ)) → HasTaken a ws between → HasTaken b between rest → HasTaken (a ++ b) ws rest
@@ -74,7 +74,7 @@ word_takes : (ws rest : List (List ℕ)) (w : List ℕ) → word_at ws ≡ Some 
 word_takes [] rest w h = cc
 word_takes (v ∷ ws) rest w h = let p = some_pair_parts v w ws rest h in ap (λ x. x ∷ ws) p.0 ∙ ap (λ l. w ∷ l) p.1
 
-kind_takes : {A : Type 0} (name : A → List ℕ) (xs : List A) (ws rest : List (List ℕ)) (x : A) → kind_at name xs ws ≡ Some (x, rest) → ws ≡ name x ∷ rest
+pub kind_takes : {A : Type 0} (name : A → List ℕ) (xs : List A) (ws rest : List (List ℕ)) (x : A) → kind_at name xs ws ≡ Some (x, rest) → ws ≡ name x ∷ rest
 kind_takes name xs ws rest x h =
     let first = bind_some (word_at ws) (λ first. with_rest (find_text name xs first.0) first.1) (x, rest) h in
     let t = with_rest_some _ _ _ _ first.2 in
@@ -122,7 +122,7 @@ link_kind_again Short rest = refl
 link_kind_again Long rest = refl
 
 -- what is read is written so
-values_taken : (fields : Fields) (ws rest : List (List ℕ)) (x : Values fields) → values_at fields ws ≡ Some (x, rest) → HasTaken (field_words fields x) ws rest
+pub values_taken : (fields : Fields) (ws rest : List (List ℕ)) (x : Values fields) → values_at fields ws ≡ Some (x, rest) → HasTaken (field_words fields x) ws rest
 values_taken nothing ws rest x h = ((some_pair_parts tt x ws rest h).1, tt)
 values_taken a_number ws rest x h = number_taken ws rest x h
 values_taken an_obj_kind ws rest x h = (kind_takes obj_kind (Scanned ∷ Atomic ∷ []) ws rest x h, (tt, tt))
@@ -154,7 +154,7 @@ texts_of_two [] b rest = refl
 texts_of_two (w ∷ a) b rest = ap (λ l. text w ∷ l) (texts_of_two a b rest)
 
 -- these words may follow the fields: none follow a rank
-abbrev MayFollow : Fields → List (List ℕ) → Type 0
+abbrev pub MayFollow : Fields → List (List ℕ) → Type 0
 MayFollow a_rank rest = rest ≡ []
 MayFollow (two f g) rest = ((ws : List (List ℕ)) → MayFollow f ws) × MayFollow g rest
 MayFollow (three f g k) rest = ((ws : List (List ℕ)) → MayFollow f ws) × ((ws : List (List ℕ)) → MayFollow g ws) × MayFollow k rest
@@ -165,7 +165,7 @@ rank_again None h = refl
 rank_again (Some n) h = rw (byte_again n h.0) refl
 
 -- what is written is read
-values_again : (fields : Fields) (x : Values fields) (rest : List (List ℕ)) → MayFollow fields rest → AllByRecursion IsWord (field_words fields x) → values_at fields (map text (field_words fields x) ++ rest) ≡ Some (x, rest)
+pub values_again : (fields : Fields) (x : Values fields) (rest : List (List ℕ)) → MayFollow fields rest → AllByRecursion IsWord (field_words fields x) → values_at fields (map text (field_words fields x) ++ rest) ≡ Some (x, rest)
 values_again nothing x rest may h = refl
 values_again a_number x rest may h = ap (λ o. with_rest o rest) (number_again x h.0)
 values_again an_obj_kind x rest may h = obj_kind_again x rest
@@ -188,7 +188,7 @@ values_again (three f g k) x rest may h =
     ) refl
 
 -- words without spaces
-lacks_space : List ℕ → Bool
+unfoldable pub lacks_space : List ℕ → Bool
 lacks_space [] = true
 lacks_space (b ∷ bs) = not (b == 32) && lacks_space bs
 
@@ -291,7 +291,7 @@ unfolding lacks_space
 split_last [] h = refl
 split_last (b ∷ bs) h = let p = and_parts _ _ h in let other : (b == 32) ≡ false = not_true _ p.0 in rw (other, split_last bs p.1) refl
 
-split_joined : (w : List ℕ) (ws : List (List ℕ)) → lacks_space w ≡ true → AllByRecursion (λ v. lacks_space v ≡ true) ws → words_of (join_with_byte 32 (w ∷ ws)) ≡ w ∷ ws
+pub split_joined : (w : List ℕ) (ws : List (List ℕ)) → lacks_space w ≡ true → AllByRecursion (λ v. lacks_space v ≡ true) ws → words_of (join_with_byte 32 (w ∷ ws)) ≡ w ∷ ws
 split_joined w [] h all = split_last w h
 split_joined w (v ∷ ws) h all = split_word w (join_with_byte 32 (v ∷ ws)) h ∙ ap (λ l. w ∷ l) (split_joined v ws all.0 all.1)
 
@@ -324,7 +324,7 @@ lacks_space_link_kind Short = refl
 lacks_space_link_kind Long = refl
 
 -- fields have no spaces
-abbrev ArePlain : List Word → Type 0
+abbrev pub ArePlain : List Word → Type 0
 ArePlain ws = AllByRecursion (λ w. lacks_space w ≡ true) (map text ws)
 
 both_plain : (a b : List Word) → ArePlain a → ArePlain b → ArePlain (a ++ b)
@@ -335,7 +335,7 @@ rank_plain : (rank : Option ℕ) → AllByRecursion IsWord (rank_words rank) →
 rank_plain None h = tt
 rank_plain (Some n) h = (lacks_space_decimal n (omega (arith, h.0)), tt)
 
-fields_plain : (fields : Fields) (x : Values fields) → AllByRecursion IsWord (field_words fields x) → ArePlain (field_words fields x)
+pub fields_plain : (fields : Fields) (x : Values fields) → AllByRecursion IsWord (field_words fields x) → ArePlain (field_words fields x)
 fields_plain nothing x h = tt
 fields_plain a_number x h = (lacks_space_decimal x h.0, tt)
 fields_plain an_obj_kind x h = (lacks_space_obj_kind x, tt)
@@ -355,7 +355,7 @@ verb_takes v ws rest x spelled h =
     let written = spelled.written_as x in
     (ap (λ l. v.name ∷ l) taken.0 ∙ ap (λ l. map text l ++ rest) (sym written), subst (AllByRecursion IsWord) (sym written) (tt, taken.1))
 
-end_takes : (ws : List (List ℕ)) → end_at ws ≡ Some tt → ws ≡ []
+pub end_takes : (ws : List (List ℕ)) → end_at ws ≡ Some tt → ws ≡ []
 end_takes [] h = refl
 end_takes (w ∷ ws) h = cc
 

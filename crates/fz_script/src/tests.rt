@@ -1,6 +1,6 @@
-//! Lines of each verb, and lines that are no step.
+//! Lines of each verb and each job, and lines that are none.
 
-use crate::{Step, step_of};
+use crate::{Job, Step, job_of, step_of};
 use fz_model::{LinkKind, ObjKind, RegKind};
 
 /// A line of each verb.
@@ -215,5 +215,95 @@ fn reads_nothing_else(rt: HostRuntime) {
     ];
     for (at, line) in lines.into_iter().enumerate() {
         assert_eq!(rt; step_of(line), None, "at {at}");
+    }
+}
+
+#[test]
+fn reads_each_job(rt: HostRuntime) {
+    for (line, want) in [
+        (b"settle 0".as_slice(), Job::Settle { collections: 0 }),
+        (b"settle 100", Job::Settle { collections: 100 }),
+        (b"mutator", Job::Mutator),
+        (b"collector", Job::Collector),
+        (
+            b"churn 1 2 3 4 atomic no_order 5",
+            Job::Churn {
+                count: 1,
+                frame: 2,
+                slot: 3,
+                size: 4,
+                kind: ObjKind::Atomic,
+                finalizer_kind: RegKind::NoOrder,
+                procedure: 5,
+            },
+        ),
+        (
+            b"churn 10000 0 0 1 scanned normal 0",
+            Job::Churn {
+                count: 10_000,
+                frame: 0,
+                slot: 0,
+                size: 1,
+                kind: ObjKind::Scanned,
+                finalizer_kind: RegKind::Normal,
+                procedure: 0,
+            },
+        ),
+    ] {
+        assert_eq!(rt; job_of(line), Some(want), "at {want:?}");
+    }
+}
+
+#[test]
+fn a_step_of_threads_is_a_job(rt: HostRuntime) {
+    for (line, step) in EACH_VERB {
+        let want = match step {
+            Step::Take { .. }
+            | Step::Hold { .. }
+            | Step::Finish { .. }
+            | Step::Forfeit { .. }
+            | Step::Close
+            | Step::Outstanding => None,
+            _ => Some(Job::One(step)),
+        };
+        assert_eq!(rt; job_of(line), want, "at {step:?}");
+    }
+}
+
+#[test]
+fn reads_no_other_job(rt: HostRuntime) {
+    let lines: [&[u8]; 29] = [
+        b"",
+        b"# mutator",
+        b"settle",
+        b"settle ",
+        b"settle 101",
+        b"settle 01",
+        b"settle +1",
+        b"settle 18446744073709551616",
+        b"settle 1 ",
+        b"settle 1 2",
+        b"settle  1",
+        b" mutator",
+        b"mutator ",
+        b"mutator 0",
+        b"Mutator",
+        b"mutators",
+        b"collector\r",
+        b"collectors",
+        b"churn 0 0 0 1 scanned normal 0",
+        b"churn 10001 0 0 1 scanned normal 0",
+        b"churn 1 0 0 1 scanned normal",
+        b"churn 1 0 0 1 scanned normal 0 ",
+        b"churn 1 0 0 1 scanned normal 0 0",
+        b"churn 1 0 0 1 normal scanned 0",
+        b"churn 1 0 0 scanned normal 0",
+        b"take 0",
+        b"close",
+        b"collect 1",
+        b"set 0 0 01",
+    ];
+    for (at, line) in lines.into_iter().enumerate() {
+        assert_eq!(rt; job_of(line), None, "at {at}");
     }
 }

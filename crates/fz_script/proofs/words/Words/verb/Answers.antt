@@ -1,4 +1,3 @@
-use Rattle.std.proofs.Common.{refl}
 use Rattle.fz_script.proofs.Laws.{no_verb}
 use Rattle.fz_script.proofs.words.Words.verb.Goals as goal
 

@@ -1,0 +1,173 @@
+//! The lines of a threads file.
+
+ghost use Rattle.std.specs.Prelude.{◌≡◌, ◌↔◌, IsTrue, Some, IfSome, List, ℕ, Option};
+ghost use Rattle.fz_script.specs.declared.job.Job.{Job};
+ghost use Rattle.fz_script.specs.Jobs.{Fits, MayStand, is_for_threads, spelling};
+ghost use Rattle.fz_script.specs.Reading.{words_of, words_left, with_rest, step_in};
+ghost use Rattle.fz_script.specs.JobReading.{keyword_at, made_at, own_at, own_in, job_in};
+ghost use Rattle.fz_script.specs.declared.job.Keyword.TheVariants.{Churn as ToChurn};
+
+use crate::fields::Field;
+use crate::reading::step_of;
+use crate::step::Step;
+use crate::words::Words;
+use fz_model::{ObjKind, RegKind};
+
+/// What one line of a threads file asks for, with the fields of the line in their order.
+///
+/// A threads file opens a world, says how often it is collected at the end, and then has sections, each
+/// of which is the work of one thread. Frames, slots, sizes and steps are those of a script.
+#[derive(Clone, Copy, Debug, PartialEq, Eq)]
+pub enum Job {
+    /// The second line of a file: how the run ends.
+    Settle {
+        /// How many collections follow once all sections have ended: at most 100.
+        collections: u64,
+    },
+    /// Begins the section of a mutator.
+    Mutator,
+    /// Begins the section of the collector.
+    Collector,
+    /// Makes objects, each of which is registered and then dropped.
+    Churn {
+        /// How many objects: from 1 to 10,000.
+        count: u64,
+        frame: u64,
+        slot: u64,
+        size: u64,
+        kind: ObjKind,
+        /// The kind of each registration.
+        finalizer_kind: RegKind,
+        /// The number of the procedure that is to finalize each object.
+        procedure: u64,
+    },
+    /// One step, as a script has it.
+    One(Step),
+}
+
+impl Job {
+    /// Whether its count is within its limits, and its step is one that a threads file may have.
+    fn may_stand(self) -> bool
+        ensures { IsTrue result ↔ MayStand self }
+    {
+        match self {
+            Job::Settle { collections } => collections <= 100,
+            Job::Mutator | Job::Collector => true,
+            Job::Churn { count, .. } => 1 <= count && count <= 10_000,
+            Job::One(step) => is_for_threads(step),
+        }
+    }
+}
+
+/// What a line of a threads file asks for, if it may stand in one.
+///
+/// The line is given without its line feed, and is written as those of a script are: see `step_of`. In
+/// which section it may stand, and where in the file, is the caller's question. It takes no memory.
+pub fn job_of(line: &[u8]) -> Option<Job>
+    // What is read is spelled so, each byte of it.
+    ensures found { IfSome result (λ job. Fits job × (line.now ≡ spelling job)) }
+    // What is spelled so is read: a line spells at most one job, and `None` is that it spells none.
+    ensures only { (job : Job) → Fits job → line.now ≡ spelling job → result ≡ Some job }
+{
+    let job = read_job(line)?;
+    if job.may_stand() { Some(job) } else { None }
+}
+
+/// What the line asks for, whether it may stand in a threads file or not.
+fn read_job(line: &[u8]) -> Option<Job>
+    ensures { job_in (step_in (words_of line.now)) (words_of line.now) ≡ result }
+{
+    match step_of(line) {
+        Some(step) => Some(Job::One(step)),
+        None => read_own(line),
+    }
+}
+
+/// The same of a line that is no step of a script.
+#[tactic(auto, unfolding(crate::specs::JobReading::own_in))]
+fn read_own(line: &[u8]) -> Option<Job>
+    ensures { own_in (words_of line.now) ≡ result }
+{
+    let mut words = Words::of(line);
+    let job = next_job(&mut words)?;
+    words.end()?;
+    Some(job)
+}
+
+/// What the next words ask for.
+#[tactic(auto, unfolding(crate::specs::JobReading::own_at))]
+fn next_job(words: &mut Words<'_>) -> Option<Job>
+    ensures { own_at (words_left words.old) ≡ with_rest result (words_left words.new) }
+{
+    let first: Keyword = words.read()?;
+    first.fields(words)
+}
+
+/// Whether a threads file may have the step.
+fn is_for_threads(step: Step) -> bool
+    ensures { result ≡ is_for_threads step }
+{
+    match step {
+        Step::Take { .. }
+        | Step::Hold { .. }
+        | Step::Finish { .. }
+        | Step::Forfeit { .. }
+        | Step::Close
+        | Step::Outstanding => false,
+        _ => true,
+    }
+}
+
+/// The first word of a line that no script has.
+#[derive(Clone, Copy)]
+enum Keyword {
+    Settle,
+    Mutator,
+    Collector,
+    Churn,
+}
+
+impl Keyword {
+    /// The fields that follow it, and what they make.
+    fn fields(self, words: &mut Words<'_>) -> Option<Job>
+        ensures { made_at self (words_left words.old) ≡ with_rest result (words_left words.new) }
+    {
+        match self {
+            Keyword::Settle => Some(Job::Settle {
+                collections: words.read()?,
+            }),
+            Keyword::Mutator => Some(Job::Mutator),
+            Keyword::Collector => Some(Job::Collector),
+            Keyword::Churn => read_churn(words),
+        }
+    }
+}
+
+fn read_churn(words: &mut Words<'_>) -> Option<Job>
+    ensures { made_at ToChurn (words_left words.old) ≡ with_rest result (words_left words.new) }
+{
+    let ((count, frame, slot), (size, kind), (finalizer_kind, procedure)) = words.read()?;
+    Some(Job::Churn {
+        count,
+        frame,
+        slot,
+        size,
+        kind,
+        finalizer_kind,
+        procedure,
+    })
+}
+
+impl Field for Keyword {
+    ghost reads = { keyword_at };
+
+    fn read(words: &mut Words<'_>) -> Option<Keyword> {
+        match words.next()? {
+            b"settle" => Some(Keyword::Settle),
+            b"mutator" => Some(Keyword::Mutator),
+            b"collector" => Some(Keyword::Collector),
+            b"churn" => Some(Keyword::Churn),
+            _ => None,
+        }
+    }
+}
