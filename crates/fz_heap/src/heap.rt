@@ -221,6 +221,13 @@ impl Heap {
         self.map.starts_in(block)
     }
 
+    /// The number of objects that were ever made.
+    pub fn births(&self) -> u64
+        ensures { result ≡ self.now.next_birth }
+    {
+        self.next_birth
+    }
+
     /// The size in words, the kind and the birth of the object that starts at the address, if one starts there.
     pub fn facts(&self, start: Addr) -> Option<(u64, ObjKind, u64)>
         ensures facts { result ≡ option_map (λ o. (length o.words, o.kind, o.birth)) (get self.now.objects start) }

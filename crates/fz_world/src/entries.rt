@@ -1,6 +1,7 @@
 //! Entries of the queue, and the end of a world.
 
-ghost use Rattle.std.specs.Prelude.{◌≡◌};
+ghost use Rattle.std.specs.Prelude.{◌≡◌, ◌-◌};
+ghost use Rattle.std.specs.FinMap.{len};
 ghost use Rattle.std.specs.declared.result.Result.TheVariants.{Ok};
 ghost use Rattle.fz_model.specs.Events.{Hold, Finish, Close, Outstanding, Queue};
 ghost use Rattle.fz_world.specs.World.{KeepsMarks};
@@ -53,6 +54,25 @@ impl World {
         ensures { Does self.now Outstanding (Ok result) self.now }
     {
         self.ready.outstanding()
+    }
+
+    /// The number of passes so far.
+    pub fn passes(&self) -> u64
+        ensures { result ≡ self.now.passes }
+    {
+        self.passes
+    }
+
+    /// The number of objects that were made, less those that there are. It walks over the heap.
+    pub fn reclaimed(&self) -> u64
+        ensures { result ≡ self.now.next_birth - len self.now.objects }
+    {
+        let mut reclaimed = self.heap.births();
+        let mut starts = self.heap.objects();
+        while starts.next().is_some() {
+            reclaimed = reclaimed.saturating_sub(1);
+        }
+        reclaimed
     }
 
     /// All entries ever queued, in their order.
