@@ -2,3 +2,4 @@ pub mod Growing
 pub mod Finishing
 pub mod Keeps
 pub mod Seated
+pub mod Ends

@@ -5,12 +5,14 @@
 #![tactic(auto)]
 
 mod calls;
+mod ending;
 mod locked;
 mod opening;
 mod prepared;
 mod seat;
 mod service;
 
+pub use ending::Final;
 pub use locked::Locked;
 pub use opening::{Finishes, Opening};
 pub use prepared::Prepared;

@@ -7,7 +7,9 @@ ghost use Rattle.fz_model.specs.declared.limits.TheConstants.{MAX_WORKERS};
 ghost use Rattle.fz_line.specs.States.{new_seats};
 ghost use Rattle.fz_world.specs.Does.{open_causes};
 ghost use Rattle.fz_service.specs.States.{IsInOrder};
+ghost use Rattle.fz_service.specs.Ends.{IsEndOfRun, IsEachOnce, IsRefusedEnd};
 
+use crate::ending::Final;
 use crate::locked::Locked;
 use crate::opening::Opening;
 use crate::prepared::Prepared;
@@ -91,5 +93,26 @@ impl<O: Opening> Service<O> {
         let guard = self.lock.lock(rt);
         guard.look();
         guard
+    }
+
+    /// Ends the service, with all its seats, as `Locked::end` says of what the lock held. No pass is carried out, and the world ends with it.
+    ///
+    /// Refusals, in their order, with all that was given: `SeatsMissing` where the seats' indices aren't each index once, `NoMemory` where an
+    /// allocation failed.
+    pub fn shutdown(self, seats: Vec<Seat<O>>) -> Result<Final, (Refusal, Service<O>, Vec<Seat<O>>)>
+        ensures ended { IfOk result (λ end. IsEndOfRun O.origin seats.items end × IsEachOnce O.origin.workers seats.items) }
+        ensures refused { IfErr result (λ refused. IsRefusedEnd O.origin.workers seats.items refused.0) }
+        ensures same { IfErr result (λ refused. refused.2.items ≡ seats.items) }
+    {
+        let Service { lock } = self;
+        let locked = lock.into_inner();
+        locked.look();
+        match locked.end(seats) {
+            Ok(end) => Ok(end),
+            Err((refusal, locked, seats)) => {
+                let lock = Mutex::new(locked);
+                Err((refusal, Service { lock }, seats))
+            }
+        }
     }
 }

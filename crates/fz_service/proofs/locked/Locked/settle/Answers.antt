@@ -1,0 +1,51 @@
+use Rattle.std.proofs.Common.{◌≡◌, ◌-◌, ◌++◌, List, length, drop, refl, sym, ap, ◌∙◌, subst, arith}
+use Rattle.std.proofs.lemmas.List.{take_rest}
+use Rattle.fz_model.specs.declared.answers.Entry.{Entry}
+use Rattle.fz_service.specs.States.{LockedState, locked_state}
+use Rattle.fz_service.specs.declared.ending.Final.{Final}
+use Rattle.fz_service.specs.Ends.{IsEnd}
+use Rattle.fz_service.proofs.Keeps.{outstanding_is}
+use Rattle.fz_service.proofs.Ends.{drained_by, enough, is_end}
+use Rattle.fz_service.proofs.locked.Locked.settle.Goals as goal
+
+pub overflow_sub-finished : goal.overflow_sub-finished
+overflow_sub-finished g c =
+    let w = c.self.inside in
+    let queue = ap (λ (es : List Entry). length es) c.queue.ensures.queue in
+    let held = outstanding_is _ w.world _ c.outstanding-outstanding.ensures c.self.invariant.0.reached in
+    let all = c.self.invariant.0.finished in
+    omega (arith, queue, held, all)
+
+pub overflow_sub-result : goal.overflow_sub-result
+overflow_sub-result g c =
+    let w = c.self.inside in
+    let queue = ap (λ (es : List Entry). length es) c.queue.ensures.queue in
+    let held = outstanding_is _ w.world _ c.outstanding-outstanding.ensures c.self.invariant.0.reached in
+    let d = drained_by g.O.Opening.origin (locked_state w.world w.owner.sent w.published w.book.total) _ c.args.seats.items _ (c.as_mut_slice.ensures.value ∙ c.without_shares-plain.ensures.seats) c.self.invariant.0 c.drain.ensures.first c.drain.ensures.rest c.drain.ensures.idle
+    (sym (c.audit.ensures.whole (c.without_shares-plain.ensures.all.0 ∙ c.requires.all)) ∙ c.without_shares-plain.ensures.all.1) in
+    let few = enough _ _ _ _ d in
+    let left = c.len.ensures in
+    omega (arith, queue, held, few, left)
+
+pub returns : goal.returns
+returns g c =
+    let w = c.self.inside in
+    let queue = ap (λ (es : List Entry). length es) c.queue.ensures.queue in
+    let held = outstanding_is _ w.world _ c.outstanding-outstanding.ensures c.self.invariant.0.reached in
+    let d = drained_by g.O.Opening.origin (locked_state w.world w.owner.sent w.published w.book.total) _ c.args.seats.items _ (c.as_mut_slice.ensures.value ∙ c.without_shares-plain.ensures.seats) c.self.invariant.0 c.drain.ensures.first c.drain.ensures.rest c.drain.ensures.idle
+    (sym (c.audit.ensures.whole (c.without_shares-plain.ensures.all.0 ∙ c.requires.all)) ∙ c.without_shares-plain.ensures.all.1) in
+    let left = c.len.ensures in
+    let rest = take_rest c.queue-2.result.now w.published ∙ ap (drop w.published) c.queue-2.ensures.queue in
+    let taken : w.published - c.len.result ≡ w.published - length c.drain.new.out.items = omega (arith, left) in
+    let finished : length c.queue.result.now - c.outstanding-outstanding.result ≡ length w.world.queue - length w.world.held = omega (arith, queue, held) in
+    let end : Final = record {
+      enqueued = length c.queue.result.now;
+      taken = w.published - c.len.result;
+      finished = length c.queue.result.now - c.outstanding-outstanding.result;
+      forfeited = w.published - c.len.result - (length c.queue.result.now - c.outstanding-outstanding.result);
+      left = c.append.new.left;
+      passes = c.passes-passes.result;
+      reclaimed = c.reclaimed-reclaimed.result;
+    } in
+    subst (λ (s : LockedState). IsEnd s c.args.seats.items end) c.self.view_is
+    (is_end _ _ _ _ d end queue taken finished refl (c.append.ensures ∙ ap (λ (es : List Entry). c.drain.new.out.items ++ es) rest) c.passes-passes.ensures c.reclaimed-reclaimed.ensures)

@@ -1,0 +1,47 @@
+-- How a service ends.
+use Rattle.std.specs.Prelude.{◌≡◌, ℕ, ◌+◌, ◌-◌, ◌<◌, ◌⊎◌, Bool, true, ◌==◌, List, length, take, drop, All, sum_by, IsPermutation}
+use Rattle.std.specs.List.{list_any}
+use Rattle.std.specs.FinMap.{len}
+use Rattle.fz_model.specs.declared.refusal.Refusal.{Refusal}
+use Rattle.fz_model.specs.declared.refusal.Refusal.TheVariants.{SeatsMissing, NoMemory}
+use Rattle.fz_line.specs.States.{Line, SeatState, taken_by, IsIdle}
+use Rattle.fz_service.specs.States.{Origin, LockedState, IsInOrder}
+use Rattle.fz_service.specs.declared.ending.Final.{Final}
+
+-- a seat has this index
+abbrev pub has_index : ℕ → List SeatState → Bool
+has_index index seats = list_any (λ (seat : SeatState). seat.index == index) seats
+
+-- there are as many seats as workers, with each index below that number: so each once
+abbrev pub IsEachOnce : ℕ → List SeatState → Type 0
+IsEachOnce workers seats = (length seats ≡ workers) × ((index : ℕ) → index < workers → has_index index seats ≡ true)
+
+-- why an end is refused
+abbrev pub IsRefusedEnd : ℕ → List SeatState → Refusal → Type 0
+IsRefusedEnd workers seats refusal =
+    ((refusal ≡ SeatsMissing) × (IsEachOnce workers seats → ⊥)) ⊎ ((refusal ≡ NoMemory) × IsEachOnce workers seats)
+
+abbrev pub IsOfLine : Line → SeatState → Type 0
+IsOfLine line seat = seat.line ≡ line
+
+-- what lay under the lock at the end, the seats that came back, and what is told of them
+pub record IsEnd (s : LockedState) (seats : List SeatState) (end : Final) : Type 0 where
+  -- the seats took the first entries of the queue, each entry once; each seat's rise by number
+  pub first : IsPermutation (taken_by seats) (take end.taken s.world.queue)
+  pub idle : All IsIdle seats
+  -- the rest of the queue was taken by none
+  pub left : end.left.items ≡ drop end.taken s.world.queue
+  pub taken : end.taken ≡ length (taken_by seats)
+  pub finished : end.finished ≡ sum_by (λ (seat : SeatState). seat.finished) seats
+  pub forfeited : end.forfeited ≡ sum_by (λ (seat : SeatState). seat.forfeited) seats
+  pub enqueued : end.enqueued ≡ length s.world.queue
+  pub all : end.enqueued ≡ end.taken + length end.left.items
+  pub spent : end.taken ≡ end.finished + end.forfeited
+  -- what is left or was given up is held
+  pub held : length s.world.held ≡ length end.left.items + end.forfeited
+  pub passes : end.passes ≡ s.world.passes
+  pub reclaimed : end.reclaimed ≡ s.world.next_birth - len s.world.objects
+
+-- the same of some state in order, since no contract names what a lock held
+abbrev pub IsEndOfRun : Origin → List SeatState → Final → Type 0
+IsEndOfRun origin seats end = (s : LockedState) × IsInOrder origin s × IsEnd s seats end

@@ -1,0 +1,163 @@
+//! How a service ends.
+
+ghost use Rattle.std.specs.Prelude.{◌≡◌, ◌+◌, ◌-◌, ◌≤◌, ◌⊎◌, ◌↔◌, [], ◌++◌, IsTrue, IfOk, IfErr, length, sum_by, All, vec_capacity};
+ghost use Rattle.std.specs.FinMap.{len};
+ghost use Rattle.fz_service.specs.Ends.{IsEnd, IsEachOnce, IsOfLine, IsRefusedEnd, has_index};
+
+use crate::locked::Locked;
+use crate::opening::{Finishes, Opening};
+use crate::seat::Seat;
+use fz_line::retire_all;
+use fz_model::{Entry, Refusal};
+use fz_world::World;
+use std::alloc::{AllocError, Global};
+use std::sync::ledger::Share;
+
+/// What an ended service tells.
+#[derive(Drop)]
+pub struct Final {
+    /// The number of entries that were ever queued.
+    pub enqueued: u64,
+    /// How many of them were taken.
+    pub taken: u64,
+    /// How many of these were finished.
+    pub finished: u64,
+    /// How many of these were given up.
+    pub forfeited: u64,
+    /// The entries that were not taken, in order.
+    pub left: Vec<Entry>,
+    /// The number of passes.
+    pub passes: u64,
+    /// The number of objects that were made, less those that there are.
+    pub reclaimed: u64,
+}
+
+impl<O: Opening> Locked<O> {
+    /// Ends the service, with all its seats. No pass is carried out.
+    ///
+    /// Refusals, in their order, with all that was given: `SeatsMissing` where the seats' indices aren't each index once, `NoMemory` where an
+    /// allocation failed.
+    pub fn end(self, seats: Vec<Seat<O>>) -> Result<Final, (Refusal, Locked<O>, Vec<Seat<O>>)>
+        ensures ended { IfOk result (λ end. IsEnd self seats.items end × IsEachOnce O.origin.workers seats.items) }
+        ensures refused { IfErr result (λ refused. IsRefusedEnd O.origin.workers seats.items refused.0) }
+        ensures same { IfErr result (λ refused. (refused.1 ≡ self) × (refused.2.items ≡ seats.items)) }
+    {
+        if !is_each_once(seats.as_slice(), self.owner.seats()) {
+            return Err((Refusal::SeatsMissing, self, seats));
+        }
+        match room(self.alloc, self.world.queue().len(), seats.len()) {
+            Ok((left, plain)) => Ok(self.settle(seats, plain, left)),
+            Err(_) => Err((Refusal::NoMemory, self, seats)),
+        }
+    }
+
+    /// Ends the service with all its seats, in room for what is left and for the seats without their shares.
+    fn settle(self, seats: Vec<Seat<O>>, plain: Vec<fz_line::Seat>, mut left: Vec<Entry>) -> Final
+        requires all { length seats.items ≡ O.origin.workers }
+        requires plain { (plain.items ≡ []) × (length seats.items ≤ vec_capacity plain) }
+        requires left { (left.items ≡ []) × (length self.world.queue ≤ vec_capacity left) }
+        ensures { IsEnd self seats.items result }
+    {
+        let enqueued = self.world.queue().len() as u64;
+        let outstanding = self.world.outstanding();
+        let passes = self.world.passes();
+        let reclaimed = self.world.reclaimed();
+        let Locked {
+            alloc: _,
+            world,
+            mut owner,
+            published,
+            mut book,
+            rest,
+        } = self;
+        let (mut plain, mut all) = without_shares(seats, plain, rest);
+        book.audit(&mut all);
+        owner.drain(plain.as_mut_slice(), &mut left);
+        retire_all(plain);
+        let taken = (published - left.len()) as u64;
+        append(&mut left, &world.queue()[published..]);
+        let_go(world);
+        let finished = enqueued - outstanding;
+        Final {
+            enqueued,
+            taken,
+            finished,
+            forfeited: taken - finished,
+            left,
+            passes,
+            reclaimed,
+        }
+    }
+}
+
+/// Drops a world. A function of its own, since what a drop does is spelled out wherever it stands.
+fn let_go(world: World) {
+    drop(world);
+}
+
+/// Room for so many entries and so many seats.
+fn room(
+    alloc: Global,
+    entries: usize,
+    seats: usize,
+) -> Result<(Vec<Entry>, Vec<fz_line::Seat>), AllocError>
+    ensures entries { IfOk result (λ room. (room.0.items ≡ []) × (entries ≤ vec_capacity room.0)) }
+    ensures seats { IfOk result (λ room. (room.1.items ≡ []) × (seats ≤ vec_capacity room.1)) }
+{
+    let left = Vec::with_capacity(alloc, entries)?;
+    let plain = Vec::with_capacity(alloc, seats)?;
+    Ok((left, plain))
+}
+
+/// The seats without their shares, in room for them, and the shares together.
+fn without_shares<O: Opening>(
+    mut seats: Vec<Seat<O>>,
+    mut plain: Vec<fz_line::Seat>,
+    mut all: Share<Finishes<O>>,
+) -> (Vec<fz_line::Seat>, Share<Finishes<O>>)
+    requires plain { (plain.items ≡ []) × (length seats.items ≤ vec_capacity plain) }
+    requires all { (all.parts ≡ 0) × (all.amount ≡ 0) }
+    ensures seats { result.0.items ≡ seats.items }
+    ensures lines { All (IsOfLine O.origin.line) seats.items }
+    ensures all { (result.1.parts ≡ length seats.items) × (result.1.amount ≡ sum_by (λ seat. seat.finished) seats.items) }
+{
+    while seats.len() > 0 {
+        let Seat { seat, share } = seats.remove(0);
+        all.merge(share);
+        plain.push_reserved(seat);
+    }
+    seats.destroy_empty();
+    (plain, all)
+}
+
+/// Puts these entries at the end, in room for them.
+fn append(left: &mut Vec<Entry>, outbox: &[Entry])
+    requires { length left.old.items + length outbox.now ≤ vec_capacity left.old }
+    ensures { left.new.items ≡ left.old.items ++ outbox.now }
+{
+    for entry in outbox {
+        left.push_reserved(*entry);
+    }
+}
+
+/// Whether there are as many seats as workers, with each index below that number.
+fn is_each_once<O: Opening>(seats: &[Seat<O>], workers: usize) -> bool
+    ensures { IsTrue result ↔ IsEachOnce workers seats.now }
+{
+    if seats.len() != workers {
+        return false;
+    }
+    for index in 0..workers {
+        if !has_index(seats, index) {
+            return false;
+        }
+    }
+    true
+}
+
+/// Whether a seat has this index.
+fn has_index<O: Opening>(seats: &[Seat<O>], index: usize) -> bool
+    ensures { result ≡ has_index index seats.now }
+{
+    seats.iter().any(|seat| seat.index() == index)
+}
