@@ -1,6 +1,5 @@
-use Rattle.std.proofs.Common.{◌<◌, ◌∙◌, sym, arith, length, rules}
-use Rattle.std.proofs.lemmas.List.{get_or_default}
-use Rattle.fz_heap.proofs.Flat.{extents_flat, word_read}
+use Rattle.std.proofs.Common.{rules}
+use Rattle.fz_heap.proofs.Flat.{extents_flat}
 use Rattle.fz_heap.proofs.heap.Heap.place.Goals as goal
 
 pub returns-in_err-place-clause-judged : goal.returns-in_err-place-clause-judged
