@@ -1,7 +1,7 @@
 -- What a pass leaves.
 use Rattle.std.proofs.Common.{◌≡◌, ℕ, ◌+◌, ◌-◌, ◌<◌, ◌≤◌, ◌&&◌, ◌⊎◌, inl, inr, ⊎_elim, Bool, true, false, not, List, [], ◌∷◌, length, Option, Some, None, is_some, refl, sym, ap, ◌∙◌, subst, arith, zero, suc, slice_get, Contains, count_by, add-zero, ◌≢◌, get_or, AllPairs, true≢false, length-append, map}
 use Rattle.std.proofs.lemmas.Bool.{cases_Bool, cond-true, cond-false, and_parts, and_from, both_ways, not-true, not_from_false}
-use Rattle.std.proofs.lemmas.Option.{same_Some, none-some, slice_get-get_or, slice_get_within, get_or_from_slice_get}
+use Rattle.std.proofs.lemmas.Option.{same_Some, none-some, slice_get-get_or}
 use Rattle.std.proofs.lemmas.List.{length-map}
 use Rattle.std.specs.Option.{option_map_or}
 use Rattle.std.specs.FinMap.{get, contains_key, keys, len, len-entries, entries}
@@ -15,7 +15,7 @@ use Rattle.fz_model.specs.declared.answers.Registration.{Registration}
 use Rattle.fz_model.specs.State.{Map, Object, Core, State}
 use Rattle.fz_model.specs.Extents.{extent_of}
 use Rattle.fz_model.specs.Memory.{points, fill}
-use Rattle.fz_model.specs.Reachability.{IsRoot, Child, Leads, IsReachable, WasSeen, Computes}
+use Rattle.fz_model.specs.Reachability.{IsRoot, Child, Leads, IsReachable, WasSeen}
 use Rattle.fz_model.specs.Reachability as reaching
 use Rattle.fz_model.specs.Pass.{is_outside, is_dead, cleared, links_within, IsKept, FoundItself, LedFrom, entries_of, Passes, LeadsFirst, IsLedTo, IsPicked, entry_of, without_picks, rank_at, ComesBefore}
 use Rattle.fz_model.specs.Steps.{IsReached, moments_after}
