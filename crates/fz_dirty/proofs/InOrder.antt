@@ -1,10 +1,10 @@
 -- The members of a set in order.
-use Rattle.std.proofs.Common.{◌≡◌, ℕ, zero, suc, ◌+◌, ◌-◌, ◌^◌, ◌<◌, ◌≤◌, Bool, true, false, cond, List, [], ◌∷◌, filter, Option, Some, None, refl, sym, ap, ◌∙◌, ⊎_elim, arith}
-use Rattle.std.proofs.lemmas.Bool.{cond-true, cond-false, cases_lt, both_ways}
+use Rattle.std.proofs.Common.{◌≡◌, ℕ, zero, suc, ◌+◌, ◌-◌, ◌^◌, ◌<◌, ◌≤◌, Bool, true, false, cond, [], ◌∷◌, filter, Option, Some, None, refl, sym, ap, ◌∙◌, arith}
+use Rattle.std.proofs.lemmas.Bool.{cond-true, cond-false}
 use Rattle.std.specs.List.{range_with_len}
 use Rattle.std.specs.Option.{SomeIff}
 use Rattle.std.specs.FinSet.{contains}
-use Rattle.fz_dirty.specs.Flags.{Set, Flagged, IsNext, members_from, members_left}
+use Rattle.fz_dirty.specs.Flags.{Flagged, IsNext, members_from, members_left}
 use Rattle.fz_dirty.specs.Pages.{ArePages}
 
 module _ (p : ℕ → Bool) where

@@ -1,5 +1,4 @@
 use Rattle.std.proofs.Common.{◌≡◌, ap, arith}
-use Rattle.std.specs.FinSet.{empty}
 use Rattle.fz_dirty.specs.Flags.{Flagged}
 use Rattle.fz_dirty.proofs.Pages.{no_pages}
 use Rattle.fz_dirty.proofs.dirty.Dirty.take_all.Goals as goal

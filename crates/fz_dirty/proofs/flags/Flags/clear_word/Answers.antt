@@ -1,4 +1,4 @@
-use Rattle.std.proofs.Common.{set, ◌≡◌, ℕ, ◌<◌, ◌*◌, ◌-◌, ◌/◌, ◌∙◌, ap, arith, length, not, nat_eq, ◌&&◌}
+use Rattle.std.proofs.Common.{set, ◌≡◌, ◌<◌, ◌*◌, ◌-◌, ◌/◌, ◌∙◌, ap, arith, length, not, nat_eq, ◌&&◌}
 use Rattle.std.specs.FinSet.{contains}
 use Rattle.fz_dirty.specs.Flags.{Flagged}
 use Rattle.fz_dirty.proofs.Words.{word_cleared, few_flags}

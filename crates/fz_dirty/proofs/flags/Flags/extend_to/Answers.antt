@@ -1,4 +1,4 @@
-use Rattle.std.proofs.Common.{◌≡◌, ◌≤◌, ◌∙◌, refl, sym, ap, length, vec_len, arith, rules}
+use Rattle.std.proofs.Common.{◌≡◌, ◌∙◌, refl, sym, ap, length, vec_len, arith, rules}
 use Rattle.fz_dirty.specs.Flags.{Flagged}
 use Rattle.fz_dirty.proofs.Words.{words_added, filled_up}
 use Rattle.fz_dirty.proofs.flags.Flags.extend_to.Goals as goal

@@ -1,8 +1,8 @@
-use Rattle.std.proofs.Common.{◌≡◌, ℕ, ◌≤◌, ◌<◌, ◌+◌, ◌-◌, ◌*◌, ◌/◌, ◌%◌, ◌^◌, ◌∙◌, sym, ap, subst, arith, false, true, not, length, slice_index, bit_and, set, refl, ⊎_elim}
+use Rattle.std.proofs.Common.{◌≡◌, ◌≤◌, ◌<◌, ◌+◌, ◌*◌, ◌∙◌, sym, ap, subst, arith, true, length, slice_index, refl, ⊎_elim}
 use Rattle.std.specs.FinSet.{contains}
 use Rattle.std.specs.Int.{trailing_zeros, w64}
 use Rattle.std.proofs.lemmas.Bool.{cases_lt}
-use Rattle.fz_dirty.specs.Flags.{Flagged, flagged, IsNext, HasRoom}
+use Rattle.fz_dirty.specs.Flags.{Flagged, HasRoom}
 use Rattle.fz_dirty.proofs.Words.{rest_none, rest_next, rest_found, word_read, has_room, none_past, found_room}
 use Rattle.fz_dirty.proofs.flags.Flags.next.Goals as goal
 

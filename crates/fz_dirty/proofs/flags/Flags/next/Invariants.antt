@@ -1,4 +1,4 @@
-use Rattle.std.proofs.Common.{ℕ, ◌<◌, ◌≤◌, ◌+◌, ◌-◌, ◌/◌, ◌^◌, length}
+use Rattle.std.proofs.Common.{◌<◌, ◌≤◌, ◌-◌, ◌/◌, ◌^◌, length}
 use Rattle.fz_dirty.specs.Flags.{IsRest}
 use Rattle.fz_dirty.proofs.flags.Flags.next.Given as goal
 

@@ -1,7 +1,4 @@
-use Rattle.std.proofs.Common.{◌≡◌, ℕ, ◌≤◌, ◌<◌, ◌+◌, ◌-◌, ◌*◌, ◌/◌, ◌%◌, ◌^◌, ◌∙◌, sym, ap, subst, arith, false, true, not, length, slice_index, bit_and, set, refl, ⊎_elim}
-use Rattle.std.specs.FinSet.{contains}
-use Rattle.std.specs.Int.{trailing_zeros, w64}
-use Rattle.fz_dirty.specs.Flags.{IsNext}
+use Rattle.std.proofs.Common.{◌-◌, ◌/◌, arith, true}
 use Rattle.fz_dirty.proofs.Words.{rest_none, rest_found, found_room}
 use Rattle.fz_dirty.proofs.flags.Flags.next_in_word.Goals as goal
 

@@ -1,4 +1,4 @@
-use Rattle.std.proofs.Common.{◌≡◌, ℕ, ◌≤◌, ◌<◌, ◌+◌, ◌-◌, ◌*◌, ◌/◌, ◌%◌, ◌^◌, ◌∙◌, sym, ap, subst, arith, false, true, not, length, slice_index, bit_and, set, get_or, refl, ⊎_elim}
+use Rattle.std.proofs.Common.{◌≡◌, ℕ, ◌<◌, ◌-◌, ◌*◌, ◌/◌, ◌%◌, ◌^◌, ◌∙◌, sym, ap, subst, arith, false, true, length, bit_and, set, get_or}
 use Rattle.std.specs.Int.{bit_not, w64}
 use Rattle.std.specs.FinSet.{contains, remove}
 use Rattle.std.proofs.lemmas.List.{length-set}

@@ -1,5 +1,4 @@
-use Rattle.std.proofs.Common.{◌≡◌, ℕ, ◌≤◌, ◌<◌, ◌+◌, ◌-◌, ◌*◌, ◌/◌, ◌%◌, ◌^◌, ◌∙◌, sym, ap, subst, arith, false, true, not, length, slice_index, bit_and, set, refl, ⊎_elim}
-use Rattle.std.specs.FinSet.{contains}
+use Rattle.std.proofs.Common.{◌≡◌, ◌-◌, ◌*◌, ◌/◌, ◌%◌, ◌^◌, ◌∙◌, sym, ap, subst, arith, slice_index}
 use Rattle.fz_dirty.specs.Flags.{Flagged, flagged, HasRoom, IsRest}
 use Rattle.fz_dirty.proofs.Words.{word_read, rest_of_word, has_room, none_below}
 use Rattle.fz_dirty.proofs.flags.Flags.word_from.Goals as goal

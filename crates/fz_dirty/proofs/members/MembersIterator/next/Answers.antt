@@ -1,5 +1,5 @@
-use Rattle.std.proofs.Common.{◌≡◌, ◌<◌, ◌+◌, ◌∷◌, [], ◌∙◌, ap, sym, rules, arith}
-use Rattle.fz_dirty.specs.Flags.{members_from, members_left}
+use Rattle.std.proofs.Common.{◌≡◌, ◌∷◌, [], ◌∙◌, ap, sym, rules}
+use Rattle.fz_dirty.specs.Flags.{members_left}
 use Rattle.fz_dirty.proofs.InOrder.{no_more, one_member, left_after}
 use Rattle.fz_dirty.proofs.members.MembersIterator.next.Goals as goal
 
