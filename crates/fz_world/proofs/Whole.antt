@@ -26,10 +26,10 @@ use Rattle.std.proofs.lemmas.List.Elements.{All-contains}
 use Rattle.fz_model.specs.declared.answers.Passed.{Passed}
 use Rattle.fz_model.specs.Reachability.{IsReachable}
 use Rattle.fz_model.specs.Pass.{Passes, Decision, IsPicked, without_picks}
+use Rattle.fz_model.proofs.Sets.{same_members}
 use Rattle.fz_heap.specs.Contents.{Contents}
 use Rattle.fz_table.specs.Registered.{Registered}
 use Rattle.fz_dirty.specs.Flags.{Set, IsWithin}
-use Rattle.fz_dirty.proofs.Words.{same_members}
 use Rattle.fz_dirty.specs.Pages.{Pages}
 use Rattle.fz_marker.specs.Marking.{Marking, CleanAreClosed, HasChildrenIn, is_newly_in, is_on_noted, readable_count}
 use Rattle.fz_world.specs.Ready.{Ready}
