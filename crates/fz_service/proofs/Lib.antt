@@ -3,3 +3,4 @@ pub mod Finishing
 pub mod Keeps
 pub mod Seated
 pub mod Ends
+pub mod Serving

@@ -1,3 +1,4 @@
 pub mod States
 pub mod Takes
 pub mod Ends
+pub mod Workers

@@ -11,6 +11,9 @@ mod opening;
 mod prepared;
 mod seat;
 mod service;
+#[cfg(test)]
+mod tests;
+mod workers;
 
 pub use ending::Final;
 pub use locked::Locked;
@@ -18,3 +21,4 @@ pub use opening::{Finishes, Opening};
 pub use prepared::Prepared;
 pub use seat::{Duty, Seat, Take};
 pub use service::{Guard, Service};
+pub use workers::{Gate, Proc};

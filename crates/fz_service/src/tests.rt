@@ -1,0 +1,225 @@
+//! What no clause says: that memory is asked for only where it is needed, that takes need no lock and look at the line, and the service's answers from
+//! end to end.
+
+ghost use Rattle.std.specs.Prelude.{◌≡◌};
+
+use crate::{Final, Locked, Opening, Prepared, Seat, Service, Take};
+use fz_model::ObjKind::Scanned;
+use fz_model::RegKind::Normal;
+use fz_model::{Passed, Refusal};
+use fz_world::Config;
+use std::alloc::Global;
+use std::marker::Brand;
+use std::process::Abort;
+use std::sync::Wait;
+use std::test::*;
+
+/// The most takes until an answer other than Busy.
+const TRIES: u32 = 1_000;
+
+fn prepared(rt: &impl Abort, alloc: Global, workers: u64) -> Prepared {
+    let config = Config {
+        blocks: 4,
+        frames: 1,
+    };
+    Service::prepare(alloc, config, workers).expect(rt, "memory")
+}
+
+/// Ends all these seats.
+fn retire_all<O: Opening>(mut seats: Vec<Seat<O>>) {
+    while let Some(seat) = seats.pop() {
+        seat.retire();
+    }
+    seats.destroy_empty();
+}
+
+/// Makes an object of one word, registers it with procedure 1, and drops it.
+fn make_and_drop<O: Opening>(rt: &impl Abort, locked: &mut Locked<O>) {
+    assert!(rt; locked.alloc(0, 0, 1, Scanned).is_ok());
+    assert!(rt; locked.register(0, 0, Normal, 1, 0, 0).is_ok());
+    assert!(rt; locked.set(0, 0, 0).is_ok());
+}
+
+/// The first answer other than Busy.
+fn take_soon<O: Opening>(mut seat: Seat<O>) -> Take<O> {
+    for _ in 0..TRIES {
+        match seat.take() {
+            Take::Busy(same) => seat = same,
+            answer => return answer,
+        }
+    }
+    Take::Busy(seat)
+}
+
+/// A take that has to give the entry with this number, which is given up.
+fn forfeit_next<O: Opening>(rt: &impl Abort, seat: Seat<O>, seq: u64) -> Seat<O> {
+    match take_soon(seat) {
+        Take::Taken(duty) => {
+            assert_eq!(rt; duty.entry().seq, seq);
+            duty.forfeit()
+        }
+        Take::Empty(same) | Take::Busy(same) => {
+            same.retire();
+            panic!(rt; "no entry")
+        }
+    }
+}
+
+/// A take that has to give the entry with this number, which is finished.
+fn finish_next<O: Opening, R: Abort + Wait>(
+    rt: &R,
+    service: &Service<O>,
+    seat: Seat<O>,
+    seq: u64,
+) -> Seat<O> {
+    match take_soon(seat) {
+        Take::Taken(duty) => {
+            assert_eq!(rt; duty.entry().seq, seq);
+            match service.enter(rt).finish(duty) {
+                Ok(seat) => seat,
+                Err((_, duty)) => {
+                    duty.forfeit().retire();
+                    panic!(rt; "not held")
+                }
+            }
+        }
+        Take::Empty(same) | Take::Busy(same) => {
+            same.retire();
+            panic!(rt; "no entry")
+        }
+    }
+}
+
+/// A take that has to find the line empty.
+fn find_nothing<O: Opening>(rt: &impl Abort, seat: Seat<O>) -> Seat<O> {
+    match take_soon(seat) {
+        Take::Empty(same) => same,
+        Take::Taken(duty) => {
+            duty.forfeit().retire();
+            panic!(rt; "an entry")
+        }
+        Take::Busy(same) => {
+            same.retire();
+            panic!(rt; "busy")
+        }
+    }
+}
+
+fn opened<O: Opening>(rt: &impl Abort, prepared: Prepared) -> (Service<O>, Vec<Seat<O>>)
+    requires { prepared ≡ O.origin }
+{
+    Service::<O>::open(prepared).expect(rt, "memory")
+}
+
+fn ended<O: Opening>(rt: &impl Abort, service: Service<O>, seats: Vec<Seat<O>>) -> Final {
+    match service.shutdown(seats) {
+        Ok(end) => end,
+        Err((_, _, seats)) => {
+            retire_all(seats);
+            panic!(rt; "refused")
+        }
+    }
+}
+
+/// Two entries are taken and given up while the lock is held; then the line is empty, and the service ends with two forfeits.
+fn takes_under_the_lock<O: Opening, R: Abort + Wait>(rt: &R, prepared: Prepared)
+    requires { prepared ≡ O.origin }
+{
+    let (service, mut seats) = opened::<O>(rt, prepared);
+    assert!(rt; seats.len() == 1);
+    let seat = seats.remove(0);
+    let mut locked = service.enter(rt);
+    make_and_drop(rt, &mut locked);
+    make_and_drop(rt, &mut locked);
+    assert_eq!(rt;
+        locked.collect(),
+        Ok(Passed {
+            pass: 1,
+            picked: 2,
+            reclaimed: 0
+        })
+    );
+    assert_eq!(rt; locked.outbox().len(), 0);
+    let seat = forfeit_next(rt, seat, 0);
+    let seat = forfeit_next(rt, seat, 1);
+    let seat = find_nothing(rt, seat);
+    assert_eq!(rt;
+        (seat.taken(), seat.finished(), seat.forfeited()),
+        (2, 0, 2)
+    );
+    assert_eq!(rt; locked.outstanding(), 2);
+    drop(locked);
+    seats.push_reserved(seat);
+    let end = ended(rt, service, seats);
+    assert_eq!(rt; (end.enqueued, end.taken, end.forfeited), (2, 2, 2));
+}
+
+/// A shutdown without all seats is refused and gives everything back; with all of them it succeeds. A pass that wasn't carried out isn't counted.
+fn ends_with_all_seats<O: Opening, R: Abort + Wait>(rt: &R, prepared: Prepared)
+    requires { prepared ≡ O.origin }
+{
+    let (service, mut seats) = opened::<O>(rt, prepared);
+    make_and_drop(rt, &mut service.enter(rt));
+    assert!(rt; service.enter(rt).collect().is_ok());
+    make_and_drop(rt, &mut service.enter(rt));
+    assert!(rt; service.enter(rt).begin().is_ok());
+    assert!(rt; seats.len() == 2);
+    let second = seats.remove(1);
+    match service.shutdown(seats) {
+        Ok(_) => {
+            second.retire();
+            panic!(rt; "a seat is missing")
+        }
+        Err((refusal, service, mut seats)) => {
+            assert_eq!(rt; refusal, Refusal::SeatsMissing);
+            let second = finish_next(rt, &service, second, 0);
+            assert!(rt; seats.len() < seats.capacity());
+            seats.push_reserved(second);
+            let end = ended(rt, service, seats);
+            assert_eq!(rt;
+                (end.enqueued, end.taken, end.finished, end.forfeited),
+                (1, 1, 1, 0)
+            );
+            assert_eq!(rt; (end.left.len(), end.passes, end.reclaimed), (0, 1, 0));
+        }
+    }
+}
+
+/// A world that is closed in an open cycle queues nothing.
+fn closes_in_a_cycle<O: Opening, R: Abort + Wait>(rt: &R, prepared: Prepared)
+    requires { prepared ≡ O.origin }
+{
+    let (service, seats) = opened::<O>(rt, prepared);
+    make_and_drop(rt, &mut service.enter(rt));
+    assert!(rt; service.enter(rt).begin().is_ok());
+    assert!(rt; service.enter(rt).close().is_ok());
+    assert_eq!(rt;
+        service.enter(rt).pause(),
+        Ok(Passed {
+            pass: 1,
+            picked: 0,
+            reclaimed: 0
+        })
+    );
+    assert_eq!(rt; service.enter(rt).close(), Err(Refusal::Closed));
+    let end = ended(rt, service, seats);
+    assert_eq!(rt; (end.enqueued, end.left.len(), end.passes), (0, 0, 1));
+}
+
+#[test]
+fn takes_need_no_lock(rt: HostRuntime) {
+    let prepared = prepared(&rt, rt.alloc(), 1);
+    takes_under_the_lock::<Brand, HostRuntime>(&rt, prepared);
+}
+
+#[test]
+fn a_missing_seat_is_refused(rt: HostRuntime) {
+    let prepared = prepared(&rt, rt.alloc(), 2);
+    ends_with_all_seats::<Brand, HostRuntime>(&rt, prepared);
+}
+
+#[test]
+fn a_closed_world_queues_nothing(rt: HostRuntime) {
+    let prepared = prepared(&rt, rt.alloc(), 1);
+    closes_in_a_cycle::<Brand, HostRuntime>(&rt, prepared);
+}
