@@ -83,7 +83,7 @@ fn read_job(line: &[u8]) -> Option<Job>
     }
 }
 
-/// The same of a line that is no step of a script.
+/// What a line asks for that isn't a step of a script.
 #[tactic(auto, unfolding(crate::specs::JobReading::own_in))]
 fn read_own(line: &[u8]) -> Option<Job>
     ensures { own_in (words_of line.now) ≡ result }
@@ -118,7 +118,7 @@ fn is_for_threads(step: Step) -> bool
     }
 }
 
-/// The first word of a line that no script has.
+/// The first word of a line that only a threads file has.
 #[derive(Clone, Copy)]
 enum Keyword {
     Settle,

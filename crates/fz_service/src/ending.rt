@@ -95,7 +95,7 @@ fn let_go(world: World) {
     drop(world);
 }
 
-/// Room for so many entries and so many seats.
+/// Room for a number of entries and a number of seats.
 fn room(
     alloc: Global,
     entries: usize,

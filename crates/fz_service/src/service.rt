@@ -45,7 +45,7 @@ fn check_config(config: Config) -> Result<(), Refusal>
 }
 
 impl Service<Brand> {
-    /// All that a service with a world of this size and so many workers needs.
+    /// Makes what a service needs: a world of this size, and a line with a seat for each worker.
     ///
     /// Refusals, in their order: `BadCount` where blocks, frames or workers are outside their limits, `NoMemory` where an allocation failed.
     pub fn prepare(alloc: Global, config: Config, workers: u64) -> Result<Prepared, Refusal>

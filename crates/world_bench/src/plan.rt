@@ -28,7 +28,7 @@ pub struct Plan {
     pub root: Word,
     /// How many times it collects.
     pub collections: u64,
-    /// How many links it moves, from the last of so many on: each to the word after its own.
+    /// The number of links that it moves, the last of them first: each to the word after its own.
     pub moved: u64,
     /// In how many words of the holders it removes a link, from the first on.
     pub unlinked: u64,
