@@ -1,10 +1,19 @@
 //! The calls of a world, under the lock.
 
-ghost use Rattle.std.specs.Prelude.{◌≡◌, OnOk, OnErr};
+ghost use Rattle.std.specs.Prelude.{◌≡◌, ◌≤◌, ◌+◌, ◌*◌, ◌↔◌, ℕ, IsTrue, IsFalse, IfOk, IfErr, OnOk, OnErr};
+ghost use Rattle.std.specs.Option.{IsNone};
+ghost use Rattle.std.specs.FinMap.{get, len};
+ghost use Rattle.std.specs.FinSet.{contains};
 ghost use Rattle.std.specs.FinSet as sets;
 ghost use Rattle.std.specs.declared.result.Result.TheVariants.{Ok};
-ghost use Rattle.fz_model.specs.Events.{Alloc, Load, Store, Set, Copy, Register, Unregister, Link, Unlink, MoveLink, Begin, Mark, Pause, Collect, Hold, Close, Outstanding, Queue};
+ghost use Rattle.fz_model.specs.declared.limits.TheConstants.{BLOCK_WORDS};
+ghost use Rattle.fz_model.specs.Allocation.{block_of};
+ghost use Rattle.fz_model.specs.Memory.{slot_word};
+ghost use Rattle.fz_model.specs.Causes.{IsJudgedBy, is_off_heap};
+ghost use Rattle.fz_model.specs.Events.{Alloc, Load, Store, Set, Copy, Register, Unregister, Link, Unlink, MoveLink, Begin, Mark, Pause, Collect, Hold, Close, Outstanding, Queue, causes};
+ghost use Rattle.fz_world.specs.Cycles.{IsBegun, AreScanned};
 ghost use Rattle.fz_world.specs.Does.{Does};
+ghost use Rattle.fz_world.specs.World.{KeepsMarks, with_in_cycle};
 ghost use Rattle.fz_service.specs.States.{KeepsLine, SendsMore};
 
 use crate::locked::Locked;
@@ -28,6 +37,9 @@ impl<O: Opening> Locked<O> {
     ) -> Result<(Addr, u64), Refusal>
         ensures step { Does self.old.world (Alloc frame slot size kind) result self.new.world }
         ensures line { KeepsLine self.old self.new }
+        ensures caused { IsJudgedBy (causes self.old.world.core (Alloc frame slot size kind)) result }
+        ensures refused { OnErr result (self.new ≡ self.old) }
+        ensures marks { IfOk result (λ made. self.new.world ≡ record self.old.world { core = self.new.world.core; marked = with_in_cycle self.old.world.cycle self.old.world.marked made.0; noted = with_in_cycle self.old.world.cycle self.old.world.noted (block_of made.0) }) }
     {
         self.world.alloc(frame, slot, size, kind)
     }
@@ -45,6 +57,7 @@ impl<O: Opening> Locked<O> {
     ) -> Result<Word, Refusal>
         ensures step { Does self.old.world (Load frame slot offset to_frame to_slot) result self.new.world }
         ensures line { KeepsLine self.old self.new }
+        ensures marks { KeepsMarks self.old.world self.new.world }
     {
         self.world.load(frame, slot, offset, to_frame, to_slot)
     }
@@ -62,6 +75,8 @@ impl<O: Opening> Locked<O> {
     ) -> Result<(), Refusal>
         ensures step { Does self.old.world (Store frame slot offset from_frame from_slot) result self.new.world }
         ensures line { KeepsLine self.old self.new }
+        ensures refused { OnErr result (self.new ≡ self.old) }
+        ensures marks { OnOk result (self.new.world ≡ record self.old.world { core = self.new.world.core; noted = with_in_cycle self.old.world.cycle self.old.world.noted (block_of (slot_word self.old.world.frames frame slot + offset)) }) }
     {
         self.world.store(frame, slot, offset, from_frame, from_slot)
     }
@@ -72,6 +87,7 @@ impl<O: Opening> Locked<O> {
     pub fn set(&mut self, frame: u64, slot: u64, word: Word) -> Result<(), Refusal>
         ensures step { Does self.old.world (Set frame slot word) result self.new.world }
         ensures line { KeepsLine self.old self.new }
+        ensures marks { KeepsMarks self.old.world self.new.world }
     {
         self.world.set(frame, slot, word)
     }
@@ -88,6 +104,7 @@ impl<O: Opening> Locked<O> {
     ) -> Result<(), Refusal>
         ensures step { Does self.old.world (Copy frame slot to_frame to_slot) result self.new.world }
         ensures line { KeepsLine self.old self.new }
+        ensures marks { KeepsMarks self.old.world self.new.world }
     {
         self.world.copy(frame, slot, to_frame, to_slot)
     }
@@ -106,6 +123,9 @@ impl<O: Opening> Locked<O> {
     ) -> Result<RegAnswer, Refusal>
         ensures step { Does self.old.world (Register frame slot kind proc cd rank) result self.new.world }
         ensures line { KeepsLine self.old self.new }
+        ensures inside { IfErr result (λ r. r ≡ Refusal.NoMemory → IsFalse (is_off_heap self.old.world.blocks (slot_word self.old.world.frames frame slot))) }
+        ensures growth { IfErr result (λ r. r ≡ Refusal.NoMemory → IsNone (get self.old.world.registrations (slot_word self.old.world.frames frame slot))) }
+        ensures marks { KeepsMarks self.old.world self.new.world }
     {
         self.world.register(frame, slot, kind, proc, cd, rank)
     }
@@ -116,6 +136,7 @@ impl<O: Opening> Locked<O> {
     pub fn unregister(&mut self, frame: u64, slot: u64) -> Result<Option<Old>, Refusal>
         ensures step { Does self.old.world (Unregister frame slot) result self.new.world }
         ensures line { KeepsLine self.old self.new }
+        ensures marks { KeepsMarks self.old.world self.new.world }
     {
         self.world.unregister(frame, slot)
     }
@@ -135,6 +156,7 @@ impl<O: Opening> Locked<O> {
     ) -> Result<LinkAnswer, Refusal>
         ensures step { Does self.old.world (Link which frame slot offset target_frame target_slot) result self.new.world }
         ensures line { KeepsLine self.old self.new }
+        ensures marks { KeepsMarks self.old.world self.new.world }
     {
         self.world
             .link(which, frame, slot, offset, target_frame, target_slot)
@@ -152,6 +174,7 @@ impl<O: Opening> Locked<O> {
     ) -> Result<bool, Refusal>
         ensures step { Does self.old.world (Unlink which frame slot offset) result self.new.world }
         ensures line { KeepsLine self.old self.new }
+        ensures marks { KeepsMarks self.old.world self.new.world }
     {
         self.world.unlink(which, frame, slot, offset)
     }
@@ -171,6 +194,7 @@ impl<O: Opening> Locked<O> {
     ) -> Result<MoveAnswer, Refusal>
         ensures step { Does self.old.world (MoveLink which frame slot offset to_frame to_slot to_offset) result self.new.world }
         ensures line { KeepsLine self.old self.new }
+        ensures marks { KeepsMarks self.old.world self.new.world }
     {
         self.world
             .move_link(which, frame, slot, offset, to_frame, to_slot, to_offset)
@@ -182,6 +206,8 @@ impl<O: Opening> Locked<O> {
     pub fn begin(&mut self) -> Result<(), Refusal>
         ensures step { Does self.old.world Begin result self.new.world }
         ensures line { KeepsLine self.old self.new }
+        ensures refused { OnErr result (self.new ≡ self.old) }
+        ensures begun { OnOk result (IsBegun self.old.world self.new.world) }
     {
         self.world.begin()
     }
@@ -192,6 +218,12 @@ impl<O: Opening> Locked<O> {
     pub fn mark(&mut self, budget: u64) -> Result<Progress, Refusal>
         ensures step { Does self.old.world (Mark budget) result self.new.world }
         ensures line { KeepsLine self.old self.new }
+        ensures refused { OnErr result (self.new ≡ self.old) }
+        ensures same { self.new.world ≡ record self.old.world { marked = self.new.world.marked; scanned = self.new.world.scanned; scans = self.new.world.scans } }
+        ensures kept { (a : ℕ) → IsTrue (contains self.old.world.marked a) → IsTrue (contains self.new.world.marked a) }
+        ensures done { IfOk result (λ progress. progress ≡ Progress.Done ↔ AreScanned self.new.world) }
+        ensures more { IfOk result (λ progress. progress ≡ Progress.More → self.new.world.scans ≡ self.old.world.scans + budget) }
+        ensures budgeted { (self.old.world.scans ≤ self.new.world.scans) × (self.new.world.scans ≤ self.old.world.scans + budget) }
     {
         self.world.mark(budget)
     }
@@ -202,6 +234,7 @@ impl<O: Opening> Locked<O> {
     pub fn hold(&mut self, frame: u64, slot: u64, entry: &Entry) -> Result<(), Refusal>
         ensures step { Does self.old.world (Hold frame slot entry.now) result self.new.world }
         ensures line { KeepsLine self.old self.new }
+        ensures marks { KeepsMarks self.old.world self.new.world }
     {
         self.world.hold(frame, slot, entry)
     }
@@ -212,16 +245,21 @@ impl<O: Opening> Locked<O> {
     pub fn close(&mut self) -> Result<(), Refusal>
         ensures step { Does self.old.world Close result self.new.world }
         ensures line { KeepsLine self.old self.new }
+        ensures marks { KeepsMarks self.old.world self.new.world }
     {
         self.world.close()
     }
+
     /// Ends the cycle with a pass, and sends what it queued.
     ///
     /// Refused `NoCycle` where no cycle is open.
     pub fn pause(&mut self) -> Result<Passed, Refusal>
         ensures step { Does self.old.world Pause result self.new.world }
         ensures sent { OnOk result (SendsMore self.old self.new) }
-        ensures refused { OnErr result (KeepsLine self.old self.new) }
+        ensures refused { OnErr result (self.new ≡ self.old) }
+        ensures scans { self.old.world.scans ≤ self.new.world.scans }
+        ensures few { OnOk result (self.new.world.scans ≤ len self.old.world.objects + BLOCK_WORDS * sets.len self.old.world.noted) }
+        ensures noted { self.new.world.noted ≡ self.old.world.noted }
     {
         let passed = self.world.pause()?;
         self.publish();
@@ -234,7 +272,9 @@ impl<O: Opening> Locked<O> {
     pub fn collect(&mut self) -> Result<Passed, Refusal>
         ensures step { Does self.old.world Collect result self.new.world }
         ensures sent { OnOk result (SendsMore self.old self.new) }
-        ensures refused { OnErr result (KeepsLine self.old self.new) }
+        ensures refused { OnErr result (self.new ≡ self.old) }
+        ensures few { OnOk result (self.new.world.scans ≤ len self.old.world.objects) }
+        ensures noted { OnOk result (self.new.world.noted ≡ sets.empty) }
     {
         let passed = self.world.collect()?;
         self.publish();

@@ -6,6 +6,7 @@ ghost use Rattle.fz_model.specs.State.{opening};
 ghost use Rattle.fz_line.specs.States.{owner_state};
 ghost use Rattle.fz_line.specs.Views.{first_room};
 ghost use Rattle.fz_world.specs.Does.{Does, StandsFor};
+ghost use Rattle.fz_world.specs.World.{KeepsMarks};
 ghost use Rattle.fz_service.specs.States.{locked_state, IsInOrder, LetsGo, RunsCalls, KeepsLine};
 ghost use Rattle.fz_service.specs.Takes.{reply_of};
 
@@ -103,6 +104,7 @@ impl<O: Opening> Locked<O> {
         ensures done { IfOk result (λ seat. seat ≡ record duty.seat { finished = duty.seat.finished + 1 }) }
         ensures counted { OnOk result (self.new ≡ record self.old { world = self.new.world; finished = self.old.finished + 1 }) }
         ensures gone { OnOk result (LetsGo self.old.world self.new.world duty.entry) }
+        ensures marks { KeepsMarks self.old.world self.new.world }
         ensures refused { IfErr result (λ refused. (refused ≡ (Refusal.NotHeld, duty)) × (self.new ≡ self.old)) }
     {
         match self.world.finish(duty.entry()) {
