@@ -4,6 +4,7 @@ use Rattle.std.proofs.lemmas.Bool.{cond-true, cond-false, cases_eq, cases_lt, ca
 use Rattle.std.proofs.lemmas.Option.{same_Some, slice_get_past, slice_get_within}
 use Rattle.std.proofs.lemmas.List.{take_all}
 use Rattle.std.proofs.lemmas.List.Sums.{sum_by-append, sum_by_more, sum_by-cons, sum_by-set, sum_by-le, count_by-le-length}
+use Rattle.std.proofs.lemmas.Nat.{ones_le_self}
 use Rattle.std.proofs.lemmas.Nat.Bits.{same_from_bits}
 use Rattle.std.proofs.lemmas.Simd.{bit_mask_l, ones-mask_l}
 use Rattle.std.specs.Simd.Lanes.{mask_l}
@@ -19,7 +20,7 @@ use Rattle.fz_model.specs.Extents.{IsInHeap, heap_end}
 use Rattle.fz_model.specs.declared.limits.TheConstants.{HEAP_START}
 use Rattle.fz_blocks.specs.declared.block.Block.{Block}
 use Rattle.fz_model.specs.Bits.{has_bit}
-use Rattle.fz_blocks.specs.Blocks.{Condemns}
+use Rattle.fz_blocks.specs.Blocks.{starts_at, Condemns}
 use Rattle.fz_blocks.specs.Tabulated.{Addresses, gathered}
 use Rattle.fz_blocks.specs.Claimed.{swept}
 use Rattle.fz_blocks.specs.Layout.{is_condemned, condemned_in, waiting_in}
@@ -336,3 +337,35 @@ waiting_set blocks at old new lt here = ap (λ (block : Block). waiting_in (set 
 
 pub few_waiting : (blocks : List Block) → waiting_in blocks ≤ length blocks * 64
 few_waiting blocks = sum_by-le (λ (block : Block). ones block.condemned) 64 blocks (λ i d lt. few_condemned (get_or blocks i d))
+
+-- a block is swept, and loses all its condemned cells
+pub waiting_less : (blocks : List Block) (at : ℕ) (old new : Block) → slice_get blocks at ≡ Some old → new.condemned ≡ 0 → waiting_in (set blocks at new) + ones old.condemned ≡ waiting_in blocks
+waiting_less blocks at old new here clean =
+    let sum = waiting_set blocks at old new (slice_get_within blocks at old here) here in
+    let few = ones_le_self new.condemned in
+    omega (arith, sum, few, clean)
+
+-- a cell more is condemned
+pub waiting_more : (blocks : List Block) (at place : ℕ) (old new : Block) → place < 64 → slice_get blocks at ≡ Some old → starts_at old place ≡ true → Condemns old new place → waiting_in (set blocks at new) ≡ waiting_in blocks + 1
+waiting_more blocks at place old new small here starts condemns =
+    sym (len-condemned_in (set blocks at new))
+    ∙ ap len (condemned_set blocks at place old new small here condemns)
+    ∙ len-insert nat_cmp_total (condemned_in blocks) (block_start at + place)
+    ∙ cond-false (contains (condemned_in blocks) (block_start at + place)) (len (condemned_in blocks)) (len (condemned_in blocks) + 1) absent
+    ∙ ap (λ n. n + 1) (len-condemned_in blocks)
+  where
+    absent : contains (condemned_in blocks) (block_start at + place) ≡ false
+    absent =
+        let b_is : (block_start at + place - 65536) / 64 ≡ at = omega (arith, small) in
+        let p_is : (block_start at + place - 65536) % 64 ≡ place = omega (arith, small) in
+        contains-condemned_in blocks (block_start at + place)
+        ∙ high_condemned blocks (block_start at + place) (omega arith)
+        ∙ ap (λ o. option_map_or (λ (block : Block). has_bit block.condemned ((block_start at + place - 65536) % 64)) o false) (ap (slice_get blocks) b_is ∙ here)
+        ∙ ap (has_bit old.condemned) p_is
+        ∙ old.separate place starts
+
+-- no block has more condemned cells than all have
+pub waiting_has : (blocks : List Block) (at : ℕ) (block : Block) → slice_get blocks at ≡ Some block → ones block.condemned ≤ waiting_in blocks
+waiting_has [] at block here = absurd (omega (arith, slice_get_within [] at block here))
+waiting_has (x ∷ blocks) zero block here = let same = ap (λ (k : Block). ones k.condemned) (same_Some x block here) in let sum = sum_by-cons (λ (k : Block). ones k.condemned) x blocks in omega (arith, same, sum)
+waiting_has (x ∷ blocks) (suc at) block here = let rest = waiting_has blocks at block here in let sum = sum_by-cons (λ (k : Block). ones k.condemned) x blocks in omega (arith, rest, sum)

@@ -9,6 +9,7 @@ pub mod Places
 pub mod Runs
 pub mod Shifts
 pub mod Tables
+pub mod InPlace
 pub mod Changes
 pub mod Claiming
 pub mod Writing

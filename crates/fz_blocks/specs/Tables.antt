@@ -1,11 +1,11 @@
 -- A list of blocks beside the sets by which the least bare one, and the least with room, are found.
-use Rattle.std.specs.Prelude.{◌≡◌, ℕ, ◌<◌, ◌≤◌, Bool, false, not, ◌&&◌, ◌||◌, ◌==◌, if◌then◌else◌, List, length, Some, slice_get, ◌*◌, IsTrue, IsFalse}
+use Rattle.std.specs.Prelude.{◌≡◌, ℕ, ◌<◌, ◌≤◌, Bool, false, not, ◌&&◌, ◌||◌, ◌==◌, if◌then◌else◌, List, length, Some, slice_get, slice_set, ◌*◌, IsTrue, IsFalse}
 use Rattle.std.specs.Option.{option_map_or}
 use Rattle.std.specs.FinSet.{contains}
 use Rattle.fz_model.specs.declared.limits.TheConstants.{MAX_BLOCKS}
 use Rattle.fz_blocks.specs.declared.block.Block.{Block}
 use Rattle.fz_blocks.specs.BlockSets.{Roomed, members_at, room_at}
-use Rattle.fz_blocks.specs.Blocks.{is_bare}
+use Rattle.fz_blocks.specs.Blocks.{starts_at, is_bare, has_free_cell, IsAlike, Claims, Condemns}
 use Rattle.fz_blocks.specs.Layout.{has_room}
 
 -- the sets have just the blocks that no object meets, and for each class those with room
@@ -46,3 +46,38 @@ pub record Changes (old new : List Roomed) (block : Block) (at : ℕ) : Type 0 w
   pub long : length new ≡ length old
   pub room : (class : ℕ) → room_at new class ≡ room_at old class
   pub are : (class b : ℕ) → class < 128 → contains (members_at new class) b ≡ (if b == at then has_room class block else contains (members_at old class) b)
+
+-- the block at a place of a list has a free cell beside objects; and an object starts in it at a place of its own
+pub record IsRoomy (blocks : List Block) (at : ℕ) : Type 0 where
+  pub block : Block
+  pub here : slice_get blocks at ≡ Some block
+  pub roomy : IsTrue (has_free_cell block)
+
+pub record IsStart (blocks : List Block) (at place : ℕ) : Type 0 where
+  pub block : Block
+  pub here : slice_get blocks at ≡ Some block
+  pub starts : IsTrue (starts_at block place)
+
+-- one block of a list changes: a cell of it is claimed, or condemned, or its condemned cells are freed
+pub record ClaimsIn (old new : List Block) (at place : ℕ) : Type 0 where
+  pub was : Block
+  pub now : Block
+  pub here : slice_get old at ≡ Some was
+  pub claims : Claims was now place
+  pub after : new ≡ slice_set old at now
+
+pub record CondemnsIn (old new : List Block) (at place : ℕ) : Type 0 where
+  pub was : Block
+  pub now : Block
+  pub here : slice_get old at ≡ Some was
+  pub condemns : Condemns was now place
+  pub after : new ≡ slice_set old at now
+
+pub record SweepsIn (old new : List Block) (at : ℕ) : Type 0 where
+  pub was : Block
+  pub now : Block
+  pub here : slice_get old at ≡ Some was
+  pub alike : IsAlike was now
+  pub objects : now.objects ≡ was.objects
+  pub swept : now.condemned ≡ 0
+  pub after : new ≡ slice_set old at now

@@ -96,10 +96,9 @@ impl BlockMap {
         let table = &mut self.table;
         let offset = start - HEAP_START;
         let at = offset / BLOCK_WORDS;
-        let mut block = table.get(at);
-        block.condemn(offset % BLOCK_WORDS);
-        table.put(at, block);
-        free_later(table, at, block.span());
+        table.condemn_in(at, offset % BLOCK_WORDS);
+        let span = table.get(at).span();
+        free_later(table, at, span);
     }
 
     /// Condemns each object that starts in a block at one of these places, a bit each, the first place's lowest; returns their
@@ -128,10 +127,7 @@ impl BlockMap {
         requires { block < self.old.blocks }
         ensures { self.new ≡ record self.old { condemned = swept self.old.condemned block 1 } }
     {
-        let table = &mut self.table;
-        let mut clean = table.get(block);
-        clean.sweep();
-        table.put(block, clean);
+        self.table.sweep_in(block);
     }
 
     /// The number of condemned cells, a run counted once.

@@ -23,9 +23,7 @@ fn claim_in_room(table: &mut Table, at: u64, size: u64, kind: ObjKind) -> Addr
     requires first { IsFirst (has_room (class_of size kind)) table.old at }
     ensures { IsClaimed table.old table.new size kind result }
 {
-    let mut block = table.get(at);
-    let place = block.claim_least();
-    table.put(at, block);
+    let place = table.claim_in(at);
     HEAP_START + BLOCK_WORDS * at + place
 }
 

@@ -127,7 +127,7 @@ impl Table {
     ghost use Rattle.fz_blocks.specs.Layout.{waiting_in};
     ghost use Rattle.fz_blocks.specs.Runs.{IsRun, IsFirstRun};
     ghost use Rattle.fz_model.specs.declared.limits.TheConstants.{BLOCK_WORDS};
-    ghost use Rattle.fz_blocks.specs.Tables.{IsFirst, AreNew};
+    ghost use Rattle.fz_blocks.specs.Tables.{IsFirst, IsRoomy, IsStart, ClaimsIn, CondemnsIn, SweepsIn, AreNew};
 
     /// So many blocks that no object meets.
     pub(crate) fn new(alloc: Global, blocks: u64) -> Result<Table, Refusal>
@@ -187,6 +187,49 @@ impl Table {
             return None;
         }
         self.rooms[class_of(size, kind)].first()
+    }
+
+    /// Sweeps a block that has room, claims its least cell at which no object starts, and returns that cell's place.
+    pub(crate) fn claim_in(&mut self, at: u64) -> u64
+        requires { IsRoomy self.old at }
+        ensures { ClaimsIn self.old self.new at result }
+    {
+        let block = &mut self.blocks[at as usize];
+        self.condemned -= block.waiting();
+        let place = block.claim_least();
+        if block.is_full() {
+            self.rooms[class_of(u64::from(block.size), block.kind)].remove(at);
+        }
+        place
+    }
+
+    /// Condemns the cell of a block that starts at a place.
+    pub(crate) fn condemn_in(&mut self, at: u64, place: u64)
+        requires { IsStart self.old at place }
+        ensures { CondemnsIn self.old self.new at place }
+    {
+        let block = &mut self.blocks[at as usize];
+        let was_full = block.is_full();
+        block.condemn(place);
+        self.condemned += 1;
+        if block.is_bare() {
+            self.bare.insert(at);
+            if !was_full {
+                self.rooms[class_of(u64::from(block.size), block.kind)].remove(at);
+            }
+        } else if was_full {
+            self.rooms[class_of(u64::from(block.size), block.kind)].insert(at);
+        }
+    }
+
+    /// Frees the condemned cells of a block.
+    pub(crate) fn sweep_in(&mut self, at: u64)
+        requires { at < length self.old }
+        ensures { SweepsIn self.old self.new at }
+    {
+        let block = &mut self.blocks[at as usize];
+        self.condemned -= block.waiting();
+        block.sweep();
     }
 
     /// A block becomes another.

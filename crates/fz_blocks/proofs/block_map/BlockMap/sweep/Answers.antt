@@ -4,7 +4,11 @@ use Rattle.fz_blocks.proofs.Mapped.{map_swept, swept_view}
 use Rattle.fz_blocks.proofs.block_map.BlockMap.sweep.Goals as goal
 
 pub invariant_of-self : goal.invariant_of-self
-invariant_of-self c = map_swept c.self.inside.table c.self.invariant c.args.block c.get-clean.result c.sweep.new.self c.get-clean.ensures c.sweep.ensures.alike c.sweep.ensures.objects c.put.new.self c.put.ensures
+invariant_of-self c =
+    let is = c.sweep_in.ensures in
+    map_swept c.self.inside.table c.self.invariant c.args.block is.was is.now is.here is.alike is.objects c.sweep_in.new.self is.after
 
 pub returns : goal.returns
-returns c = swept_view c.self.inside.table c.args.block c.get-clean.result c.sweep.new.self c.get-clean.ensures c.sweep.ensures.alike c.sweep.ensures.objects c.sweep.ensures.swept c.put.new.self c.put.ensures ∙ ap (λ (v : Claimed). record v { condemned = swept v.condemned c.args.block 1 }) c.self.view_is
+returns c =
+    let is = c.sweep_in.ensures in
+    swept_view c.self.inside.table c.args.block is.was is.now is.here is.alike is.objects is.swept c.sweep_in.new.self is.after ∙ ap (λ (v : Claimed). record v { condemned = swept v.condemned c.args.block 1 }) c.self.view_is
