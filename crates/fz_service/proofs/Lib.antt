@@ -4,3 +4,4 @@ pub mod Keeps
 pub mod Seated
 pub mod Ends
 pub mod Serving
+pub mod Slots

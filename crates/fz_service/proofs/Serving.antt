@@ -1,8 +1,7 @@
 -- How a seat grows while a worker serves.
-use Rattle.std.proofs.Common.{◌≡◌, ℕ, ◌+◌, ◌≤◌, List, [], ◌∷◌, ◌++◌, Bool, true, false, refl, sym, ap, ◌∙◌, append-nil, append_assoc, arith}
+use Rattle.std.proofs.Common.{◌≡◌, ◌+◌, ◌≤◌, List, [], ◌∷◌, ◌++◌, Bool, true, false, refl, sym, ap, ◌∙◌, append-nil, append_assoc, length, length-append, arith}
 use mir.Val.{bool_byte}
 use Rattle.fz_model.specs.declared.answers.Entry.{Entry}
-use Rattle.fz_model.specs.State.{State}
 use Rattle.fz_model.specs.Steps.{NoStep}
 use Rattle.fz_line.specs.States.{SeatState, DutyState}
 use Rattle.fz_line.specs.Takes.{GainsEntry}
@@ -34,3 +33,10 @@ served old mid new duty done before gains serves = record {
 pub counted : (mid new : SeatState) (duty : DutyState) (done : Bool) → GainsEntry mid duty → Serves duty new done → (new.finished ≡ mid.finished + bool_byte done) × (bool_byte done ≤ 1)
 counted mid new duty true gains is = (ap (λ (s : SeatState). s.finished) is ∙ ap (λ (s : SeatState). s.finished + 1) gains.0, omega arith)
 counted mid new duty false gains is = (ap (λ (s : SeatState). s.finished) is ∙ ap (λ (s : SeatState). s.finished) gains.0 ∙ (let e : mid.finished ≡ mid.finished + 0 = omega arith in e), omega arith)
+
+-- its list gains the entry
+pub one_more : (mid new : SeatState) (duty : DutyState) (done : Bool) → GainsEntry mid duty → Serves duty new done → length new.took ≡ length mid.took + 1
+one_more mid new duty true gains is =
+    ap (λ (s : SeatState). length s.took) is ∙ ap (λ (s : SeatState). length s.took) gains.0 ∙ length-append mid.took (duty.entry ∷ [])
+one_more mid new duty false gains is =
+    ap (λ (s : SeatState). length s.took) is ∙ ap (λ (s : SeatState). length s.took) gains.0 ∙ length-append mid.took (duty.entry ∷ [])

@@ -13,6 +13,7 @@ mod seat;
 mod service;
 #[cfg(test)]
 mod tests;
+mod worker_threads;
 mod workers;
 
 pub use ending::Final;

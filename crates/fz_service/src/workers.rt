@@ -1,6 +1,6 @@
 //! Workers, which take entries and run their procedures.
 
-ghost use Rattle.std.specs.Prelude.{◌≡◌, ◌+◌, ◌≤◌};
+ghost use Rattle.std.specs.Prelude.{◌≡◌, ◌+◌, ◌≤◌, length};
 ghost use Rattle.fz_service.specs.States.{RunsCalls};
 ghost use Rattle.fz_service.specs.Workers.{Extends, Serves};
 
@@ -60,7 +60,22 @@ impl<O: Opening> Locked<O> {
 }
 
 impl<O: Opening> Service<O> {
-    /// Takes entries and finishes them, at most `limit`, until the first take that gives none; returns the seat, and how many it finished.
+    /// Does with the duty what `invoke_finalizers` says. Returns the seat, and whether it finished.
+    pub(crate) fn attend<G: Gate, R: Wait>(
+        &self,
+        duty: Duty<O>,
+        procs: &mut [Box<dyn Proc + Send>],
+        gate: &G,
+        rt: &R,
+    ) -> (Seat<O>, bool)
+        ensures { Serves duty result.0 result.1 }
+    {
+        gate.entered(duty.entry().seq);
+        work(procs, duty.entry());
+        self.enter(rt).serve(duty, procs)
+    }
+
+    /// Takes entries and finishes them, until it took `limit` or a take gives none; returns the seat, and how many it finished.
     ///
     /// Of each entry the gate is told, and then `work` of its procedure is called, both without the lock; then, under the lock, `run` of its
     /// procedure. The procedure of an entry is at the place in the list that its number says; where the list is shorter there is none. A duty whose
@@ -76,15 +91,14 @@ impl<O: Opening> Service<O> {
         ensures seat { Extends seat result.0 }
         ensures count { result.0.finished ≡ seat.finished + result.1 }
         ensures limit { result.1 ≤ limit }
+        ensures taken { length result.0.took ≤ length seat.took + limit }
     {
         let mut seat = seat;
         let mut finished = 0;
         for _turn in 0..limit {
             match seat.take() {
                 Take::Taken(duty) => {
-                    gate.entered(duty.entry().seq);
-                    work(procs, duty.entry());
-                    let (same, done) = self.enter(rt).serve(duty, procs);
+                    let (same, done) = self.attend(duty, procs, gate, rt);
                     seat = same;
                     finished += done as u64;
                 }

@@ -1,4 +1,4 @@
-use Rattle.std.proofs.Common.{◌≡◌, ◌+◌, ◌≤◌}
+use Rattle.std.proofs.Common.{◌≡◌, ◌+◌, ◌≤◌, length}
 use Rattle.fz_service.specs.Workers.{Extends}
 use Rattle.fz_service.proofs.service.Service.invoke_finalizers.Given as goal
 
@@ -7,4 +7,5 @@ invariant-loop-turn g l = record {
   seat : Extends l.initial.seat l.seat;
   count : l.seat.finished ≡ l.initial.seat.finished + l.finished;
   few : l.finished ≤ l._turn;
+  taken : length l.seat.took ≤ length l.initial.seat.took + l._turn;
 }

@@ -1,0 +1,231 @@
+//! Worker threads.
+
+ghost use Rattle.std.specs.Prelude.{◌≡◌, ℕ, ◌<◌, ◌≤◌, [], Option, length, slice_index_or, vec_capacity};
+ghost use Rattle.fz_line.specs.States.{SeatState};
+ghost use Rattle.fz_service.specs.Workers.{Extends, ExtendEach, SlotExtends, slots_of, in_slots};
+
+use crate::opening::Opening;
+use crate::seat::{Seat, Take};
+use crate::service::Service;
+use crate::workers::{Gate, Proc};
+use std::alloc::Global;
+use std::marker::Model;
+use std::sync::Wait;
+use std::sync::atomic::{AtomicBool, Ordering};
+use std::thread::{Parker, Threads};
+use std::time::Duration;
+use std::{hint, mem, thread};
+
+/// How often in a row a worker yields where the line is empty, before it begins to sleep.
+const YIELDS: u32 = 64;
+
+/// For how many microseconds it sleeps at a time.
+const SLEEP: u64 = 100;
+
+/// What a worker does while the line is empty: it yields at first, and then sleeps for a moment at a time, since nothing wakes it.
+#[derive(Drop)]
+struct Pause {
+    yields: u32,
+    parker: Parker,
+}
+
+impl Pause {
+    fn new() -> Pause {
+        Pause {
+            yields: 0,
+            parker: Parker::new(),
+        }
+    }
+
+    fn once<R: Wait>(&mut self, rt: &R) {
+        if self.yields < YIELDS {
+            self.yields += 1;
+            thread::yield_now();
+        } else {
+            self.parker.park_timeout(rt, Duration::from_micros(SLEEP));
+        }
+    }
+}
+
+/// The procedures of one worker.
+type List = Vec<Box<dyn Proc + Send>>;
+
+/// A seat on its way to a thread and back, with the list that goes with it. A contract sees what is in the slot.
+struct Worker<O: Opening, L> {
+    slot: Option<Seat<O>>,
+    procs: L,
+}
+
+impl<O: Opening, L> Model for Worker<O, L> {
+    ghost use Rattle.std.specs.Prelude.{Option};
+    ghost use Rattle.fz_line.specs.States.{SeatState};
+
+    ghost Value = { Option SeatState };
+
+    ghost view = { λ w. w.slot };
+}
+
+impl<O: Opening> Worker<O, List> {
+    /// Serves with the seat in the slot, and puts it back.
+    fn serve<G: Gate, R: Wait>(&mut self, service: &Service<O>, gate: &G, stop: &AtomicBool, rt: &R)
+        ensures { SlotExtends self.old self.new }
+    {
+        if let Some(seat) = mem::replace(&mut self.slot, None) {
+            let procs = self.procs.as_mut_slice();
+            let seat = service.serve_until(seat, procs, gate, stop, rt);
+            if let Some(other) = mem::replace(&mut self.slot, Some(seat)) {
+                other.retire();
+            }
+        }
+    }
+}
+
+/// Takes the list at this place out, or an empty one where there is none.
+fn list_out(procs: &mut [List], place: usize, alloc: Global) -> List {
+    if place < procs.len() {
+        mem::replace(&mut procs[place], Vec::new(alloc))
+    } else {
+        Vec::new(alloc)
+    }
+}
+
+/// Puts the list back at this place, if there is such a place.
+fn list_back(procs: &mut [List], place: usize, list: List) {
+    if place < procs.len() {
+        procs[place] = list;
+    }
+}
+
+/// Gives each seat the list at its place, in room for all.
+fn with_lists<O: Opening>(
+    seats: &mut Vec<Seat<O>>,
+    procs: &mut [Vec<Box<dyn Proc + Send>>],
+    alloc: Global,
+    mut workers: Vec<Worker<O, List>>,
+) -> Vec<Worker<O, List>>
+    requires room { (workers.items ≡ []) × (length seats.old.items ≤ vec_capacity workers) }
+    ensures workers { result.items ≡ slots_of seats.old.items }
+    ensures seats { (seats.new.items ≡ []) × (vec_capacity seats.new ≡ vec_capacity seats.old) }
+{
+    while seats.len() > 0 {
+        let seat = seats.remove(0);
+        let list = list_out(procs, workers.len(), alloc);
+        workers.push_reserved(Worker {
+            slot: Some(seat),
+            procs: list,
+        });
+    }
+    workers
+}
+
+/// Takes the seats out of their slots, in room for them, and puts each list back at its place.
+fn without_lists<O: Opening>(
+    mut workers: Vec<Worker<O, List>>,
+    procs: &mut [Vec<Box<dyn Proc + Send>>],
+    mut seats: Vec<Seat<O>>,
+) -> Vec<Seat<O>>
+    requires room { (seats.items ≡ []) × (length workers.items ≤ vec_capacity seats) }
+    ensures { result.items ≡ in_slots workers.items }
+{
+    let mut place = 0;
+    while workers.len() > 0 {
+        let Worker { slot, procs: list } = workers.remove(0);
+        list_back(procs, place, list);
+        place += 1;
+        if let Some(seat) = slot {
+            seats.push_reserved(seat);
+        }
+    }
+    workers.destroy_empty();
+    seats
+}
+
+impl<O: Opening> Service<O> {
+    /// Takes entries and finishes them until it finds the line empty in a take that began after `stop` was read as true.
+    fn serve_until<G: Gate, R: Wait>(
+        &self,
+        seat: Seat<O>,
+        procs: &mut [Box<dyn Proc + Send>],
+        gate: &G,
+        stop: &AtomicBool,
+        rt: &R,
+    ) -> Seat<O>
+        ensures { Extends seat result }
+    {
+        let mut seat = seat;
+        let mut pause = Pause::new();
+        for _turn in rt.forever() {
+            let last = stop.load(Ordering::SeqCst);
+            match seat.take() {
+                Take::Taken(duty) => {
+                    seat = self.attend(duty, procs, gate, rt).0;
+                    pause = Pause::new();
+                }
+                Take::Busy(same) => {
+                    seat = same;
+                    hint::spin_loop();
+                }
+                Take::Empty(same) => {
+                    if last {
+                        return same;
+                    }
+                    seat = same;
+                    pause.once(rt);
+                }
+            }
+        }
+        seat
+    }
+
+    /// Serves with each of these, in a thread of its own where one can be made.
+    fn serve_all<G: Gate + Sync, R: Threads + Wait + Sync>(
+        &self,
+        workers: &mut Vec<Worker<O, List>>,
+        gate: &G,
+        stop: &AtomicBool,
+        rt: &R,
+    )
+    where
+        O: Send + Sync,
+        ensures len { length workers.new.items ≡ length workers.old.items }
+        ensures each { (i : ℕ) (d : Option SeatState) → i < length workers.old.items → SlotExtends (slice_index_or workers.old.items i d) (slice_index_or workers.new.items i d) }
+    {
+        let threads = workers.len();
+        if threads == 0 {
+            return;
+        }
+        let serve = |_: usize, worker: &mut Worker<O, List>|
+            ensures { SlotExtends worker.old worker.new }
+        { worker.serve(self, gate, stop, rt) };
+        thread::for_each_mut(rt, workers.as_mut_slice(), threads, &serve);
+    }
+
+    /// Runs a worker in a thread of its own with each seat, and comes back with the seats, each at its place, when all have ended.
+    ///
+    /// The worker of the seat at a place in `seats` runs the procedures of the list at that place in `procs`, and none where `procs` is shorter.
+    /// It does with each entry as `invoke_finalizers` does, and ends when it finds the line empty in a take that began after it had read
+    /// `stop` as true. So what was published before `stop` was set is taken. While the line is empty and `stop` is false, it yields, and later
+    /// sleeps for a moment at a time. The calling thread is one of the workers: whoever sets `stop` runs in another.
+    ///
+    /// Where a thread can't be made, its seat is served on another's thread. Where memory is wanting, all seats come back unused.
+    pub fn run_workers<G: Gate + Sync, R: Threads + Wait + Sync>(
+        &self,
+        mut seats: Vec<Seat<O>>,
+        procs: &mut [Vec<Box<dyn Proc + Send>>],
+        gate: &G,
+        stop: &AtomicBool,
+        rt: &R,
+    ) -> Vec<Seat<O>>
+    where
+        O: Send + Sync,
+        ensures { ExtendEach seats.items result.items }
+    {
+        let alloc = *seats.allocator();
+        let Ok(room) = Vec::with_capacity(alloc, seats.len()) else {
+            return seats;
+        };
+        let mut workers = with_lists(&mut seats, procs, alloc, room);
+        self.serve_all(&mut workers, gate, stop, rt);
+        without_lists(workers, procs, seats)
+    }
+}
