@@ -82,6 +82,7 @@ impl World {
     pub fn open(alloc: Global, config: Config) -> Result<World, Refusal>
         ensures judged { IsJudgedOrLacks (open_causes config.blocks config.frames) result }
         ensures opened { IfOk result (λ world. StandsFor world (opening config.blocks config.frames)) }
+        ensures unmarked { IfOk result (λ world. (world.scans ≡ 0) × (world.noted ≡ empty)) }
     {
         if config.frames < 1 || config.frames > MAX_FRAMES {
             return Err(Refusal::BadCount);
