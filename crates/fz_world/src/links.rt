@@ -1,9 +1,11 @@
 //! Disappearing links.
 
-ghost use Rattle.std.specs.Prelude.{◌≡◌, ◌+◌, ◌++◌, IfOk};
+ghost use Rattle.std.specs.Prelude.{◌≡◌, ◌+◌, ◌++◌, IfOk, IfErr, IsSome};
+ghost use Rattle.std.specs.Option.{IsNone};
+ghost use Rattle.std.specs.FinMap.{get};
 ghost use Rattle.fz_model.specs.Memory.{slot_word};
 ghost use Rattle.fz_model.specs.Causes.{IsJudgedBy, slot_causes, place_causes, start_causes};
-ghost use Rattle.fz_model.specs.Events.{Link, Unlink, MoveLink};
+ghost use Rattle.fz_model.specs.Events.{Link, Unlink, MoveLink, links_of};
 ghost use Rattle.fz_world.specs.World.{KeepsMarks};
 ghost use Rattle.fz_world.specs.Does.{Does};
 
@@ -68,6 +70,8 @@ impl World {
         target_slot: u64,
     ) -> Result<LinkAnswer, Refusal>
         ensures step { Does self.old (Link which frame slot offset target_frame target_slot) result self.new }
+        // Only a new link can want memory.
+        ensures growth { IfErr result (λ r. r ≡ Refusal.NoMemory → IsNone (get (links_of self.old.core which) (slot_word self.old.frames frame slot + offset))) }
         ensures marks { KeepsMarks self.old self.new }
     {
         let place = (frame, slot, offset);
@@ -114,6 +118,8 @@ impl World {
         to_offset: u64,
     ) -> Result<MoveAnswer, Refusal>
         ensures step { Does self.old (MoveLink which frame slot offset to_frame to_slot to_offset) result self.new }
+        // Only a link that comes to another place, where none stands, can want memory.
+        ensures growth { IfErr result (λ r. r ≡ Refusal.NoMemory → IsSome (get (links_of self.old.core which) (slot_word self.old.frames frame slot + offset)) × IsNone (get (links_of self.old.core which) (slot_word self.old.frames to_frame to_slot + to_offset))) }
         ensures marks { KeepsMarks self.old self.new }
     {
         let place = (frame, slot, offset);
