@@ -1,6 +1,6 @@
 //! The calls of a world, under the lock.
 
-ghost use Rattle.std.specs.Prelude.{◌≡◌, ◌≤◌, ◌+◌, ◌*◌, ◌↔◌, ℕ, IsTrue, IsFalse, IfOk, IfErr, OnOk, OnErr};
+ghost use Rattle.std.specs.Prelude.{◌≡◌, ◌≤◌, ◌+◌, ◌*◌, ◌↔◌, ℕ, IsTrue, IsFalse, IfOk, IfErr, IsSome, OnOk, OnErr};
 ghost use Rattle.std.specs.Option.{IsNone};
 ghost use Rattle.std.specs.FinMap.{get, len};
 ghost use Rattle.std.specs.FinSet.{contains};
@@ -10,7 +10,7 @@ ghost use Rattle.fz_model.specs.declared.limits.TheConstants.{BLOCK_WORDS};
 ghost use Rattle.fz_model.specs.Allocation.{block_of};
 ghost use Rattle.fz_model.specs.Memory.{slot_word};
 ghost use Rattle.fz_model.specs.Causes.{IsJudgedBy, is_off_heap};
-ghost use Rattle.fz_model.specs.Events.{Alloc, Load, Store, Set, Copy, Register, Unregister, Link, Unlink, MoveLink, Begin, Mark, Pause, Collect, Hold, Close, Outstanding, Queue, causes};
+ghost use Rattle.fz_model.specs.Events.{Alloc, Load, Store, Set, Copy, Register, Unregister, Link, Unlink, MoveLink, Begin, Mark, Pause, Collect, Hold, Close, Outstanding, Queue, causes, links_of};
 ghost use Rattle.fz_world.specs.Cycles.{IsBegun, AreScanned};
 ghost use Rattle.fz_world.specs.Does.{Does};
 ghost use Rattle.fz_world.specs.World.{KeepsMarks, with_in_cycle};
@@ -156,6 +156,7 @@ impl<O: Opening> Locked<O> {
     ) -> Result<LinkAnswer, Refusal>
         ensures step { Does self.old.world (Link which frame slot offset target_frame target_slot) result self.new.world }
         ensures line { KeepsLine self.old self.new }
+        ensures growth { IfErr result (λ r. r ≡ Refusal.NoMemory → IsNone (get (links_of self.old.world.core which) (slot_word self.old.world.frames frame slot + offset))) }
         ensures marks { KeepsMarks self.old.world self.new.world }
     {
         self.world
@@ -194,6 +195,7 @@ impl<O: Opening> Locked<O> {
     ) -> Result<MoveAnswer, Refusal>
         ensures step { Does self.old.world (MoveLink which frame slot offset to_frame to_slot to_offset) result self.new.world }
         ensures line { KeepsLine self.old self.new }
+        ensures growth { IfErr result (λ r. r ≡ Refusal.NoMemory → IsSome (get (links_of self.old.world.core which) (slot_word self.old.world.frames frame slot + offset)) × IsNone (get (links_of self.old.world.core which) (slot_word self.old.world.frames to_frame to_slot + to_offset))) }
         ensures marks { KeepsMarks self.old.world self.new.world }
     {
         self.world
