@@ -10,14 +10,14 @@ use Rattle.fz_model.specs.declared.kinds.ObjKind.TheVariants.{Scanned, Atomic}
 use Rattle.fz_model.specs.Allocation.{same_kind, blocks_for}
 use Rattle.fz_model.specs.Bits.{has_bit}
 use Rattle.fz_model.proofs.Bits.{no_bits}
-use Rattle.fz_model.proofs.Sets.{contains-inserted}
+use Rattle.fz_model.proofs.Sets.{contains-inserted, contains-removed}
 use Rattle.fz_blocks.specs.declared.block.Block.{Block}
 use Rattle.fz_blocks.specs.BlockSets.{Roomed, members_at, room_at}
 use Rattle.fz_blocks.specs.Classes.{class_of}
 use Rattle.fz_blocks.specs.Cells.{is_cell}
-use Rattle.fz_blocks.specs.Blocks.{starts_at, is_bare, is_full, has_free_cell, has_same_room, IsAlike, Claims, Condemns}
+use Rattle.fz_blocks.specs.Blocks.{starts_at, is_bare, is_full, has_free_cell, has_same_room, IsAlike, Claims, Condemns, Detaches}
 use Rattle.fz_blocks.specs.Layout.{has_room}
-use Rattle.fz_blocks.specs.Tables.{AreListed, Changes, CondemnsIn}
+use Rattle.fz_blocks.specs.Tables.{AreListed, Joins, Changes, CondemnsIn}
 use Rattle.fz_blocks.proofs.Bits.{cell_parts, same_test}
 use Rattle.fz_blocks.proofs.Blocks.{object_cell, same_bits, some_start, none_in_later}
 use Rattle.fz_blocks.proofs.Tables.{slice_get-set, room_read, leaves_none, joins_none, leaves_room, joins_room, changes_none, changes_both, put_listed}
@@ -107,10 +107,34 @@ module _ (old new : Block) where
       pub kept_bare : is_bare old ≡ is_bare new
       kept_bare = sym (ap (λ n. (n == 0) && (new.back == 0)) objects ∙ ap (λ n. (old.objects == 0) && (n == 0)) alike.back)
 
+-- a block leaves its run
+same_cells : (a b : Block) → a.size ≡ b.size → a.cells ≡ b.cells
+same_cells a b same = same_bits a.cells b.cells (λ p. a.cells_are p ∙ ap (λ n. is_cell n p) same ∙ sym (b.cells_are p))
+
+module _ (old new : Block) (detaches : Detaches old new) where
+  pub detached_alike : old.back ≡ 0 → IsAlike old new
+  detached_alike own = record { cells = same_cells new old detaches.size; size = detaches.size; back = detaches.own ∙ sym own; kind = detaches.kind }
+
+  module _ (later : old.back ≢ 0) where
+    none_before : old.objects ≡ 0
+    none_before = old.none_later (omega (arith, later))
+
+    lacks : (block : Block) → block.objects ≡ 0 → has_free_cell block ≡ false
+    lacks block none = ap (λ n. not (n == 0) && (not (n == block.cells) && nat_le block.size 64)) none
+
+    pub detached_room : has_same_room old new ≡ true
+    detached_room = both_lack old new (lacks old none_before) (lacks new (detaches.objects ∙ none_before))
+
+    pub detached_bare : is_bare new ≡ true
+    detached_bare = and_from (new.objects == 0) _ (eq-eqb new.objects 0 (detaches.objects ∙ none_before)) (eq-eqb new.back 0 detaches.own)
+
 -- a cell is claimed
 module _ (old new : Block) (place : ℕ) (claims : Claims old new place) where
   claimed_starts : starts_at new place ≡ true
   claimed_starts = claims.claimed place ∙ ap (λ t. t || starts_at old place) (eq-eqb place place refl)
+
+  pub claimed_met : is_bare new ≡ false
+  claimed_met = started_bare new place claimed_starts
 
   pub claimed_roomy : has_free_cell old ≡ true → is_full new ≡ false → has_same_room old new ≡ true
   claimed_roomy on unfull = both_have old new claims.alike on (roomy new place claimed_starts unfull)
@@ -174,6 +198,14 @@ module _ (blocks : List Block) (bare : Roomed) (rooms : List Roomed) (listed : A
 
   pub at_bare : at < 64 * bare.room
   at_bare = let lt = within in let wide = listed.bare_room in omega (arith, lt, wide)
+
+  -- a bare block is taken
+  pub taken_listed : is_bare old ≡ true → is_bare new ≡ false → (now : Roomed) → now ≡ record bare { members = sets.remove bare.members at } → (joined : List Roomed) → Joins rooms joined new at → AreListed (set blocks at new) now joined
+  taken_listed was met now now_is joined joins =
+      subst (λ s. AreListed (set blocks at new) s joined) (sym now_is)
+      (put_listed blocks bare (record bare { members = sets.remove bare.members at }) rooms joined at new listed within
+      (changes_both rooms at old new in_rooms rooms joined (leaves_none rooms old at (bare_lacks old was)) joins)
+      refl (λ b. contains-removed bare.members at b ∙ ap (λ t. cond (b == at) t (contains bare.members b)) (sym met)))
 
   pub stays_listed : has_same_room old new ≡ true → is_bare old ≡ is_bare new → AreListed (set blocks at new) bare rooms
   stays_listed alike same = put_listed blocks bare bare rooms rooms at new listed within (changes_none rooms at old new in_rooms alike) refl (bare_stays same)

@@ -1,18 +1,19 @@
 -- The least run of blocks, by the bits of a set.
-use Rattle.std.proofs.Common.{◌≡◌, ◌≢◌, ℕ, ◌+◌, ◌-◌, ◌*◌, ◌/◌, ◌%◌, ◌<◌, ◌≤◌, true, false, nat_lt, List, length, slice_index, Option, Some, None, MatchOption, slice_get, refl, sym, ap, ◌∙◌, subst, ⊎_elim, arith, w64}
+use Rattle.std.proofs.Common.{◌≡◌, ◌≢◌, ℕ, ◌+◌, ◌-◌, ◌*◌, ◌/◌, ◌%◌, ◌^◌, ◌<◌, ◌≤◌, true, false, nat_lt, nat_cmp, List, length, slice_index, Option, Some, None, MatchOption, slice_get, refl, sym, ap, ◌∙◌, subst, ⊎_elim, arith, w64}
 use Rattle.std.proofs.lemmas.Bool.{cond-true, cond-false, cases_lt, lt-ltb, le-ltb, both_ways}
 use Rattle.std.proofs.lemmas.List.{get_or_past}
+use Rattle.std.proofs.lemmas.Nat.Bits.{bit_at-trailing_zeros}
 use Rattle.std.specs.Option.{option_map_or}
 use Rattle.std.specs.Int.{trailing_zeros}
-use Rattle.std.specs.FinSet.{contains}
+use Rattle.std.specs.FinSet.{contains, contains-empty}
 use Rattle.fz_blocks.specs.declared.block.Block.{Block}
 use Rattle.fz_blocks.specs.Blocks.{is_bare}
-use Rattle.fz_blocks.specs.BlockSets.{Blocks, has_pair_bit, blocks_of, AreRunsOf, HasRun, IsLeastRun}
+use Rattle.fz_blocks.specs.BlockSets.{Blocks, has_pair_bit, blocks_of, AreRunsOf, HasRun, IsLeastRun, IsSummary}
 use Rattle.fz_model.specs.Bits.{has_bit, has_flag}
 use Rattle.fz_blocks.specs.Runs.{IsRun, IsFirstRun}
 use Rattle.fz_blocks.proofs.Bits.{lowest}
 use Rattle.fz_model.proofs.Bits.{no_bits}
-use Rattle.fz_blocks.proofs.Sets.{contains-blocks_of}
+use Rattle.fz_blocks.proofs.Sets.{contains-blocks_of, word_zero, none_first}
 
 -- ---- among the words of a set
 
@@ -73,6 +74,24 @@ pub none_past_words : (words : List ℕ) (count b : ℕ) → 1 ≤ count → 64 
 none_past_words words count b some past run =
     let at : b + 0 ≡ b = omega arith in
     both_ways _ (ap (λ w. has_bit w (b % 64)) (get_or_past words (b / 64) 0 (omega (arith, past))) ∙ no_bits (b % 64)) (sym (contains-blocks_of words b) ∙ ap (contains (blocks_of words)) (sym at) ∙ run 0 (omega (arith, some)))
+
+-- nor before the first word that the summary has
+pub none_before : (words : List ℕ) (summary row count : ℕ) → IsSummary words summary → summary < 2 ^ 64 → row ≡ trailing_zeros w64 summary → 1 ≤ count → (b : ℕ) → b < 64 * row → HasRun (blocks_of words) count b → ⊥
+none_before words summary row count is fits row_is some b lt run =
+    both_ways _ (⊎_elim any none (cases_lt 0 summary)) (ap (contains (blocks_of words)) at ∙ run 0 (omega (arith, some)))
+  where
+    at : b ≡ b + 0
+    at = omega arith
+
+    any : 0 < summary → contains (blocks_of words) b ≡ false
+    any some_word =
+        let low = bit_at-trailing_zeros w64 summary some_word fits in
+        let before : b / 64 < trailing_zeros w64 summary = omega (arith, lt, row_is) in
+        let in_word : b / 64 < 64 = let within = low.0 in omega (arith, before, within) in
+        contains-blocks_of words b ∙ ap (λ w. has_bit w (b % 64)) (word_zero words summary (b / 64) is in_word (low.2 (b / 64) before)) ∙ no_bits (b % 64)
+
+    none : summary ≤ 0 → contains (blocks_of words) b ≡ false
+    none zero = ap (λ s. contains s b) (none_first words summary is (omega (arith, zero))) ∙ contains-empty nat_cmp b
 
 -- ---- among blocks
 

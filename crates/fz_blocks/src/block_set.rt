@@ -84,7 +84,7 @@ impl BlockSet {
         ensures { MatchOption result ((b : ℕ) → HasRun self.now.members count b → ⊥) (λ b. IsLeastRun self.now.members count b) }
     {
         let words = &self.words;
-        let mut row = 0usize;
+        let mut row = self.summary.trailing_zeros() as usize;
         while row < words.len() {
             let runs = runs_of(word_at(words, row), word_at(words, row + 1), count);
             if runs != 0 {

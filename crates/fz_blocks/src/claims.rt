@@ -4,11 +4,12 @@ ghost use Rattle.std.specs.Prelude.{◌≡◌, ◌≤◌, ◌<◌, ◌+◌, ℕ,
 ghost use Rattle.fz_model.specs.declared.limits.TheConstants.{BLOCK_WORDS, MAX_BLOCKS, MAX_OBJECT_WORDS};
 ghost use Rattle.fz_model.specs.Allocation.{place_in, blocks_for};
 ghost use Rattle.fz_blocks.specs.declared.block.Block.{Block};
+ghost use Rattle.fz_blocks.specs.Blocks.{is_bare};
 ghost use Rattle.fz_blocks.specs.Classes.{class_of};
 ghost use Rattle.fz_blocks.specs.Layout.{extents_in, has_room, AreRuns};
 ghost use Rattle.fz_blocks.specs.Tables.{IsFirst};
 ghost use Rattle.fz_blocks.specs.Claims.{IsClaimed};
-ghost use Rattle.fz_blocks.specs.Runs.{IsFirstRun, WritesRun, FreesLater};
+ghost use Rattle.fz_blocks.specs.Runs.{IsRun, IsFirstRun, WritesRun, FreesLater};
 
 use crate::block::Block;
 use crate::table::Table;
@@ -32,13 +33,14 @@ fn write_run(table: &mut Table, at: u64, count: u64, first: Block)
     requires some { 1 ≤ count }
     requires few { count ≤ 16 }
     requires low { length table.old ≤ MAX_BLOCKS }
-    requires within { at + count ≤ length table.old }
+    requires bare { IsRun table.old count at }
+    requires met { IsFalse (is_bare first) }
     ensures { WritesRun table.old table.new at count first }
 {
-    table.put(at, first);
+    table.occupy(at, first);
     let mut back = 1u64;
     while back < count {
-        table.put(at + back, Block::later(back));
+        table.occupy(at + back, Block::later(back));
         back += 1;
     }
 }
@@ -83,9 +85,7 @@ pub(crate) fn free_later(table: &mut Table, at: u64, count: u64)
 {
     let mut back = 1u64;
     while back < count {
-        let mut block = table.get(at + back);
-        block.detach();
-        table.put(at + back, block);
+        table.detach_in(at + back);
         back += 1;
     }
 }

@@ -121,9 +121,10 @@ impl Model for Table {
 }
 
 impl Table {
-    ghost use Rattle.std.specs.Prelude.{Some, ℕ, slice_get, slice_set, MatchOption, IsFalse, ◌≤◌, IfOk, IfErr};
+    ghost use Rattle.std.specs.Prelude.{Some, ℕ, slice_get, slice_set, MatchOption, IsTrue, IsFalse, ◌≤◌, IfOk, IfErr};
     ghost use Rattle.fz_blocks.specs.declared.block.Block.{Block};
     ghost use Rattle.fz_blocks.specs.Classes.{class_of};
+    ghost use Rattle.fz_blocks.specs.Blocks.{is_bare, Detaches};
     ghost use Rattle.fz_blocks.specs.Layout.{waiting_in};
     ghost use Rattle.fz_blocks.specs.Runs.{IsRun, IsFirstRun};
     ghost use Rattle.fz_model.specs.declared.limits.TheConstants.{BLOCK_WORDS};
@@ -230,6 +231,32 @@ impl Table {
         let block = &mut self.blocks[at as usize];
         self.condemned -= block.waiting();
         block.sweep();
+    }
+
+    /// A block that no object meets becomes one that an object meets.
+    pub(crate) fn occupy(&mut self, at: u64, block: Block)
+        requires bare { (was : Block) × (slice_get self.old at ≡ Some was) × IsTrue (is_bare was) }
+        requires met { IsFalse (is_bare block) }
+        ensures { self.new ≡ slice_set self.old at block }
+    {
+        let waiting = self.blocks[at as usize].waiting();
+        self.condemned = self.condemned - waiting + block.waiting();
+        self.bare.remove(at);
+        join(&mut self.rooms, &block, at);
+        self.blocks[at as usize] = block;
+    }
+
+    /// A block is part of no run any more.
+    pub(crate) fn detach_in(&mut self, at: u64)
+        requires { at < length self.old }
+        ensures { (was : Block) × (now : Block) × (slice_get self.old at ≡ Some was) × Detaches was now × (self.new ≡ slice_set self.old at now) }
+    {
+        let block = &mut self.blocks[at as usize];
+        let back = block.back;
+        block.detach();
+        if back != 0 {
+            self.bare.insert(at);
+        }
     }
 
     /// A block becomes another.

@@ -1,8 +1,12 @@
-use Rattle.std.proofs.Common.{ℕ, ⊎_elim, ◌≤◌, ◌<◌, ◌*◌, ◌+◌, ◌∙◌, ap, subst, arith, slice_index}
+use Rattle.std.proofs.Common.{ℕ, ⊎_elim, ◌≤◌, ◌<◌, ◌*◌, ◌+◌, ◌∙◌, ap, subst, arith, refl, w64, slice_index}
 use Rattle.std.proofs.lemmas.Bool.{cases_lt}
+use Rattle.std.specs.Int.{trailing_zeros}
 use Rattle.fz_blocks.specs.BlockSets.{Roomed, HasRun, IsLeastRun}
-use Rattle.fz_blocks.proofs.Searching.{least_run, none_in_row, none_past_words}
+use Rattle.fz_blocks.proofs.Searching.{least_run, none_in_row, none_past_words, none_before}
 use Rattle.fz_blocks.proofs.block_set.BlockSet.first_run.Goals as goal
+
+pub loop-row-init : goal.loop-row-init
+loop-row-init c = none_before c.self.inside.words.items c.self.inside.summary (trailing_zeros w64 c.self.inside.summary) c.args.count c.self.invariant (omega arith) refl c.requires.some
 
 pub returns-then-runs-ne0 : goal.returns-then-runs-ne0
 returns-then-runs-ne0 c =
