@@ -4,6 +4,7 @@ pub mod Traced
 pub mod Picked
 pub mod Walked
 pub mod Ranks
+pub mod Placing
 pub mod Condemned
 pub mod Decided
 pub mod Carried

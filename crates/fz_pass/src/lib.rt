@@ -7,6 +7,7 @@ mod law;
 mod leading;
 mod pass;
 mod picking;
+mod ranking;
 mod reclaiming;
 #[cfg(test)]
 mod tests;
