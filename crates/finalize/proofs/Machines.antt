@@ -1,24 +1,20 @@
 -- Steps of the machine as steps of a joint run.
-use Rattle.std.proofs.Common.{◌≡◌, ℕ, zero, suc, ◌+◌, ◌<◌, ◌≤◌, Bool, true, false, not, if◌then◌else◌, List, [], ◌∷◌, ◌++◌, length, map, set, Option, Some, None, Result, Ok, Err, MatchOption, refl, sym, ap, ◌∙◌, subst, arith, slice_get, get_or, is_some, is_none, IsTrue, IsFalse, nat_lt, take, drop}
+use Rattle.std.proofs.Common.{◌≡◌, ℕ, zero, suc, ◌+◌, ◌<◌, ◌≤◌, Bool, true, false, not, if◌then◌else◌, List, [], ◌∷◌, ◌++◌, length, map, set, Option, Some, None, Result, Ok, Err, MatchOption, refl, sym, ap, ◌∙◌, subst, arith, slice_get, get_or, is_some, is_none, IsFalse, nat_lt, take, drop}
 use Rattle.std.proofs.lemmas.Bool.{lt-ltb, le-ltb}
 use Rattle.std.proofs.lemmas.List.{map-set, length-set}
 use Rattle.std.proofs.Math.Seq.{take-append_seam}
 use Rattle.std.specs.List.{refill}
-use Rattle.std.specs.Option.{unwrap_or}
 use Rattle.std.specs.Result.{IsErrAnd}
 use Rattle.std.proofs.lemmas.Option.{same_Some}
 use Rattle.fz_model.specs.declared.answers.Entry.{Entry}
 use Rattle.fz_model.specs.declared.refusal.Refusal.{Refusal}
 use Rattle.fz_model.specs.declared.refusal.Refusal.TheVariants.{NotHeld, SeatsMissing}
 use Rattle.fz_model.specs.Causes.{first_cause}
-use Rattle.fz_model.specs.declared.kinds.RegKind.{RegKind}
 use Rattle.fz_model.specs.Events.{Event, Hold, Finish, Answer}
-use Rattle.fz_model.specs.Events as events
 use Rattle.fz_model.specs.Joint.{Worker, Joint, idle, JointEvent, Call, Take, HoldOwn, FinishOwn, Forfeit, JointAnswer, is_finish, worker_at, taken_by, own_causes, Acts, JointStep}
 use Rattle.fz_world.specs.Does.{StandsFor, Does}
 use Rattle.fz_world.specs.declared.world.World.{World}
 use Rattle.fz_script.specs.declared.step.Step.{Step}
-use Rattle.fz_script.specs.declared.step.Step.TheVariants.{Register}
 use Rattle.finalize.specs.declared.machine.Machine.{Machine}
 use Rattle.finalize.specs.declared.reply.Reply.{Reply}
 use Rattle.finalize.specs.Script.{event_of}
@@ -198,11 +194,6 @@ the_error (Err x) e h = ap Err h
 pub asks : {step known : Step} {e : JointEvent} → step ≡ known → event_of known ≡ Some e → event_of step ≡ Some e
 asks is asked = ap event_of is ∙ asked
 
--- a line that names no rank asks for rank 0
-pub registers : (frame slot : ℕ) (kind : RegKind) (proc cd rank : ℕ) (named : Option ℕ) → rank ≡ unwrap_or named 0
-    → event_of (Register frame slot kind proc cd named) ≡ Some (Call (events.Register frame slot kind proc cd rank))
-registers frame slot kind proc cd rank named is = ap (λ rank. Some (Call (events.Register frame slot kind proc cd rank))) (sym is)
-
 refused : (old new : Machine) (step : Step) (e : JointEvent) (r : Refusal) → event_of step ≡ Some e → JointDoes old e (Err r) new → StepDoes old step (Err r) new
 refused old new step e r asked does = record { event = e; reply = Err r; asked = asked; does = does; tells = record { words = refl; refused = refl; finish = no_finish e; forfeit = no_forfeit e } }
   where
@@ -230,10 +221,6 @@ pub refuses : (old new : Machine) (step : Step) (e : JointEvent) (r : Refusal) (
 refuses old new step e r result asked does error = subst (λ x. CarriesOut old step x new) (sym (the_error result r error)) (refused old new step e r asked does)
 
 -- ---- a step that is a call of the world alone
-
-pub world_refuses : (m : Machine) (w : World) (step : Step) (e : Event) (r : Refusal) (result : Result (Option Reply) Refusal) → event_of step ≡ Some (Call e) → IsFalse (is_finish e) → Does m.world e (Err r) w
-    → IsErrAnd result (λ x. x ≡ r) → CarriesOut m step result (record m { world = w })
-world_refuses m w step e r result asked call does error = refuses m (record m { world = w }) step (Call e) r result asked (called m (record m { world = w }) e (Err r) call does refl refl) error
 
 pub world_accepts : (m : Machine) (w : World) (step : Step) (e : Event) (answer : Answer e) (reply : Reply) → event_of step ≡ Some (Call e) → IsFalse (is_finish e) → Does m.world e (Ok answer) w
     → words_of reply ≡ answer_words (Call e) answer → machines.is_finish (Ok reply) ≡ false → is_forfeit (Ok reply) ≡ false → CarriesOut m step (Ok (Some reply)) (record m { world = w })

@@ -1,5 +1,5 @@
 -- Scripts, reports and joint runs that go on by one line.
-use Rattle.std.proofs.Common.{◌≡◌, ℕ, ◌≤◌, ◌+◌, ◌-◌, List, [], ◌∷◌, ◌++◌, Option, Some, None, Result, Bool, true, false, ◌∙◌, ap, sym, refl, subst, append-nil, append_assoc, arith, length, length-append, flat_map, filter, map, count_by, is_some, is_err, IsTrue, cond}
+use Rattle.std.proofs.Common.{◌≡◌, ℕ, ◌≤◌, ◌+◌, ◌-◌, List, [], ◌∷◌, ◌++◌, Option, Some, None, Result, Bool, true, false, ◌∙◌, ap, sym, refl, subst, append-nil, append_assoc, arith, length, length-append, flat_map, filter, map, count_by, is_some, is_err, cond}
 use Rattle.std.proofs.lemmas.List.{map-append}
 use Rattle.std.proofs.lemmas.List.Elements.{All-nil, All-push, filter-append}
 use Rattle.std.proofs.lemmas.List.Concat.{flat_map-append}

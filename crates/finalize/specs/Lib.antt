@@ -6,3 +6,4 @@ pub mod Lines
 pub mod Words
 pub mod Machines
 pub mod Program
+pub mod Calls

@@ -6,6 +6,8 @@ ghost use Rattle.fz_model.specs.Joint.{Take, HoldOwn, FinishOwn, Forfeit, joint_
 ghost use Rattle.finalize.specs.Report.{opening_causes};
 ghost use Rattle.finalize.specs.Machines.{StandsForJoint, JointDoes, CarriesOut};
 
+mod calls;
+
 use crate::reply::Reply;
 use arrayvec::ArrayVec;
 use fz_line::PlainLine;
@@ -116,41 +118,28 @@ impl Machine {
                 slot,
                 size,
                 kind,
-            } => {
-                let (address, birth) = self.world.alloc(frame, slot, size, kind)?;
-                Reply::Allocated { address, birth }
-            }
-            Step::Set { frame, slot, word } => {
-                self.world.set(frame, slot, word)?;
-                Reply::Done
-            }
+            } => calls::alloc(&mut self.world, frame, slot, size, kind)?,
+            Step::Set { frame, slot, word } => calls::set(&mut self.world, frame, slot, word)?,
             Step::Copy {
                 frame,
                 slot,
                 to_frame,
                 to_slot,
-            } => {
-                self.world.copy(frame, slot, to_frame, to_slot)?;
-                Reply::Done
-            }
+            } => calls::copy(&mut self.world, frame, slot, to_frame, to_slot)?,
             Step::Load {
                 frame,
                 slot,
                 offset,
                 to_frame,
                 to_slot,
-            } => Reply::Word(self.world.load(frame, slot, offset, to_frame, to_slot)?),
+            } => calls::load(&mut self.world, frame, slot, offset, to_frame, to_slot)?,
             Step::Store {
                 frame,
                 slot,
                 offset,
                 from_frame,
                 from_slot,
-            } => {
-                self.world
-                    .store(frame, slot, offset, from_frame, from_slot)?;
-                Reply::Done
-            }
+            } => calls::store(&mut self.world, frame, slot, offset, from_frame, from_slot)?,
             Step::Register {
                 frame,
                 slot,
@@ -158,12 +147,16 @@ impl Machine {
                 procedure,
                 client_data,
                 rank,
-            } => Reply::Registered(
-                self.world.register(frame, slot, kind, procedure, client_data, rank.unwrap_or(0))?,
-            ),
-            Step::Unregister { frame, slot } => Reply::Unregistered(
-                self.world.unregister(frame, slot)?,
-            ),
+            } => calls::register(
+                &mut self.world,
+                frame,
+                slot,
+                kind,
+                procedure,
+                client_data,
+                rank,
+            )?,
+            Step::Unregister { frame, slot } => calls::unregister(&mut self.world, frame, slot)?,
             Step::Link {
                 which,
                 frame,
@@ -171,16 +164,21 @@ impl Machine {
                 offset,
                 target_frame,
                 target_slot,
-            } => Reply::Linked(
-                self.world
-                    .link(which, frame, slot, offset, target_frame, target_slot)?,
-            ),
+            } => calls::link(
+                &mut self.world,
+                which,
+                frame,
+                slot,
+                offset,
+                target_frame,
+                target_slot,
+            )?,
             Step::Unlink {
                 which,
                 frame,
                 slot,
                 offset,
-            } => Reply::Unlinked(self.world.unlink(which, frame, slot, offset)?),
+            } => calls::unlink(&mut self.world, which, frame, slot, offset)?,
             Step::Move {
                 which,
                 frame,
@@ -189,17 +187,20 @@ impl Machine {
                 to_frame,
                 to_slot,
                 to_offset,
-            } => Reply::Moved(
-                self.world
-                    .move_link(which, frame, slot, offset, to_frame, to_slot, to_offset)?,
-            ),
-            Step::Begin => {
-                self.world.begin()?;
-                Reply::Done
-            }
-            Step::Mark { budget } => Reply::Marked(self.world.mark(budget)?),
-            Step::Pause => Reply::Passed(self.world.pause()?),
-            Step::Collect => Reply::Passed(self.world.collect()?),
+            } => calls::move_link(
+                &mut self.world,
+                which,
+                frame,
+                slot,
+                offset,
+                to_frame,
+                to_slot,
+                to_offset,
+            )?,
+            Step::Begin => calls::begin(&mut self.world)?,
+            Step::Mark { budget } => calls::mark(&mut self.world, budget)?,
+            Step::Pause => calls::pause(&mut self.world)?,
+            Step::Collect => calls::collect(&mut self.world)?,
             Step::Take { worker } => Reply::Taken(self.take(worker)?),
             Step::Hold {
                 worker,
@@ -217,10 +218,7 @@ impl Machine {
                 self.forfeit(worker)?;
                 Reply::Forfeited
             }
-            Step::Close => {
-                self.world.close()?;
-                Reply::Done
-            }
+            Step::Close => calls::close(&mut self.world)?,
             Step::Outstanding => Reply::Outstanding(self.world.outstanding()),
             Step::Open { .. } => return Ok(None),
         }))

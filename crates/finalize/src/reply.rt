@@ -3,6 +3,7 @@
 ghost use Rattle.std.specs.Prelude.{◌≡◌};
 ghost use Rattle.finalize.specs.Devices.{Emits};
 ghost use Rattle.finalize.specs.Replies.{text_line, done, registered_words, unregistered_words, linked_words, unlinked_words, moved_words, marked_words, passed_words, taken_words, refused_words, malformed_words, end_words};
+ghost use Rattle.finalize.specs.declared.reply.Reply.TheVariants as replies;
 ghost use Rattle.finalize.specs.Machines.{words_of, result_words};
 
 use crate::device::Sink;
@@ -198,20 +199,38 @@ pub(crate) fn write_end<W: Sink>(writer: &mut W, summary: Summary) -> Result<(),
     )
 }
 
+fn write_allocated<W: Sink>(writer: &mut W, address: Addr, birth: u64) -> Result<(), WriteFailed>
+    ensures { Emits (W.written writer.old) (W.failures writer.old) (text_line (words_of (replies.Allocated address birth))) result (W.written writer.new) (W.failures writer.new) }
+{
+    write_line(
+        writer,
+        &[
+            Word::Text("new"),
+            Word::Number(address),
+            Word::Number(birth),
+        ],
+    )
+}
+
+fn write_word<W: Sink>(writer: &mut W, word: u64) -> Result<(), WriteFailed>
+    ensures { Emits (W.written writer.old) (W.failures writer.old) (text_line (words_of (replies.Word word))) result (W.written writer.new) (W.failures writer.new) }
+{
+    write_line(writer, &[Word::Text("word"), Word::Number(word)])
+}
+
+fn write_outstanding<W: Sink>(writer: &mut W, count: u64) -> Result<(), WriteFailed>
+    ensures { Emits (W.written writer.old) (W.failures writer.old) (text_line (words_of (replies.Outstanding count))) result (W.written writer.new) (W.failures writer.new) }
+{
+    write_line(writer, &[Word::Text("outstanding"), Word::Number(count)])
+}
+
 fn write_accepted<W: Sink>(writer: &mut W, reply: Reply) -> Result<(), WriteFailed>
     ensures { Emits (W.written writer.old) (W.failures writer.old) (text_line (words_of reply)) result (W.written writer.new) (W.failures writer.new) }
 {
     match reply {
         Reply::Done => write_done(writer),
-        Reply::Allocated { address, birth } => write_line(
-            writer,
-            &[
-                Word::Text("new"),
-                Word::Number(address),
-                Word::Number(birth),
-            ],
-        ),
-        Reply::Word(word) => write_line(writer, &[Word::Text("word"), Word::Number(word)]),
+        Reply::Allocated { address, birth } => write_allocated(writer, address, birth),
+        Reply::Word(word) => write_word(writer, word),
         Reply::Registered(answer) => write_registered(writer, answer),
         Reply::Unregistered(old) => write_unregistered(writer, old),
         Reply::Linked(answer) => write_linked(writer, answer),
@@ -222,10 +241,7 @@ fn write_accepted<W: Sink>(writer: &mut W, reply: Reply) -> Result<(), WriteFail
         Reply::Taken(entry) => write_taken(writer, entry),
         Reply::Finished => write_done(writer),
         Reply::Forfeited => write_done(writer),
-        Reply::Outstanding(count) => write_line(
-            writer,
-            &[Word::Text("outstanding"), Word::Number(count)],
-        ),
+        Reply::Outstanding(count) => write_outstanding(writer, count),
     }
 }
 

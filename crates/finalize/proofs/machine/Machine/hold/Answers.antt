@@ -1,4 +1,4 @@
-use Rattle.std.proofs.Common.{Err, Some, None, sym, ap, ◌∙◌, subst, refl}
+use Rattle.std.proofs.Common.{Err, Some, sym, ap, ◌∙◌, subst, refl}
 use Rattle.fz_model.specs.Joint.{HoldOwn}
 use Rattle.finalize.specs.Machines.{JointDoes}
 use Rattle.finalize.proofs.Machines.{hold_missing, hold_idle, held, the_error}
