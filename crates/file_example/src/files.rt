@@ -1,0 +1,46 @@
+//! The open files of the program, which live outside the heap.
+
+use std::alloc::{AllocError, Global};
+use std::fs::File;
+
+/// Open files, each under a number.
+///
+/// A file leaves the table once: `File` can't be copied, and `remove` leaves nothing behind. It is closed where it is dropped.
+#[derive(Drop)]
+pub(crate) struct OpenFiles {
+    places: Vec<Option<File>>,
+}
+
+impl OpenFiles {
+    pub(crate) fn new(alloc: Global) -> OpenFiles {
+        OpenFiles {
+            places: Vec::new(alloc),
+        }
+    }
+
+    /// Puts the file under the next number, which is returned.
+    pub(crate) fn insert(&mut self, file: File) -> Result<u64, AllocError> {
+        let number = self.places.len() as u64;
+        self.places.push(Some(file))?;
+        Ok(number)
+    }
+
+    /// Takes the file with this number out of the table, if it is there.
+    pub(crate) fn remove(&mut self, number: u64) -> Option<File> {
+        if number < self.places.len() as u64 {
+            self.places[number as usize].take()
+        } else {
+            None
+        }
+    }
+
+    /// The file with this number, if it is there.
+    pub(crate) fn get(&self, number: u64) -> Option<&File> {
+        self.places.get(number as usize)?.as_ref()
+    }
+
+    /// How many files were removed.
+    pub(crate) fn removed(&self) -> usize {
+        self.places.iter().filter(|place| place.is_none()).count()
+    }
+}

@@ -1,0 +1,85 @@
+//! The program that the heap belongs to.
+
+use crate::files::OpenFiles;
+use crate::owners;
+use crate::owners::CACHE;
+use anyhow::{Context, Error, Result, anyhow};
+use fz_model::Refusal;
+use fz_service::{Opening, Service};
+use std::fs;
+use std::fs::{File, OpenFile};
+use std::rt::Files;
+use std::sync::{Mutex, Wait};
+
+/// A refused call as the program's error.
+pub(crate) fn refused(refusal: Refusal) -> Error {
+    let name = refusal.name();
+    anyhow!("refused: {name}")
+}
+
+/// Opens the files, lets go of every second one, collects, lets go of the others, and collects again.
+pub(crate) fn mutate<O: Opening, R: Files<File = File> + Print + Wait>(
+    rt: &R,
+    service: &Service<O>,
+    files: &Mutex<OpenFiles>,
+    names: &[String],
+) -> Result<()> {
+    owners::make_lists(&mut service.enter(rt), names.len() as u64).map_err(refused)?;
+    for name in names {
+        open(rt, service, files, name)?;
+    }
+    for turn in 0..2 {
+        for file in 0..names.len() as u64 {
+            if file % 2 == turn {
+                owners::let_go(&mut service.enter(rt), file).map_err(refused)?;
+            }
+        }
+        let passed = service.enter(rt).collect().map_err(refused)?;
+        println!(rt;
+            "pass {}: {} finalizers are ready",
+            passed.pass, passed.picked
+        )?;
+        show(rt, service, files, names)?;
+    }
+    Ok(())
+}
+
+/// Opens a file, and makes an object that owns it.
+fn open<O: Opening, R: Files<File = File> + Print + Wait>(
+    rt: &R,
+    service: &Service<O>,
+    files: &Mutex<OpenFiles>,
+    name: &String,
+) -> Result<()> {
+    let opened = fs::open(rt, name).context(format_args!("opening {name}"))?;
+    let file = files.lock(rt).insert(opened)?;
+    owners::make_owner(&mut service.enter(rt), file).map_err(refused)?;
+    println!(rt; "{name}: opened")?;
+    Ok(())
+}
+
+/// Prints what the cache has of each file.
+fn show<O: Opening, R: Print + Wait>(
+    rt: &R,
+    service: &Service<O>,
+    files: &Mutex<OpenFiles>,
+    names: &[String],
+) -> Result<()> {
+    for (file, name) in names.iter().enumerate() {
+        let file = file as u64;
+        if owners::has(&mut service.enter(rt), CACHE, file).map_err(refused)? {
+            let bytes = size(rt, files, file)?;
+            println!(rt; "{name}: cached, {bytes} bytes")?;
+        } else {
+            println!(rt; "{name}: cleared")?;
+        }
+    }
+    Ok(())
+}
+
+/// The size of a file, which has to be open.
+fn size<R: Wait>(rt: &R, files: &Mutex<OpenFiles>, file: u64) -> Result<u64> {
+    let files = files.lock(rt);
+    let opened = files.get(file).context("closed too early")?;
+    Ok(opened.metadata()?.len())
+}

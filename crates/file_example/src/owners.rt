@@ -1,0 +1,87 @@
+//! What lies in the heap: objects that own files, and three lists with a word for each file.
+
+ghost use Rattle.std.specs.Prelude.{◌≤◌, IfOk};
+ghost use Rattle.fz_service.specs.States.{RunsCalls};
+
+use fz_model::LinkKind::Short;
+use fz_model::ObjKind::{Atomic, Scanned};
+use fz_model::Refusal;
+use fz_model::RegKind::Normal;
+use fz_service::{Locked, Opening};
+use fz_world::World;
+
+/// The place of `CloseFile` in each worker's list of procedures.
+const CLOSE: u64 = 0;
+
+/// The slot of the list that keeps objects alive.
+const KEPT: u64 = 0;
+
+/// The slot of the weak cache. The list is atomic, so it keeps nothing, and each of its words is a short link.
+pub(crate) const CACHE: u64 = 1;
+
+/// The slot of the list of closed files, whose words are 1 where the file is closed.
+pub(crate) const CLOSED: u64 = 2;
+
+/// The slot with the word 1.
+const ONE: u64 = 3;
+
+/// The slot of the object in hand, which is zero between two calls.
+const HAND: u64 = 4;
+
+/// Makes the lists.
+pub(crate) fn make_lists<O: Opening>(locked: &mut Locked<O>, files: u64) -> Result<(), Refusal> {
+    locked.alloc(0, KEPT, files, Scanned)?;
+    locked.alloc(0, CACHE, files, Atomic)?;
+    locked.alloc(0, CLOSED, files, Atomic)?;
+    locked.set(0, ONE, 1)
+}
+
+/// Makes an object that owns the file with this number, keeps it, and caches it.
+pub(crate) fn make_owner<O: Opening>(locked: &mut Locked<O>, file: u64) -> Result<(), Refusal> {
+    locked.alloc(0, HAND, 1, Scanned)?;
+    locked.register(0, HAND, Normal, CLOSE, file, 0)?;
+    locked.store(0, KEPT, file, 0, HAND)?;
+    locked.store(0, CACHE, file, 0, HAND)?;
+    locked.link(Short, 0, CACHE, file, 0, HAND)?;
+    locked.set(0, HAND, 0)
+}
+
+/// Lets go of the object that owns this file.
+pub(crate) fn let_go<O: Opening>(locked: &mut Locked<O>, file: u64) -> Result<(), Refusal> {
+    locked.store(0, KEPT, file, 0, HAND)
+}
+
+/// Whether the list in the slot has a word for the file.
+pub(crate) fn has<O: Opening>(
+    locked: &mut Locked<O>,
+    list: u64,
+    file: u64,
+) -> Result<bool, Refusal> {
+    let word = locked.load(0, list, file, 0, HAND)?;
+    locked.set(0, HAND, 0)?;
+    Ok(word != 0)
+}
+
+/// For how many of the files the list in the slot has a word.
+pub(crate) fn count<O: Opening>(
+    locked: &mut Locked<O>,
+    list: u64,
+    files: u64,
+) -> Result<u64, Refusal>
+    ensures { IfOk result (λ count. count ≤ files) }
+{
+    let mut count = 0;
+    for file in 0..files {
+        if has(locked, list, file)? {
+            count += 1;
+        }
+    }
+    Ok(count)
+}
+
+/// Notes that a file is closed.
+pub(crate) fn note_closed(world: &mut World, file: u64)
+    ensures { RunsCalls world.old world.new }
+{
+    let _ = world.store(0, CLOSED, file, 0, ONE);
+}
