@@ -7,3 +7,5 @@ pub mod Words
 pub mod Machines
 pub mod Program
 pub mod Calls
+pub mod Jobs
+pub mod Plans

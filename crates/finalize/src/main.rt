@@ -18,6 +18,7 @@ mod reply;
 mod rows;
 mod run;
 mod stream;
+mod threads;
 #[cfg(test)]
 mod tests;
 
