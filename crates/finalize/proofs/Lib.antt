@@ -5,3 +5,4 @@ pub mod Calls
 pub mod Scripts
 pub mod Balance
 pub mod Runs
+pub mod FileReading

@@ -1,12 +1,18 @@
 -- A threads file: the jobs that its lines ask for, and where each of them may stand.
-use Rattle.std.specs.Prelude.{◌≡◌, ◌≢◌, ℕ, ◌+◌, ◌≤◌, ◌<◌, Bool, true, false, nat_lt, ◌⊎◌, List, [], ◌∷◌, ◌++◌, length, map, filter, fold, count_by, IsTrue}
+use Rattle.std.specs.Prelude.{◌≡◌, ℕ, ◌+◌, ◌==◌, ◌≤◌, ◌<◌, Bool, true, false, nat_lt, if◌then◌else◌, ◌⊎◌, List, [], ◌∷◌, ◌++◌, length, map, filter, flat_map, fold, Option, IsTrue}
 use Rattle.std.specs.List.{All}
 use Rattle.fz_script.specs.declared.step.Step.{Step}
 use Rattle.fz_script.specs.declared.step.Step.TheVariants.{Open, New, Set, Copy, Load, Store, Register, Unregister, Link, Unlink, Move, Begin, Mark, Pause, Collect}
 use Rattle.fz_script.specs.declared.job.Job.{Job}
 use Rattle.fz_script.specs.declared.job.Job.TheVariants.{Settle, Mutator, Collector, Churn, One}
 use Rattle.fz_script.specs.Jobs.{spelling, Fits}
-use Rattle.finalize.specs.Script.{IsOneLine, Lines, all_lines, is_kept, max_line}
+use Rattle.std.specs.Io.KnownBytes.{Consumes, IsAtEnd, prepend_known}
+use Rattle.fz_model.specs.declared.refusal.Refusal.{Refusal}
+use Rattle.fz_model.specs.declared.refusal.Refusal.TheVariants.{BadLine, NoMemory, Input}
+use Rattle.fz_model.specs.Refusals.{code_of}
+use Rattle.finalize.specs.declared.run.DriveFault.{DriveFault}
+use Rattle.finalize.specs.Report.{IsEnded}
+use Rattle.finalize.specs.Script.{with_lf, IsOneLine, Lines, all_lines, is_kept, max_line}
 use Rattle.finalize.specs.declared.threads.stage.Actor.{Actor}
 use Rattle.finalize.specs.declared.threads.stage.Actor.TheVariants as actor
 use Rattle.finalize.specs.declared.threads.stage.Stage.{Stage}
@@ -112,3 +118,42 @@ pub record IsThreadsFile (bytes : List ℕ) (asked : Asked) : Type 0 where
   pub last : List ℕ
   pub split : Lines bytes lines last
   pub jobs : AreJobs (all_lines lines last) (asked_jobs asked)
+
+-- the lines of these bytes ask for these jobs; a further line would have this number
+pub record FileIs (bytes : List ℕ) (jobs : List Job) (number : ℕ) : Type 0 where
+  pub lines : List (List ℕ)
+  pub last : List ℕ
+  pub split : Lines bytes lines last
+  pub jobs_are : AreJobs (all_lines lines last) jobs
+  pub place : length (all_lines lines last) + 1 ≡ number
+
+-- the bytes end with this line, and the lines before it ask for these jobs; `left` is what can still be read
+pub record AtJob (bytes : List ℕ) (left : Option (List ℕ)) (number : ℕ) (line : List ℕ) (jobs : List Job) : Type 0 where
+  pub lines : List (List ℕ)
+  pub end : List ℕ
+  pub is : bytes ≡ flat_map with_lf lines ++ (line ++ end)
+  pub each : All IsOneLine lines
+  pub one : IsOneLine line
+  pub ended : IsEnded line end left
+  pub place : length lines + 1 ≡ number
+  pub jobs_are : AreJobs lines jobs
+
+-- Why a file can't be carried out, and at which line. These bytes were used, and `unread` was read beyond them; `left` is what the reader has left.
+abbrev pub Unreadable : Refusal → ℕ → List ℕ → List ℕ → Option (List ℕ) → Type 0
+-- the line is malformed, or the file has ended before `settle`
+Unreadable BadLine number bytes unread left =
+    ((line : List ℕ) × (jobs : List Job) × AtJob bytes (prepend_known unread left) number line jobs × IsNoJob jobs number line)
+    ⊎ ((jobs : List Job) × FileIs bytes jobs number × (length jobs < 2) × IsAtEnd (prepend_known unread left))
+-- the reader failed in a line, and no line before it was malformed
+Unreadable Input number bytes unread left =
+    (number ≡ 0) × (unread ≡ []) × (lines : List (List ℕ)) × (line : List ℕ) × (jobs : List Job) × Lines bytes lines line × (length line ≤ max_line) × AreJobs lines jobs
+-- there was no room for a job
+Unreadable NoMemory number bytes unread left = number ≡ 0
+Unreadable _ number bytes unread left = ⊥
+
+abbrev pub IsUnreadable : Option (List ℕ) → Option (List ℕ) → DriveFault → Type 0
+IsUnreadable before left fault = (bytes : List ℕ) × (unread : List ℕ) × Consumes before left (bytes ++ unread) × Unreadable fault.refusal fault.line bytes unread left
+
+-- a read failed just where the fault says so
+abbrev pub input_failures : DriveFault → ℕ
+input_failures fault = if code_of fault.refusal == code_of Input then 1 else 0

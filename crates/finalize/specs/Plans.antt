@@ -1,5 +1,11 @@
 -- How a threads file is read, line by line. Means only: no public contract cites this file.
-use Rattle.std.specs.Prelude.{◌≡◌, ℕ, ◌+◌, Bool, true, false, ◌⊎◌, List, [], ◌∷◌, ◌++◌, Result, Ok, Err}
+use Rattle.std.specs.Prelude.{◌≡◌, ◌≢◌, ℕ, ◌+◌, ◌≤◌, ◌<◌, Bool, true, false, ◌⊎◌, List, [], ◌∷◌, ◌++◌, length, Option, Result, Ok, Err, IsTrue}
+use Rattle.std.specs.Io.KnownBytes.{Consumes, IsAtEnd}
+use Rattle.fz_script.specs.Jobs.{spelling, Fits}
+use Rattle.finalize.specs.Script.{is_kept}
+use Rattle.finalize.specs.declared.input.Ending.{Ending}
+use Rattle.finalize.specs.declared.input.Ending.TheVariants.{TooLong}
+use Rattle.finalize.specs.declared.run.DriveFault.{DriveFault}
 use Rattle.fz_model.specs.declared.refusal.Refusal.{Refusal}
 use Rattle.fz_model.specs.declared.refusal.Refusal.TheVariants.{BadLine, NoMemory}
 use Rattle.fz_script.specs.declared.step.Step.TheVariants.{Open}
@@ -8,7 +14,7 @@ use Rattle.fz_script.specs.declared.job.Job.TheVariants.{One}
 use Rattle.finalize.specs.declared.threads.plan.Plan.{Plan}
 use Rattle.finalize.specs.declared.threads.draft.Draft.{Draft}
 use Rattle.finalize.specs.declared.threads.draft.Draft.TheVariants.{Empty, Opened, Settled}
-use Rattle.finalize.specs.Jobs.{Asked, asked_jobs, may_follow}
+use Rattle.finalize.specs.Jobs.{Asked, asked_jobs, may_follow, max_file_lines, FileIs, IsThreadsFile, IsUnreadable, input_failures}
 
 abbrev pub asked_by : Plan → Asked
 asked_by plan = record { blocks = plan.size.blocks; frames = plan.size.frames; workers = plan.size.workers; collections = plan.collections; body = plan.jobs.items }
@@ -28,3 +34,41 @@ opened_at (Settled plan) = plan.size.line
 abbrev pub Adds : Draft → ℕ → Job → Result (Unit {0}) Refusal → Draft → Type 0
 Adds old line job (Ok x) new = (may_follow (jobs_in old) job ≡ true) × (jobs_in new ≡ jobs_in old ++ job ∷ [])
 Adds old line job (Err refusal) new = (refusal ≡ NoMemory) ⊎ ((refusal ≡ BadLine) × (may_follow (jobs_in old) job ≡ false))
+
+abbrev pub is_empty : Draft → Type 0
+is_empty draft = draft ≡ Empty
+
+-- a malformed line has its number, and no other cause has one
+abbrev pub unreadable : Refusal → ℕ → DriveFault
+unreadable BadLine number = record { refusal = BadLine; line = number }
+unreadable refusal number = record { refusal = refusal; line = 0 }
+
+-- the line asks for nothing, or its job was added
+abbrev pub TakesLine : Draft → ℕ → List ℕ → Draft → Type 0
+TakesLine old number line new =
+    ((is_kept line ≡ false) × (new ≡ old))
+    ⊎ ((job : Job) × (is_kept line ≡ true) × Fits job × (line ≡ spelling job) × Adds old number job (Ok tt) new)
+
+-- what the line with this number gives
+abbrev pub ReadsJob : ℕ → Ending → Draft → List ℕ → Result (Unit {0}) Refusal → Draft → Type 0
+ReadsJob number ending old line (Ok x) new = (ending ≢ TooLong) × (number ≤ max_file_lines) × TakesLine old number line new
+ReadsJob number ending old line (Err refusal) new =
+    (refusal ≡ NoMemory) ⊎ ((refusal ≡ BadLine) × ((ending ≡ TooLong) ⊎ ((max_file_lines < number) ⊎ (IsTrue (is_kept line) × ((job : Job) → Fits job → line ≡ spelling job → may_follow (jobs_in old) job ≡ false)))))
+
+-- the plan is whole, or the file has ended too early
+abbrev pub Ends : Draft → ℕ → Result Plan DriveFault → Type 0
+Ends draft number (Ok plan) = draft ≡ Settled plan
+Ends draft number (Err fault) = (fault ≡ record { refusal = BadLine; line = number }) × (length (jobs_in draft) < 2)
+
+-- these bytes were read, and their lines ask for these jobs; a further line would have this number
+abbrev pub WasRead : Option (List ℕ) → Option (List ℕ) → List Job → ℕ → Type 0
+WasRead before left jobs number = (bytes : List ℕ) × Consumes before left bytes × IsAtEnd left × FileIs bytes jobs number
+
+-- all lines were read; or one of them stopped the reading
+abbrev pub ReadsAll : Option (List ℕ) → ℕ → Draft → Result ℕ DriveFault → Option (List ℕ) → ℕ → Type 0
+ReadsAll before failures draft (Ok number) left failures' = WasRead before left (jobs_in draft) number × (failures' ≡ failures)
+ReadsAll before failures draft (Err fault) left failures' = IsUnreadable before left fault × (failures' ≡ failures + input_failures fault)
+
+abbrev pub PlanIsRead : Option (List ℕ) → ℕ → Result Plan DriveFault → Option (List ℕ) → ℕ → Type 0
+PlanIsRead before failures (Ok plan) left failures' = ((bytes : List ℕ) × Consumes before left bytes × IsAtEnd left × IsThreadsFile bytes (asked_by plan)) × (failures' ≡ failures)
+PlanIsRead before failures (Err fault) left failures' = IsUnreadable before left fault × (failures' ≡ failures + input_failures fault)

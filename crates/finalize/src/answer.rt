@@ -31,7 +31,7 @@ pub(crate) enum Answer {
 }
 
 /// Whether the line is a step's.
-fn is_kept(line: &[u8]) -> bool
+pub(crate) fn is_kept(line: &[u8]) -> bool
     ensures { result ≡ script.is_kept line.now }
 {
     match line {

@@ -2,4 +2,5 @@
 
 pub(crate) mod draft;
 pub(crate) mod plan;
+pub(crate) mod reading;
 pub(crate) mod stage;

@@ -1,0 +1,178 @@
+-- How a threads file is read, line by line.
+use Rattle.std.proofs.Common.{◌≡◌, ◌≢◌, ℕ, ◌≤◌, ◌<◌, ◌+◌, List, [], ◌∷◌, ◌++◌, Option, Some, None, Result, Ok, Err, Bool, true, false, ◌∙◌, ap, sym, refl, subst, append-nil, arith, length, length-append, flat_map, filter, map, IsTrue, inl, inr, ◌⊎◌}
+use Rattle.std.proofs.lemmas.List.{map-append}
+use Rattle.std.proofs.lemmas.List.Elements.{All-nil, All-push, filter-append}
+use Rattle.std.proofs.lemmas.List.Concat.{flat_map-append}
+use Rattle.std.specs.List.{All}
+use Rattle.std.specs.Io.KnownBytes.{Consumes, IsAtEnd, prepend_known}
+use Rattle.fz_model.specs.declared.refusal.Refusal.{Refusal}
+use Rattle.fz_model.specs.declared.refusal.Refusal.TheVariants.{BadLine, NoMemory, Input}
+use Rattle.fz_script.specs.declared.job.Job.{Job}
+use Rattle.fz_script.specs.Jobs.{spelling, Fits}
+use Rattle.finalize.specs.declared.input.Ending.{Ending}
+use Rattle.finalize.specs.declared.input.Ending.TheVariants.{Whole, Last, Nothing, TooLong}
+use Rattle.finalize.specs.declared.run.DriveFault.{DriveFault}
+use Rattle.finalize.specs.declared.threads.draft.Draft.{Draft}
+use Rattle.finalize.specs.declared.threads.draft.Draft.TheVariants.{Empty}
+use Rattle.finalize.specs.Script.{with_lf, IsOneLine, Lines, all_lines, is_kept, max_line}
+use Rattle.finalize.specs.Lines.{TakenFor, EndsInput}
+use Rattle.finalize.specs.Report.{IsEnded}
+use Rattle.finalize.specs.Jobs.{max_file_lines, may_follow, AreInOrder, NoJob, OneMore, AreJobs, IsNoJob, FileIs, AtJob, Unreadable, IsUnreadable, input_failures}
+use Rattle.finalize.specs.Plans.{jobs_in, unreadable, TakesLine, ReadsJob, ReadsAll, Ends, PlanIsRead}
+use Rattle.finalize.proofs.Runs.{took_ahead, no_more}
+use Rattle.finalize.specs.declared.threads.plan.Plan.{Plan}
+
+-- at the end of the input nothing is unread
+pub took_all : (a r : Option (List ℕ)) (y u : List ℕ) → IsAtEnd (prepend_known u r) → Consumes a (prepend_known u r) y → Consumes a r y × IsAtEnd r
+took_all None None y u h e = (tt, tt)
+took_all (Some x) None y u h e = absurd e
+took_all a (Some v) y [] h e = (e, h)
+took_all a (Some v) y (b ∷ bs) h e = cc
+
+-- between two lines
+pub record Place (bytes : List ℕ) (number : ℕ) (draft : Draft) : Type 0 where
+  pub lines : List (List ℕ)
+  pub is : bytes ≡ flat_map with_lf lines
+  pub each : All IsOneLine lines
+  pub place : length lines + 1 ≡ number
+  pub jobs_are : AreJobs lines (jobs_in draft)
+
+no_jobs : AreJobs [] []
+no_jobs = record { spelled = refl; fit = All-nil Fits; in_order = NoJob; short = All-nil (λ line. length line ≤ max_line); few = omega arith }
+
+pub at_first : (draft : Draft) → draft ≡ Empty → Place [] 1 draft
+at_first draft e = record { lines = []; is = refl; each = All-nil IsOneLine; place = refl; jobs_are = subst (λ d. AreJobs [] (jobs_in d)) (sym e) no_jobs }
+
+filter_kept : (line : List ℕ) → is_kept line ≡ true → filter is_kept (line ∷ []) ≡ line ∷ []
+filter_kept line h = rw h refl
+
+filter_skipped : (line : List ℕ) → is_kept line ≡ false → filter is_kept (line ∷ []) ≡ []
+filter_skipped line h = rw h refl
+
+jobs_skip : (lines : List (List ℕ)) (jobs : List Job) (line : List ℕ) → AreJobs lines jobs → length line ≤ max_line → length lines + 1 ≤ max_file_lines → is_kept line ≡ false → AreJobs (lines ++ line ∷ []) jobs
+jobs_skip lines jobs line a short few skipped = record {
+  spelled = filter-append is_kept lines (line ∷ []) ∙ ap (λ l. filter is_kept lines ++ l) (filter_skipped line skipped) ∙ append-nil _ ∙ a.spelled;
+  fit = a.fit;
+  in_order = a.in_order;
+  short = All-push (λ l. length l ≤ max_line) lines line a.short short;
+  few = omega (arith, length-append lines (line ∷ []));
+}
+
+jobs_ask : (lines : List (List ℕ)) (jobs : List Job) (line : List ℕ) (job : Job) → AreJobs lines jobs → length line ≤ max_line → length lines + 1 ≤ max_file_lines → is_kept line ≡ true → Fits job → line ≡ spelling job → may_follow jobs job ≡ true
+    → AreJobs (lines ++ line ∷ []) (jobs ++ job ∷ [])
+jobs_ask lines jobs line job a short few kept fits is follows = record {
+  spelled = filter-append is_kept lines (line ∷ []) ∙ ap (λ l. filter is_kept lines ++ l) (filter_kept line kept) ∙ ap (λ l. l ++ line ∷ []) a.spelled
+      ∙ ap (λ l. map spelling jobs ++ l ∷ []) is ∙ sym (map-append spelling jobs (job ∷ []));
+  fit = All-push Fits jobs job a.fit fits;
+  in_order = OneMore jobs job a.in_order follows;
+  short = All-push (λ l. length l ≤ max_line) lines line a.short short;
+  few = omega (arith, length-append lines (line ∷ []));
+}
+
+-- a line was taken
+jobs_more : (lines : List (List ℕ)) (line : List ℕ) (number : ℕ) (old new : Draft) → AreJobs lines (jobs_in old) → length line ≤ max_line → length lines + 1 ≤ max_file_lines → TakesLine old number line new → AreJobs (lines ++ line ∷ []) (jobs_in new)
+jobs_more lines line number old new a short few takes = elim takes [
+  | inl skips ↦ subst (λ d. AreJobs (lines ++ line ∷ []) (jobs_in d)) (sym skips.1) (jobs_skip lines (jobs_in old) line a short few skips.0)
+  | inr asks ↦ subst (λ js. AreJobs (lines ++ line ∷ []) js) (sym asks.4.1) (jobs_ask lines (jobs_in old) line asks.0 a short few asks.1 asks.2 asks.3 asks.4.0)
+]
+
+-- a line with its LF was taken
+pub place_more : (seen line : List ℕ) (number : ℕ) (old new : Draft) → Place seen number old → IsOneLine line → length line ≤ max_line → number ≤ max_file_lines → TakesLine old number line new → Place (seen ++ with_lf line) (number + 1) new
+place_more seen line number old new p one short few takes = record {
+  lines = p.lines ++ line ∷ [];
+  is = ap (λ b. b ++ with_lf line) p.is ∙ ap (λ l. flat_map with_lf p.lines ++ l) (sym (append-nil (with_lf line))) ∙ sym (flat_map-append with_lf p.lines (line ∷ []));
+  each = All-push IsOneLine p.lines line p.each one;
+  place = omega (arith, length-append p.lines (line ∷ []), p.place);
+  jobs_are = let place = p.place in jobs_more p.lines line number old new p.jobs_are short (omega (arith, place, few)) takes;
+}
+
+-- the file ended between two lines
+pub ends_here : (seen bytes : List ℕ) (number : ℕ) (draft : Draft) → Place seen number draft → bytes ≡ [] → FileIs (seen ++ bytes) (jobs_in draft) number
+ends_here seen bytes number draft p e = record {
+  lines = p.lines;
+  last = [];
+  split = record { is = ap (λ b. seen ++ b) e ∙ ap (λ b. b ++ []) p.is; each = p.each; one = All-nil (λ b. b ≢ 10) };
+  jobs_are = p.jobs_are;
+  place = p.place;
+}
+
+with_last : (lines : List (List ℕ)) (line : List ℕ) → line ≢ [] → all_lines lines line ≡ lines ++ line ∷ []
+with_last lines [] h = absurd (h refl)
+with_last lines (b ∷ bs) h = refl
+
+-- the file ended with a line that has no LF
+pub ends_last : (seen bytes line : List ℕ) (number : ℕ) (old new : Draft) → Place seen number old → bytes ≡ line → line ≢ [] → IsOneLine line → length line ≤ max_line → number ≤ max_file_lines → TakesLine old number line new → FileIs (seen ++ bytes) (jobs_in new) (number + 1)
+ends_last seen bytes line number old new p e some one short few takes =
+    let lines : all_lines p.lines line ≡ p.lines ++ line ∷ [] = with_last p.lines line some in
+    let place = p.place in record {
+      lines = p.lines;
+      last = line;
+      split = record { is = ap (λ b. seen ++ b) e ∙ ap (λ b. b ++ line) p.is; each = p.each; one = one };
+      jobs_are = subst (λ l. AreJobs l (jobs_in new)) (sym lines) (jobs_more p.lines line number old new p.jobs_are short (omega (arith, place, few)) takes);
+      place = ap (λ l. length l + 1) lines ∙ omega (arith, length-append p.lines (line ∷ []), p.place);
+    }
+
+-- the bytes of a line after which the reading goes on, and which is not the last
+pub whole_taken : (number : ℕ) (ending : Ending) (old new : Draft) (line bytes : List ℕ) → ReadsJob number ending old line (Ok tt) new → ending ≢ Nothing → ending ≢ Last → TakenFor ending line bytes → bytes ≡ with_lf line
+whole_taken number Whole old new line bytes h n l t = t
+whole_taken number Last old new line bytes h n l t = absurd (l refl)
+whole_taken number Nothing old new line bytes h n l t = absurd (n refl)
+whole_taken number TooLong old new line bytes h n l t = absurd (h.0 refl)
+
+-- ---- faults
+
+-- the reader failed
+pub breaks_off : (a r : Option (List ℕ)) (seen line u : List ℕ) (number : ℕ) (draft : Draft) → Place seen number draft → Consumes a (prepend_known u r) (seen ++ line) → IsOneLine line → length line ≤ max_line → u ≡ [] → IsUnreadable a r (unreadable Input number)
+breaks_off a r seen line u number draft p took one short e =
+    (seen ++ line, u, took_ahead a r (seen ++ line) u took, (refl, e, p.lines, line, jobs_in draft, record { is = ap (λ b. b ++ line) p.is; each = p.each; one = one }, short, p.jobs_are))
+
+at_job : (seen bytes line end : List ℕ) (left : Option (List ℕ)) (number : ℕ) (draft : Draft) → Place seen number draft → bytes ≡ line ++ end → IsOneLine line → IsEnded line end left → AtJob (seen ++ bytes) left number line (jobs_in draft)
+at_job seen bytes line end left number draft p is one ended =
+    record { lines = p.lines; end = end; is = ap (λ b. seen ++ b) is ∙ ap (λ b. b ++ (line ++ end)) p.is; each = p.each; one = one; ended = ended; place = p.place; jobs_are = p.jobs_are }
+
+-- this line is malformed
+abbrev pub IsBadAt : List ℕ → Option (List ℕ) → ℕ → Draft → Type 0
+IsBadAt bytes left number draft = (line : List ℕ) × AtJob bytes left number line (jobs_in draft) × IsNoJob (jobs_in draft) number line
+
+abbrev IsBad : ℕ → Ending → Draft → List ℕ → Type 0
+IsBad number ending old line = (ending ≡ TooLong) ⊎ ((max_file_lines < number) ⊎ (IsTrue (is_kept line) × ((job : Job) → Fits job → line ≡ spelling job → may_follow (jobs_in old) job ≡ false)))
+
+bad_line : (ending : Ending) (number : ℕ) (old : Draft) (line : List ℕ) → ending ≢ TooLong → IsBad number ending old line → IsNoJob (jobs_in old) number line
+bad_line ending number old line other (inl long) = absurd (other long)
+bad_line ending number old line other (inr bad) = inr bad
+
+bad_at : (seen bytes line : List ℕ) (left : Option (List ℕ)) (number : ℕ) (ending : Ending) (old : Draft) → Place seen number old → TakenFor ending line bytes → EndsInput ending left → IsOneLine line → length line ≤ max_line → ending ≢ Nothing → IsBad number ending old line → IsBadAt (seen ++ bytes) left number old
+bad_at seen bytes line left number Whole old p t end one short n bad = (line, at_job seen bytes line (10 ∷ []) left number old p t one (inl refl), bad_line Whole number old line (λ e. absurd cc) bad)
+bad_at seen bytes line left number Last old p t end one short n bad = (line, at_job seen bytes line [] left number old p (t.0 ∙ sym (append-nil line)) one (inr (refl, inl (end, t.1))), bad_line Last number old line (λ e. absurd cc) bad)
+bad_at seen bytes line left number Nothing old p t end one short n bad = absurd (n refl)
+bad_at seen bytes line left number TooLong old p t end one short n bad =
+    let longer : length (line ++ t.0 ∷ []) ≡ max_line + 1 = let l = t.3 in omega (arith, length-append line (t.0 ∷ []), l) in
+    (line ++ t.0 ∷ [], at_job seen bytes (line ++ t.0 ∷ []) [] left number old p (t.1 ∙ sym (append-nil _)) (All-push (λ b. b ≢ 10) line t.0 one t.2) (inr (refl, inr longer)), inl (omega (arith, longer)))
+
+-- a line that stopped the reading
+pub stops_at : (a r : Option (List ℕ)) (seen bytes line u : List ℕ) (number : ℕ) (ending : Ending) (old new : Draft) (refusal : Refusal) → Place seen number old → Consumes a (prepend_known u r) (seen ++ bytes) → TakenFor ending line bytes → EndsInput ending (prepend_known u r)
+    → IsOneLine line → length line ≤ max_line → ending ≢ Nothing → ReadsJob number ending old line (Err refusal) new → IsUnreadable a r (unreadable refusal number) × (input_failures (unreadable refusal number) ≡ 0)
+stops_at a r seen bytes line u number ending old new refusal p took t end one short n (inl lacks) =
+    subst (λ q. IsUnreadable a r (unreadable q number) × (input_failures (unreadable q number) ≡ 0)) (sym lacks) ((seen ++ bytes, u, took_ahead a r (seen ++ bytes) u took, refl), refl)
+stops_at a r seen bytes line u number ending old new refusal p took t end one short n (inr bad) =
+    let at = bad_at seen bytes line (prepend_known u r) number ending old p t end one short n bad.1 in
+    subst (λ q. IsUnreadable a r (unreadable q number) × (input_failures (unreadable q number) ≡ 0)) (sym bad.0) ((seen ++ bytes, u, took_ahead a r (seen ++ bytes) u took, inl (at.0, jobs_in old, at.1, at.2)), refl)
+
+-- ---- the whole file
+
+at_end_of : (r : Option (List ℕ)) → IsAtEnd r → IsAtEnd (prepend_known [] r)
+at_end_of None h = tt
+at_end_of (Some v) h = h
+
+took_nil : (a r : Option (List ℕ)) (y : List ℕ) → Consumes a r y → Consumes a r (y ++ [])
+took_nil a r y t = subst (λ b. Consumes a r b) (sym (append-nil y)) t
+
+pub plan_is_read : (a r : Option (List ℕ)) (f0 f1 number : ℕ) (draft : Draft) (result : Result Plan DriveFault) → ReadsAll a f0 draft (Ok number) r f1 → Ends draft number result → PlanIsRead a f0 result r f1
+plan_is_read a r f0 f1 number draft (Ok plan) read is =
+    let w = read.0 in
+    let file = subst (λ d. FileIs w.0 (jobs_in d) number) is w.3 in
+    ((w.0, w.1, w.2, record { lines = file.lines; last = file.last; split = file.split; jobs = file.jobs_are }), read.1)
+plan_is_read a r f0 f1 number draft (Err fault) read is =
+    let w = read.0 in
+    subst (λ (f : DriveFault). IsUnreadable a r f × (f1 ≡ f0 + input_failures f)) (sym is.0)
+    ((w.0, [], took_nil a r w.0 w.1, inr (jobs_in draft, w.3, is.1, at_end_of r w.2)), no_more read.1 refl)
