@@ -1,9 +1,14 @@
-//! What no clause says: that memory is asked for only where it is needed, that takes need no lock and look at the line, and the service's answers from
-//! end to end.
+//! What no clause says: that memory is asked for only where it is needed, that takes need no lock and look at the line, which procedures workers call,
+//! that they run at the same time, and the service's answers from end to end.
+
+mod rows;
+mod stops;
+mod threads;
+mod workers;
 
 ghost use Rattle.std.specs.Prelude.{◌≡◌};
 
-use crate::{Final, Locked, Opening, Prepared, Seat, Service, Take};
+use crate::{Duty, Final, Gate, Locked, Opening, Prepared, Seat, Service, Take};
 use fz_model::ObjKind::Scanned;
 use fz_model::RegKind::Normal;
 use fz_model::{Passed, Refusal};
@@ -17,11 +22,19 @@ use std::test::*;
 /// The most takes until an answer other than Busy.
 const TRIES: u32 = 1_000;
 
+/// A gate that lets all pass.
+struct Open;
+
+impl Gate for Open {
+    fn entered(&self, _seq: u64) {}
+}
+
 fn prepared(rt: &impl Abort, alloc: Global, workers: u64) -> Prepared {
-    let config = Config {
-        blocks: 4,
-        frames: 1,
-    };
+    prepared_with(rt, alloc, 4, workers)
+}
+
+fn prepared_with(rt: &impl Abort, alloc: Global, blocks: u64, workers: u64) -> Prepared {
+    let config = Config { blocks, frames: 1 };
     Service::prepare(alloc, config, workers).expect(rt, "memory")
 }
 
@@ -33,11 +46,26 @@ fn retire_all<O: Opening>(mut seats: Vec<Seat<O>>) {
     seats.destroy_empty();
 }
 
-/// Makes an object of one word, registers it with procedure 1, and drops it.
-fn make_and_drop<O: Opening>(rt: &impl Abort, locked: &mut Locked<O>) {
+/// Makes an object of one word, registers it with this procedure, and drops it.
+fn make_and_drop_with<O: Opening>(rt: &impl Abort, locked: &mut Locked<O>, proc: u64) {
     assert!(rt; locked.alloc(0, 0, 1, Scanned).is_ok());
-    assert!(rt; locked.register(0, 0, Normal, 1, 0, 0).is_ok());
+    assert!(rt; locked.register(0, 0, Normal, proc, 0, 0).is_ok());
     assert!(rt; locked.set(0, 0, 0).is_ok());
+}
+
+/// The same with procedure 1.
+fn make_and_drop<O: Opening>(rt: &impl Abort, locked: &mut Locked<O>) {
+    make_and_drop_with(rt, locked, 1);
+}
+
+/// Queues and sends entries of these procedures.
+fn queue_entries<O: Opening>(rt: &impl Abort, locked: &mut Locked<O>, procs: &[u64]) {
+    for proc in procs {
+        make_and_drop_with(rt, locked, *proc);
+    }
+    assert!(rt; locked.collect().is_ok());
+    assert_eq!(rt; locked.queue().len(), procs.len());
+    assert_eq!(rt; locked.outbox().len(), 0);
 }
 
 /// The first answer other than Busy.
@@ -51,18 +79,37 @@ fn take_soon<O: Opening>(mut seat: Seat<O>) -> Take<O> {
     Take::Busy(seat)
 }
 
-/// A take that has to give the entry with this number, which is given up.
-fn forfeit_next<O: Opening>(rt: &impl Abort, seat: Seat<O>, seq: u64) -> Seat<O> {
+/// A take that has to give an entry.
+fn must_take<O: Opening>(rt: &impl Abort, seat: Seat<O>) -> Duty<O> {
     match take_soon(seat) {
-        Take::Taken(duty) => {
-            assert_eq!(rt; duty.entry().seq, seq);
-            duty.forfeit()
-        }
+        Take::Taken(duty) => duty,
         Take::Empty(same) | Take::Busy(same) => {
             same.retire();
             panic!(rt; "no entry")
         }
     }
+}
+
+/// A finish that has to be accepted.
+fn must_finish<O: Opening, R: Abort + Wait>(
+    rt: &R,
+    service: &Service<O>,
+    duty: Duty<O>,
+) -> Seat<O> {
+    match service.enter(rt).finish(duty) {
+        Ok(seat) => seat,
+        Err((_, duty)) => {
+            duty.forfeit().retire();
+            panic!(rt; "not held")
+        }
+    }
+}
+
+/// A take that has to give the entry with this number, which is given up.
+fn forfeit_next<O: Opening>(rt: &impl Abort, seat: Seat<O>, seq: u64) -> Seat<O> {
+    let duty = must_take(rt, seat);
+    assert_eq!(rt; duty.entry().seq, seq);
+    duty.forfeit()
 }
 
 /// A take that has to give the entry with this number, which is finished.
@@ -72,22 +119,9 @@ fn finish_next<O: Opening, R: Abort + Wait>(
     seat: Seat<O>,
     seq: u64,
 ) -> Seat<O> {
-    match take_soon(seat) {
-        Take::Taken(duty) => {
-            assert_eq!(rt; duty.entry().seq, seq);
-            match service.enter(rt).finish(duty) {
-                Ok(seat) => seat,
-                Err((_, duty)) => {
-                    duty.forfeit().retire();
-                    panic!(rt; "not held")
-                }
-            }
-        }
-        Take::Empty(same) | Take::Busy(same) => {
-            same.retire();
-            panic!(rt; "no entry")
-        }
-    }
+    let duty = must_take(rt, seat);
+    assert_eq!(rt; duty.entry().seq, seq);
+    must_finish(rt, service, duty)
 }
 
 /// A take that has to find the line empty.
