@@ -18,9 +18,9 @@ mod reply;
 mod rows;
 mod run;
 mod stream;
-mod threads;
 #[cfg(test)]
 mod tests;
+mod threads;
 
 use failures::Failures;
 use program::{execute, out_of_memory, wrong_words};

@@ -22,11 +22,13 @@ impl Draft {
     {
         match self {
             Draft::Empty => match job {
-                Job::One(Step::Open {
-                    blocks,
-                    frames,
-                    workers,
-                }) => {
+                Job::One(
+                    Step::Open {
+                        blocks,
+                        frames,
+                        workers,
+                    },
+                ) => {
                     *self = Draft::Opened(Size {
                         blocks,
                         frames,

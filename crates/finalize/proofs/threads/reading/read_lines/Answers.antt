@@ -37,7 +37,7 @@ returns-in-Err g c =
     let p = c.lines.invariant.place in
     let given = rw c.as_slice.ensures.value at c.in-Err.ensures in
     let s = stops_at (g.R.Source.remaining c.args.reader.now) (g.R.Source.remaining c.next_line.new.source) p.0 h.0.0 c.next_line.new.line.items (unread c.next_line.new.chunk) c.lines.number c.in-Ok.ending c.lines.draft c.read_job.new.draft c.in-Err.refusal
-        p.2 (Consumes-trans _ _ _ _ _ p.1 h.0.2) h.0.1 h.1 h.2 h.3 c.in_default-ending.not-Nothing given in
+    p.2 (Consumes-trans _ _ _ _ _ p.1 h.0.2) h.0.1 h.1 h.2 h.3 c.in_default-ending.not-Nothing given in
     let P : DriveFault → Type 0 = λ f. IsUnreadable (g.R.Source.remaining c.args.reader.now) (g.R.Source.remaining c.next_line.new.source) f × (g.R.Source.failures c.next_line.new.source ≡ g.R.Source.failures c.args.reader.now + input_failures f) in
     subst P (sym c.unreadable-in-Err.ensures) (s.0, no_more (h.4 ∙ c.lines.invariant.reads) s.1)
 
