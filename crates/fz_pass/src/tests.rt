@@ -74,17 +74,28 @@ fn marked(alloc: Global, heap: &Heap, root: Word) -> Result<Marker, Fail>
 
 /// A pass that finds what one root leads to: its picks, and how many objects it reclaims.
 fn pass(alloc: Global, parts: &mut Parts, root: Word) -> Result<(Vec<Pick>, u64), Fail> {
-    let mut picks = Vec::with_capacity(alloc, parts.table.len())?;
+    let mut picks = Vec::new(alloc);
+    let reclaimed = pass_onto(alloc, parts, root, &mut picks)?;
+    Ok((picks, reclaimed))
+}
+
+/// The same, with the picks at the end of a list.
+fn pass_onto(
+    alloc: Global,
+    parts: &mut Parts,
+    root: Word,
+    picks: &mut Vec<Pick>,
+) -> Result<u64, Fail> {
+    picks.reserve(parts.table.len())?;
     let mut marker = marked(alloc, &parts.heap, root)?;
-    let reclaimed = decide(
+    Ok(decide(
         &mut parts.heap,
         &mut marker,
         &mut parts.table,
         &mut parts.short,
         &mut parts.long,
-        &mut picks,
-    );
-    Ok((picks, reclaimed))
+        picks,
+    ))
 }
 
 fn objects_of(alloc: Global, picks: &[Pick]) -> Result<Vec<Addr>, Fail> {
@@ -190,6 +201,8 @@ enum Example {
     ShortLink,
     LongLink,
     LargestHeap,
+    AllRanks,
+    EarlierPick,
 }
 
 fn holds(alloc: Global, example: Example) -> Result<bool, Fail> {
@@ -198,6 +211,8 @@ fn holds(alloc: Global, example: Example) -> Result<bool, Fail> {
         Example::ShortLink => clears_short_links_first(alloc, &mut parts),
         Example::LongLink => long_link_waits(alloc, &mut parts),
         Example::LargestHeap => picks_by_address(alloc, &mut parts),
+        Example::AllRanks => picks_by_rank(alloc, &mut parts),
+        Example::EarlierPick => picks_behind_earlier(alloc, &mut parts),
     }
 }
 
@@ -241,6 +256,50 @@ fn fill(parts: &mut Parts) -> Result<(), Fail> {
     Ok(())
 }
 
+/// The picks of a second pass stand behind those of the first, also where their ranks differ and are lower.
+fn picks_behind_earlier(alloc: Global, parts: &mut Parts) -> Result<bool, Fail> {
+    make(parts, &[0; 4])?;
+    register(parts, &[(FOURTH, Normal, 9)])?;
+    let mut picks = Vec::new(alloc);
+    pass_onto(alloc, parts, 0, &mut picks)?;
+    make(parts, &[0; 3])?;
+    let ranked = [(FIRST, Normal, 2), (SECOND, Normal, 1), (THIRD, Normal, 2)];
+    register(parts, &ranked)?;
+    pass_onto(alloc, parts, 0, &mut picks)?;
+    let objects = objects_of(alloc, &picks)?;
+    Ok(objects.as_slice() == [FOURTH, SECOND, FIRST, THIRD].as_slice())
+}
+
+/// The heap is full of registered objects of half a block each, whose ranks are 255 to 0 in turn: one pass picks them by rank, then address.
+fn picks_by_rank(alloc: Global, parts: &mut Parts) -> Result<bool, Fail> {
+    fill_in_turn(parts)?;
+    let (picks, kept) = pass(alloc, parts, 0)?;
+    Ok(picks.len() == 8_192 && kept == 0 && are_in_turn(&picks) && parts.table.is_empty())
+}
+
+fn fill_in_turn(parts: &mut Parts) -> Result<(), Fail> {
+    for turn in 0..2 * MAX_BLOCKS {
+        let (start, _) = parts.heap.alloc(32, ObjKind::Scanned)?;
+        let rank = 255 - (turn % 256) as u8;
+        parts.table.register(start, NoOrder, 7, 8, rank)?;
+    }
+    Ok(())
+}
+
+/// Whether the picks are those of the ranks 0 to 255, 32 of each, by rising address.
+fn are_in_turn(picks: &[Pick]) -> bool {
+    let mut place = 0u64;
+    for pick in picks {
+        let rank = place / 32 % 256;
+        let turn = 256 * (place % 32) + 255 - rank;
+        if pick.obj != HEAP_START + 32 * turn {
+            return false;
+        }
+        place = place.wrapping_add(1);
+    }
+    true
+}
+
 /// The first pick that isn't the object of its place.
 fn first_out_of_place(picks: &[Pick]) -> Option<usize> {
     let mut want = HEAP_START;
@@ -262,6 +321,18 @@ fn short_links_are_cleared_first(rt: HostRuntime) -> Result<(), Fail> {
 #[test]
 fn a_long_link_waits_for_its_target(rt: HostRuntime) -> Result<(), Fail> {
     assert!(rt; holds(rt.alloc(), Example::LongLink)?);
+    Ok(())
+}
+
+#[test]
+fn all_ranks_are_picked_in_order(rt: HostRuntime) -> Result<(), Fail> {
+    assert!(rt; holds(rt.alloc(), Example::AllRanks)?);
+    Ok(())
+}
+
+#[test]
+fn picks_stand_behind_earlier_ones(rt: HostRuntime) -> Result<(), Fail> {
+    assert!(rt; holds(rt.alloc(), Example::EarlierPick)?);
     Ok(())
 }
 
