@@ -36,7 +36,7 @@ impl<O: Opening> Hand<O> {
     }
 }
 
-/// Two seats in turn take an entry each, finish it, and so on, for so many steps. What is in hand then is given up.
+/// Two seats in turn take an entry each, finish it, and so on, for a number of steps. What is in hand then is given up.
 fn step_by_turns<O: Opening, R: Abort + Wait>(
     rt: &R,
     service: &Service<O>,
@@ -56,7 +56,7 @@ fn step_by_turns<O: Opening, R: Abort + Wait>(
     seats
 }
 
-/// Of four steps two are takes and then two are finishes; so the counts of a service that stops after so many steps are known.
+/// Of four steps two are takes and then two are finishes; so the counts are known wherever the service stops.
 fn stops_after<O: Opening, R: Abort + Wait>(rt: &R, prepared: Prepared, steps: u64)
     requires { prepared ≡ O.origin }
 {

@@ -13,7 +13,7 @@ use std::test::*;
 use std::thread::Threads;
 use std::{mem, thread};
 
-/// Makes and drops so many objects, and collects, for so many rounds.
+/// In each of a number of rounds, makes objects, drops them and collects.
 fn collect_rounds<O: Opening, R: Abort + Wait>(
     rt: &R,
     service: &Service<O>,
