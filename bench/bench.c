@@ -6,6 +6,7 @@
 #define GC_THREADS 1
 #include <gc/gc.h>
 #endif
+#include <pthread.h>
 #include <stdbool.h>
 #include <stdint.h>
 #include <stdio.h>
@@ -139,6 +140,14 @@ static double NOINLINE read_once(const uint64_t *a, const uint64_t *order, size_
 static double c_read(size_t n) { return read_once(numbers(n, false), NULL, n); }
 static double c_read_mixed(size_t n) { return read_once(numbers(n, false), numbers(n, true), n); }
 
+static pthread_mutex_t lock = PTHREAD_MUTEX_INITIALIZER;
+static volatile uint64_t word;
+static double c_lock(size_t n) {
+    double t = now();
+    for (size_t i = 0; i < n; i++) { pthread_mutex_lock(&lock); word = i; pthread_mutex_unlock(&lock); }
+    return (now() - t) / n;
+}
+
 #ifdef BDWGC
 static uintptr_t *hidden;      /* the objects, by pointers that bdwgc doesn't see as such */
 #define OBJECT(i) ((void *)GC_REVEAL_POINTER(hidden[i]))
@@ -190,7 +199,7 @@ static double g_remove(size_t n) { if (n > MOST_REGISTERED) return TOO_LARGE; be
 static const struct { const char *name; double (*run)(size_t n); } tests[] = {
     { "new", t_new }, { "alloc", t_alloc }, { "alloc_again", t_alloc_again }, { "reclaim", t_reclaim }, { "resolve", t_resolve }, { "resolve3", t_resolve3 },
     { "read", t_read }, { "read_mixed", t_read_mixed }, { "register", t_register }, { "remove", t_remove },
-    { "c_read", c_read }, { "c_read_mixed", c_read_mixed },
+    { "c_read", c_read }, { "c_read_mixed", c_read_mixed }, { "c_lock", c_lock },
 #ifdef BDWGC
     { "g_alloc", g_alloc }, { "g_alloc_again", g_alloc_again }, { "g_free", g_free }, { "g_base", g_base }, { "g_base3", g_base3 },
     { "g_register", g_register }, { "g_remove", g_remove },

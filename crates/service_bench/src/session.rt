@@ -1,0 +1,65 @@
+//! One service, from its opening to its end.
+
+ghost use Rattle.std.specs.Prelude.{◌≡◌};
+
+use crate::finishing::finish_all;
+use crate::steps::enter_and_set;
+use fz_service::{Opening, Prepared, Seat, Service};
+use std::alloc::Global;
+use std::io;
+use std::rt::Clock;
+use std::sync::Wait;
+use std::thread::Threads;
+
+/// What is timed over a service.
+#[derive(Clone, Copy)]
+pub(crate) enum Test {
+    Steps,
+    Workers,
+}
+
+/// The nanoseconds of the test; nothing where it is too large, or where not all of its entries were finished.
+pub(crate) fn run<O: Opening + Send + Sync, R: Clock + Threads + Wait + Sync>(
+    rt: &R,
+    alloc: Global,
+    prepared: Prepared,
+    test: Test,
+    count: u64,
+) -> io::Result<Option<u128>>
+    requires { prepared ≡ O.origin }
+{
+    let Ok((service, mut seats)) = Service::<O>::open(prepared) else {
+        return Ok(None);
+    };
+    let nanoseconds = match test {
+        Test::Steps => enter_and_set(rt, &service, count).map(Some),
+        Test::Workers => finish_all(rt, alloc, &service, &mut seats, count),
+    };
+    let due = match test {
+        Test::Steps => 0,
+        Test::Workers => count,
+    };
+    match finished(service, seats) {
+        Some(finished) if finished == due => nanoseconds,
+        _ => Ok(None),
+    }
+}
+
+/// Ends the service; returns how many entries were finished.
+fn finished<O: Opening>(service: Service<O>, seats: Vec<Seat<O>>) -> Option<u64> {
+    match service.shutdown(seats) {
+        Ok(end) => Some(end.finished),
+        Err((_, _, seats)) => {
+            retire_all(seats);
+            None
+        }
+    }
+}
+
+/// Ends these seats for good.
+pub(crate) fn retire_all<O: Opening>(mut seats: Vec<Seat<O>>) {
+    while let Some(seat) = seats.pop() {
+        seat.retire();
+    }
+    seats.destroy_empty();
+}
