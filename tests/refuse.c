@@ -1,12 +1,12 @@
 /* Preloaded before the C library: the allocation whose number stands in REFUSED fails, counted from 1. When the program ends, the number of
- * allocations that it asked for is written to the descriptor in COUNTED. */
+ * allocations that it asked for, and of those that it never freed, is written to the descriptor in COUNTED. */
 #define _GNU_SOURCE
 #include <dlfcn.h>
 #include <errno.h>
 #include <stdio.h>
 #include <stdlib.h>
 
-static long asked;
+static long asked, kept;
 
 static int is_refused(void) {
     const char *refused = getenv("REFUSED");
@@ -21,7 +21,9 @@ void *malloc(size_t size) {
         errno = ENOMEM;
         return NULL;
     }
-    return next(size);
+    void *made = next(size);
+    kept += made != NULL;
+    return made;
 }
 
 void *realloc(void *old, size_t size) {
@@ -32,11 +34,21 @@ void *realloc(void *old, size_t size) {
         errno = ENOMEM;
         return NULL;
     }
-    return next(old, size);
+    void *made = next(old, size);
+    kept += made != NULL && old == NULL;
+    return made;
+}
+
+void free(void *old) {
+    static void (*next)(void *);
+    if (!next)
+        next = dlsym(RTLD_NEXT, "free");
+    kept -= old != NULL;
+    next(old);
 }
 
 __attribute__((destructor)) static void tell(void) {
     const char *counted = getenv("COUNTED");
     if (counted)
-        dprintf(atoi(counted), "%ld\n", asked);
+        dprintf(atoi(counted), "%ld %ld\n", asked, kept);
 }
