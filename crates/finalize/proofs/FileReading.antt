@@ -1,24 +1,24 @@
 -- How a threads file is read, line by line.
-use Rattle.std.proofs.Common.{◌≡◌, ◌≢◌, ℕ, ◌≤◌, ◌<◌, ◌+◌, List, [], ◌∷◌, ◌++◌, Option, Some, None, Result, Ok, Err, Bool, true, false, ◌∙◌, ap, sym, refl, subst, append-nil, arith, length, length-append, flat_map, filter, map, IsTrue, inl, inr, ◌⊎◌}
+use Rattle.std.proofs.Common.{◌≡◌, ◌≢◌, ℕ, ◌≤◌, ◌<◌, ◌+◌, List, [], ◌∷◌, ◌++◌, Option, Some, None, Result, Ok, Err, true, false, ◌∙◌, ap, sym, refl, subst, append-nil, append_assoc, arith, length, length-append, flat_map, filter, map, IsTrue, inl, inr, ◌⊎◌}
 use Rattle.std.proofs.lemmas.List.{map-append}
 use Rattle.std.proofs.lemmas.List.Elements.{All-nil, All-push, filter-append}
 use Rattle.std.proofs.lemmas.List.Concat.{flat_map-append}
 use Rattle.std.specs.List.{All}
 use Rattle.std.specs.Io.KnownBytes.{Consumes, IsAtEnd, prepend_known}
 use Rattle.fz_model.specs.declared.refusal.Refusal.{Refusal}
-use Rattle.fz_model.specs.declared.refusal.Refusal.TheVariants.{BadLine, NoMemory, Input}
+use Rattle.fz_model.specs.declared.refusal.Refusal.TheVariants.{Input}
 use Rattle.fz_script.specs.declared.job.Job.{Job}
 use Rattle.fz_script.specs.Jobs.{spelling, Fits}
 use Rattle.finalize.specs.declared.input.Ending.{Ending}
 use Rattle.finalize.specs.declared.input.Ending.TheVariants.{Whole, Last, Nothing, TooLong}
 use Rattle.finalize.specs.declared.run.DriveFault.{DriveFault}
 use Rattle.finalize.specs.declared.threads.draft.Draft.{Draft}
-use Rattle.finalize.specs.declared.threads.draft.Draft.TheVariants.{Empty}
+use Rattle.finalize.specs.declared.threads.draft.Draft.TheVariants.{Empty, Opened, Settled}
 use Rattle.finalize.specs.Script.{with_lf, IsOneLine, Lines, all_lines, is_kept, max_line}
 use Rattle.finalize.specs.Lines.{TakenFor, EndsInput}
 use Rattle.finalize.specs.Report.{IsEnded}
-use Rattle.finalize.specs.Jobs.{max_file_lines, may_follow, AreInOrder, NoJob, OneMore, AreJobs, IsNoJob, FileIs, AtJob, Unreadable, IsUnreadable, input_failures}
-use Rattle.finalize.specs.Plans.{jobs_in, unreadable, TakesLine, ReadsJob, ReadsAll, Ends, PlanIsRead}
+use Rattle.finalize.specs.Jobs.{max_file_lines, may_follow, NoJob, OneMore, AreJobs, IsNoJob, FileIs, AtJob, IsUnreadable, input_failures}
+use Rattle.finalize.specs.Plans.{jobs_in, opened_at, opens_at, FirstAt, unreadable, TakesLine, ReadsJob, ReadsAll, Ends, PlanIsRead}
 use Rattle.finalize.proofs.Runs.{took_ahead, no_more}
 use Rattle.finalize.specs.declared.threads.plan.Plan.{Plan}
 
@@ -29,6 +29,43 @@ took_all (Some x) None y u h e = absurd e
 took_all a (Some v) y [] h e = (e, h)
 took_all a (Some v) y (b ∷ bs) h e = cc
 
+-- the first of these jobs is asked for in the line with this number
+abbrev pub HasFirst : List (List ℕ) → List Job → ℕ → Type 0
+HasFirst lines [] number = Unit {0}
+HasFirst lines (job ∷ jobs) number = (before : List (List ℕ)) × (after : List (List ℕ)) × (lines ≡ before ++ spelling job ∷ after) × (length before + 1 ≡ number)
+
+first_stays : (lines : List (List ℕ)) (line : List ℕ) (jobs : List Job) (number : ℕ) → HasFirst lines jobs number → HasFirst (lines ++ line ∷ []) jobs number
+first_stays lines line [] number h = tt
+first_stays lines line (job ∷ jobs) number h = (h.0, h.1 ++ line ∷ [], ap (λ l. l ++ line ∷ []) h.2 ∙ append_assoc h.0 (spelling job ∷ h.1) (line ∷ []), h.3)
+
+-- a job came, the first or a later one
+first_added : (lines : List (List ℕ)) (line : List ℕ) (number : ℕ) (old : Draft) (job : Job) → HasFirst lines (jobs_in old) (opened_at old) → length lines + 1 ≡ number → line ≡ spelling job → HasFirst (lines ++ line ∷ []) (jobs_in old ++ job ∷ []) (opens_at old number)
+first_added lines line number Empty job h place is = (lines, [], ap (λ l. lines ++ l ∷ []) is, place)
+first_added lines line number (Opened size) job h place is = first_stays lines line (jobs_in (Opened size)) size.line h
+first_added lines line number (Settled plan) job h place is = first_stays lines line (jobs_in (Settled plan)) plan.size.line h
+
+opening_more : (lines : List (List ℕ)) (line : List ℕ) (number : ℕ) (old new : Draft) → HasFirst lines (jobs_in old) (opened_at old) → length lines + 1 ≡ number → TakesLine old number line new → HasFirst (lines ++ line ∷ []) (jobs_in new) (opened_at new)
+opening_more lines line number old new h place (inl skips) = subst (λ d. HasFirst (lines ++ line ∷ []) (jobs_in d) (opened_at d)) (sym skips.1) (first_stays lines line (jobs_in old) (opened_at old) h)
+opening_more lines line number old new h place (inr asks) =
+    subst (λ js. HasFirst (lines ++ line ∷ []) js (opened_at new)) (sym asks.4.1)
+    (subst (λ n. HasFirst (lines ++ line ∷ []) (jobs_in old ++ asks.0 ∷ []) n) (sym asks.4.2) (first_added lines line number old asks.0 h place asks.3))
+
+first_at : (bytes : List ℕ) (lines : List (List ℕ)) (last : List ℕ) (jobs : List Job) (number : ℕ) → Lines bytes lines last → HasFirst lines jobs number → FirstAt bytes jobs number
+first_at bytes lines last [] number split h = tt
+first_at bytes lines last (job ∷ []) number split h = tt
+first_at bytes lines last (job ∷ next ∷ jobs) number split h = record { before = h.0; after = h.1; last = last; split = subst (λ l. Lines bytes l last) h.2 split; place = h.3 }
+
+-- what comes in the last line isn't the first of more jobs
+first_kept : (bytes : List ℕ) (lines : List (List ℕ)) (last : List ℕ) (number : ℕ) (old : Draft) (job : Job) → Lines bytes lines last → HasFirst lines (jobs_in old) (opened_at old) → FirstAt bytes (jobs_in old ++ job ∷ []) (opens_at old number)
+first_kept bytes lines last number Empty job split h = tt
+first_kept bytes lines last number (Opened size) job split h = first_at bytes lines last (jobs_in (Opened size) ++ job ∷ []) size.line split h
+first_kept bytes lines last number (Settled plan) job split h = first_at bytes lines last (jobs_in (Settled plan) ++ job ∷ []) plan.size.line split h
+
+first_last : (bytes : List ℕ) (lines : List (List ℕ)) (last : List ℕ) (number : ℕ) (old new : Draft) → Lines bytes lines last → HasFirst lines (jobs_in old) (opened_at old) → TakesLine old number last new → FirstAt bytes (jobs_in new) (opened_at new)
+first_last bytes lines last number old new split h (inl skips) = subst (λ d. FirstAt bytes (jobs_in d) (opened_at d)) (sym skips.1) (first_at bytes lines last (jobs_in old) (opened_at old) split h)
+first_last bytes lines last number old new split h (inr asks) =
+    subst (λ js. FirstAt bytes js (opened_at new)) (sym asks.4.1) (subst (λ n. FirstAt bytes (jobs_in old ++ asks.0 ∷ []) n) (sym asks.4.2) (first_kept bytes lines last number old asks.0 split h))
+
 -- between two lines
 pub record Place (bytes : List ℕ) (number : ℕ) (draft : Draft) : Type 0 where
   pub lines : List (List ℕ)
@@ -36,12 +73,20 @@ pub record Place (bytes : List ℕ) (number : ℕ) (draft : Draft) : Type 0 wher
   pub each : All IsOneLine lines
   pub place : length lines + 1 ≡ number
   pub jobs_are : AreJobs lines (jobs_in draft)
+  pub opening : HasFirst lines (jobs_in draft) (opened_at draft)
 
 no_jobs : AreJobs [] []
 no_jobs = record { spelled = refl; fit = All-nil Fits; in_order = NoJob; short = All-nil (λ line. length line ≤ max_line); few = omega arith }
 
 pub at_first : (draft : Draft) → draft ≡ Empty → Place [] 1 draft
-at_first draft e = record { lines = []; is = refl; each = All-nil IsOneLine; place = refl; jobs_are = subst (λ d. AreJobs [] (jobs_in d)) (sym e) no_jobs }
+at_first draft e = record {
+  lines = [];
+  is = refl;
+  each = All-nil IsOneLine;
+  place = refl;
+  jobs_are = subst (λ d. AreJobs [] (jobs_in d)) (sym e) no_jobs;
+  opening = subst (λ d. HasFirst [] (jobs_in d) (opened_at d)) (sym e) tt;
+}
 
 filter_kept : (line : List ℕ) → is_kept line ≡ true → filter is_kept (line ∷ []) ≡ line ∷ []
 filter_kept line h = rw h refl
@@ -84,33 +129,38 @@ place_more seen line number old new p one short few takes = record {
   each = All-push IsOneLine p.lines line p.each one;
   place = omega (arith, length-append p.lines (line ∷ []), p.place);
   jobs_are = let place = p.place in jobs_more p.lines line number old new p.jobs_are short (omega (arith, place, few)) takes;
+  opening = opening_more p.lines line number old new p.opening p.place takes;
 }
 
 -- the file ended between two lines
-pub ends_here : (seen bytes : List ℕ) (number : ℕ) (draft : Draft) → Place seen number draft → bytes ≡ [] → FileIs (seen ++ bytes) (jobs_in draft) number
-ends_here seen bytes number draft p e = record {
-  lines = p.lines;
-  last = [];
-  split = record { is = ap (λ b. seen ++ b) e ∙ ap (λ b. b ++ []) p.is; each = p.each; one = All-nil (λ b. b ≢ 10) };
-  jobs_are = p.jobs_are;
-  place = p.place;
-}
+split_here : (seen bytes : List ℕ) (number : ℕ) (draft : Draft) → (p : Place seen number draft) → bytes ≡ [] → Lines (seen ++ bytes) p.lines []
+split_here seen bytes number draft p e = record { is = ap (λ b. seen ++ b) e ∙ ap (λ b. b ++ []) p.is; each = p.each; one = All-nil (λ b. b ≢ 10) }
+
+pub ends_here : (seen bytes : List ℕ) (number : ℕ) (draft : Draft) → Place seen number draft → bytes ≡ [] → FileIs (seen ++ bytes) (jobs_in draft) number × FirstAt (seen ++ bytes) (jobs_in draft) (opened_at draft)
+ends_here seen bytes number draft p e =
+    let split = split_here seen bytes number draft p e in
+    (record { lines = p.lines; last = []; split = split; jobs_are = p.jobs_are; place = p.place }, first_at (seen ++ bytes) p.lines [] (jobs_in draft) (opened_at draft) split p.opening)
 
 with_last : (lines : List (List ℕ)) (line : List ℕ) → line ≢ [] → all_lines lines line ≡ lines ++ line ∷ []
 with_last lines [] h = absurd (h refl)
 with_last lines (b ∷ bs) h = refl
 
 -- the file ended with a line that has no LF
-pub ends_last : (seen bytes line : List ℕ) (number : ℕ) (old new : Draft) → Place seen number old → bytes ≡ line → line ≢ [] → IsOneLine line → length line ≤ max_line → number ≤ max_file_lines → TakesLine old number line new → FileIs (seen ++ bytes) (jobs_in new) (number + 1)
+pub ends_last : (seen bytes line : List ℕ) (number : ℕ) (old new : Draft) → Place seen number old → bytes ≡ line → line ≢ [] → IsOneLine line → length line ≤ max_line → number ≤ max_file_lines → TakesLine old number line new
+    → FileIs (seen ++ bytes) (jobs_in new) (number + 1) × FirstAt (seen ++ bytes) (jobs_in new) (opened_at new)
 ends_last seen bytes line number old new p e some one short few takes =
     let lines : all_lines p.lines line ≡ p.lines ++ line ∷ [] = with_last p.lines line some in
-    let place = p.place in record {
-      lines = p.lines;
-      last = line;
-      split = record { is = ap (λ b. seen ++ b) e ∙ ap (λ b. b ++ line) p.is; each = p.each; one = one };
-      jobs_are = subst (λ l. AreJobs l (jobs_in new)) (sym lines) (jobs_more p.lines line number old new p.jobs_are short (omega (arith, place, few)) takes);
-      place = ap (λ l. length l + 1) lines ∙ omega (arith, length-append p.lines (line ∷ []), p.place);
-    }
+    let place = p.place in
+    let split : Lines (seen ++ bytes) p.lines line = record { is = ap (λ b. seen ++ b) e ∙ ap (λ b. b ++ line) p.is; each = p.each; one = one } in (
+      record {
+        lines = p.lines;
+        last = line;
+        split = split;
+        jobs_are = subst (λ l. AreJobs l (jobs_in new)) (sym lines) (jobs_more p.lines line number old new p.jobs_are short (omega (arith, place, few)) takes);
+        place = ap (λ l. length l + 1) lines ∙ omega (arith, length-append p.lines (line ∷ []), p.place);
+      },
+      first_last (seen ++ bytes) p.lines line number old new split p.opening takes,
+    )
 
 -- the bytes of a line after which the reading goes on, and which is not the last
 pub whole_taken : (number : ℕ) (ending : Ending) (old new : Draft) (line bytes : List ℕ) → ReadsJob number ending old line (Ok tt) new → ending ≢ Nothing → ending ≢ Last → TakenFor ending line bytes → bytes ≡ with_lf line
@@ -170,8 +220,8 @@ took_nil a r y t = subst (λ b. Consumes a r b) (sym (append-nil y)) t
 pub plan_is_read : (a r : Option (List ℕ)) (f0 f1 number : ℕ) (draft : Draft) (result : Result Plan DriveFault) → ReadsAll a f0 draft (Ok number) r f1 → Ends draft number result → PlanIsRead a f0 result r f1
 plan_is_read a r f0 f1 number draft (Ok plan) read is =
     let w = read.0 in
-    let file = subst (λ d. FileIs w.0 (jobs_in d) number) is w.3 in
-    ((w.0, w.1, w.2, record { lines = file.lines; last = file.last; split = file.split; jobs = file.jobs_are }), read.1)
+    let file = subst (λ d. FileIs w.0 (jobs_in d) number × FirstAt w.0 (jobs_in d) (opened_at d)) is (w.3, w.4) in
+    ((w.0, w.1, w.2, record { lines = file.0.lines; last = file.0.last; split = file.0.split; jobs = file.0.jobs_are }, file.1), read.1)
 plan_is_read a r f0 f1 number draft (Err fault) read is =
     let w = read.0 in
     subst (λ (f : DriveFault). IsUnreadable a r f × (f1 ≡ f0 + input_failures f)) (sym is.0)

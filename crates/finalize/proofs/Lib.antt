@@ -6,3 +6,6 @@ pub mod Scripts
 pub mod Balance
 pub mod Runs
 pub mod FileReading
+pub mod Holding
+pub mod Sections
+pub mod Telling

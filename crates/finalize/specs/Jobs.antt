@@ -119,6 +119,18 @@ pub record IsThreadsFile (bytes : List ℕ) (asked : Asked) : Type 0 where
   pub split : Lines bytes lines last
   pub jobs : AreJobs (all_lines lines last) (asked_jobs asked)
 
+-- the line with this number asks for the job
+pub record AsksAt (bytes : List ℕ) (number : ℕ) (job : Job) : Type 0 where
+  pub before : List (List ℕ)
+  pub after : List (List ℕ)
+  pub last : List ℕ
+  pub split : Lines bytes (before ++ spelling job ∷ after) last
+  pub place : length before + 1 ≡ number
+
+-- the line with this number asks for the opening
+abbrev pub OpensAt : List ℕ → ℕ → Asked → Type 0
+OpensAt bytes number asked = AsksAt bytes number (One (Open asked.blocks asked.frames asked.workers))
+
 -- the lines of these bytes ask for these jobs; a further line would have this number
 pub record FileIs (bytes : List ℕ) (jobs : List Job) (number : ℕ) : Type 0 where
   pub lines : List (List ℕ)

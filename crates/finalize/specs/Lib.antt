@@ -9,3 +9,7 @@ pub mod Program
 pub mod Calls
 pub mod Jobs
 pub mod Plans
+pub mod Holds
+pub mod Tallies
+pub mod Threads
+pub mod Telling

@@ -1,5 +1,5 @@
 -- How a threads file is read, line by line. Means only: no public contract cites this file.
-use Rattle.std.specs.Prelude.{◌≡◌, ◌≢◌, ℕ, ◌+◌, ◌≤◌, ◌<◌, Bool, true, false, ◌⊎◌, List, [], ◌∷◌, ◌++◌, length, Option, Result, Ok, Err, IsTrue}
+use Rattle.std.specs.Prelude.{◌≡◌, ◌≢◌, ℕ, ◌+◌, ◌≤◌, ◌<◌, true, false, ◌⊎◌, List, [], ◌∷◌, ◌++◌, length, Option, Result, Ok, Err, IsTrue}
 use Rattle.std.specs.Io.KnownBytes.{Consumes, IsAtEnd}
 use Rattle.fz_script.specs.Jobs.{spelling, Fits}
 use Rattle.finalize.specs.Script.{is_kept}
@@ -14,7 +14,7 @@ use Rattle.fz_script.specs.declared.job.Job.TheVariants.{One}
 use Rattle.finalize.specs.declared.threads.plan.Plan.{Plan}
 use Rattle.finalize.specs.declared.threads.draft.Draft.{Draft}
 use Rattle.finalize.specs.declared.threads.draft.Draft.TheVariants.{Empty, Opened, Settled}
-use Rattle.finalize.specs.Jobs.{Asked, asked_jobs, may_follow, max_file_lines, FileIs, IsThreadsFile, IsUnreadable, input_failures}
+use Rattle.finalize.specs.Jobs.{Asked, asked_jobs, may_follow, max_file_lines, AsksAt, OpensAt, FileIs, IsThreadsFile, IsUnreadable, input_failures}
 
 abbrev pub asked_by : Plan → Asked
 asked_by plan = record { blocks = plan.size.blocks; frames = plan.size.frames; workers = plan.size.workers; collections = plan.collections; body = plan.jobs.items }
@@ -30,9 +30,15 @@ opened_at Empty = 0
 opened_at (Opened size) = size.line
 opened_at (Settled plan) = plan.size.line
 
+-- the line of the opening, where this line comes next
+abbrev pub opens_at : Draft → ℕ → ℕ
+opens_at Empty line = line
+opens_at (Opened size) line = size.line
+opens_at (Settled plan) line = plan.size.line
+
 -- the line's job was added; or it may not follow, or there was no memory for it
 abbrev pub Adds : Draft → ℕ → Job → Result (Unit {0}) Refusal → Draft → Type 0
-Adds old line job (Ok x) new = (may_follow (jobs_in old) job ≡ true) × (jobs_in new ≡ jobs_in old ++ job ∷ [])
+Adds old line job (Ok x) new = (may_follow (jobs_in old) job ≡ true) × (jobs_in new ≡ jobs_in old ++ job ∷ []) × (opened_at new ≡ opens_at old line)
 Adds old line job (Err refusal) new = (refusal ≡ NoMemory) ⊎ ((refusal ≡ BadLine) × (may_follow (jobs_in old) job ≡ false))
 
 abbrev pub is_empty : Draft → Type 0
@@ -60,15 +66,22 @@ abbrev pub Ends : Draft → ℕ → Result Plan DriveFault → Type 0
 Ends draft number (Ok plan) = draft ≡ Settled plan
 Ends draft number (Err fault) = (fault ≡ record { refusal = BadLine; line = number }) × (length (jobs_in draft) < 2)
 
--- these bytes were read, and their lines ask for these jobs; a further line would have this number
-abbrev pub WasRead : Option (List ℕ) → Option (List ℕ) → List Job → ℕ → Type 0
-WasRead before left jobs number = (bytes : List ℕ) × Consumes before left bytes × IsAtEnd left × FileIs bytes jobs number
+-- the first of these jobs, if there are more, is asked for in the line with this number
+abbrev pub FirstAt : List ℕ → List Job → ℕ → Type 0
+FirstAt bytes [] number = Unit {0}
+FirstAt bytes (job ∷ []) number = Unit {0}
+FirstAt bytes (job ∷ next ∷ jobs) number = AsksAt bytes number job
+
+-- these bytes were read, and their lines ask for the draft's jobs; a further line would have this number
+abbrev pub WasRead : Option (List ℕ) → Option (List ℕ) → Draft → ℕ → Type 0
+WasRead before left draft number =
+    (bytes : List ℕ) × Consumes before left bytes × IsAtEnd left × FileIs bytes (jobs_in draft) number × FirstAt bytes (jobs_in draft) (opened_at draft)
 
 -- all lines were read; or one of them stopped the reading
 abbrev pub ReadsAll : Option (List ℕ) → ℕ → Draft → Result ℕ DriveFault → Option (List ℕ) → ℕ → Type 0
-ReadsAll before failures draft (Ok number) left failures' = WasRead before left (jobs_in draft) number × (failures' ≡ failures)
+ReadsAll before failures draft (Ok number) left failures' = WasRead before left draft number × (failures' ≡ failures)
 ReadsAll before failures draft (Err fault) left failures' = IsUnreadable before left fault × (failures' ≡ failures + input_failures fault)
 
 abbrev pub PlanIsRead : Option (List ℕ) → ℕ → Result Plan DriveFault → Option (List ℕ) → ℕ → Type 0
-PlanIsRead before failures (Ok plan) left failures' = ((bytes : List ℕ) × Consumes before left bytes × IsAtEnd left × IsThreadsFile bytes (asked_by plan)) × (failures' ≡ failures)
+PlanIsRead before failures (Ok plan) left failures' = ((bytes : List ℕ) × Consumes before left bytes × IsAtEnd left × IsThreadsFile bytes (asked_by plan) × OpensAt bytes plan.size.line (asked_by plan)) × (failures' ≡ failures)
 PlanIsRead before failures (Err fault) left failures' = IsUnreadable before left fault × (failures' ≡ failures + input_failures fault)

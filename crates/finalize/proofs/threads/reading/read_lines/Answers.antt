@@ -29,7 +29,8 @@ returns-in-Nothing g c =
     let h = rw c.in-Nothing.is at c.in-Ok.ensures in
     let p = c.lines.invariant.place in
     let t = took_all _ _ (p.0 ++ h.0.0) (unread c.next_line.new.chunk) h.1 (Consumes-trans _ _ _ _ _ p.1 h.0.2) in
-    ((p.0 ++ h.0.0, t.0, t.1, ends_here p.0 h.0.0 c.lines.number c.lines.draft p.2 h.0.1.0), h.4 ∙ c.lines.invariant.reads)
+    let end = ends_here p.0 h.0.0 c.lines.number c.lines.draft p.2 h.0.1.0 in
+    ((p.0 ++ h.0.0, t.0, t.1, end.0, end.1), h.4 ∙ c.lines.invariant.reads)
 
 pub returns-in-Err : goal.returns-in-Err
 returns-in-Err g c =
@@ -47,7 +48,8 @@ returns-in-Last g c =
     let p = c.lines.invariant.place in
     let given = rw c.as_slice.ensures.value at c.in_default-read_job.ensures in
     let t = took_all _ _ (p.0 ++ h.0.0) (unread c.next_line.new.chunk) h.1 (Consumes-trans _ _ _ _ _ p.1 h.0.2) in
-    ((p.0 ++ h.0.0, t.0, t.1, ends_last p.0 h.0.0 c.next_line.new.line.items c.lines.number c.lines.draft c.read_job.new.draft p.2 h.0.1.0 h.0.1.1 h.2 h.3 given.1 given.2), h.4 ∙ c.lines.invariant.reads)
+    let end = ends_last p.0 h.0.0 c.next_line.new.line.items c.lines.number c.lines.draft c.read_job.new.draft p.2 h.0.1.0 h.0.1.1 h.2 h.3 given.1 given.2 in
+    ((p.0 ++ h.0.0, t.0, t.1, end.0, end.1), h.4 ∙ c.lines.invariant.reads)
 
 pub lines-preserved : goal.lines-preserved
 lines-preserved g c =

@@ -1,0 +1,117 @@
+-- What a thread does, one hold of the lock after another.
+use Rattle.std.specs.Prelude.{◌≡◌, ℕ, ◌+◌, ◌==◌, ◌<◌, Bool, true, false, if◌then◌else◌, List, [], ◌∷◌, ◌++◌, map, replicate, count_by, length, sum, slice_index, is_err, Result}
+use Rattle.std.specs.Option.{unwrap_or}
+use Rattle.fz_model.specs.declared.refusal.Refusal.{Refusal}
+use Rattle.fz_model.specs.Events as events
+use Rattle.fz_model.specs.Events.{Event, Answer}
+use Rattle.fz_world.specs.World.{WorldView}
+use Rattle.fz_world.specs.Does.{Does}
+use Rattle.fz_script.specs.declared.step.Step.{Step}
+use Rattle.fz_script.specs.declared.step.Step.TheVariants.{New, Set, Copy, Load, Store, Register, Unregister, Link, Unlink, Move, Begin, Mark, Pause, Collect}
+use Rattle.fz_script.specs.declared.job.Job.{Job}
+use Rattle.fz_script.specs.declared.job.Job.TheVariants.{Mutator, Collector, Churn, One}
+use Rattle.fz_service.specs.States.{Origin, LockedState, IsInOrder}
+
+-- one hold: in a state that steps reach from the opening, one call of the world
+pub record Hold (origin : Origin) : Type 0 where
+  pub old : LockedState
+  pub in_order : IsInOrder origin old
+  pub event : Event
+  pub reply : Result (Answer event) Refusal
+  pub new : WorldView
+  pub does : Does old.world event reply new
+
+abbrev pub event_in : {origin : Origin} → Hold origin → Event
+event_in hold = hold.event
+
+abbrev pub is_refused : {origin : Origin} → Hold origin → Bool
+is_refused hold = is_err hold.reply
+
+-- the call for which a step of a section asks; no other step has one here
+abbrev pub calls_of : Step → List Event
+calls_of (New frame slot size kind) = events.Alloc frame slot size kind ∷ []
+calls_of (Set frame slot word) = events.Set frame slot word ∷ []
+calls_of (Copy frame slot to_frame to_slot) = events.Copy frame slot to_frame to_slot ∷ []
+calls_of (Load frame slot offset to_frame to_slot) = events.Load frame slot offset to_frame to_slot ∷ []
+calls_of (Store frame slot offset from_frame from_slot) = events.Store frame slot offset from_frame from_slot ∷ []
+calls_of (Register frame slot kind procedure client_data rank) = events.Register frame slot kind procedure client_data (unwrap_or rank 0) ∷ []
+calls_of (Unregister frame slot) = events.Unregister frame slot ∷ []
+calls_of (Link which frame slot offset target_frame target_slot) = events.Link which frame slot offset target_frame target_slot ∷ []
+calls_of (Unlink which frame slot offset) = events.Unlink which frame slot offset ∷ []
+calls_of (Move which frame slot offset to_frame to_slot to_offset) = events.MoveLink which frame slot offset to_frame to_slot to_offset ∷ []
+calls_of Begin = events.Begin ∷ []
+calls_of (Mark budget) = events.Mark budget ∷ []
+calls_of Pause = events.Pause ∷ []
+calls_of Collect = events.Collect ∷ []
+calls_of _ = []
+
+-- one turn of `churn`: a new object, which is registered and dropped; a refused `new` leaves out the other two
+abbrev pub IsTurn : {origin : Origin} → (new register drop : List Event) → List (Hold origin) → Type 0
+IsTurn {origin} new register drop holds =
+    (first : List (Hold origin)) × (rest : List (Hold origin)) × (holds ≡ first ++ rest) × (map event_in first ≡ new)
+    × (map event_in rest ≡ if count_by is_refused first == 0 then register ++ drop else [])
+
+-- so many turns, one after another
+pub data AreTurns {origin : Origin} (new register drop : List Event) : ℕ → List (Hold origin) → Type 0 where
+  NoTurn : AreTurns new register drop 0 []
+  OneTurn : (n : ℕ) (holds more : List (Hold origin)) → AreTurns new register drop n holds → IsTurn new register drop more → AreTurns new register drop (n + 1) (holds ++ more)
+
+-- the holds of one job
+abbrev pub Carries : {origin : Origin} → Job → List (Hold origin) → Type 0
+Carries (One step) holds = map event_in holds ≡ calls_of step
+Carries (Churn count frame slot size kind finalizer_kind procedure) holds =
+    AreTurns (events.Alloc frame slot size kind ∷ []) (events.Register frame slot finalizer_kind procedure 0 0 ∷ []) (events.Set frame slot 0 ∷ []) count holds
+Carries _ holds = holds ≡ []
+
+-- the holds of these jobs, one after another
+pub data Works {origin : Origin} : List Job → List (Hold origin) → Type 0 where
+  NoWork : Works [] []
+  OneJob : (jobs : List Job) (holds : List (Hold origin)) (job : Job) (more : List (Hold origin)) → Works jobs holds → Carries job more → Works (jobs ++ job ∷ []) (holds ++ more)
+
+-- how many turns a job has
+abbrev pub turns_of : Job → ℕ
+turns_of (Churn count frame slot size kind finalizer_kind procedure) = count
+turns_of _ = 0
+
+abbrev pub begins_section : Job → Bool
+begins_section Mutator = true
+begins_section Collector = true
+begins_section _ = false
+
+-- the jobs of the section with this number, where so many sections have begun
+abbrev pub own_from : ℕ → ℕ → List Job → List Job
+own_from begun number [] = []
+own_from begun number (job ∷ jobs) =
+    if begins_section job then own_from (begun + 1) number jobs else (if begun == number then job ∷ own_from begun number jobs else own_from begun number jobs)
+
+-- the jobs of a section, where sections are counted from 1
+abbrev pub own_jobs : ℕ → List Job → List Job
+own_jobs number jobs = own_from 0 number jobs
+
+-- so many holds of such a list were refused
+abbrev pub HasRefused : (origin : Origin) → (List (Hold origin) → Type 0) → ℕ → Type 0
+HasRefused origin P refused = (holds : List (Hold origin)) × P holds × (refused ≡ count_by is_refused holds)
+
+-- how a run ends: a pause, and then collections
+abbrev pub settling : ℕ → List Event
+settling collections = events.Pause ∷ replicate collections events.Collect
+
+-- what a step gives under the lock. Means only.
+abbrev pub Carried : List Event → WorldView → Bool → WorldView → Type 0
+Carried [] old refused new = refused ≡ false
+Carried (e ∷ []) old refused new = (reply : Result (Answer e) Refusal) × Does old e reply new × (refused ≡ is_err reply)
+Carried (e ∷ f ∷ es) old refused new = ⊥
+
+-- what a step gives in a hold of its own. Means only.
+abbrev pub Held : Origin → List Event → Bool → Type 0
+Held origin events refused = (holds : List (Hold origin)) × (map event_in holds ≡ events) × (count_by is_refused holds ≡ if refused then 1 else 0)
+
+-- the sections of these jobs, with how many steps of each were refused, and of all
+abbrev pub SectionsRefused : Origin → List Job → ℕ → Type 0
+SectionsRefused origin jobs refused =
+    (counts : List ℕ) × (length counts ≡ count_by begins_section jobs) × (refused ≡ sum counts)
+    × ((i : ℕ) → i < length counts → HasRefused origin (Works (own_jobs (i + 1) jobs)) (slice_index counts i))
+
+-- the run ended so
+abbrev pub Settles : Origin → ℕ → Type 0
+Settles origin collections = (holds : List (Hold origin)) × (map event_in holds ≡ settling collections)
