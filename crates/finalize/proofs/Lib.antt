@@ -1,4 +1,5 @@
 pub mod Writing
+pub mod Lines
 pub mod Words
 pub mod Machines
 pub mod Calls

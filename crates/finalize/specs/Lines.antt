@@ -1,5 +1,5 @@
 -- The reading of lines, one by one. Means only: no public contract cites this file.
-use Rattle.std.specs.Prelude.{◌≡◌, ◌≢◌, ℕ, ◌≤◌, ◌+◌, List, [], ◌∷◌, ◌++◌, Option, Some, None, Result, Ok, Err, length, take, drop}
+use Rattle.std.specs.Prelude.{◌≡◌, ◌≢◌, ℕ, ◌≤◌, ◌+◌, List, [], ◌∷◌, ◌++◌, Option, Some, None, Bool, true, false, Result, Ok, Err, length, take, drop}
 use Rattle.finalize.specs.declared.chunk.Chunk.{Chunk}
 use Rattle.finalize.specs.declared.input.Ending.{Ending}
 use Rattle.finalize.specs.declared.input.Ending.TheVariants.{Whole, Last, Nothing, TooLong}
@@ -30,7 +30,24 @@ Reads before failures (Ok ending) line unread left failures' =
 Reads before failures (Err e) line unread left failures' =
     Consumes before left line × IsOneLine line × (length line ≤ max_line) × (unread ≡ []) × (failures' ≡ failures + 1)
 
-abbrev pub ReadsByte : {E : Type 0} → Option (List ℕ) → ℕ → Result (Option ℕ) E → List ℕ → Option (List ℕ) → ℕ → Type 0
-ReadsByte before failures (Ok None) unread left failures' = Consumes before left [] × IsAtEnd left × (failures' ≡ failures)
-ReadsByte before failures (Ok (Some b)) unread left failures' = Consumes before left (b ∷ []) × (failures' ≡ failures)
-ReadsByte before failures (Err e) unread left failures' = Consumes before left [] × (unread ≡ []) × (failures' ≡ failures + 1)
+-- a byte is unread; or the input has ended; or the reader failed
+abbrev pub Fills : {E : Type 0} → Option (List ℕ) → ℕ → Result Bool E → List ℕ → Option (List ℕ) → ℕ → Type 0
+Fills before failures (Ok true) unread left failures' = Consumes before left [] × (unread ≢ []) × (failures' ≡ failures)
+Fills before failures (Ok false) unread left failures' = Consumes before left [] × IsAtEnd left × (failures' ≡ failures)
+Fills before failures (Err e) unread left failures' = Consumes before left [] × (unread ≡ []) × (failures' ≡ failures + 1)
+
+-- what was unread of a line went to its end: with its LF, or to the one byte too many, or all of it
+abbrev pub MovesLine : List ℕ → List ℕ → Option Ending → List ℕ → List ℕ → Type 0
+MovesLine unread line (Some Whole) unread' line' =
+    (part : List ℕ) × (unread ≡ (part ++ 10 ∷ []) ++ unread') × (line' ≡ line ++ part) × IsOneLine part × (length line' ≤ max_line)
+MovesLine unread line (Some TooLong) unread' line' =
+    (part : List ℕ) × (b : ℕ) × (unread ≡ (part ++ b ∷ []) ++ unread') × (b ≢ 10) × (line' ≡ line ++ part) × IsOneLine part × (length line' ≡ max_line)
+MovesLine unread line (Some _) unread' line' = ⊥
+MovesLine unread line None unread' line' = (unread' ≡ []) × (line' ≡ line ++ unread) × IsOneLine unread × (length line' ≤ max_line)
+
+-- how a line ends where the input does
+abbrev pub EndsWithInput : Ending → List ℕ → Type 0
+EndsWithInput Whole line = ⊥
+EndsWithInput Last line = line ≢ []
+EndsWithInput Nothing line = line ≡ []
+EndsWithInput TooLong line = ⊥

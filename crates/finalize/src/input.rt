@@ -1,8 +1,8 @@
 //! Lines of input.
 
-ghost use Rattle.std.specs.Prelude.{◌≡◌, ◌≤◌, []};
+ghost use Rattle.std.specs.Prelude.{◌≡◌, ◌≢◌, ℕ, ◌<◌, ◌≤◌, ◌+◌, ◌++◌, ◌==◌, length, get_or, position};
 ghost use Rattle.std.specs.Io.KnownBytes.{prepend_known};
-ghost use Rattle.finalize.specs.Lines.{unread, Reads, ReadsByte};
+ghost use Rattle.finalize.specs.Lines.{unread, Reads, Fills, MovesLine, EndsWithInput};
 
 use crate::chunk::Chunk;
 use crate::device::Source;
@@ -28,27 +28,87 @@ pub(crate) enum Ending {
     TooLong,
 }
 
-fn next_byte<R: Source>(source: &mut R, chunk: &mut Chunk) -> Result<Option<u8>, ReadFailed>
-    ensures { ReadsByte (prepend_known (unread chunk.old) (R.remaining source.old)) (R.failures source.old)
+/// Sees to it that a byte is unread. `false`: the input has ended.
+fn fill<R: Source>(source: &mut R, chunk: &mut Chunk) -> Result<bool, ReadFailed>
+    ensures { Fills (prepend_known (unread chunk.old) (R.remaining source.old)) (R.failures source.old)
         result (unread chunk.new)
         (prepend_known (unread chunk.new) (R.remaining source.new)) (R.failures source.new) }
 {
     if chunk.at == chunk.len {
         match source.read(&mut chunk.bytes) {
             None => return Err(ReadFailed),
-            Some(0) => return Ok(None),
+            Some(0) => return Ok(false),
             Some(count) => {
                 chunk.at = 0;
                 chunk.len = count;
             }
         }
     }
-    let byte = chunk.bytes[chunk.at];
-    chunk.at += 1;
-    Ok(Some(byte))
+    Ok(true)
 }
 
-/// Reads the next line, without its LF. Of a line that is too long it reads one byte more than a line may have.
+/// Where the first LF is.
+fn line_feed_in(bytes: &[u8]) -> Option<usize>
+    ensures { result ≡ position (λ byte. byte == 10) bytes.now }
+{
+    bytes.iter().position(|byte| *byte == b'\n')
+}
+
+/// How many bytes stand before the first LF, or in all.
+#[tactic(auto, using(crate::proofs::Lines::feed_at, crate::proofs::Lines::no_feed))]
+fn line_length(bytes: &[u8]) -> usize
+    ensures within { result ≤ length bytes.now }
+    ensures before { (i : ℕ) → i < result → get_or bytes.now i 0 ≢ 10 }
+    ensures feed { result < length bytes.now → get_or bytes.now result 0 ≡ 10 }
+{
+    match line_feed_in(bytes) {
+        Some(place) => place,
+        None => bytes.len(),
+    }
+}
+
+fn append(line: &mut ArrayVec<u8, MAX_LINE>, bytes: &[u8])
+    requires { length line.old.items + length bytes.now ≤ 200 }
+    ensures { line.new.items ≡ line.old.items ++ bytes.now }
+{
+    let Ok(()) = line.try_extend_from_slice(bytes) else {
+        unreachable!();
+    };
+}
+
+/// Moves what is unread of a line from the chunk to its end, and tells how the line ends, if it ends there.
+fn move_line(chunk: &mut Chunk, line: &mut ArrayVec<u8, MAX_LINE>) -> Option<Ending>
+    ensures { MovesLine (unread chunk.old) line.old.items result (unread chunk.new) line.new.items }
+{
+    let unread = chunk.unread();
+    let end = line_length(unread);
+    let room = line.remaining_capacity();
+    if room < end {
+        append(line, &unread[..room]);
+        chunk.advance(room + 1);
+        return Some(Ending::TooLong);
+    }
+    append(line, &unread[..end]);
+    if end < unread.len() {
+        chunk.advance(end + 1);
+        return Some(Ending::Whole);
+    }
+    chunk.advance(end);
+    None
+}
+
+/// How a line ends with the input.
+fn last_ending(line: &ArrayVec<u8, MAX_LINE>) -> Ending
+    ensures { EndsWithInput result line.now.items }
+{
+    if line.is_empty() {
+        Ending::Nothing
+    } else {
+        Ending::Last
+    }
+}
+
+/// Reads the next line, without its LF. Of a line that is too long it uses one byte more than a line may have.
 pub(crate) fn next_line<R: Source>(
     source: &mut R,
     chunk: &mut Chunk,
@@ -60,16 +120,11 @@ pub(crate) fn next_line<R: Source>(
 {
     line.clear();
     loop {
-        match next_byte(source, chunk)? {
-            None if line.is_empty() => return Ok(Ending::Nothing),
-            None => return Ok(Ending::Last),
-            Some(b'\n') => return Ok(Ending::Whole),
-            Some(byte) => {
-                if line.is_full() {
-                    return Ok(Ending::TooLong);
-                }
-                line.push(byte);
-            }
+        if !fill(source, chunk)? {
+            return Ok(last_ending(line));
+        }
+        if let Some(ending) = move_line(chunk, line) {
+            return Ok(ending);
         }
     }
 }
