@@ -10,3 +10,4 @@ pub mod FileReading
 pub mod Holding
 pub mod Sections
 pub mod Telling
+pub mod Seating

@@ -1,5 +1,5 @@
 -- What is told of a run of a threads file.
-use Rattle.std.proofs.Common.{◌≡◌, ℕ, ◌+◌, List, [], ◌∷◌, ◌++◌, Option, Some, Result, Ok, Err, Bool, true, false, sym, refl, subst, append-nil, arith, IfOk, IfErr, inl, inr, ◌⊎◌}
+use Rattle.std.proofs.Common.{◌≡◌, ℕ, ◌+◌, List, [], ◌∷◌, ◌++◌, Option, None, Some, Result, Ok, Err, Bool, true, false, sym, refl, subst, append-nil, arith, IfOk, IfErr, inl, inr, ◌⊎◌}
 use Rattle.std.specs.Io.KnownBytes.{Consumes, Appends, IsAtEnd}
 use Rattle.fz_model.specs.declared.refusal.Refusal.{Refusal}
 use Rattle.fz_model.specs.declared.refusal.Refusal.TheVariants.{BadLine, BadCount, NoMemory, Output, Input}
@@ -57,14 +57,15 @@ summary_tells asked opening tally a b f g (Ok x) h t = (tally, h, t.0, t.1)
 summary_tells asked opening tally a b f g (Err fault) h t = summary_stops asked opening tally a b f g fault h t.0 t.1 t.2
 
 -- the numbers of an ended service are those of the run
-pub sums_up : (origin : Origin) (collections : ℕ) (jobs : List Job) (refused : ℕ) (tally : Tally) → SectionsRefused origin jobs refused → Settles origin collections → TellsEnd origin refused tally → Summarizes (asked_from origin collections jobs) tally
-sums_up origin collections jobs refused tally sections settles ends =
+pub sums_up : (origin : Origin) (collections : ℕ) (jobs : List Job) (refused : ℕ) (tally : Tally) → first_cause (service_causes (asked_from origin collections jobs)) ≡ None → SectionsRefused origin jobs refused → Settles origin collections → TellsEnd origin refused tally → Summarizes (asked_from origin collections jobs) tally
+sums_up origin collections jobs refused tally within sections settles ends =
     let all = ends.2.2.all in
     let spent = ends.2.2.spent in
     subst (Summarizes (asked_from origin collections jobs)) (sym ends.4) (
     record {
       origin = origin;
       opened = (refl, refl, refl);
+      within = within;
       seats = ends.0;
       end = ends.1;
       ended = ends.2;

@@ -1,10 +1,10 @@
 -- A run of a threads file: what its summary says, and why a run ends without one.
-use Rattle.std.specs.Prelude.{◌≡◌, ◌≢◌, ℕ, ◌+◌, ◌==◌, if◌then◌else◌, ◌⊎◌, true, List, [], ◌∷◌, ◌++◌, length, Option, Result, Ok, Err}
+use Rattle.std.specs.Prelude.{◌≡◌, ◌≢◌, ℕ, ◌+◌, ◌==◌, if◌then◌else◌, ◌⊎◌, true, List, [], ◌∷◌, ◌++◌, length, Option, None, Result, Ok, Err}
 use Rattle.std.specs.Io.KnownBytes.{Consumes, Appends, IsAtEnd}
 use Rattle.fz_model.specs.declared.refusal.Refusal.{Refusal}
 use Rattle.fz_model.specs.declared.refusal.Refusal.TheVariants.{BadLine, BadCount, NoMemory, Output, Input}
 use Rattle.fz_model.specs.Refusals.{code_of}
-use Rattle.fz_model.specs.Causes.{Causes, bad_count, IsRefusedFor}
+use Rattle.fz_model.specs.Causes.{Causes, bad_count, first_cause, IsRefusedFor}
 use Rattle.fz_model.specs.declared.limits.TheConstants.{MAX_WORKERS}
 use Rattle.fz_world.specs.Does.{open_causes}
 use Rattle.fz_line.specs.States.{SeatState}
@@ -23,11 +23,16 @@ abbrev pub tally_of : Final → ℕ → Tally
 tally_of end refused =
     record { enqueued = end.enqueued; finished = end.finished; forfeited = end.forfeited; left = length end.left.items; passes = end.passes; reclaimed = end.reclaimed; refused = refused }
 
--- the numbers are those of one service of the size that was asked for: its sections were carried out, then a pause and the collections that were
+-- the causes of refusal of an opening
+abbrev pub service_causes : Asked → Causes
+service_causes asked = open_causes asked.blocks asked.frames ++ bad_count MAX_WORKERS asked.workers ∷ []
+
+-- the numbers are those of one service of the size that was asked for, which is within its limits: its sections were carried out, then a pause and the collections that were
 -- asked for, and it ended with all its seats
 pub record Summarizes (asked : Asked) (tally : Tally) : Type 0 where
   pub origin : Origin
   pub opened : (origin.blocks ≡ asked.blocks) × (origin.frames ≡ asked.frames) × (origin.workers ≡ asked.workers)
+  pub within : first_cause (service_causes asked) ≡ None
   pub seats : List SeatState
   pub end : Final
   pub ended : IsEndOfRun origin seats end
@@ -47,10 +52,6 @@ pub record Summarized (input left before after : Option (List ℕ)) : Type 0 whe
   pub file : IsThreadsFile bytes asked
   pub summary : Summarizes asked tally
   pub written : Appends before after (summary_text tally)
-
--- the causes of refusal of an opening
-abbrev pub service_causes : Asked → Causes
-service_causes asked = open_causes asked.blocks asked.frames ++ bad_count MAX_WORKERS asked.workers ∷ []
 
 -- what is to be written for a file
 pub data IsDueFor (bytes unread : List ℕ) (left : Option (List ℕ)) : List ℕ → Type 0 where

@@ -14,6 +14,7 @@ pub(crate) mod tally;
 ghost use Rattle.std.specs.Prelude.{◌≡◌, ◌+◌, ◌≤◌, None, IfErr, IfOk, length};
 ghost use Rattle.std.specs.List.{All};
 ghost use Rattle.fz_model.specs.Causes.{first_cause};
+ghost use Rattle.fz_service.specs.Ends.{IsEachOnce};
 ghost use Rattle.finalize.specs.Replies.{text_line, refused_words};
 ghost use Rattle.finalize.specs.Plans.{asked_by};
 ghost use Rattle.finalize.specs.Holds.{turns_of, SectionsRefused};
@@ -91,13 +92,15 @@ fn tally_of(end: &Final, refused: u64) -> Tally
     }
 }
 
-/// Ends the service; returns the numbers of the run.
+/// Ends the service with all its seats; returns the numbers of the run.
 fn end_of<O: Opening>(
     service: Service<O>,
     seats: Vec<Seat<O>>,
     refused: u64,
 ) -> Result<Tally, Refusal>
-    ensures { IfOk result (TellsEnd O.origin refused) }
+    requires { IsEachOnce O.origin.workers seats.items }
+    ensures ended { IfOk result (TellsEnd O.origin refused) }
+    ensures refused { IfErr result (λ refusal. refusal ≡ Refusal.NoMemory) }
 {
     match service.shutdown(seats) {
         Ok(end) => Ok(tally_of(&end, refused)),
@@ -144,7 +147,7 @@ fn carry_out<O: Opening + Send + Sync, W: Sink, R: Threads + Wait + Sync>(
     };
     match end_of(service, seats, refused) {
         Ok(tally) => tell_summary(writer, tally),
-        Err(_) => Err(lineless(Refusal::NoMemory)),
+        Err(refusal) => Err(lineless(refusal)),
     }
 }
 

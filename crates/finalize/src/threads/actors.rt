@@ -114,6 +114,7 @@ pub(crate) fn side_by_side<O: Opening + Send + Sync, R: Threads + Wait + Sync>(
     procs: Vec<Vec<Box<dyn Proc + Send>>>,
     rt: &R,
 ) -> (Vec<Seat<O>>, Result<u64, AllocError>)
+    ensures seats { ExtendEach seats.items result.0.items }
     ensures refused { IfOk result.1 (SectionsRefused O.origin sections.now.jobs.items) }
     ensures settled { Settles O.origin collections }
 {
@@ -122,7 +123,9 @@ pub(crate) fn side_by_side<O: Opening + Send + Sync, R: Threads + Wait + Sync>(
     let slot = &mut given;
     let (back, refused) = thread::join(
         rt,
-        || serve(alloc, service, slot, procs, &stop, rt),
+        || -> Vec<Seat<O>>
+            ensures { ExtendEach slot.entry.now.items result.items }
+        { serve(alloc, service, slot, procs, &stop, rt) },
         || lead(alloc, service, sections, collections, &stop, rt),
     );
     retire_all(given);
