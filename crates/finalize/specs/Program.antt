@@ -1,9 +1,15 @@
 -- What the program says on standard error, and what its exit statuses mean.
-use Rattle.std.specs.Prelude.{◌≡◌, ℕ, ◌+◌, ◌⊎◌, List, [], codes, Option}
+use Rattle.std.specs.Prelude.{◌≡◌, ℕ, ◌+◌, ◌⊎◌, List, [], ◌∷◌, codes, Option}
 use Rattle.std.specs.Io.KnownBytes.{Appends}
 use Rattle.fz_model.specs.declared.refusal.Refusal.{Refusal}
 use Rattle.fz_model.specs.declared.refusal.Refusal.TheVariants.{Input, Output, NoMemory}
+use Rattle.finalize.specs.declared.program.Program.{Program}
+use Rattle.finalize.specs.declared.program.Program.TheVariants.{Run, Threads}
+use Rattle.finalize.specs.declared.run.Summary.{Summary}
+use Rattle.finalize.specs.declared.run.DriveFault.{DriveFault}
 use Rattle.finalize.specs.Devices.{IsPart}
+use Rattle.finalize.specs.Report.{Reported, Stopped}
+use Rattle.finalize.specs.Threads.{Summarized, RunStopped}
 
 abbrev pub want_line : List ℕ
 want_line = codes "finalize: want run FILE or threads FILE\n"
@@ -14,7 +20,7 @@ memory_line = codes "finalize: out of memory\n"
 abbrev pub open_line : List ℕ
 open_line = codes "finalize: cannot open file\n"
 
--- what is said of a run that ended early; of most faults the report says it
+-- what is said of a run that ended early; of most faults what was written says it
 abbrev pub fault_line : Refusal → List ℕ
 fault_line Input = codes "finalize: input failed\n"
 fault_line Output = codes "finalize: output failed\n"
@@ -24,3 +30,22 @@ fault_line _ = []
 -- the writer took the whole line; or it took a beginning of it and failed
 abbrev pub Says : Option (List ℕ) → ℕ → List ℕ → Option (List ℕ) → ℕ → Type 0
 Says before failures line after failures' = (Appends before after line × (failures' ≡ failures)) ⊎ (IsPart before line after × (failures' ≡ failures + 1))
+
+-- the word that names the program
+abbrev pub name_of : Program → List ℕ
+name_of Run = codes "run"
+name_of Threads = codes "threads"
+
+-- the words are the program's name and a file
+abbrev pub Names : Program → List (List ℕ) → Type 0
+Names program words = (file : List ℕ) × (words ≡ name_of program ∷ file ∷ [])
+
+-- the program ran on this input to its end, and wrote its whole report or summary
+abbrev pub Completes : Program → Option (List ℕ) → Option (List ℕ) → Option (List ℕ) → Type 0
+Completes Run input before after = (left : Option (List ℕ)) × (summary : Summary) × Reported input left before after summary
+Completes Threads input before after = (left : Option (List ℕ)) × Summarized input left before after
+
+-- the program's run on this input ended early: the fault stands where its cause does, and nothing else was written
+abbrev pub Stops : Program → Option (List ℕ) → Option (List ℕ) → Option (List ℕ) → DriveFault → Type 0
+Stops Run input before after fault = (left : Option (List ℕ)) × Stopped input left before after fault
+Stops Threads input before after fault = (left : Option (List ℕ)) × RunStopped input left before after fault

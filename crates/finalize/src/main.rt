@@ -1,7 +1,7 @@
-//! finalize: runs a script over the finalization service, and reports.
+//! finalize: runs a script or a threads file over the finalization service, and reports.
 #![tactic(auto)]
 
-ghost use Rattle.std.specs.Prelude.{◌≡◌};
+ghost use Rattle.std.specs.Prelude.{◌≡◌, ◌≤◌, IfOk, IsErr};
 
 mod answer;
 mod chunk;
@@ -22,31 +22,52 @@ mod stream;
 mod tests;
 mod threads;
 
+use device::Sink;
 use failures::Failures;
+use fz_model::MAX_WORKERS;
+use fz_service::Proc;
 use program::{execute, out_of_memory, wrong_words};
+use std::alloc::AllocError;
+use std::convert::AsStr;
 use std::env;
-use std::io::ErrorKind;
+use std::io::{ErrorKind, Write};
 use std::marker::Brand;
 use std::process::ExitCode;
+use std::rt::{Env, Files, Stderr, Stdout};
+use std::sync::Wait;
 use std::sync::ledger::{Blank, Ledger};
+use std::thread::Threads;
 use stream::Stream;
+use threads::procedures::{Keep, Nothing};
 
 fn main(rt: HostRuntime) -> ExitCode {
-    with_streams::<Brand, Brand>(rt, Blank::new(1), Blank::new(1))
+    with_streams::<Brand, Brand, Stdout, Stderr, HostRuntime>(
+        &rt,
+        rt.stdout(),
+        rt.stderr(),
+        Blank::new(1),
+        Blank::new(1),
+    )
 }
 
 /// Hands the program's words and its standard streams to `execute`. Each stream's failures are
 /// counted in a ledger of its own.
-fn with_streams<O: Ledger, E: Ledger>(rt: HostRuntime, out: Blank, err: Blank) -> ExitCode
+fn with_streams<
+    O: Ledger,
+    E: Ledger,
+    Out: Write + Drop,
+    Err: Write + Drop,
+    R: Env + Files + AllocGlobal + Threads + Wait + Sync,
+>(rt: &R, stdout: Out, stderr: Err, out: Blank, err: Blank) -> ExitCode
     requires out_name { out.name ≡ O.name }
     requires out_parts { (out.parts ≡ O.parts) × (O.parts ≡ 1) }
     requires err_name { err.name ≡ E.name }
     requires err_parts { (err.parts ≡ E.parts) × (E.parts ≡ 1) }
 {
-    let mut out = Stream::new(rt.stdout(), Failures::<O>::none(out));
-    let mut err = Stream::new(rt.stderr(), Failures::<E>::none(err));
+    let mut out = Stream::new(stdout, Failures::<O>::none(out));
+    let mut err = Stream::new(stderr, Failures::<E>::none(err));
     let mut words = Vec::new(rt.alloc());
-    let args = match env::args(&rt) {
+    let args = match env::args(rt) {
         Ok(args) => args,
         Err(error) if error.kind() == ErrorKind::OutOfMemory => return ExitCode::from(out_of_memory(
             &mut err,
@@ -58,5 +79,29 @@ fn with_streams<O: Ledger, E: Ledger>(rt: HostRuntime, out: Blank, err: Blank) -
             return ExitCode::from(out_of_memory(&mut err));
         };
     }
-    ExitCode::from(execute(&rt, words.as_slice(), &mut out, &mut err))
+    match with_procedures(rt, words.as_slice(), &mut out, &mut err) {
+        Ok(status) => ExitCode::from(status),
+        Err(_) => ExitCode::from(out_of_memory(&mut err)),
+    }
+}
+
+/// Makes each worker's list of procedures, and hands words, streams and lists to `execute`. An error says that there was no memory for the
+/// lists; then nothing was done.
+fn with_procedures<R: Files + AllocGlobal + Threads + Wait + Sync, S: AsStr, O: Sink, E: Sink>(
+    rt: &R,
+    words: &[S],
+    out: &mut O,
+    err: &mut E,
+) -> Result<u8, AllocError>
+    ensures known { IfOk result (λ status. status ≤ 2) }
+    ensures unchanged { IsErr result → (O.written out.new ≡ O.written out.old) × (O.failures out.new ≡ O.failures out.old) × (E.written err.new ≡ E.written err.old) × (E.failures err.new ≡ E.failures err.old) }
+{
+    let mut procs = Vec::new(rt.alloc());
+    for _worker in 0..MAX_WORKERS {
+        let mut list: Vec<Box<dyn Proc + Send>> = Vec::new(rt.alloc());
+        list.push(Box::new(rt.alloc(), Nothing)?)?;
+        list.push(Box::new(rt.alloc(), Keep)?)?;
+        procs.push(list)?;
+    }
+    Ok(execute(rt, words, out, err, procs))
 }

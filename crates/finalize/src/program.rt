@@ -1,9 +1,8 @@
 //! The program, over its words and two writers.
 
-ghost use Rattle.std.specs.Prelude.{◌≡◌, ◌≢◌, ◌≤◌, ◌<◌, ◌⊎◌, ◌+◌, List, ℕ, Option, codes, length, slice_get, Ok, Err, Some, None};
-ghost use Rattle.finalize.specs.Program.{want_line, memory_line, open_line, fault_line, Says};
-ghost use Rattle.finalize.specs.Report.{Reported, Stopped, failures_of};
-ghost use Rattle.finalize.specs.declared.run.Summary.{Summary};
+ghost use Rattle.std.specs.Prelude.{◌≡◌, ◌≢◌, ◌≤◌, ◌⊎◌, ◌+◌, List, ℕ, Option, IfSome, IsNone, codes, length, map, slice_get, Err, Some};
+ghost use Rattle.finalize.specs.Program.{want_line, memory_line, open_line, fault_line, Says, Names, Completes, Stops};
+ghost use Rattle.finalize.specs.Report.{failures_of};
 ghost use Rattle.finalize.specs.declared.run.DriveFault.{DriveFault};
 
 use crate::device::Sink;
@@ -11,38 +10,65 @@ use crate::failures::Failures;
 use crate::output::write_all;
 use crate::run::{DriveFault, drive};
 use crate::stream::Stream;
+use crate::threads::drive_threads;
 use clap::error::ErrorKind;
 use clap::{Arg, Command, Error};
 use fz_model::Refusal;
+use fz_service::Proc;
 use std::alloc::{AllocError, Global};
 use std::convert::AsStr;
 use std::fs;
 use std::io::Read;
 use std::marker::Brand;
 use std::rt::Files;
+use std::sync::Wait;
 use std::sync::ledger::{Blank, Ledger};
+use std::thread::Threads;
+
+/// What the first word asks for.
+#[derive(Clone, Copy)]
+enum Program {
+    /// Runs a script.
+    Run,
+    /// Runs a threads file.
+    Threads,
+}
+
+/// The program that the words name: they are its name and a file.
+fn program_of<S: AsStr>(words: &[S]) -> Option<Program>
+    ensures some { IfSome result (λ program. Names program (map S.text words.now)) }
+    ensures none { IsNone result → (program : Program) → ¬ Names program (map S.text words.now) }
+{
+    if words.len() != 2 {
+        return None;
+    }
+    let name = words[0].as_str();
+    if name == "run" {
+        Some(Program::Run)
+    } else if name == "threads" {
+        Some(Program::Threads)
+    } else {
+        None
+    }
+}
 
 fn command<'a>(alloc: Global) -> Result<Command<'a>, AllocError> {
     let run = Command::new(alloc, "run").arg(Arg::new(alloc, "FILE").required(true))?;
+    let threads = Command::new(alloc, "threads").arg(Arg::new(alloc, "FILE").required(true))?;
     Command::new(alloc, "finalize")
         .no_binary_name(true)
         .subcommand_required(true)
-        .subcommand(run)
+        .subcommand(run)?
+        .subcommand(threads)
 }
 
-/// The file that the words ask to run. An error says that they are wrong, or that memory was short.
-fn file_of<'a, S: AsStr>(alloc: Global, words: &'a [S]) -> Result<Option<&'a str>, Error>
-    ensures counted { length words.now ≢ 2 → result ≡ Ok None }
-    ensures named { (first : S) → slice_get words.now 0 ≡ Some first → S.text first ≢ codes "run" → result ≡ Ok None }
-{
-    if words.len() != 2 || words[0].as_str() != "run" {
-        return Ok(None);
-    }
+/// The file that the words name. An error says that they are wrong, or that memory was short.
+fn file_of<'a, S: AsStr>(alloc: Global, words: &'a [S]) -> Result<Option<&'a str>, Error> {
     let command = command(alloc)?;
     let matches = command.try_get_matches_from(words)?;
     Ok(match matches.subcommand() {
-        Some(("run", run)) => run.get_str("FILE"),
-        _ => None,
+        Some((_, program)) => program.get_str("FILE"),
+        None => None,
     })
 }
 
@@ -71,37 +97,69 @@ pub(crate) fn out_of_memory<E: Sink>(err: &mut E) -> u8
     say(err, b"finalize: out of memory\n", 1)
 }
 
-/// Carries out the words; returns the exit status: 0 where a script was read to its end, 2 where
-/// the words are wrong, and 1 for every other fault.
-pub(crate) fn execute<R: Files + AllocGlobal, S: AsStr, O: Sink, E: Sink>(
+/// Carries out the words; returns the exit status: 0 where a script or a threads file was carried
+/// out to its end, 2 where the words are wrong, and 1 for every other fault. The worker at each
+/// place has the list of procedures at that place.
+pub(crate) fn execute<R: Files + AllocGlobal + Threads + Wait + Sync, S: AsStr, O: Sink, E: Sink>(
     rt: &R,
     words: &[S],
     out: &mut O,
     err: &mut E,
+    procs: Vec<Vec<Box<dyn Proc + Send>>>,
 ) -> u8
     ensures known { result ≤ 2 }
     // Any words but two are wrong.
     ensures counted { length words.now ≢ 2 → result ≡ 2 }
-    // So are words whose first isn't `run`.
-    ensures named { (first : S) → slice_get words.now 0 ≡ Some first → S.text first ≢ codes "run" → result ≡ 2 }
+    // So are words whose first is neither `run` nor `threads`.
+    ensures named { (first : S) → slice_get words.now 0 ≡ Some first → S.text first ≢ codes "run" → S.text first ≢ codes "threads" → result ≡ 2 }
     // Of wrong words nothing is written but the line that says so.
     ensures wrong { result ≡ 2 → (O.written out.new ≡ O.written out.old) × (O.failures out.new ≡ O.failures out.old) × Says (E.written err.old) (E.failures err.old) want_line (E.written err.new) (E.failures err.new) }
-    // Where it succeeds, what was written is a whole report. (What a file holds, no contract can tell.)
-    ensures reported { result ≡ 0 → ((input : Option (List ℕ)) × (left : Option (List ℕ)) × (summary : Summary) × Reported input left (O.written out.old) (O.written out.new) summary) × (O.failures out.new ≡ O.failures out.old) × (E.written err.new ≡ E.written err.old) }
-    // Where it fails, either nothing could be run, or the report ends where its fault says.
+    // Where it succeeds, the words name a program, and what was written is its whole report or summary. (What a file holds, no contract can tell.)
+    ensures reported { result ≡ 0 → ((program : Program) × Names program (map S.text words.now) × ((input : Option (List ℕ)) × Completes program input (O.written out.old) (O.written out.new))) × (O.failures out.new ≡ O.failures out.old) × (E.written err.new ≡ E.written err.old) }
+    // Where it fails, either nothing could be run, or the program that the words name stopped, and what was written ends where its fault says.
     ensures failed { result ≡ 1 →
         ((O.written out.new ≡ O.written out.old) × (O.failures out.new ≡ O.failures out.old) × ((line : List ℕ) × ((line ≡ memory_line) ⊎ (line ≡ open_line)) × Says (E.written err.old) (E.failures err.old) line (E.written err.new) (E.failures err.new)))
-        ⊎ ((fault : DriveFault) × ((input : Option (List ℕ)) × (left : Option (List ℕ)) × Stopped input left (O.written out.old) (O.written out.new) fault) × (O.failures out.new ≡ O.failures out.old + failures_of Refusal.Output (Err fault)) × Says (E.written err.old) (E.failures err.old) (fault_line fault.refusal) (E.written err.new) (E.failures err.new)) }
+        ⊎ ((program : Program) × Names program (map S.text words.now) × ((fault : DriveFault) × ((input : Option (List ℕ)) × Stops program input (O.written out.old) (O.written out.new) fault) × (O.failures out.new ≡ O.failures out.old + failures_of Refusal.Output (Err fault)) × Says (E.written err.old) (E.failures err.old) (fault_line fault.refusal) (E.written err.new) (E.failures err.new))) }
 {
-    let file = match file_of(rt.alloc(), words) {
-        Ok(Some(file)) => file,
-        Err(error) if error.kind() == ErrorKind::OutOfMemory => return out_of_memory(err),
-        _ => return wrong_words(err),
+    let Some(program) = program_of(words) else {
+        return wrong_words(err);
     };
+    match file_of(rt.alloc(), words) {
+        Ok(Some(file)) => run_file(rt, program, file, out, err, procs),
+        Err(error) if error.kind() == ErrorKind::OutOfMemory => out_of_memory(err),
+        _ => wrong_words(err),
+    }
+}
+
+/// Runs the program on this file.
+fn run_file<R: Files + AllocGlobal + Threads + Wait + Sync, O: Sink, E: Sink>(
+    rt: &R,
+    program: Program,
+    file: &str,
+    out: &mut O,
+    err: &mut E,
+    procs: Vec<Vec<Box<dyn Proc + Send>>>,
+) -> u8
+    ensures known { result ≤ 1 }
+    ensures reported { result ≡ 0 → ((input : Option (List ℕ)) × Completes program input (O.written out.old) (O.written out.new)) × (O.failures out.new ≡ O.failures out.old) × (E.written err.new ≡ E.written err.old) }
+    ensures failed { result ≡ 1 →
+        ((O.written out.new ≡ O.written out.old) × (O.failures out.new ≡ O.failures out.old) × Says (E.written err.old) (E.failures err.old) open_line (E.written err.new) (E.failures err.new))
+        ⊎ ((fault : DriveFault) × ((input : Option (List ℕ)) × Stops program input (O.written out.old) (O.written out.new) fault) × (O.failures out.new ≡ O.failures out.old + failures_of Refusal.Output (Err fault)) × Says (E.written err.old) (E.failures err.old) (fault_line fault.refusal) (E.written err.new) (E.failures err.new)) }
+{
     let Ok(opened) = fs::open(rt, file) else {
         return say(err, b"finalize: cannot open file\n", 1);
     };
-    run_script::<_, O, E, Brand>(rt.alloc(), opened, out, err, Blank::new(1))
+    match program {
+        Program::Run => run_script::<_, O, E, Brand>(rt.alloc(), opened, out, err, Blank::new(1)),
+        Program::Threads => run_threads::<_, O, E, R, Brand>(
+            rt,
+            opened,
+            out,
+            err,
+            procs,
+            Blank::new(1),
+        ),
+    }
 }
 
 /// Runs the script that stands in the input. Counts of its failures stand in the ledger.
@@ -115,8 +173,8 @@ fn run_script<I: Read + Drop, O: Sink, E: Sink, L: Ledger>(
     requires name { ledger.name ≡ L.name }
     requires parts { (ledger.parts ≡ L.parts) × (L.parts ≡ 1) }
     ensures known { result ≤ 1 }
-    ensures reported { result ≡ 0 → ((left : Option (List ℕ)) × (summary : Summary) × Reported (I.remaining input) left (O.written out.old) (O.written out.new) summary) × (O.failures out.new ≡ O.failures out.old) × (E.written err.new ≡ E.written err.old) }
-    ensures failed { result ≡ 1 → (fault : DriveFault) × ((left : Option (List ℕ)) × Stopped (I.remaining input) left (O.written out.old) (O.written out.new) fault) × (O.failures out.new ≡ O.failures out.old + failures_of Refusal.Output (Err fault)) × Says (E.written err.old) (E.failures err.old) (fault_line fault.refusal) (E.written err.new) (E.failures err.new) }
+    ensures reported { result ≡ 0 → Completes Program.Run (I.remaining input) (O.written out.old) (O.written out.new) × (O.failures out.new ≡ O.failures out.old) × (E.written err.new ≡ E.written err.old) }
+    ensures failed { result ≡ 1 → (fault : DriveFault) × Stops Program.Run (I.remaining input) (O.written out.old) (O.written out.new) fault × (O.failures out.new ≡ O.failures out.old + failures_of Refusal.Output (Err fault)) × Says (E.written err.old) (E.failures err.old) (fault_line fault.refusal) (E.written err.new) (E.failures err.new) }
 {
     let mut reader = Stream::new(input, Failures::<L>::none(ledger));
     match drive(alloc, &mut reader, out) {
@@ -125,7 +183,29 @@ fn run_script<I: Read + Drop, O: Sink, E: Sink, L: Ledger>(
     }
 }
 
-/// Writes why a run ended early, where its report doesn't say so.
+/// Runs the threads file that stands in the input. Counts of its failures stand in the ledger.
+fn run_threads<I: Read + Drop, O: Sink, E: Sink, R: AllocGlobal + Threads + Wait + Sync, L: Ledger>(
+    rt: &R,
+    input: I,
+    out: &mut O,
+    err: &mut E,
+    procs: Vec<Vec<Box<dyn Proc + Send>>>,
+    ledger: Blank,
+) -> u8
+    requires name { ledger.name ≡ L.name }
+    requires parts { (ledger.parts ≡ L.parts) × (L.parts ≡ 1) }
+    ensures known { result ≤ 1 }
+    ensures reported { result ≡ 0 → Completes Program.Threads (I.remaining input) (O.written out.old) (O.written out.new) × (O.failures out.new ≡ O.failures out.old) × (E.written err.new ≡ E.written err.old) }
+    ensures failed { result ≡ 1 → (fault : DriveFault) × Stops Program.Threads (I.remaining input) (O.written out.old) (O.written out.new) fault × (O.failures out.new ≡ O.failures out.old + failures_of Refusal.Output (Err fault)) × Says (E.written err.old) (E.failures err.old) (fault_line fault.refusal) (E.written err.new) (E.failures err.new) }
+{
+    let mut reader = Stream::new(input, Failures::<L>::none(ledger));
+    if let Err(fault) = drive_threads(rt.alloc(), &mut reader, out, procs, rt) {
+        return explain(err, fault);
+    }
+    0
+}
+
+/// Writes why a run ended early, where what it wrote doesn't say so.
 fn explain<E: Sink>(err: &mut E, fault: DriveFault) -> u8
     ensures status { result ≡ 1 }
     ensures line { Says (E.written err.old) (E.failures err.old) (fault_line fault.refusal) (E.written err.new) (E.failures err.new) }

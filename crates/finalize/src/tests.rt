@@ -4,7 +4,6 @@ ghost use Rattle.std.specs.Prelude.{◌≡◌, ◌≤◌, ◌<◌, ◌^◌, leng
 
 use crate::failures::Failures;
 use crate::memory::{Page, Pieces, Script};
-use crate::program::execute;
 use crate::rows::Row;
 use crate::rows::cycles::{CLOSE_INSIDE_A_CYCLE, SWAP_BEHIND_THE_MARKER};
 use crate::rows::limits::{EIGHT_WORKERS, LAST_FRAME_AND_SLOT, NUMBERS_AT_THE_LIMIT};
@@ -19,12 +18,16 @@ use crate::rows::registrations::{
     CLIENT_DATA_IS_A_ROOT, HELD_UNTIL_FINISHED, ONE_OBJECT_LIFE, REPLACED_AND_REMOVED_REGISTRATION,
 };
 use crate::run::{DriveFault, Summary, drive};
+use crate::with_procedures;
 use arrayvec::ArrayVec;
 use fz_model::Refusal;
-use std::alloc::Global;
+use std::alloc::{AllocError, Global};
 use std::marker::Brand;
+use std::rt::Files;
+use std::sync::Wait;
 use std::sync::ledger::{Blank, Ledger};
 use std::test::Fail;
+use std::thread::Threads;
 
 const ROWS: [Row; 23] = [
     EMPTY_HEAP,
@@ -412,16 +415,19 @@ struct Said {
 }
 
 /// Runs the program over writers in memory.
-fn say(rt: &HostRuntime, words: &[&str]) -> Said {
-    say_counted::<Brand, Brand>(rt, words, Blank::new(1), Blank::new(1))
+fn say<R: Files + AllocGlobal + Threads + Wait + Sync>(
+    rt: &R,
+    words: &[&str],
+) -> Result<Said, AllocError> {
+    say_counted::<Brand, Brand, R>(rt, words, Blank::new(1), Blank::new(1))
 }
 
-fn say_counted<O: Ledger, E: Ledger>(
-    rt: &HostRuntime,
+fn say_counted<O: Ledger, E: Ledger, R: Files + AllocGlobal + Threads + Wait + Sync>(
+    rt: &R,
     words: &[&str],
     output: Blank,
     error: Blank,
-) -> Said
+) -> Result<Said, AllocError>
     requires output_name { output.name ≡ O.name }
     requires output_parts { (output.parts ≡ O.parts) × (O.parts ≡ 1) }
     requires error_name { error.name ≡ E.name }
@@ -429,33 +435,40 @@ fn say_counted<O: Ledger, E: Ledger>(
 {
     let mut out = Page::new(Pieces::Whole, u64::MAX, Failures::<O>::none(output));
     let mut err = Page::new(Pieces::Whole, u64::MAX, Failures::<E>::none(error));
-    let status = execute(rt, words, &mut out, &mut err);
-    Said {
+    let status = with_procedures(rt, words, &mut out, &mut err)?;
+    Ok(Said {
         status,
         out: out.into_bytes(),
         err: err.into_bytes(),
-    }
+    })
 }
 
 #[test]
-fn other_words_are_wrong(rt: HostRuntime) {
-    let cases: [&[&str]; 13] = [
+fn other_words_are_wrong(rt: HostRuntime) -> Result<(), Fail> {
+    let cases: [&[&str]; 20] = [
         &[],
         &["run"],
+        &["threads"],
         &["--help"],
         &["help"],
         &["run", "--help"],
-        &["threads", "a"],
+        &["threads", "--help"],
         &["-h", "run"],
         &["help", "run"],
         &["run", "--"],
+        &["threads", "--"],
         &["run", "-x"],
+        &["threads", "-x"],
         &["run", "a", "b"],
+        &["threads", "a", "b"],
         &["run", "--", "a"],
         &["walk", "a"],
+        &["Threads", "a"],
+        &["thread", "a"],
+        &["runs", "a"],
     ];
     for words in cases {
-        let said = say(&rt, words);
+        let said = say(&rt, words)?;
         assert_eq!(rt; said.status, 2);
         assert_eq!(rt; said.out.as_slice(), b"".as_slice());
         assert_eq!(rt;
@@ -463,29 +476,40 @@ fn other_words_are_wrong(rt: HostRuntime) {
             b"finalize: want run FILE or threads FILE\n".as_slice()
         );
     }
+    Ok(())
 }
 
 /// 120 bytes.
 const LONG_NAME: &str =
     "012345678901234567890123456789012345678901234567890123456789012345678901234567890123456789012345678901234567890123456789";
 
+/// The program's two names.
+const NAMES: [&str; 2] = ["run", "threads"];
+
 #[test]
-fn files_that_cannot_be_read(rt: HostRuntime) {
-    let said = say(&rt, &["run", "no such file"]);
-    assert_eq!(rt; said.status, 1);
-    assert_eq!(rt; said.out.as_slice(), b"".as_slice());
-    assert_eq!(rt;
-        said.err.as_slice(),
-        b"finalize: cannot open file\n".as_slice()
-    );
-    let said = say(&rt, &["run", LONG_NAME]);
-    assert_eq!(rt; said.status, 1);
-    assert_eq!(rt;
-        said.err.as_slice(),
-        b"finalize: cannot open file\n".as_slice()
-    );
-    let said = say(&rt, &["run", "."]);
-    assert_eq!(rt; said.status, 1);
-    assert_eq!(rt; said.out.as_slice(), b"".as_slice());
-    assert_eq!(rt; said.err.as_slice(), b"finalize: input failed\n".as_slice());
+fn files_that_cannot_be_opened(rt: HostRuntime) -> Result<(), Fail> {
+    for name in NAMES {
+        for file in ["no such file", LONG_NAME] {
+            let said = say(&rt, &[name, file])?;
+            assert_eq!(rt; said.status, 1);
+            assert_eq!(rt; said.out.as_slice(), b"".as_slice());
+            assert_eq!(rt;
+                said.err.as_slice(),
+                b"finalize: cannot open file\n".as_slice()
+            );
+        }
+    }
+    Ok(())
+}
+
+/// A directory can be opened, and its first read fails.
+#[test]
+fn files_that_cannot_be_read(rt: HostRuntime) -> Result<(), Fail> {
+    for name in NAMES {
+        let said = say(&rt, &[name, "."])?;
+        assert_eq!(rt; said.status, 1);
+        assert_eq!(rt; said.out.as_slice(), b"".as_slice());
+        assert_eq!(rt; said.err.as_slice(), b"finalize: input failed\n".as_slice());
+    }
+    Ok(())
 }
