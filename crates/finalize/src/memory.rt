@@ -29,6 +29,29 @@ impl Pieces {
     }
 }
 
+/// How much the devices of a run hand over and take in a call, and after how many calls they fail.
+#[derive(Clone, Copy)]
+pub(crate) struct Limits {
+    pub(crate) pieces: Pieces,
+    pub(crate) reads: u64,
+    pub(crate) writes: u64,
+}
+
+pub(crate) const WHOLE: Limits = Limits {
+    pieces: Pieces::Whole,
+    reads: u64::MAX,
+    writes: u64::MAX,
+};
+
+/// Devices that hand over and take a byte in a call, and fail after a given number of calls.
+pub(crate) fn bytewise(reads: usize, writes: usize) -> Limits {
+    Limits {
+        pieces: Pieces::Single,
+        reads: reads as u64,
+        writes: writes as u64,
+    }
+}
+
 /// Hands over its bytes, in pieces of a given size, and fails after a given number of reads.
 #[derive(Drop)]
 pub(crate) struct Script<'a, L: Ledger> {

@@ -3,7 +3,7 @@
 ghost use Rattle.std.specs.Prelude.{◌≡◌, ◌≤◌, ◌<◌, ◌^◌, length};
 
 use crate::failures::Failures;
-use crate::memory::{Page, Pieces, Script};
+use crate::memory::{Limits, Page, Pieces, Script, WHOLE, bytewise};
 use crate::rows::Row;
 use crate::rows::cycles::{CLOSE_INSIDE_A_CYCLE, SWAP_BEHIND_THE_MARKER};
 use crate::rows::limits::{EIGHT_WORKERS, LAST_FRAME_AND_SLOT, NUMBERS_AT_THE_LIMIT};
@@ -57,20 +57,6 @@ const ROWS: [Row; 23] = [
 
 /// Scripts that go to the limits.
 const LIMITS: [Row; 3] = [EIGHT_WORKERS, LAST_FRAME_AND_SLOT, NUMBERS_AT_THE_LIMIT];
-
-/// How much the devices hand over and take in a call, and after how many calls they fail.
-#[derive(Clone, Copy)]
-struct Limits {
-    pieces: Pieces,
-    reads: u64,
-    writes: u64,
-}
-
-const WHOLE: Limits = Limits {
-    pieces: Pieces::Whole,
-    reads: u64::MAX,
-    writes: u64::MAX,
-};
 
 #[derive(Drop)]
 struct Outcome {
@@ -172,15 +158,6 @@ fn a_summary_has_the_numbers_of_the_end(rt: HostRuntime) {
                 left: 0,
             })
     );
-}
-
-/// Devices that hand over and take a byte in a call, and fail after a given number of calls.
-fn bytewise(reads: usize, writes: usize) -> Limits {
-    Limits {
-        pieces: Pieces::Single,
-        reads: reads as u64,
-        writes: writes as u64,
-    }
 }
 
 /// Whether a run of the script ends with this fault, in the line after the given ones, and has written just this text.
