@@ -20,6 +20,8 @@ mod run;
 mod stream;
 #[cfg(test)]
 mod tests;
+#[cfg(test)]
+mod thread_runs;
 mod threads;
 
 use device::Sink;

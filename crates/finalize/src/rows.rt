@@ -7,6 +7,7 @@ pub(crate) mod objects;
 pub(crate) mod order;
 pub(crate) mod refused;
 pub(crate) mod registrations;
+pub(crate) mod threads;
 
 use crate::run::DriveFault;
 
