@@ -1,15 +1,13 @@
 -- What the program says on standard error, and what its exit statuses mean.
-use Rattle.std.specs.Prelude.{◌≡◌, ℕ, ◌+◌, ◌⊎◌, List, [], ◌∷◌, codes, Option}
-use Rattle.std.specs.Io.KnownBytes.{Appends}
+use Rattle.std.specs.Prelude.{◌≡◌, ℕ, List, [], ◌∷◌, codes, Option}
 use Rattle.fz_model.specs.declared.refusal.Refusal.{Refusal}
 use Rattle.fz_model.specs.declared.refusal.Refusal.TheVariants.{Input, Output, NoMemory}
 use Rattle.finalize.specs.declared.program.Program.{Program}
 use Rattle.finalize.specs.declared.program.Program.TheVariants.{Run, Threads}
-use Rattle.finalize.specs.declared.run.Summary.{Summary}
-use Rattle.finalize.specs.declared.run.DriveFault.{DriveFault}
-use Rattle.finalize.specs.Devices.{IsPart}
-use Rattle.finalize.specs.Report.{Reported, Stopped}
-use Rattle.finalize.specs.Threads.{Summarized, RunStopped}
+use Rattle.fz_drive.specs.declared.run.Summary.{Summary}
+use Rattle.fz_drive.specs.declared.run.DriveFault.{DriveFault}
+use Rattle.fz_drive.specs.Report.{Reported, Stopped}
+use Rattle.fz_drive.specs.Threads.{Summarized, RunStopped}
 
 abbrev pub want_line : List ℕ
 want_line = codes "finalize: want run FILE or threads FILE\n"
@@ -26,10 +24,6 @@ fault_line Input = codes "finalize: input failed\n"
 fault_line Output = codes "finalize: output failed\n"
 fault_line NoMemory = memory_line
 fault_line _ = []
-
--- the writer took the whole line; or it took a beginning of it and failed
-abbrev pub Says : Option (List ℕ) → ℕ → List ℕ → Option (List ℕ) → ℕ → Type 0
-Says before failures line after failures' = (Appends before after line × (failures' ≡ failures)) ⊎ (IsPart before line after × (failures' ≡ failures + 1))
 
 -- the word that names the program
 abbrev pub name_of : Program → List ℕ

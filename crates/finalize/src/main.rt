@@ -3,29 +3,12 @@
 
 ghost use Rattle.std.specs.Prelude.{◌≡◌, ◌≤◌, IfOk, IsErr};
 
-mod answer;
-mod chunk;
-mod device;
-mod failures;
-mod input;
-mod machine;
-#[cfg(test)]
-mod memory;
-mod output;
 mod program;
-mod reply;
-#[cfg(test)]
-mod rows;
-mod run;
 mod stream;
 #[cfg(test)]
 mod tests;
-#[cfg(test)]
-mod thread_runs;
-mod threads;
 
-use device::Sink;
-use failures::Failures;
+use fz_drive::{Failures, Keep, Nothing, Sink};
 use fz_model::MAX_WORKERS;
 use fz_service::Proc;
 use program::{execute, out_of_memory, wrong_words};
@@ -40,7 +23,6 @@ use std::sync::Wait;
 use std::sync::ledger::{Blank, Ledger};
 use std::thread::Threads;
 use stream::Stream;
-use threads::procedures::{Keep, Nothing};
 
 fn main(rt: HostRuntime) -> ExitCode {
     with_streams::<Brand, Brand, Stdout, Stderr, HostRuntime>(

@@ -1,18 +1,15 @@
 //! The program, over its words and two writers.
 
 ghost use Rattle.std.specs.Prelude.{◌≡◌, ◌≢◌, ◌≤◌, ◌⊎◌, ◌+◌, List, ℕ, Option, IfSome, IsNone, codes, length, map, slice_get, Err, Some};
-ghost use Rattle.finalize.specs.Program.{want_line, memory_line, open_line, fault_line, Says, Names, Completes, Stops};
-ghost use Rattle.finalize.specs.Report.{failures_of};
-ghost use Rattle.finalize.specs.declared.run.DriveFault.{DriveFault};
+ghost use Rattle.finalize.specs.Program.{want_line, memory_line, open_line, fault_line, Names, Completes, Stops};
+ghost use Rattle.fz_drive.specs.Devices.{Says};
+ghost use Rattle.fz_drive.specs.Report.{failures_of};
+ghost use Rattle.fz_drive.specs.declared.run.DriveFault.{DriveFault};
 
-use crate::device::Sink;
-use crate::failures::Failures;
-use crate::output::write_all;
-use crate::run::{DriveFault, drive};
 use crate::stream::Stream;
-use crate::threads::drive_threads;
 use clap::error::ErrorKind;
 use clap::{Arg, Command, Error};
+use fz_drive::{DriveFault, Failures, Sink, drive, drive_threads, write_all};
 use fz_model::Refusal;
 use fz_service::Proc;
 use std::alloc::{AllocError, Global};

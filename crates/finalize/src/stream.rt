@@ -2,8 +2,7 @@
 
 ghost use Rattle.std.specs.Prelude.{◌≡◌, None};
 
-use crate::device::{Sink, Source};
-use crate::failures::Failures;
+use fz_drive::{Failures, Sink, Source};
 use std::io;
 use std::sync::ledger::Ledger;
 

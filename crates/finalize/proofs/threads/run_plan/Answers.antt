@@ -1,7 +1,0 @@
-use Rattle.finalize.specs.Plans.{asked_by}
-use Rattle.finalize.proofs.Telling.{refusal_stops}
-use Rattle.finalize.proofs.threads.run_plan.Goals as goal
-
-pub returns-in-Err : goal.returns-in-Err
-returns-in-Err g c =
-    refusal_stops (asked_by c.args.plan) c.args.plan.size.line c.in-Err.refusal _ _ _ _ c.tell_refused.result c.in-Err.ensures.judged c.tell_refused.ensures

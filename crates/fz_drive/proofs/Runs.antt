@@ -1,0 +1,424 @@
+-- How a run goes on by one line, and how it ends.
+use Rattle.std.proofs.Common.{◌≡◌, ◌≢◌, ℕ, ◌≤◌, ◌<◌, ◌+◌, List, [], ◌∷◌, ◌++◌, Option, Some, None, Result, Ok, Err, Bool, true, false, ◌∙◌, ap, sym, refl, subst, append-nil, arith, length, length-append, flat_map, is_some, IfOk, IfErr, IsTrue, IsFalse, inl, inr, ◌⊎◌, leb-true, nat_le, append_assoc, take, drop}
+use Rattle.std.proofs.lemmas.Bool.{leb-false}
+use Rattle.std.proofs.lemmas.List.Elements.{All-nil, All-push}
+use Rattle.std.proofs.lemmas.List.Concat.{flat_map-append}
+use Rattle.std.specs.List.{All}
+use Rattle.std.specs.Bool.{MatchBool}
+use Rattle.fz_model.specs.declared.refusal.Refusal.{Refusal}
+use Rattle.fz_model.specs.declared.refusal.Refusal.TheVariants.{BadLine, BadCount, NoMemory, Output, Input}
+use Rattle.fz_model.specs.Causes.{bad_count, first_cause, IsRefusedFor}
+use Rattle.fz_model.specs.Joint.{Move}
+use Rattle.fz_script.specs.Spelling.{Word}
+use Rattle.fz_drive.specs.declared.input.Ending.{Ending}
+use Rattle.fz_drive.specs.declared.input.Ending.TheVariants.{Whole, Last, Nothing, TooLong}
+use Rattle.fz_drive.specs.declared.machine.Machine.{Machine}
+use Rattle.fz_drive.specs.declared.answer.Answer.{Answer}
+use Rattle.fz_drive.specs.declared.answer.Answer.TheVariants.{Skipped, Opened, Replied, Malformed}
+use Rattle.fz_drive.specs.declared.answer.Answer.TheVariants as answers
+use Rattle.fz_drive.specs.declared.run.Counts.{Counts}
+use Rattle.fz_drive.specs.declared.run.Summary.{Summary}
+use Rattle.fz_drive.specs.declared.run.DriveFault.{DriveFault}
+use Rattle.std.specs.Io.KnownBytes.{Consumes, Appends, IsAtEnd, prepend_known}
+use Rattle.fz_drive.specs.Script.{with_lf, IsOneLine, all_lines, max_line, max_lines, may_come, IsMalformed}
+use Rattle.fz_drive.specs.Replies.{text_line, done, refused_words, reply_words, malformed_words, end_words}
+use Rattle.fz_drive.specs.Report.{Course, Reports, opening_causes, summary_of, AtEnd, IsReport, IsEnded, AtLine, IsRefusedOpening, IsDue, Opens, OpensNot, Replies, closing_words, Explains, Reported, Stopped, failures_of}
+use Rattle.fz_drive.specs.Report as report
+use Rattle.fz_drive.specs.declared.chunk.Chunk.{Chunk}
+use Rattle.fz_drive.specs.Lines.{unread, TakenFor, EndsInput}
+use Rattle.fz_drive.specs.Machines.{Gives, Given, answer_text, is_told, stop_of, bit, TellsAnswer, counts_after, counts_of, no_counts, summary_at, ending_words, Finishes}
+use Rattle.std.proofs.KnownBytes.{Appends-trans}
+use Rattle.fz_drive.proofs.Balance.{balanced}
+use Rattle.fz_drive.proofs.Scripts.{Follows, follows_some, After, at_start, carried_out, same_summary, same_ending}
+
+-- between two lines
+pub record Position (bytes : List ℕ) (number : ℕ) (text : List ℕ) (machine : Option Machine) (counts : Counts) : Type 0 where
+  pub lines : List (List ℕ)
+  pub is : bytes ≡ flat_map with_lf lines
+  pub each : All IsOneLine lines
+  pub place : length lines + 1 ≡ number
+  pub after : After lines text machine counts
+
+pub at_first : Position [] 1 [] None no_counts
+at_first = record { lines = []; is = refl; each = All-nil IsOneLine; place = refl; after = at_start }
+
+-- nothing is unread before the first read
+pub fresh : (chunk : Chunk) → (chunk.at ≡ 0) × (chunk.len ≡ 0) → unread chunk ≡ []
+fresh chunk h = ap (λ a. drop a (take chunk.len chunk.bytes)) h.0 ∙ ap (λ n. take n chunk.bytes) h.1
+
+pub took_start : (r : Option (List ℕ)) (u : List ℕ) → u ≡ [] → Consumes r (prepend_known u r) []
+took_start None u e = tt
+took_start (Some v) u e = ap (λ w. w ++ v) (sym e)
+
+-- what was used and what was read beyond it
+pub took_ahead : (a r : Option (List ℕ)) (y u : List ℕ) → Consumes a (prepend_known u r) y → Consumes a r (y ++ u)
+took_ahead None r y u e = tt
+took_ahead (Some x) None y u e = absurd e
+took_ahead (Some x) (Some v) y u e = e ∙ sym (append_assoc y u v)
+
+took_all : (a r : Option (List ℕ)) (y u : List ℕ) → IsAtEnd (prepend_known u r) → Consumes a (prepend_known u r) y → Consumes a r y × IsAtEnd r
+took_all None None y u h e = (tt, tt)
+took_all (Some x) None y u h e = absurd e
+took_all a (Some v) y [] h e = (e, h)
+took_all a (Some v) y (b ∷ bs) h e = cc
+
+-- ---- the run goes on
+
+matched : (b : Bool) (P Q : Type 0) → MatchBool b P Q → ((b ≡ true) × P) ⊎ ((b ≡ false) × Q)
+matched true P Q h = inl (refl, h)
+matched false P Q h = inr (refl, h)
+
+-- the line was in time, or one too many
+timed : (number : ℕ) (old new : Option Machine) (line : List ℕ) (answer : Answer) → MatchBool (nat_le number max_lines) (Gives old line answer new) ((answer ≡ Malformed) × (new ≡ old))
+    → ((number ≤ max_lines) × Gives old line answer new) ⊎ ((max_lines < number) × (answer ≡ Malformed))
+timed number old new line answer h = elim (matched (nat_le number max_lines) (Gives old line answer new) ((answer ≡ Malformed) × (new ≡ old)) h) [
+  | inl t ↦ inl (leb-true _ _ t.0, t.1)
+  | inr t ↦ inr (leb-false _ _ t.0, t.1.0)
+]
+
+stopped : (answer : Answer) → answer ≡ Malformed → stop_of answer ≡ None → ⊥
+stopped answer e go = let bad : ◌≡◌ {A = Option Refusal} (Some BadLine) None = ap stop_of (sym e) ∙ go in absurd cc
+
+in_time : (number : ℕ) (old new : Option Machine) (line : List ℕ) (answer : Answer) → MatchBool (nat_le number max_lines) (Gives old line answer new) ((answer ≡ Malformed) × (new ≡ old)) → stop_of answer ≡ None
+    → (number ≤ max_lines) × Gives old line answer new
+in_time number old new line answer h go = elim (timed number old new line answer h) [
+  | inl t ↦ t
+  | inr t ↦ absurd (stopped answer t.1 go)
+]
+
+-- where the run goes on, the line has an answer of the machine
+pub goes_on : (number : ℕ) (ending : Ending) (old new : Option Machine) (line : List ℕ) (answer : Answer) → Given number ending old line answer new → stop_of answer ≡ None
+    → (number ≤ max_lines) × Gives old line answer new
+goes_on number Whole old new line answer h go = in_time number old new line answer h go
+goes_on number Last old new line answer h go = in_time number old new line answer h go
+goes_on number Nothing old new line answer h go = in_time number old new line answer h go
+goes_on number TooLong old new line answer h go = absurd (stopped answer h.0 go)
+
+-- a line after which the run goes on, and which is not the last, ends with LF
+pub whole_taken : (number : ℕ) (ending : Ending) (old new : Option Machine) (line bytes : List ℕ) (answer : Answer) → Given number ending old line answer new → stop_of answer ≡ None
+    → ending ≢ Nothing → ending ≢ Last → TakenFor ending line bytes → bytes ≡ with_lf line
+whole_taken number Whole old new line bytes answer h go n l t = t
+whole_taken number Last old new line bytes answer h go n l t = absurd (l refl)
+whole_taken number Nothing old new line bytes answer h go n l t = absurd (n refl)
+whole_taken number TooLong old new line bytes answer h go n l t = absurd (stopped answer h.0 go)
+
+-- a line with its LF was carried out
+pub position_more : (seen text line : List ℕ) (number : ℕ) (old new : Option Machine) (counts : Counts) (answer : Answer)
+    → Position seen number text old counts → IsOneLine line → length line ≤ max_line → number ≤ max_lines → Gives old line answer new → stop_of answer ≡ None
+    → Position (seen ++ with_lf line) (number + 1) (text ++ answer_text number answer) new (counts_after counts answer)
+position_more seen text line number old new counts answer p one short few g go = record {
+  lines = p.lines ++ line ∷ [];
+  is = ap (λ b. b ++ with_lf line) p.is ∙ ap (λ l. flat_map with_lf p.lines ++ l) (sym (append-nil (with_lf line))) ∙ sym (flat_map-append with_lf p.lines (line ∷ []));
+  each = All-push IsOneLine p.lines line p.each one;
+  place = omega (arith, length-append p.lines (line ∷ []), p.place);
+  after = let place = p.place in carried_out p.lines text line number old new counts answer p.after.course p.after.reports p.after.follows p.after.counted short (omega (arith, place, few)) g go;
+}
+
+-- ---- the whole input was read
+
+-- all lines were carried out
+pub record Ended (bytes : List ℕ) (number : ℕ) (text : List ℕ) (machine : Option Machine) (counts : Counts) : Type 0 where
+  pub course : Option Course
+  pub at_end : AtEnd bytes number text course
+  pub follows : Follows machine course
+  pub counted : counts ≡ counts_of course
+
+-- the input ended between two lines
+pub close_here : (seen bytes text : List ℕ) (number : ℕ) (machine : Option Machine) (counts : Counts) → Position seen number text machine counts → bytes ≡ [] → Ended (seen ++ bytes) number text machine counts
+close_here seen bytes text number machine counts p e = record {
+  course = p.after.course;
+  at_end = record {
+    lines = p.lines;
+    last = [];
+    split = record { is = ap (λ b. seen ++ b) e ∙ ap (λ b. b ++ []) p.is; each = p.each; one = All-nil (λ b. b ≢ 10) };
+    place = p.place;
+    reports = p.after.reports;
+  };
+  follows = p.after.follows;
+  counted = p.after.counted;
+}
+
+with_last : (lines : List (List ℕ)) (line : List ℕ) → line ≢ [] → all_lines lines line ≡ lines ++ line ∷ []
+with_last lines [] h = absurd (h refl)
+with_last lines (b ∷ bs) h = refl
+
+-- the input ended with a line that has no LF
+pub close_last : (seen bytes text line : List ℕ) (number : ℕ) (old new : Option Machine) (counts : Counts) (answer : Answer)
+    → Position seen number text old counts → bytes ≡ line → line ≢ [] → IsOneLine line → length line ≤ max_line → number ≤ max_lines → Gives old line answer new → stop_of answer ≡ None
+    → Ended (seen ++ bytes) (number + 1) (text ++ answer_text number answer) new (counts_after counts answer)
+close_last seen bytes text line number old new counts answer p e some one short few g go =
+    let lines : all_lines p.lines line ≡ p.lines ++ line ∷ [] = with_last p.lines line some in
+    let place = p.place in
+    let after = carried_out p.lines text line number old new counts answer p.after.course p.after.reports p.after.follows p.after.counted short (omega (arith, place, few)) g go in record {
+      course = after.course;
+      at_end = record {
+        lines = p.lines;
+        last = line;
+        split = record { is = ap (λ b. seen ++ b) e ∙ ap (λ b. b ++ line) p.is; each = p.each; one = one };
+        place = ap (λ l. length l + 1) lines ∙ omega (arith, length-append p.lines (line ∷ []), p.place);
+        reports = subst (λ l. Reports l (text ++ answer_text number answer) after.course) (sym lines) after.reports;
+      };
+      follows = after.follows;
+      counted = after.counted;
+    }
+
+-- ---- faults: what was read, used and written
+
+explained : (f : DriveFault) (q : Refusal) (number : ℕ) (bytes u text : List ℕ) (r : Option (List ℕ)) → f.refusal ≡ q → f.line ≡ number → Explains q number bytes u r text → Explains f.refusal f.line bytes u r text
+explained f q number bytes u text r e n h = subst (λ p. Explains p f.line bytes u r text) (sym e) (subst (λ m. Explains q m bytes u r text) (sym n) h)
+
+-- the reader failed
+pub break_off : (seen text line u : List ℕ) (number : ℕ) (machine : Option Machine) (counts : Counts) (r : Option (List ℕ)) → Position seen number text machine counts → IsOneLine line → length line ≤ max_line → u ≡ [] → Explains Input number (seen ++ line) u r text
+break_off seen text line u number machine counts r p one short e =
+    (e, p.lines, line, p.after.course, record { is = ap (λ b. b ++ line) p.is; each = p.each; one = one }, short, p.place, p.after.reports)
+
+finish_report : (y text : List ℕ) (number : ℕ) (machine : Machine) (course : Option Course) (counts : Counts) (summary : Summary) → AtEnd y number text course → Follows (Some machine) course → counts ≡ counts_of course → summary ≡ summary_at machine counts
+    → IsReport y (text ++ text_line (end_words (summary_at machine counts))) summary
+finish_report y text number machine None counts summary at f e is = absurd f
+finish_report y text number machine (Some course) counts summary at f e is =
+    let same = is ∙ same_summary machine course counts f e in
+    record { number = number; before = text; course = course; at_end = at; counted = same; told = ap (λ s. text ++ text_line (end_words s)) (sym is) }
+
+pub finish_ok : (a r : Option (List ℕ)) (u y text : List ℕ) (w0 w1 w2 : Option (List ℕ)) (f f2 : ℕ) (number : ℕ) (machine : Option Machine) (counts : Counts) (result : Result Summary DriveFault)
+    → Consumes a (prepend_known u r) y → IsAtEnd (prepend_known u r) → Appends w0 w1 text → Ended y number text machine counts → Finishes number machine counts w1 f result w2 f2
+    → IfOk result (Reported a r w0 w2)
+finish_ok a r u y text w0 w1 w2 f f2 number machine counts (Err e) took end wrote closed fin = tt
+finish_ok a r u y text w0 w1 w2 f f2 number machine counts (Ok summary) took end wrote closed fin =
+    let t = took_all a r y u end took in
+    let last : List ℕ = text_line (end_words (summary_at fin.0 counts)) in
+    record { bytes = y; text = text ++ last; read = t.0; whole = t.1; written = Appends-trans w0 w1 w2 text last wrote fin.3; report = finish_report y text number fin.0 closed.course counts summary closed.at_end (subst (λ m. Follows m closed.course) fin.1 closed.follows) closed.counted fin.2 }
+
+no_course : (course : Option Course) → Follows None course → course ≡ None
+no_course None f = refl
+no_course (Some course) f = absurd f
+
+said_part : (words words' : List Word) (part rest : List ℕ) → words ≡ words' → text_line words' ≡ part ++ rest → text_line words ≡ part ++ rest
+said_part words words' part rest e h = ap text_line e ∙ h
+
+pub finish_fault : (a r : Option (List ℕ)) (u y text : List ℕ) (w0 w1 w2 : Option (List ℕ)) (f f2 : ℕ) (number : ℕ) (machine : Option Machine) (counts : Counts) (result : Result Summary DriveFault)
+    → Consumes a (prepend_known u r) y → IsAtEnd (prepend_known u r) → Appends w0 w1 text → Ended y number text machine counts → Finishes number machine counts w1 f result w2 f2
+    → IfErr result (Stopped a r w0 w2)
+finish_fault a r u y text w0 w1 w2 f f2 number machine counts (Ok summary) took end wrote closed fin = tt
+finish_fault a r u y text w0 w1 w2 f f2 number machine counts (Err fault) took end wrote closed fin = elim fin.1 [
+  | inl out ↦ record {
+    bytes = y;
+    unread = u;
+    text = text ++ out.1.0;
+    read = took_ahead a r y u took;
+    written = Appends-trans w0 w1 w2 text out.1.0 wrote out.1.4;
+    explains = explained fault Output number y u (text ++ out.1.0) r out.0 fin.0
+        (text, out.1.0, out.1.1, refl, out.1.3, inr (closed.course, closed.at_end, end, said_part (closing_words number closed.course) (ending_words number machine counts) out.1.0 out.1.1 (sym (same_ending number machine closed.course counts closed.follows closed.counted)) out.1.2));
+  }
+  | inr bad ↦ record {
+    bytes = y;
+    unread = u;
+    text = text ++ text_line (malformed_words number);
+    read = took_ahead a r y u took;
+    written = Appends-trans w0 w1 w2 text (text_line (malformed_words number)) wrote bad.2;
+    explains = explained fault BadLine number y u (text ++ text_line (malformed_words number)) r bad.0 fin.0
+        (text, refl, inr (subst (λ c. AtEnd y number text c) (no_course closed.course (subst (λ m. Follows m closed.course) bad.1 closed.follows)) closed.at_end, end));
+  }
+]
+
+-- the failures of a call that ended so
+pub finish_failures : (w1 w2 : Option (List ℕ)) (f0 f1 f2 : ℕ) (number : ℕ) (machine : Option Machine) (counts : Counts) (result : Result Summary DriveFault) → f1 ≡ f0 → Finishes number machine counts w1 f1 result w2 f2
+    → (failures_of Input result ≡ 0) × (f2 ≡ f0 + failures_of Output result)
+finish_failures w1 w2 f0 f1 f2 number machine counts (Ok summary) e fin = (refl, let h = fin.4 in omega (arith, h, e))
+finish_failures w1 w2 f0 f1 f2 number machine counts (Err fault) e fin = elim fin.1 [
+  | inl out ↦ (let P : Refusal → Type 0 = λ q. failures_of Input (Err (record { refusal = q; line = fault.line })) ≡ 0 in subst P (sym out.0) refl, let P : Refusal → Type 0 = λ q. f2 ≡ f0 + failures_of Output (Err (record { refusal = q; line = fault.line })) in subst P (sym out.0) (out.2 ∙ ap (λ n. n + 1) e))
+  | inr bad ↦ (let P : Refusal → Type 0 = λ q. failures_of Input (Err (record { refusal = q; line = fault.line })) ≡ 0 in subst P (sym bad.0) refl, let P : Refusal → Type 0 = λ q. f2 ≡ f0 + failures_of Output (Err (record { refusal = q; line = fault.line })) in subst P (sym bad.0) (let h = bad.3 in omega (arith, h, e)))
+]
+
+-- ---- what a line is due
+
+-- what else is known where the run ends at this answer
+abbrev pub Why : ℕ → List ℕ → Option Course → Answer → Type 0
+Why number line course (answers.Ended refusal) = (course ≡ None) × IsRefusedOpening line refusal × (number ≤ max_lines)
+Why number line course Malformed = IsMalformed (is_some course) number line
+Why number line course _ = Unit {0}
+
+-- the answer is what this line is due
+pub record Due (number : ℕ) (line : List ℕ) (course : Option Course) (answer : Answer) : Type 0 where
+  pub words : List Word
+  pub due : IsDue number line course words
+  pub said : answer_text number answer ≡ text_line words
+  pub why : Why number line course answer
+
+malformed_due : (number : ℕ) (line : List ℕ) (course : Option Course) (answer : Answer) → answer ≡ Malformed → IsMalformed (is_some course) number line → Due number line course answer
+malformed_due number line course answer e h = subst (Due number line course) (sym e) (record { words = malformed_words number; due = report.Malformed course h; said = refl; why = h })
+
+given_due : (number : ℕ) (line : List ℕ) (old new : Option Machine) (course : Option Course) (answer : Answer) → number ≤ max_lines → Follows old course → IsTrue (is_told answer) → Gives old line answer new → Due number line course answer
+given_due number line old new course Skipped few f told g = absurd cc
+given_due number line old new None Opened few f told g = record { words = done; due = Opens g.3 g.4 g.5 few g.6 g.7; said = refl; why = tt }
+given_due number line old new (Some course) Opened few f told g = absurd (subst (λ m. Follows m (Some course)) g.0 f)
+given_due number line old new None (Replied result) few f told g = absurd (subst (λ m. Follows m None) g.1 f)
+given_due number line old new (Some course) (Replied result) few f told g =
+    let does = g.6 in
+    let d = does.does course.end (subst (λ m. Follows m (Some course)) g.1 f) in
+    let m : Move = record { event = does.event; reply = does.reply } in
+    record { words = reply_words m.event m.reply; due = Replies course g.4 m d.0 few g.5 does.asked d.1; said = ap text_line does.tells.words; why = tt }
+given_due number line old new None (answers.Ended refusal) few f told g = record { words = refused_words refusal; due = OpensNot refusal few g.2; said = refl; why = (refl, g.2, few) }
+given_due number line old new (Some course) (answers.Ended refusal) few f told g = absurd (subst (λ m. Follows m (Some course)) g.0 f)
+given_due number line old new course Malformed few f told g =
+    malformed_due number line course Malformed refl (inr (inr (g.1, λ step fits is. subst (λ b. IsFalse (may_come b step)) (follows_some old course f) (g.2 step fits is))))
+
+timed_due : (number : ℕ) (line : List ℕ) (old new : Option Machine) (course : Option Course) (answer : Answer) → Follows old course → IsTrue (is_told answer) → MatchBool (nat_le number max_lines) (Gives old line answer new) ((answer ≡ Malformed) × (new ≡ old))
+    → Due number line course answer
+timed_due number line old new course answer f told h = elim (timed number old new line answer h) [
+  | inl t ↦ given_due number line old new course answer t.0 f told t.1
+  | inr t ↦ malformed_due number line course answer t.1 (inr (inl t.0))
+]
+
+-- at this line, whose bytes were taken, the answer is due
+pub record DueAt (bytes : List ℕ) (left : Option (List ℕ)) (number : ℕ) (text : List ℕ) (answer : Answer) : Type 0 where
+  pub line : List ℕ
+  pub course : Option Course
+  pub at : AtLine bytes left number line text course
+  pub due : Due number line course answer
+
+due_at : (seen bytes text line end : List ℕ) (left : Option (List ℕ)) (number : ℕ) (machine : Option Machine) (counts : Counts) (answer : Answer) → (p : Position seen number text machine counts) → bytes ≡ line ++ end → IsOneLine line → IsEnded line end left → Due number line p.after.course answer
+    → DueAt (seen ++ bytes) left number text answer
+due_at seen bytes text line end left number machine counts answer p is one ended due = record {
+  line = line;
+  course = p.after.course;
+  at = record { lines = p.lines; end = end; is = ap (λ b. seen ++ b) is ∙ ap (λ b. b ++ (line ++ end)) p.is; each = p.each; one = one; ended = ended; place = p.place; reports = p.after.reports };
+  due = due;
+}
+
+pub reach : (seen bytes text line : List ℕ) (left : Option (List ℕ)) (number : ℕ) (ending : Ending) (old new : Option Machine) (counts : Counts) (answer : Answer)
+    → Position seen number text old counts → TakenFor ending line bytes → EndsInput ending left → IsOneLine line → length line ≤ max_line → ending ≢ Nothing → Given number ending old line answer new → IsTrue (is_told answer) → DueAt (seen ++ bytes) left number text answer
+reach seen bytes text line left number Whole old new counts answer p t end one short n g told =
+    due_at seen bytes text line (10 ∷ []) left number old counts answer p t one (inl refl) (timed_due number line old new p.after.course answer p.after.follows told g)
+reach seen bytes text line left number Last old new counts answer p t end one short n g told =
+    due_at seen bytes text line [] left number old counts answer p (t.0 ∙ sym (append-nil line)) one (inr (refl, inl (end, t.1))) (timed_due number line old new p.after.course answer p.after.follows told g)
+reach seen bytes text line left number Nothing old new counts answer p t end one short n g told = absurd (n refl)
+reach seen bytes text line left number TooLong old new counts answer p t end one short n g told =
+    let longer : length (line ++ t.0 ∷ []) ≡ max_line + 1 = let l = t.3 in omega (arith, length-append line (t.0 ∷ []), l) in
+    due_at seen bytes text (line ++ t.0 ∷ []) [] left number old counts answer p (t.1 ∙ sym (append-nil _)) (All-push (λ b. b ≢ 10) line t.0 one t.2) (inr (refl, inr longer)) (malformed_due number (line ++ t.0 ∷ []) p.after.course answer g.0 (inl (omega (arith, longer))))
+
+-- ---- faults of a line
+
+opening_refusal : (a b c : Bool) (q : Refusal) → first_cause ((a, BadCount) ∷ (b, BadCount) ∷ (c, BadCount) ∷ []) ≡ Some q → q ≡ BadCount
+opening_refusal true b c q h = cc
+opening_refusal false true c q h = cc
+opening_refusal false false true q h = cc
+opening_refusal false false false q h = absurd cc
+
+-- an opening is refused for one of two reasons
+two_refusals : (blocks frames workers : ℕ) (q : Refusal) → IsRefusedFor (opening_causes blocks frames workers) true q → (q ≡ BadCount) ⊎ (q ≡ NoMemory)
+two_refusals blocks frames workers q h = elim h [
+  | inl first ↦ inl (opening_refusal (bad_count 8 workers).0 (bad_count 4096 blocks).0 (bad_count 8 frames).0 q first)
+  | inr none ↦ inr none.1
+]
+
+opening_explains : (q : Refusal) (number : ℕ) (line bytes u text : List ℕ) (r : Option (List ℕ)) → number ≤ max_lines → AtLine bytes (prepend_known u r) number line text None → IsRefusedOpening line q → Explains q number bytes u r (text ++ text_line (refused_words q))
+opening_explains q number line bytes u text r few at h =
+    let at' : AtLine bytes (prepend_known u r) number line [] None = subst (λ t. AtLine bytes (prepend_known u r) number line t None) at.reports.1 at in
+    let only : text ++ text_line (refused_words q) ≡ text_line (refused_words q) = ap (λ t. t ++ text_line (refused_words q)) at.reports.1 in
+    elim (two_refusals h.0 h.1 h.2 q h.4) [
+      | inl count ↦
+          let P : Refusal → Type 0 = λ p. IsRefusedOpening line p in
+          let Q : Refusal → Type 0 = λ p. Explains p number bytes u r (text ++ text_line (refused_words q)) in
+          subst Q (sym count) (few, line, at', subst P count h, only ∙ ap (λ p. text_line (refused_words p)) count)
+      | inr memory ↦
+          let P : Refusal → Type 0 = λ p. IsRefusedOpening line p in
+          let Q : Refusal → Type 0 = λ p. Explains p number bytes u r (text ++ text_line (refused_words q)) in
+          subst Q (sym memory) (few, line, at', subst P memory h, only ∙ ap (λ p. text_line (refused_words p)) memory)
+    ]
+
+same_some : (x y : Refusal) → ◌≡◌ {A = Option Refusal} (Some x) (Some y) → x ≡ y
+same_some x y h = cc
+
+stop_explains : (answer : Answer) (q : Refusal) (number : ℕ) (bytes u text : List ℕ) (r : Option (List ℕ)) → stop_of answer ≡ Some q → DueAt bytes (prepend_known u r) number text answer → Explains q number bytes u r (text ++ answer_text number answer)
+stop_explains Skipped q number bytes u text r h due = absurd cc
+stop_explains Opened q number bytes u text r h due = absurd cc
+stop_explains (Replied result) q number bytes u text r h due = absurd cc
+stop_explains (answers.Ended e) q number bytes u text r h due =
+    subst (λ p. Explains p number bytes u r (text ++ text_line (refused_words e))) (same_some e q h)
+    (opening_explains e number due.line bytes u text r due.due.why.2 (subst (λ c. AtLine bytes (prepend_known u r) number due.line text c) due.due.why.0 due.at) due.due.why.1)
+stop_explains Malformed q number bytes u text r h due = subst (λ p. Explains p number bytes u r (text ++ text_line (malformed_words number))) (same_some BadLine q h) (text, refl, inl (due.line, due.course, due.at, due.due.why))
+
+-- what stops a run is no failure of a device
+stop_failures : (answer : Answer) (q : Refusal) (number n : ℕ) (line : List ℕ) (course : Option Course) → stop_of answer ≡ Some q → Why number line course answer
+    → (failures_of Input (Err (record { refusal = q; line = n })) ≡ 0) × (failures_of Output (Err (record { refusal = q; line = n })) ≡ 0)
+stop_failures Skipped q number n line course h why = absurd cc
+stop_failures Opened q number n line course h why = absurd cc
+stop_failures (Replied result) q number n line course h why = absurd cc
+stop_failures (answers.Ended e) q number n line course h why =
+    let P : Refusal → Type 0 = λ p. (failures_of Input (Err (record { refusal = p; line = n })) ≡ 0) × (failures_of Output (Err (record { refusal = p; line = n })) ≡ 0) in
+    subst P (same_some e q h) (elim (two_refusals why.1.0 why.1.1 why.1.2 e why.1.4) [
+      | inl count ↦ subst P (sym count) (refl, refl)
+      | inr memory ↦ subst P (sym memory) (refl, refl)
+    ])
+stop_failures Malformed q number n line course h why =
+    let P : Refusal → Type 0 = λ p. (failures_of Input (Err (record { refusal = p; line = n })) ≡ 0) × (failures_of Output (Err (record { refusal = p; line = n })) ≡ 0) in
+    subst P (same_some BadLine q h) (refl, refl)
+
+stop_told : (answer : Answer) (q : Refusal) → stop_of answer ≡ Some q → IsTrue (is_told answer)
+stop_told Skipped q h = absurd cc
+stop_told Opened q h = refl
+stop_told (Replied result) q h = refl
+stop_told (answers.Ended e) q h = refl
+stop_told Malformed q h = refl
+
+-- a fault of a line, told by the line's answer or by the writer
+pub tell_fault : (a r : Option (List ℕ)) (u y text : List ℕ) (w0 w1 w2 : Option (List ℕ)) (f f2 : ℕ) (number : ℕ) (answer : Answer) (fault : DriveFault)
+    → Consumes a (prepend_known u r) y → Appends w0 w1 text → (IsTrue (is_told answer) → DueAt y (prepend_known u r) number text answer) → TellsAnswer number answer w1 f (Err fault) w2 f2 → Stopped a r w0 w2 fault
+tell_fault a r u y text w0 w1 w2 f f2 number answer fault took wrote due tells = elim tells.1 [
+  | inl out ↦
+      let d = due out.1 in record {
+        bytes = y;
+        unread = u;
+        text = text ++ out.2.0;
+        read = took_ahead a r y u took;
+        written = Appends-trans w0 w1 w2 text out.2.0 wrote out.2.4;
+        explains = explained fault Output number y u (text ++ out.2.0) r out.0 tells.0 (text, out.2.0, out.2.1, refl, out.2.3, inl (d.line, d.course, d.due.words, d.at, d.due.due, sym d.due.said ∙ out.2.2));
+      }
+  | inr stop ↦ record {
+    bytes = y;
+    unread = u;
+    text = text ++ answer_text number answer;
+    read = took_ahead a r y u took;
+    written = Appends-trans w0 w1 w2 text (answer_text number answer) wrote stop.1;
+    explains = explained fault fault.refusal number y u (text ++ answer_text number answer) r refl tells.0 (stop_explains answer fault.refusal number y u text r stop.0 (due (stop_told answer fault.refusal stop.0)));
+  }
+]
+
+pub tell_failures : (w1 w2 : Option (List ℕ)) (f0 f1 f2 : ℕ) (number : ℕ) (answer : Answer) (fault : DriveFault) (bytes text : List ℕ) (left : Option (List ℕ))
+    → f1 ≡ f0 → (IsTrue (is_told answer) → DueAt bytes left number text answer) → TellsAnswer number answer w1 f1 (Err fault) w2 f2
+    → (failures_of Input (Err fault) ≡ 0) × (f2 ≡ f0 + failures_of Output (Err fault))
+tell_failures w1 w2 f0 f1 f2 number answer fault bytes text left e due tells = elim tells.1 [
+  | inl out ↦ (let P : Refusal → Type 0 = λ q. failures_of Input (Err (record { refusal = q; line = fault.line })) ≡ 0 in subst P (sym out.0) refl, let P : Refusal → Type 0 = λ q. f2 ≡ f0 + failures_of Output (Err (record { refusal = q; line = fault.line })) in subst P (sym out.0) (out.3 ∙ ap (λ n. n + 1) e))
+  | inr stop ↦
+      let d = due (stop_told answer fault.refusal stop.0) in
+      let z = stop_failures answer fault.refusal number fault.line d.line d.course stop.0 d.due.why in
+      (z.0, let h = stop.2 in let none = z.1 in omega (arith, h, none, e))
+]
+
+-- ---- counts stay small
+
+abbrev pub IsBelow : ℕ → Counts → Type 0
+IsBelow n counts = (counts.steps < n) × (counts.refused < n) × (counts.finished < n) × (counts.forfeited < n)
+
+pub counts_bound : (counts : Counts) (answer : Answer) (n : ℕ) → counts.steps < n → counts.refused < n → counts.finished < n → counts.forfeited < n → IsBelow (n + 1) (counts_after counts answer)
+counts_bound counts Skipped n a b c d = (omega arith, omega arith, omega arith, omega arith)
+counts_bound counts Opened n a b c d = (omega arith, omega arith, omega arith, omega arith)
+counts_bound counts (Replied result) n a b c d = (omega arith, one_more counts.refused _ n b, one_more counts.finished _ n c, one_more counts.forfeited _ n d)
+  where
+    one_more : (m : ℕ) (t : Bool) (n : ℕ) → m < n → m + bit t < n + 1
+    one_more m true n l = omega arith
+    one_more m false n l = omega arith
+counts_bound counts (answers.Ended e) n a b c d = (omega arith, omega arith, omega arith, omega arith)
+counts_bound counts Malformed n a b c d = (omega arith, omega arith, omega arith, omega arith)
+
+-- no failure came
+pub no_more : {n m k : ℕ} → n ≡ m → k ≡ 0 → n ≡ m + k
+no_more e z = omega (arith, e, z)
+
+pub report_balanced : (result : Result Summary DriveFault) (a b : Option (List ℕ)) (w v : Option (List ℕ)) → IfOk result (Reported a b w v)
+    → IfOk result (λ summary. summary.enqueued ≡ summary.finished + summary.forfeited + summary.in_hand + summary.left)
+report_balanced (Err fault) a b w v h = tt
+report_balanced (Ok summary) a b w v h =
+    let r = h.report in
+    let P : Summary → Type 0 = λ s. s.enqueued ≡ s.finished + s.forfeited + s.in_hand + s.left in
+    subst P (sym r.counted) (balanced (all_lines r.at_end.lines r.at_end.last) r.before r.course r.at_end.reports)

@@ -1,0 +1,185 @@
+-- What the driver's code keeps, and what each of its functions does to it. Means only: no public contract cites this file.
+use Rattle.std.specs.Prelude.{◌≡◌, ℕ, ◌+◌, ◌-◌, Bool, true, false, ◌⊎◌, List, [], ◌∷◌, length, map, codes, count_by, Option, Some, None, is_some, is_err, Result, Ok, Err, IsTrue, IsFalse, MatchBool, nat_le}
+use Rattle.fz_model.specs.declared.refusal.Refusal.{Refusal}
+use Rattle.fz_model.specs.declared.refusal.Refusal.TheVariants.{BadLine, Output}
+use Rattle.fz_model.specs.Causes.{first_cause}
+use Rattle.fz_model.specs.Joint.{Worker, Joint, JointEvent, JointAnswer, JointStep, Move, joint_opening}
+use Rattle.fz_world.specs.Does.{StandsFor}
+use Rattle.fz_script.specs.declared.step.Step.{Step}
+use Rattle.fz_script.specs.declared.step.Step.TheVariants.{Open}
+use Rattle.fz_script.specs.Spelling.{Word, Number, Text, spelling, Fits}
+use Rattle.fz_drive.specs.declared.machine.Machine.{Machine}
+use Rattle.fz_drive.specs.declared.reply.Reply.{Reply}
+use Rattle.fz_drive.specs.declared.reply.Reply.TheVariants as replies
+use Rattle.fz_drive.specs.declared.answer.Answer.{Answer}
+use Rattle.fz_drive.specs.declared.answer.Answer.TheVariants.{Skipped, Opened, Replied, Ended, Malformed}
+use Rattle.fz_drive.specs.declared.input.Ending.{Ending}
+use Rattle.fz_drive.specs.declared.input.Ending.TheVariants.{TooLong}
+use Rattle.fz_drive.specs.declared.run.Summary.{Summary}
+use Rattle.fz_drive.specs.declared.run.Counts.{Counts}
+use Rattle.fz_drive.specs.declared.run.DriveFault.{DriveFault}
+use Rattle.std.specs.Io.KnownBytes.{Appends}
+use Rattle.fz_drive.specs.Devices.{IsPart}
+use Rattle.fz_drive.specs.Script.{is_kept, max_lines, may_come, event_of}
+use Rattle.fz_drive.specs.Replies.{text_line, done, registered_words, unregistered_words, linked_words, unlinked_words, moved_words, marked_words, passed_words, taken_words, refused_words, reply_words, malformed_words, end_words}
+use Rattle.fz_drive.specs.Report.{Course, opening_causes, AsksFor, IsRefusedOpening, finishes, forfeits}
+
+-- The machine is where the joint state is. What the workers took and forfeited is history, which it doesn't keep.
+pub record StandsForJoint (machine : Machine) (j : Joint) : Type 0 where
+  pub world : StandsFor machine.world j.state
+  pub line : machine.line ≡ j.taken
+  pub hands : machine.hands.items ≡ map (λ (w : Worker). w.hand) j.workers
+
+-- from each joint state in which the old machine is there is a step with this reply, to one in which the new machine is
+abbrev pub JointDoes : Machine → (e : JointEvent) → Result (JointAnswer e) Refusal → Machine → Type 0
+JointDoes old e reply new = (j : Joint) → StandsForJoint old j → (t : Joint) × JointStep j e reply t × StandsForJoint new t
+
+abbrev pub words_of : Reply → List Word
+words_of replies.Done = done
+words_of (replies.Allocated address birth) = Text (codes "new") ∷ Number address ∷ Number birth ∷ []
+words_of (replies.Word word) = Text (codes "word") ∷ Number word ∷ []
+words_of (replies.Registered answer) = registered_words answer
+words_of (replies.Unregistered old) = unregistered_words old
+words_of (replies.Linked answer) = linked_words answer
+words_of (replies.Unlinked there) = unlinked_words there
+words_of (replies.Moved answer) = moved_words answer
+words_of (replies.Marked progress) = marked_words progress
+words_of (replies.Passed passed) = passed_words passed
+words_of (replies.Taken entry) = taken_words entry
+words_of replies.Finished = done
+words_of replies.Forfeited = done
+words_of (replies.Outstanding count) = Text (codes "outstanding") ∷ Number count ∷ []
+
+abbrev pub result_words : Result Reply Refusal → List Word
+result_words (Ok reply) = words_of reply
+result_words (Err refusal) = refused_words refusal
+
+abbrev pub is_finish : Result Reply Refusal → Bool
+is_finish (Ok replies.Finished) = true
+is_finish _ = false
+
+abbrev pub is_forfeit : Result Reply Refusal → Bool
+is_forfeit (Ok replies.Forfeited) = true
+is_forfeit _ = false
+
+-- the result tells all of the reply that a report needs
+pub record Tells (e : JointEvent) (reply : Result (JointAnswer e) Refusal) (result : Result Reply Refusal) : Type 0 where
+  pub words : result_words result ≡ reply_words e reply
+  pub refused : is_err result ≡ is_err reply
+  pub finish : is_finish result ≡ finishes e reply
+  pub forfeit : is_forfeit result ≡ forfeits e reply
+
+-- the step's event, as in `JointDoes`
+pub record StepDoes (old : Machine) (step : Step) (result : Result Reply Refusal) (new : Machine) : Type 0 where
+  pub event : JointEvent
+  pub reply : Result (JointAnswer event) Refusal
+  pub asked : event_of step ≡ Some event
+  pub does : JointDoes old event reply new
+  pub tells : Tells event reply result
+
+-- a step that may come does what it asks for; an opening, which may not, changes nothing
+abbrev pub CarriesOut : Machine → Step → Result (Option Reply) Refusal → Machine → Type 0
+CarriesOut old step (Ok (Some reply)) new = StepDoes old step (Ok reply) new
+CarriesOut old step (Ok None) new = IsFalse (may_come true step) × (new ≡ old)
+CarriesOut old step (Err refusal) new = StepDoes old step (Err refusal) new
+
+-- what one line gives, before the opening and after it
+abbrev pub Gives : Option Machine → List ℕ → Answer → Option Machine → Type 0
+Gives old line Skipped new = (is_kept line ≡ false) × (new ≡ old)
+Gives old line Opened new =
+    (old ≡ None) × (machine : Machine) × (new ≡ Some machine) × (blocks : ℕ) × (frames : ℕ) × (workers : ℕ) × AsksFor line (Open blocks frames workers)
+    × (first_cause (opening_causes blocks frames workers) ≡ None) × StandsForJoint machine (joint_opening blocks frames workers)
+Gives old line (Replied result) new =
+    (machine : Machine) × (old ≡ Some machine) × (machine' : Machine) × (new ≡ Some machine') × (step : Step) × AsksFor line step × StepDoes machine step result machine'
+Gives old line (Ended refusal) new = (old ≡ None) × (new ≡ old) × IsRefusedOpening line refusal
+Gives old line Malformed new = (new ≡ old) × IsTrue (is_kept line) × ((step : Step) → Fits step → line ≡ spelling step → IsFalse (may_come (is_some old) step))
+
+-- what the line with this number gives: one that is too long or comes too late is malformed
+abbrev pub Given : ℕ → Ending → Option Machine → List ℕ → Answer → Option Machine → Type 0
+Given number TooLong old line answer new = (answer ≡ Malformed) × (new ≡ old)
+Given number _ old line answer new = MatchBool (nat_le number max_lines) (Gives old line answer new) ((answer ≡ Malformed) × (new ≡ old))
+
+-- the text that an answer gets
+abbrev pub answer_text : ℕ → Answer → List ℕ
+answer_text number Skipped = []
+answer_text number Opened = text_line done
+answer_text number (Replied result) = text_line (result_words result)
+answer_text number (Ended refusal) = text_line (refused_words refusal)
+answer_text number Malformed = text_line (malformed_words number)
+
+abbrev pub is_told : Answer → Bool
+is_told Skipped = false
+is_told _ = true
+
+-- why the run ends at this answer
+abbrev pub stop_of : Answer → Option Refusal
+stop_of Skipped = None
+stop_of Opened = None
+stop_of (Replied result) = None
+stop_of (Ended refusal) = Some refusal
+stop_of Malformed = Some BadLine
+
+-- the answer's text was written, and the run goes on or ends; or the writer failed in it
+abbrev pub TellsAnswer : ℕ → Answer → Option (List ℕ) → ℕ → Result (Unit {0}) DriveFault → Option (List ℕ) → ℕ → Type 0
+TellsAnswer number answer before failures (Ok x) after failures' =
+    (stop_of answer ≡ None) × Appends before after (answer_text number answer) × (failures' ≡ failures)
+TellsAnswer number answer before failures (Err fault) after failures' =
+    (fault.line ≡ number)
+    × (((fault.refusal ≡ Output) × IsTrue (is_told answer) × IsPart before (answer_text number answer) after × (failures' ≡ failures + 1))
+    ⊎ ((stop_of answer ≡ Some fault.refusal) × Appends before after (answer_text number answer) × (failures' ≡ failures)))
+
+-- counts of the steps so far
+abbrev pub no_counts : Counts
+no_counts = record { steps = 0; refused = 0; finished = 0; forfeited = 0 }
+
+abbrev pub bit : Bool → ℕ
+bit true = 1
+bit false = 0
+
+abbrev pub counts_after : Counts → Answer → Counts
+counts_after counts Opened = record counts { steps = counts.steps + 1 }
+counts_after counts (Replied result) =
+    record {
+      steps = counts.steps + 1;
+      refused = counts.refused + bit (is_err result);
+      finished = counts.finished + bit (is_finish result);
+      forfeited = counts.forfeited + bit (is_forfeit result);
+    }
+counts_after counts _ = counts
+
+abbrev pub counts_of : Option Course → Counts
+counts_of None = no_counts
+counts_of (Some course) =
+    record {
+      steps = length course.moves + 1;
+      refused = count_by (λ (m : Move). is_err m.reply) course.moves;
+      finished = count_by (λ (m : Move). finishes m.event m.reply) course.moves;
+      forfeited = count_by (λ (m : Move). forfeits m.event m.reply) course.moves;
+    }
+
+-- the numbers of the run that led to this machine
+abbrev pub summary_at : Machine → Counts → Summary
+summary_at machine counts =
+    record {
+      steps = counts.steps;
+      refused = counts.refused;
+      enqueued = length machine.world.core.queue;
+      finished = counts.finished;
+      forfeited = counts.forfeited;
+      in_hand = count_by is_some machine.hands.items;
+      left = length machine.world.core.queue - machine.line;
+    }
+
+-- the words that end a report
+abbrev pub ending_words : ℕ → Option Machine → Counts → List Word
+ending_words number None counts = malformed_words number
+ending_words number (Some machine) counts = end_words (summary_at machine counts)
+
+-- the last line of the report was written; or the script had no opening; or the writer failed
+abbrev pub Finishes : ℕ → Option Machine → Counts → Option (List ℕ) → ℕ → Result Summary DriveFault → Option (List ℕ) → ℕ → Type 0
+Finishes number world counts before failures (Ok summary) after failures' =
+    (machine : Machine) × (world ≡ Some machine) × (summary ≡ summary_at machine counts) × Appends before after (text_line (end_words (summary_at machine counts))) × (failures' ≡ failures)
+Finishes number world counts before failures (Err fault) after failures' =
+    (fault.line ≡ number)
+    × (((fault.refusal ≡ Output) × IsPart before (text_line (ending_words number world counts)) after × (failures' ≡ failures + 1))
+    ⊎ ((fault.refusal ≡ BadLine) × (world ≡ None) × Appends before after (text_line (malformed_words number)) × (failures' ≡ failures)))

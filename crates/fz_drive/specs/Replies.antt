@@ -1,0 +1,115 @@
+-- What a report says of each step: the words of its reply.
+use Rattle.std.specs.Prelude.{ℕ, Bool, true, false, List, [], ◌∷◌, ◌++◌, map, codes, Option, Some, None, Result, Ok, Err}
+use Rattle.std.specs.List.{join_with_byte}
+use Rattle.fz_model.specs.declared.answers.Entry.{Entry}
+use Rattle.fz_model.specs.declared.answers.Old.{Old}
+use Rattle.fz_model.specs.declared.answers.Passed.{Passed}
+use Rattle.fz_model.specs.declared.answers.Progress.{Progress}
+use Rattle.fz_model.specs.declared.answers.Progress.TheVariants.{More, Done}
+use Rattle.fz_model.specs.declared.answers.RegAnswer.{RegAnswer}
+use Rattle.fz_model.specs.declared.answers.RegAnswer.TheVariants as registering
+use Rattle.fz_model.specs.declared.answers.LinkAnswer.{LinkAnswer}
+use Rattle.fz_model.specs.declared.answers.LinkAnswer.TheVariants as linking
+use Rattle.fz_model.specs.declared.answers.MoveAnswer.{MoveAnswer}
+use Rattle.fz_model.specs.declared.answers.MoveAnswer.TheVariants as moving
+use Rattle.fz_model.specs.declared.refusal.Refusal.{Refusal}
+use Rattle.fz_model.specs.declared.refusal.Refusal.TheVariants.{BadLine}
+use Rattle.fz_model.specs.Refusals.{code_of, name_of}
+use Rattle.fz_model.specs.Events.{Event, Alloc, Load, Store, Set, Copy, Register, Unregister, Link, Unlink, MoveLink, Begin, Mark, Pause, Collect, Hold, Finish, Close, Outstanding, Queue, Answer}
+use Rattle.fz_model.specs.Joint.{JointEvent, Call, Take, HoldOwn, FinishOwn, Forfeit, JointAnswer, Move}
+use Rattle.fz_script.specs.Spelling.{Word, Number, Text, text}
+use Rattle.fz_drive.specs.declared.run.Summary.{Summary}
+
+-- the line of these words: one space (byte 32) between two, and LF (byte 10) at the end
+abbrev pub text_line : List Word → List ℕ
+text_line words = join_with_byte 32 (map text words) ++ 10 ∷ []
+
+abbrev pub done : List Word
+done = Text (codes "ok") ∷ []
+
+abbrev pub pair_words : Option Old → List Word
+pair_words None = []
+pair_words (Some old) = Text (codes "old") ∷ Number old.proc ∷ Number old.cd ∷ []
+
+abbrev pub registered_words : RegAnswer → List Word
+registered_words registering.Outside = Text (codes "outside") ∷ []
+registered_words (registering.Number number old) = Text (codes "reg") ∷ Number number ∷ pair_words old
+
+abbrev pub unregistered_words : Option Old → List Word
+unregistered_words None = Text (codes "none") ∷ []
+unregistered_words (Some old) = pair_words (Some old)
+
+abbrev pub linked_words : LinkAnswer → List Word
+linked_words linking.Success = Text (codes "success") ∷ []
+linked_words linking.Duplicate = Text (codes "duplicate") ∷ []
+
+abbrev pub unlinked_words : Bool → List Word
+unlinked_words true = Text (codes "true") ∷ []
+unlinked_words false = Text (codes "false") ∷ []
+
+abbrev pub moved_words : MoveAnswer → List Word
+moved_words moving.Success = Text (codes "success") ∷ []
+moved_words moving.Duplicate = Text (codes "duplicate") ∷ []
+moved_words moving.NotFound = Text (codes "notfound") ∷ []
+
+abbrev pub marked_words : Progress → List Word
+marked_words More = Text (codes "more") ∷ []
+marked_words Done = Text (codes "done") ∷ []
+
+abbrev pub passed_words : Passed → List Word
+passed_words passed =
+    Text (codes "pass") ∷ Number passed.pass ∷ Text (codes "picked") ∷ Number passed.picked ∷ Text (codes "reclaimed") ∷ Number passed.reclaimed ∷ []
+
+abbrev pub taken_words : Option Entry → List Word
+taken_words None = Text (codes "empty") ∷ []
+taken_words (Some entry) =
+    Text (codes "entry") ∷ Number entry.seq ∷ Number entry.pass ∷ Number entry.reg ∷ Number entry.obj ∷ Number entry.birth ∷ Number entry.proc ∷ Number entry.cd ∷ []
+
+-- No step of a script asks for the queue.
+abbrev pub call_words : (e : Event) → Answer e → List Word
+call_words (Alloc frame slot size kind) answer = Text (codes "new") ∷ Number answer.0 ∷ Number answer.1 ∷ []
+call_words (Load frame slot offset to_frame to_slot) answer = Text (codes "word") ∷ Number answer ∷ []
+call_words (Store frame slot offset from_frame from_slot) answer = done
+call_words (Set frame slot word) answer = done
+call_words (Copy frame slot to_frame to_slot) answer = done
+call_words (Register frame slot kind proc cd rank) answer = registered_words answer
+call_words (Unregister frame slot) answer = unregistered_words answer
+call_words (Link which frame slot offset to_frame to_slot) answer = linked_words answer
+call_words (Unlink which frame slot offset) answer = unlinked_words answer
+call_words (MoveLink which frame slot offset to_frame to_slot to_offset) answer = moved_words answer
+call_words Begin answer = done
+call_words (Mark budget) answer = marked_words answer
+call_words Pause answer = passed_words answer
+call_words Collect answer = passed_words answer
+call_words (Hold frame slot entry) answer = done
+call_words (Finish entry) answer = done
+call_words Close answer = done
+call_words Outstanding answer = Text (codes "outstanding") ∷ Number answer ∷ []
+call_words Queue answer = []
+
+abbrev pub answer_words : (e : JointEvent) → JointAnswer e → List Word
+answer_words (Call e) answer = call_words e answer
+answer_words (Take worker) answer = taken_words answer
+answer_words (HoldOwn worker frame slot) answer = done
+answer_words (FinishOwn worker) answer = done
+answer_words (Forfeit worker) answer = done
+
+abbrev pub refused_words : Refusal → List Word
+refused_words refusal = Text (codes "refused") ∷ Number (code_of refusal) ∷ Text (name_of refusal) ∷ []
+
+abbrev pub reply_words : (e : JointEvent) → Result (JointAnswer e) Refusal → List Word
+reply_words e (Ok answer) = answer_words e answer
+reply_words e (Err refusal) = refused_words refusal
+
+abbrev pub reply_line : Move → List ℕ
+reply_line m = text_line (reply_words m.event m.reply)
+
+-- of a malformed line, or of an input that ends without an opening
+abbrev pub malformed_words : ℕ → List Word
+malformed_words number = Text (codes "line") ∷ Number number ∷ refused_words BadLine
+
+-- the last line of a whole report
+abbrev pub end_words : Summary → List Word
+end_words summary =
+    Text (codes "end") ∷ Text (codes "enqueued") ∷ Number summary.enqueued ∷ Text (codes "finished") ∷ Number summary.finished
+    ∷ Text (codes "forfeited") ∷ Number summary.forfeited ∷ Text (codes "in_hand") ∷ Number summary.in_hand ∷ Text (codes "left") ∷ Number summary.left ∷ []

@@ -1,0 +1,165 @@
+-- The report of a script: the replies to its steps, which are those of a joint run, and how it ends.
+use Rattle.std.specs.Prelude.{◌≡◌, ◌≢◌, ℕ, ◌+◌, ◌-◌, ◌≤◌, Bool, true, false, ◌⊎◌, List, [], ◌∷◌, ◌++◌, length, map, flat_map, count_by, Option, Some, None, is_some, is_err, Result, Ok, Err, IsTrue, if◌then◌else◌, ◌==◌}
+use Rattle.std.specs.List.{All}
+use Rattle.fz_model.specs.declared.refusal.Refusal.{Refusal}
+use Rattle.fz_model.specs.declared.refusal.Refusal.TheVariants.{BadLine, BadCount, NoMemory, Output, Input}
+use Rattle.fz_model.specs.Refusals.{code_of}
+use Rattle.fz_model.specs.declared.limits.TheConstants.{MAX_WORKERS}
+use Rattle.fz_model.specs.Causes.{Causes, bad_count, first_cause, IsRefusedFor}
+use Rattle.fz_model.specs.Joint.{Worker, Joint, JointEvent, JointAnswer, FinishOwn, Forfeit, JointStep, Move, MovesTo, joint_opening}
+use Rattle.fz_world.specs.Does.{open_causes}
+use Rattle.fz_script.specs.declared.step.Step.{Step}
+use Rattle.fz_script.specs.declared.step.Step.TheVariants.{Open}
+use Rattle.fz_script.specs.Spelling.{Word, spelling, Fits}
+use Rattle.fz_drive.specs.declared.run.Summary.{Summary}
+use Rattle.fz_drive.specs.declared.run.DriveFault.{DriveFault}
+use Rattle.std.specs.Io.KnownBytes.{Consumes, Appends, IsAtEnd, prepend_known}
+use Rattle.fz_drive.specs.Script.{with_lf, IsOneLine, Lines, all_lines, is_kept, max_line, max_lines, IsScript, IsMalformed, event_of}
+use Rattle.fz_drive.specs.Replies.{text_line, done, refused_words, reply_words, reply_line, malformed_words, end_words}
+
+-- the causes of refusal of an opening
+abbrev pub opening_causes : ℕ → ℕ → ℕ → Causes
+opening_causes blocks frames workers = bad_count MAX_WORKERS workers ∷ open_causes blocks frames
+
+-- the moves that were made since the opening, and the joint state after them
+pub record Course : Type 0 where
+  pub moves : List Move
+  pub end : Joint
+
+-- the lines ask for an opening and then for these moves, which are those of a joint run; the text is `ok` and the replies
+pub record HasRun (lines : List (List ℕ)) (text : List ℕ) (course : Course) : Type 0 where
+  pub blocks : ℕ
+  pub frames : ℕ
+  pub workers : ℕ
+  pub steps : List Step
+  pub script : IsScript lines (Open blocks frames workers ∷ steps)
+  pub asked : map event_of steps ≡ map (λ (m : Move). Some m.event) course.moves
+  pub opened : first_cause (opening_causes blocks frames workers) ≡ None
+  pub run : MovesTo (joint_opening blocks frames workers) course.moves course.end
+  pub told : text ≡ text_line done ++ flat_map reply_line course.moves
+
+-- the text is the report of these lines so far; as long as none of them asks for a step there is no course
+abbrev pub Reports : List (List ℕ) → List ℕ → Option Course → Type 0
+Reports lines text None = IsScript lines [] × (text ≡ [])
+Reports lines text (Some course) = HasRun lines text course
+
+abbrev pub finishes : (e : JointEvent) → Result (JointAnswer e) Refusal → Bool
+finishes (FinishOwn worker) (Ok answer) = true
+finishes (FinishOwn worker) (Err refusal) = false
+finishes _ reply = false
+
+abbrev pub forfeits : (e : JointEvent) → Result (JointAnswer e) Refusal → Bool
+forfeits (Forfeit worker) (Ok answer) = true
+forfeits (Forfeit worker) (Err refusal) = false
+forfeits _ reply = false
+
+-- the numbers of a run: its steps, with the opening, and the refused ones; the length of the queue; the accepted steps by which workers
+-- finished and gave up their entries; the entries in hands; and those that the line hasn't given
+abbrev pub summary_of : Course → Summary
+summary_of course =
+    record {
+      steps = length course.moves + 1;
+      refused = count_by (λ (m : Move). is_err m.reply) course.moves;
+      enqueued = length course.end.state.queue;
+      finished = count_by (λ (m : Move). finishes m.event m.reply) course.moves;
+      forfeited = count_by (λ (m : Move). forfeits m.event m.reply) course.moves;
+      in_hand = count_by (λ (w : Worker). is_some w.hand) course.end.workers;
+      left = length course.end.state.queue - course.end.taken;
+    }
+
+-- all lines of the bytes were carried out; a further line would have this number
+pub record AtEnd (bytes : List ℕ) (number : ℕ) (text : List ℕ) (course : Option Course) : Type 0 where
+  pub lines : List (List ℕ)
+  pub last : List ℕ
+  pub split : Lines bytes lines last
+  pub place : length (all_lines lines last) + 1 ≡ number
+  pub reports : Reports (all_lines lines last) text course
+
+-- the text is the report of the whole script in these bytes, with the numbers of its run
+pub record IsReport (bytes text : List ℕ) (summary : Summary) : Type 0 where
+  pub number : ℕ
+  pub before : List ℕ
+  pub course : Course
+  pub at_end : AtEnd bytes number before (Some course)
+  pub counted : summary ≡ summary_of course
+  pub told : text ≡ before ++ text_line (end_words summary)
+
+-- A line ends with LF or with the input, or it is too long with its last byte. `left` is what can still be read.
+abbrev pub IsEnded : List ℕ → List ℕ → Option (List ℕ) → Type 0
+IsEnded line end left = (end ≡ 10 ∷ []) ⊎ ((end ≡ []) × ((IsAtEnd left × (line ≢ [])) ⊎ (length line ≡ max_line + 1)))
+
+-- the bytes end with this line; the lines before it were carried out, and this is their report
+pub record AtLine (bytes : List ℕ) (left : Option (List ℕ)) (number : ℕ) (line text : List ℕ) (course : Option Course) : Type 0 where
+  pub lines : List (List ℕ)
+  pub end : List ℕ
+  pub is : bytes ≡ flat_map with_lf lines ++ (line ++ end)
+  pub each : All IsOneLine lines
+  pub one : IsOneLine line
+  pub ended : IsEnded line end left
+  pub place : length lines + 1 ≡ number
+  pub reports : Reports lines text course
+
+abbrev pub AsksFor : List ℕ → Step → Type 0
+AsksFor line step = IsTrue (is_kept line) × Fits step × (line ≡ spelling step)
+
+-- the line asks for an opening that is refused so
+abbrev pub IsRefusedOpening : List ℕ → Refusal → Type 0
+IsRefusedOpening line refusal =
+    (blocks : ℕ) × (frames : ℕ) × (workers : ℕ) × AsksFor line (Open blocks frames workers) × IsRefusedFor (opening_causes blocks frames workers) true refusal
+
+-- the words that the line with this number gets, after the course so far; a line past the last is malformed, whatever it asks for
+pub data IsDue (number : ℕ) (line : List ℕ) : Option Course → List Word → Type 0 where
+  Opens : (blocks frames workers : ℕ) → number ≤ max_lines → AsksFor line (Open blocks frames workers) → first_cause (opening_causes blocks frames workers) ≡ None → IsDue number line None done
+  OpensNot : (refusal : Refusal) → number ≤ max_lines → IsRefusedOpening line refusal → IsDue number line None (refused_words refusal)
+  Replies : (course : Course) (step : Step) (m : Move) (new : Joint) → number ≤ max_lines → AsksFor line step → event_of step ≡ Some m.event → JointStep course.end m.event m.reply new → IsDue number line (Some course) (reply_words m.event m.reply)
+  Malformed : (course : Option Course) → IsMalformed (is_some course) number line → IsDue number line course (malformed_words number)
+
+-- the words of a report's end, after the last line: an input without an opening is malformed there
+abbrev pub closing_words : ℕ → Option Course → List Word
+closing_words number None = malformed_words number
+closing_words number (Some course) = end_words (summary_of course)
+
+-- Why a run ended early, and at which line. These bytes were used, and `unread` was read beyond them; `left` is what the reader has left; and
+-- the text was written.
+abbrev pub Explains : Refusal → ℕ → List ℕ → List ℕ → Option (List ℕ) → List ℕ → Type 0
+-- the line is malformed, or the input has ended without an opening; all replies before it and its own were written
+Explains BadLine number bytes unread left text =
+    (before : List ℕ) × (text ≡ before ++ text_line (malformed_words number))
+    × (((line : List ℕ) × (course : Option Course) × AtLine bytes (prepend_known unread left) number line before course × IsMalformed (is_some course) number line) ⊎ (AtEnd bytes number before None × IsAtEnd (prepend_known unread left)))
+-- the opening was refused, and its reply was written
+Explains BadCount number bytes unread left text =
+    (number ≤ max_lines) × (line : List ℕ) × AtLine bytes (prepend_known unread left) number line [] None × IsRefusedOpening line BadCount × (text ≡ text_line (refused_words BadCount))
+Explains NoMemory number bytes unread left text =
+    (number ≤ max_lines) × (line : List ℕ) × AtLine bytes (prepend_known unread left) number line [] None × IsRefusedOpening line NoMemory × (text ≡ text_line (refused_words NoMemory))
+-- what this line gets, or what ends the report, wasn't written whole; all replies before it were
+Explains Output number bytes unread left text =
+    (before : List ℕ) × (part : List ℕ) × (rest : List ℕ) × (text ≡ before ++ part) × (rest ≢ [])
+    × (((line : List ℕ) × (course : Option Course) × (words : List Word) × AtLine bytes (prepend_known unread left) number line before course × IsDue number line course words × (text_line words ≡ part ++ rest))
+    ⊎ ((course : Option Course) × AtEnd bytes number before course × IsAtEnd (prepend_known unread left) × (text_line (closing_words number course) ≡ part ++ rest)))
+-- the reader failed in this line; all whole lines before it were carried out, and their replies were written
+Explains Input number bytes unread left text =
+    (unread ≡ []) × (lines : List (List ℕ)) × (line : List ℕ) × (course : Option Course) × Lines bytes lines line × (length line ≤ max_line) × (length lines + 1 ≡ number) × Reports lines text course
+Explains _ number bytes unread left text = ⊥
+
+-- the whole input was read, and the report of its script was written
+pub record Reported (input left before after : Option (List ℕ)) (summary : Summary) : Type 0 where
+  pub bytes : List ℕ
+  pub text : List ℕ
+  pub read : Consumes input left bytes
+  pub whole : IsAtEnd left
+  pub written : Appends before after text
+  pub report : IsReport bytes text summary
+
+-- the run of the input's script ended early: the fault stands where its cause does, and nothing else was written
+pub record Stopped (input left before after : Option (List ℕ)) (fault : DriveFault) : Type 0 where
+  pub bytes : List ℕ
+  pub unread : List ℕ
+  pub text : List ℕ
+  pub read : Consumes input left (bytes ++ unread)
+  pub written : Appends before after text
+  pub explains : Explains fault.refusal fault.line bytes unread left text
+
+-- 1 where the run ended for this cause, and 0 otherwise
+abbrev pub failures_of : Refusal → Result Summary DriveFault → ℕ
+failures_of refusal (Ok summary) = 0
+failures_of refusal (Err fault) = if code_of fault.refusal == code_of refusal then 1 else 0

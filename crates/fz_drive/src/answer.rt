@@ -1,0 +1,94 @@
+//! What one line of a script gives.
+
+ghost use Rattle.std.specs.Prelude.{◌≡◌};
+ghost use Rattle.fz_drive.specs.Script.{is_kept};
+ghost use Rattle.fz_drive.specs.Script as script;
+ghost use Rattle.fz_drive.specs.Machines.{Gives, Given};
+
+use crate::input::Ending;
+use crate::machine::Machine;
+use crate::reply::Reply;
+use fz_model::Refusal;
+use fz_script::{Step, step_of};
+use std::alloc::Global;
+
+/// A line with a greater number is malformed.
+const MAX_LINES: u64 = 4_294_967_296;
+
+/// What a line gives.
+#[derive(Clone, Copy, Debug, PartialEq, Eq)]
+pub(crate) enum Answer {
+    /// The line asks for nothing.
+    Skipped,
+    /// The world is open.
+    Opened,
+    /// A step was carried out or refused.
+    Replied(Result<Reply, Refusal>),
+    /// The world could not be opened.
+    Ended(Refusal),
+    /// The line breaks the rules.
+    Malformed,
+}
+
+/// Whether the line is a step's.
+pub(crate) fn is_kept(line: &[u8]) -> bool
+    ensures { result ≡ script.is_kept line.now }
+{
+    match line {
+        [] => false,
+        [first, ..] => *first != b'#',
+    }
+}
+
+/// Carries out a line. There is no machine before the opening.
+fn answer_to(alloc: Global, machine: &mut Option<Machine>, line: &[u8]) -> Answer
+    ensures { Gives machine.old line.now result machine.new }
+{
+    if !is_kept(line) {
+        return Answer::Skipped;
+    }
+    let Some(step) = step_of(line) else {
+        return Answer::Malformed;
+    };
+    match machine {
+        None => match step {
+            Step::Open {
+                blocks,
+                frames,
+                workers,
+            } => match Machine::open(alloc, blocks, frames, workers) {
+                Ok(opened) => {
+                    *machine = Some(opened);
+                    Answer::Opened
+                }
+                Err(refusal) => Answer::Ended(refusal),
+            },
+            _ => Answer::Malformed,
+        },
+        Some(machine) => match machine.carry_out(step) {
+            Ok(Some(reply)) => Answer::Replied(Ok(reply)),
+            Ok(None) => Answer::Malformed,
+            Err(refusal) => Answer::Replied(Err(refusal)),
+        },
+    }
+}
+
+/// What the line with this number gives, where lines are counted from 1.
+pub(crate) fn answer_at(
+    alloc: Global,
+    machine: &mut Option<Machine>,
+    number: u64,
+    ending: Ending,
+    line: &[u8],
+) -> Answer
+    ensures { Given number ending machine.old line.now result machine.new }
+{
+    match ending {
+        Ending::TooLong => Answer::Malformed,
+        _ => if number <= MAX_LINES {
+            answer_to(alloc, machine, line)
+        } else {
+            Answer::Malformed
+        },
+    }
+}

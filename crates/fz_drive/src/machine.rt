@@ -1,0 +1,258 @@
+//! A world with its workers: what a script's steps are carried out by.
+
+ghost use Rattle.std.specs.Prelude.{◌≡◌, ◌-◌, true, None, Some, IfOk, IfErr, OnOk, ◌<◌, slice_get, is_some, count_by, length, replicate, ◌≤◌};
+ghost use Rattle.fz_model.specs.Causes.{first_cause, IsRefusedFor};
+ghost use Rattle.fz_model.specs.Joint.{Take, HoldOwn, FinishOwn, Forfeit, joint_opening};
+ghost use Rattle.fz_drive.specs.Report.{opening_causes};
+ghost use Rattle.fz_drive.specs.Machines.{StandsForJoint, JointDoes, CarriesOut};
+
+mod calls;
+
+use crate::reply::Reply;
+use arrayvec::ArrayVec;
+use fz_line::PlainLine;
+use fz_model::{Entry, MAX_WORKERS, Refusal};
+use fz_script::Step;
+use fz_world::{Config, World};
+use std::alloc::Global;
+
+/// A hand for each worker that a world may have.
+const HANDS: usize = MAX_WORKERS as usize;
+
+/// A world, the line of its queue, and the entry in each worker's hand.
+#[derive(Drop)]
+pub(crate) struct Machine {
+    world: World,
+    line: PlainLine,
+    hands: ArrayVec<Option<Entry>, HANDS>,
+}
+
+impl Machine {
+    /// Opens a world, whose workers have nothing in hand.
+    pub(crate) fn open(
+        alloc: Global,
+        blocks: u64,
+        frames: u64,
+        workers: u64,
+    ) -> Result<Machine, Refusal>
+        ensures refused { IfErr result (λ refusal. IsRefusedFor (opening_causes blocks frames workers) true refusal) }
+        ensures opened { IfOk result (λ machine. (first_cause (opening_causes blocks frames workers) ≡ None) × StandsForJoint machine (joint_opening blocks frames workers)) }
+    {
+        if workers < 1 || workers > MAX_WORKERS {
+            return Err(Refusal::BadCount);
+        }
+        let world = World::open(alloc, Config { blocks, frames })?;
+        Ok(Machine {
+            world,
+            line: PlainLine::new(),
+            hands: empty_hands(workers as usize),
+        })
+    }
+
+    /// The entry in the worker's hand, if there is one.
+    fn hand(&self, worker: u64) -> Result<Option<Entry>, Refusal>
+        ensures found { IfOk result (λ hand. slice_get self.now.hands.items worker ≡ Some hand) }
+        ensures within { OnOk result (worker < length self.now.hands.items) }
+        ensures missing { IfErr result (λ refusal. (length self.now.hands.items ≤ worker) × (refusal ≡ Refusal.SeatsMissing)) }
+    {
+        if worker < self.hands.len() as u64 {
+            Ok(self.hands[worker as usize])
+        } else {
+            Err(Refusal::SeatsMissing)
+        }
+    }
+
+    /// The worker takes the next entry of the line, if there is one.
+    fn take(&mut self, worker: u64) -> Result<Option<Entry>, Refusal>
+        ensures { JointDoes self.old (Take worker) result self.new }
+    {
+        let hand = self.hand(worker)?;
+        if hand.is_some() {
+            return Err(Refusal::SeatsMissing);
+        }
+        let entry = self.line.take(self.world.queue());
+        self.hands[worker as usize] = entry;
+        Ok(entry)
+    }
+
+    /// The object of the entry in the worker's hand goes into the slot.
+    fn hold(&mut self, worker: u64, frame: u64, slot: u64) -> Result<(), Refusal>
+        ensures { JointDoes self.old (HoldOwn worker frame slot) result self.new }
+    {
+        let Some(entry) = self.hand(worker)? else {
+            return Err(Refusal::NotHeld);
+        };
+        self.world.hold(frame, slot, &entry)
+    }
+
+    /// The worker has finished the entry in its hand. It keeps the entry where that is refused.
+    fn finish(&mut self, worker: u64) -> Result<(), Refusal>
+        ensures { JointDoes self.old (FinishOwn worker) result self.new }
+    {
+        let Some(entry) = self.hand(worker)? else {
+            return Err(Refusal::NotHeld);
+        };
+        self.world.finish(&entry)?;
+        self.hands[worker as usize] = None;
+        Ok(())
+    }
+
+    /// The worker gives up the entry in its hand.
+    fn forfeit(&mut self, worker: u64) -> Result<(), Refusal>
+        ensures { JointDoes self.old (Forfeit worker) result self.new }
+    {
+        let Some(_) = self.hand(worker)? else {
+            return Err(Refusal::NotHeld);
+        };
+        self.hands[worker as usize] = None;
+        Ok(())
+    }
+
+    /// Carries out a step of an open world. `None`: it is an opening, which may not come again.
+    pub(crate) fn carry_out(&mut self, step: Step) -> Result<Option<Reply>, Refusal>
+        ensures { CarriesOut self.old step result self.new }
+    {
+        Ok(Some(match step {
+            Step::New {
+                frame,
+                slot,
+                size,
+                kind,
+            } => calls::alloc(&mut self.world, frame, slot, size, kind)?,
+            Step::Set { frame, slot, word } => calls::set(&mut self.world, frame, slot, word)?,
+            Step::Copy {
+                frame,
+                slot,
+                to_frame,
+                to_slot,
+            } => calls::copy(&mut self.world, frame, slot, to_frame, to_slot)?,
+            Step::Load {
+                frame,
+                slot,
+                offset,
+                to_frame,
+                to_slot,
+            } => calls::load(&mut self.world, frame, slot, offset, to_frame, to_slot)?,
+            Step::Store {
+                frame,
+                slot,
+                offset,
+                from_frame,
+                from_slot,
+            } => calls::store(&mut self.world, frame, slot, offset, from_frame, from_slot)?,
+            Step::Register {
+                frame,
+                slot,
+                kind,
+                procedure,
+                client_data,
+                rank,
+            } => calls::register(
+                &mut self.world,
+                frame,
+                slot,
+                kind,
+                procedure,
+                client_data,
+                rank,
+            )?,
+            Step::Unregister { frame, slot } => calls::unregister(&mut self.world, frame, slot)?,
+            Step::Link {
+                which,
+                frame,
+                slot,
+                offset,
+                target_frame,
+                target_slot,
+            } => calls::link(
+                &mut self.world,
+                which,
+                frame,
+                slot,
+                offset,
+                target_frame,
+                target_slot,
+            )?,
+            Step::Unlink {
+                which,
+                frame,
+                slot,
+                offset,
+            } => calls::unlink(&mut self.world, which, frame, slot, offset)?,
+            Step::Move {
+                which,
+                frame,
+                slot,
+                offset,
+                to_frame,
+                to_slot,
+                to_offset,
+            } => calls::move_link(
+                &mut self.world,
+                which,
+                frame,
+                slot,
+                offset,
+                to_frame,
+                to_slot,
+                to_offset,
+            )?,
+            Step::Begin => calls::begin(&mut self.world)?,
+            Step::Mark { budget } => calls::mark(&mut self.world, budget)?,
+            Step::Pause => calls::pause(&mut self.world)?,
+            Step::Collect => calls::collect(&mut self.world)?,
+            Step::Take { worker } => Reply::Taken(self.take(worker)?),
+            Step::Hold {
+                worker,
+                frame,
+                slot,
+            } => {
+                self.hold(worker, frame, slot)?;
+                Reply::Done
+            }
+            Step::Finish { worker } => {
+                self.finish(worker)?;
+                Reply::Finished
+            }
+            Step::Forfeit { worker } => {
+                self.forfeit(worker)?;
+                Reply::Forfeited
+            }
+            Step::Close => calls::close(&mut self.world)?,
+            Step::Outstanding => Reply::Outstanding(self.world.outstanding()),
+            Step::Open { .. } => return Ok(None),
+        }))
+    }
+
+    /// The number of entries in the queue.
+    pub(crate) fn enqueued(&self) -> u64
+        ensures { result ≡ length self.now.world.queue }
+    {
+        self.world.queue().len() as u64
+    }
+
+    /// The number of entries that the line hasn't given.
+    pub(crate) fn left(&self) -> u64
+        ensures { result ≡ length self.now.world.queue - self.now.line }
+    {
+        self.world.queue().len().saturating_sub(self.line.taken()) as u64
+    }
+
+    /// The number of entries in workers' hands.
+    pub(crate) fn in_hand(&self) -> u64
+        ensures { result ≡ count_by is_some self.now.hands.items }
+    {
+        self.hands.iter().filter(|hand| hand.is_some()).count() as u64
+    }
+}
+
+fn empty_hands(workers: usize) -> ArrayVec<Option<Entry>, HANDS>
+    requires { workers ≤ 8 }
+    ensures { result.items ≡ replicate workers None }
+{
+    let mut hands = ArrayVec::new();
+    while hands.len() < workers {
+        hands.push(None);
+    }
+    hands
+}

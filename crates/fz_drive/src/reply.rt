@@ -1,0 +1,258 @@
+//! The replies of a report.
+
+ghost use Rattle.std.specs.Prelude.{◌≡◌};
+ghost use Rattle.fz_drive.specs.Devices.{Emits};
+ghost use Rattle.fz_drive.specs.Replies.{text_line, done, registered_words, unregistered_words, linked_words, unlinked_words, moved_words, marked_words, passed_words, taken_words, refused_words, malformed_words, end_words};
+ghost use Rattle.fz_drive.specs.declared.reply.Reply.TheVariants as replies;
+ghost use Rattle.fz_drive.specs.Machines.{words_of, result_words};
+
+use crate::device::Sink;
+use crate::output::{Word, WriteFailed, write_all, write_line};
+use crate::run::Summary;
+use fz_model::{Addr, Entry, LinkAnswer, MoveAnswer, Old, Passed, Progress, Refusal, RegAnswer};
+
+/// What an accepted step answers.
+#[derive(Clone, Copy, Debug, PartialEq, Eq)]
+pub(crate) enum Reply {
+    Done,
+    Allocated { address: Addr, birth: u64 },
+    Word(u64),
+    Registered(RegAnswer),
+    Unregistered(Option<Old>),
+    Linked(LinkAnswer),
+    /// Whether there was a link.
+    Unlinked(bool),
+    Moved(MoveAnswer),
+    Marked(Progress),
+    Passed(Passed),
+    Taken(Option<Entry>),
+    Finished,
+    Forfeited,
+    /// The number of held entries.
+    Outstanding(u64),
+}
+
+fn write_registered<W: Sink>(writer: &mut W, answer: RegAnswer) -> Result<(), WriteFailed>
+    ensures { Emits (W.written writer.old) (W.failures writer.old) (text_line (registered_words answer)) result (W.written writer.new) (W.failures writer.new) }
+{
+    match answer {
+        RegAnswer::Outside => write_line(writer, &[Word::Text("outside")]),
+        RegAnswer::Number(number, None) => write_line(
+            writer,
+            &[Word::Text("reg"), Word::Number(number)],
+        ),
+        RegAnswer::Number(number, Some(old)) => write_line(
+            writer,
+            &[
+                Word::Text("reg"),
+                Word::Number(number),
+                Word::Text("old"),
+                Word::Number(old.proc),
+                Word::Number(old.cd),
+            ],
+        ),
+    }
+}
+
+fn write_unregistered<W: Sink>(writer: &mut W, old: Option<Old>) -> Result<(), WriteFailed>
+    ensures { Emits (W.written writer.old) (W.failures writer.old) (text_line (unregistered_words old)) result (W.written writer.new) (W.failures writer.new) }
+{
+    match old {
+        None => write_line(writer, &[Word::Text("none")]),
+        Some(old) => write_line(
+            writer,
+            &[
+                Word::Text("old"),
+                Word::Number(old.proc),
+                Word::Number(old.cd),
+            ],
+        ),
+    }
+}
+
+fn write_linked<W: Sink>(writer: &mut W, answer: LinkAnswer) -> Result<(), WriteFailed>
+    ensures { Emits (W.written writer.old) (W.failures writer.old) (text_line (linked_words answer)) result (W.written writer.new) (W.failures writer.new) }
+{
+    match answer {
+        LinkAnswer::Success => write_line(writer, &[Word::Text("success")]),
+        LinkAnswer::Duplicate => write_line(writer, &[Word::Text("duplicate")]),
+    }
+}
+
+fn write_unlinked<W: Sink>(writer: &mut W, there: bool) -> Result<(), WriteFailed>
+    ensures { Emits (W.written writer.old) (W.failures writer.old) (text_line (unlinked_words there)) result (W.written writer.new) (W.failures writer.new) }
+{
+    match there {
+        true => write_line(writer, &[Word::Text("true")]),
+        false => write_line(writer, &[Word::Text("false")]),
+    }
+}
+
+fn write_moved<W: Sink>(writer: &mut W, answer: MoveAnswer) -> Result<(), WriteFailed>
+    ensures { Emits (W.written writer.old) (W.failures writer.old) (text_line (moved_words answer)) result (W.written writer.new) (W.failures writer.new) }
+{
+    match answer {
+        MoveAnswer::Success => write_line(writer, &[Word::Text("success")]),
+        MoveAnswer::Duplicate => write_line(writer, &[Word::Text("duplicate")]),
+        MoveAnswer::NotFound => write_line(writer, &[Word::Text("notfound")]),
+    }
+}
+
+fn write_marked<W: Sink>(writer: &mut W, progress: Progress) -> Result<(), WriteFailed>
+    ensures { Emits (W.written writer.old) (W.failures writer.old) (text_line (marked_words progress)) result (W.written writer.new) (W.failures writer.new) }
+{
+    match progress {
+        Progress::More => write_line(writer, &[Word::Text("more")]),
+        Progress::Done => write_line(writer, &[Word::Text("done")]),
+    }
+}
+
+fn write_passed<W: Sink>(writer: &mut W, passed: Passed) -> Result<(), WriteFailed>
+    ensures { Emits (W.written writer.old) (W.failures writer.old) (text_line (passed_words passed)) result (W.written writer.new) (W.failures writer.new) }
+{
+    write_line(
+        writer,
+        &[
+            Word::Text("pass"),
+            Word::Number(passed.pass),
+            Word::Text("picked"),
+            Word::Number(passed.picked),
+            Word::Text("reclaimed"),
+            Word::Number(passed.reclaimed),
+        ],
+    )
+}
+
+fn write_taken<W: Sink>(writer: &mut W, entry: Option<Entry>) -> Result<(), WriteFailed>
+    ensures { Emits (W.written writer.old) (W.failures writer.old) (text_line (taken_words entry)) result (W.written writer.new) (W.failures writer.new) }
+{
+    match entry {
+        None => write_line(writer, &[Word::Text("empty")]),
+        Some(entry) => write_line(
+            writer,
+            &[
+                Word::Text("entry"),
+                Word::Number(entry.seq),
+                Word::Number(entry.pass),
+                Word::Number(entry.reg),
+                Word::Number(entry.obj),
+                Word::Number(entry.birth),
+                Word::Number(entry.proc),
+                Word::Number(entry.cd),
+            ],
+        ),
+    }
+}
+
+pub(crate) fn write_done<W: Sink>(writer: &mut W) -> Result<(), WriteFailed>
+    ensures { Emits (W.written writer.old) (W.failures writer.old) (text_line done) result (W.written writer.new) (W.failures writer.new) }
+{
+    write_all(writer, b"ok\n")
+}
+
+pub(crate) fn write_refused<W: Sink>(writer: &mut W, refusal: Refusal) -> Result<(), WriteFailed>
+    ensures { Emits (W.written writer.old) (W.failures writer.old) (text_line (refused_words refusal)) result (W.written writer.new) (W.failures writer.new) }
+{
+    write_line(
+        writer,
+        &[
+            Word::Text("refused"),
+            Word::Number(u64::from(refusal.code())),
+            Word::Text(refusal.name()),
+        ],
+    )
+}
+
+pub(crate) fn write_malformed<W: Sink>(writer: &mut W, number: u64) -> Result<(), WriteFailed>
+    ensures { Emits (W.written writer.old) (W.failures writer.old) (text_line (malformed_words number)) result (W.written writer.new) (W.failures writer.new) }
+{
+    write_line(
+        writer,
+        &[
+            Word::Text("line"),
+            Word::Number(number),
+            Word::Text("refused"),
+            Word::Number(u64::from(Refusal::BadLine.code())),
+            Word::Text(Refusal::BadLine.name()),
+        ],
+    )
+}
+
+pub(crate) fn write_end<W: Sink>(writer: &mut W, summary: Summary) -> Result<(), WriteFailed>
+    ensures { Emits (W.written writer.old) (W.failures writer.old) (text_line (end_words summary)) result (W.written writer.new) (W.failures writer.new) }
+{
+    write_line(
+        writer,
+        &[
+            Word::Text("end"),
+            Word::Text("enqueued"),
+            Word::Number(summary.enqueued),
+            Word::Text("finished"),
+            Word::Number(summary.finished),
+            Word::Text("forfeited"),
+            Word::Number(summary.forfeited),
+            Word::Text("in_hand"),
+            Word::Number(summary.in_hand),
+            Word::Text("left"),
+            Word::Number(summary.left),
+        ],
+    )
+}
+
+fn write_allocated<W: Sink>(writer: &mut W, address: Addr, birth: u64) -> Result<(), WriteFailed>
+    ensures { Emits (W.written writer.old) (W.failures writer.old) (text_line (words_of (replies.Allocated address birth))) result (W.written writer.new) (W.failures writer.new) }
+{
+    write_line(
+        writer,
+        &[
+            Word::Text("new"),
+            Word::Number(address),
+            Word::Number(birth),
+        ],
+    )
+}
+
+fn write_word<W: Sink>(writer: &mut W, word: u64) -> Result<(), WriteFailed>
+    ensures { Emits (W.written writer.old) (W.failures writer.old) (text_line (words_of (replies.Word word))) result (W.written writer.new) (W.failures writer.new) }
+{
+    write_line(writer, &[Word::Text("word"), Word::Number(word)])
+}
+
+fn write_outstanding<W: Sink>(writer: &mut W, count: u64) -> Result<(), WriteFailed>
+    ensures { Emits (W.written writer.old) (W.failures writer.old) (text_line (words_of (replies.Outstanding count))) result (W.written writer.new) (W.failures writer.new) }
+{
+    write_line(writer, &[Word::Text("outstanding"), Word::Number(count)])
+}
+
+fn write_accepted<W: Sink>(writer: &mut W, reply: Reply) -> Result<(), WriteFailed>
+    ensures { Emits (W.written writer.old) (W.failures writer.old) (text_line (words_of reply)) result (W.written writer.new) (W.failures writer.new) }
+{
+    match reply {
+        Reply::Done => write_done(writer),
+        Reply::Allocated { address, birth } => write_allocated(writer, address, birth),
+        Reply::Word(word) => write_word(writer, word),
+        Reply::Registered(answer) => write_registered(writer, answer),
+        Reply::Unregistered(old) => write_unregistered(writer, old),
+        Reply::Linked(answer) => write_linked(writer, answer),
+        Reply::Unlinked(there) => write_unlinked(writer, there),
+        Reply::Moved(answer) => write_moved(writer, answer),
+        Reply::Marked(progress) => write_marked(writer, progress),
+        Reply::Passed(passed) => write_passed(writer, passed),
+        Reply::Taken(entry) => write_taken(writer, entry),
+        Reply::Finished => write_done(writer),
+        Reply::Forfeited => write_done(writer),
+        Reply::Outstanding(count) => write_outstanding(writer, count),
+    }
+}
+
+pub(crate) fn write_reply<W: Sink>(
+    writer: &mut W,
+    reply: Result<Reply, Refusal>,
+) -> Result<(), WriteFailed>
+    ensures { Emits (W.written writer.old) (W.failures writer.old) (text_line (result_words reply)) result (W.written writer.new) (W.failures writer.new) }
+{
+    match reply {
+        Ok(reply) => write_accepted(writer, reply),
+        Err(refusal) => write_refused(writer, refusal),
+    }
+}

@@ -1,0 +1,220 @@
+//! A script from its first byte to its last.
+
+ghost use Rattle.std.specs.Prelude.{None, ◌≡◌, ◌<◌, ◌^◌, ◌+◌, IfOk, IfErr};
+ghost use Rattle.fz_drive.specs.Report.{Reported, Stopped, failures_of};
+ghost use Rattle.fz_drive.specs.Machines.{counts_after, summary_at, TellsAnswer, Finishes};
+
+use crate::answer::{Answer, answer_at};
+use crate::chunk::Chunk;
+use crate::device::{Sink, Source};
+use crate::input::{Ending, next_line};
+use crate::machine::Machine;
+use crate::reply::{Reply, write_done, write_end, write_malformed, write_refused, write_reply};
+use arrayvec::ArrayVec;
+use fz_model::Refusal;
+use std::alloc::Global;
+use thiserror::Error;
+
+/// Why a run ended early, and at which line.
+///
+/// `BadLine`: the line is malformed, or the input has ended without an opening, one past its last
+/// line. `BadCount` and `NoMemory`: the opening was refused. `Output`: what this line gets wasn't
+/// written whole; one past the last line, the report's end wasn't. `Input`: the reader failed in this
+/// line.
+#[derive(Clone, Copy, Debug, PartialEq, Eq, Error)]
+#[error("line {line}: {refusal:?}")]
+pub struct DriveFault {
+    pub refusal: Refusal,
+    /// Lines are counted from 1.
+    pub line: u64,
+}
+
+/// The numbers of a run.
+#[derive(Clone, Copy, Debug, PartialEq, Eq)]
+pub struct Summary {
+    /// The steps, with the opening.
+    pub steps: u64,
+    /// The steps that were refused.
+    pub refused: u64,
+    /// The entries that passes put into the queue.
+    pub enqueued: u64,
+    /// The entries that workers finished.
+    pub finished: u64,
+    /// The entries that workers gave up.
+    pub forfeited: u64,
+    /// The entries in workers' hands.
+    pub in_hand: u64,
+    /// The entries that no worker took.
+    pub left: u64,
+}
+
+/// Counts of the steps so far.
+#[derive(Clone, Copy)]
+pub(crate) struct Counts {
+    steps: u64,
+    refused: u64,
+    finished: u64,
+    forfeited: u64,
+}
+
+const NO_COUNTS: Counts = Counts {
+    steps: 0,
+    refused: 0,
+    finished: 0,
+    forfeited: 0,
+};
+
+impl Counts {
+    /// The counts after a line that gave this answer.
+    fn after(self, answer: Answer) -> Counts
+        requires steps { self.steps < 2 ^ 32 }
+        requires refused { self.refused < 2 ^ 32 }
+        requires finished { self.finished < 2 ^ 32 }
+        requires forfeited { self.forfeited < 2 ^ 32 }
+        ensures { result ≡ counts_after self answer }
+    {
+        let mut counts = self;
+        match answer {
+            Answer::Opened => counts.steps += 1,
+            Answer::Replied(Ok(Reply::Finished)) => {
+                counts.steps += 1;
+                counts.finished += 1;
+            }
+            Answer::Replied(Ok(Reply::Forfeited)) => {
+                counts.steps += 1;
+                counts.forfeited += 1;
+            }
+            Answer::Replied(Ok(_)) => counts.steps += 1,
+            Answer::Replied(Err(_)) => {
+                counts.steps += 1;
+                counts.refused += 1;
+            }
+            Answer::Skipped | Answer::Ended(_) | Answer::Malformed => {}
+        }
+        counts
+    }
+
+    /// The numbers of the run that led to this machine.
+    fn summary(self, machine: &Machine) -> Summary
+        ensures { result ≡ summary_at machine.now self }
+    {
+        Summary {
+            steps: self.steps,
+            refused: self.refused,
+            enqueued: machine.enqueued(),
+            finished: self.finished,
+            forfeited: self.forfeited,
+            in_hand: machine.in_hand(),
+            left: machine.left(),
+        }
+    }
+}
+
+fn fault(refusal: Refusal, line: u64) -> DriveFault
+    ensures { result ≡ record { refusal = refusal; line = line } }
+{
+    DriveFault { refusal, line }
+}
+
+/// Runs the script that the reader hands over, and writes its report.
+///
+/// A step that the world refuses is answered, and the run goes on.
+pub fn drive<R: Source, W: Sink>(
+    alloc: Global,
+    reader: &mut R,
+    writer: &mut W,
+) -> Result<Summary, DriveFault>
+    // The whole input was read, and the text is the report of a joint run over its script.
+    ensures ok { IfOk result (Reported (R.remaining reader.old) (R.remaining reader.new) (W.written writer.old) (W.written writer.new)) }
+    // Each entry is finished, given up, in a hand or left.
+    ensures balanced { IfOk result (λ summary. summary.enqueued ≡ summary.finished + summary.forfeited + summary.in_hand + summary.left) }
+    // A fault comes where its cause stands, and nothing else was written.
+    ensures fault { IfErr result (Stopped (R.remaining reader.old) (R.remaining reader.new) (W.written writer.old) (W.written writer.new)) }
+    // In this call a read failed just where it says so, and so for writes.
+    ensures reads { R.failures reader.new ≡ R.failures reader.old + failures_of Refusal.Input result }
+    ensures writes { W.failures writer.new ≡ W.failures writer.old + failures_of Refusal.Output result }
+{
+    let mut machine = None;
+    carry_out_lines(alloc, reader, writer, &mut machine)
+}
+
+/// Carries out the lines of a script, one after another, on a machine that isn't open yet.
+fn carry_out_lines<R: Source, W: Sink>(
+    alloc: Global,
+    reader: &mut R,
+    writer: &mut W,
+    machine: &mut Option<Machine>,
+) -> Result<Summary, DriveFault>
+    requires { machine.old ≡ None }
+    ensures ok { IfOk result (Reported (R.remaining reader.old) (R.remaining reader.new) (W.written writer.old) (W.written writer.new)) }
+    ensures balanced { IfOk result (λ summary. summary.enqueued ≡ summary.finished + summary.forfeited + summary.in_hand + summary.left) }
+    ensures fault { IfErr result (Stopped (R.remaining reader.old) (R.remaining reader.new) (W.written writer.old) (W.written writer.new)) }
+    ensures reads { R.failures reader.new ≡ R.failures reader.old + failures_of Refusal.Input result }
+    ensures writes { W.failures writer.new ≡ W.failures writer.old + failures_of Refusal.Output result }
+{
+    let mut chunk = Chunk::new();
+    let mut line = ArrayVec::new();
+    let mut counts = NO_COUNTS;
+    let mut number = 1;
+    'lines: loop {
+        let Ok(ending) = next_line(reader, &mut chunk, &mut line) else {
+            return Err(fault(Refusal::Input, number));
+        };
+        if let Ending::Nothing = ending {
+            return finish(writer, number, machine, counts);
+        }
+        let answer = answer_at(alloc, machine, number, ending, line.as_slice());
+        if let Err(fault) = tell(writer, number, answer) {
+            return Err(fault);
+        }
+        counts = counts.after(answer);
+        number += 1;
+        if let Ending::Last = ending {
+            return finish(writer, number, machine, counts);
+        }
+    }
+}
+
+/// Writes what a line gives. The run goes on after `Ok`.
+fn tell<W: Sink>(writer: &mut W, number: u64, answer: Answer) -> Result<(), DriveFault>
+    ensures { TellsAnswer number answer (W.written writer.old) (W.failures writer.old) result (W.written writer.new) (W.failures writer.new) }
+{
+    let failed = fault(Refusal::Output, number);
+    match answer {
+        Answer::Skipped => Ok(()),
+        Answer::Opened => write_done(writer).map_err(|_| failed),
+        Answer::Replied(reply) => write_reply(writer, reply).map_err(|_| failed),
+        Answer::Ended(refusal) => match write_refused(writer, refusal) {
+            Ok(()) => Err(fault(refusal, number)),
+            Err(_) => Err(failed),
+        },
+        Answer::Malformed => match write_malformed(writer, number) {
+            Ok(()) => Err(fault(Refusal::BadLine, number)),
+            Err(_) => Err(failed),
+        },
+    }
+}
+
+/// Ends the report, whose next line would have this number.
+fn finish<W: Sink>(
+    writer: &mut W,
+    number: u64,
+    machine: &Option<Machine>,
+    counts: Counts,
+) -> Result<Summary, DriveFault>
+    ensures { Finishes number machine.now counts (W.written writer.old) (W.failures writer.old) result (W.written writer.new) (W.failures writer.new) }
+{
+    match machine {
+        None => match write_malformed(writer, number) {
+            Ok(()) => Err(fault(Refusal::BadLine, number)),
+            Err(_) => Err(fault(Refusal::Output, number)),
+        },
+        Some(machine) => {
+            let summary = counts.summary(machine);
+            match write_end(writer, summary) {
+                Ok(()) => Ok(summary),
+                Err(_) => Err(fault(Refusal::Output, number)),
+            }
+        }
+    }
+}

@@ -1,0 +1,381 @@
+//! Runs of whole scripts.
+
+ghost use Rattle.std.specs.Prelude.{◌≡◌, ◌≤◌, ◌<◌, ◌^◌, length};
+
+use crate::failures::Failures;
+use crate::memory::{Limits, Page, Pieces, Script, WHOLE, bytewise};
+use crate::rows::Row;
+use crate::rows::cycles::{CLOSE_INSIDE_A_CYCLE, SWAP_BEHIND_THE_MARKER};
+use crate::rows::limits::{EIGHT_WORKERS, LAST_FRAME_AND_SLOT, NUMBERS_AT_THE_LIMIT};
+use crate::rows::links::MOVED_LINKS;
+use crate::rows::objects::{EMPTY_HEAP, INTERIOR_POINTER, LARGE_OBJECTS, SIZES_AND_FULL_HEAP};
+use crate::rows::order::{
+    CHAIN_IN_ORDER, CHAIN_IN_ORDER_RANKED, CYCLE_NEVER_PICKED, NO_ORDER_CYCLE_BY_ADDRESS,
+    NO_ORDER_LEADS_BACK, NORMAL_LEADS_TO_NO_ORDER, RANKS, SELF_REFERENCE_BY_KIND,
+};
+use crate::rows::refused::{EMPTY_FILE, LEADING_ZERO, NO_BLOCKS, RANK_TOO_LARGE};
+use crate::rows::registrations::{
+    CLIENT_DATA_IS_A_ROOT, HELD_UNTIL_FINISHED, ONE_OBJECT_LIFE, REPLACED_AND_REMOVED_REGISTRATION,
+};
+use crate::run::{DriveFault, Summary, drive};
+use arrayvec::ArrayVec;
+use fz_model::Refusal;
+use std::alloc::Global;
+use std::marker::Brand;
+use std::sync::ledger::{Blank, Ledger};
+use std::test::Fail;
+
+const ROWS: [Row; 23] = [
+    EMPTY_HEAP,
+    ONE_OBJECT_LIFE,
+    CHAIN_IN_ORDER,
+    CHAIN_IN_ORDER_RANKED,
+    RANKS,
+    RANK_TOO_LARGE,
+    CYCLE_NEVER_PICKED,
+    LEADING_ZERO,
+    NO_BLOCKS,
+    EMPTY_FILE,
+    INTERIOR_POINTER,
+    SIZES_AND_FULL_HEAP,
+    LARGE_OBJECTS,
+    SELF_REFERENCE_BY_KIND,
+    CLIENT_DATA_IS_A_ROOT,
+    NO_ORDER_CYCLE_BY_ADDRESS,
+    NORMAL_LEADS_TO_NO_ORDER,
+    NO_ORDER_LEADS_BACK,
+    REPLACED_AND_REMOVED_REGISTRATION,
+    MOVED_LINKS,
+    SWAP_BEHIND_THE_MARKER,
+    CLOSE_INSIDE_A_CYCLE,
+    HELD_UNTIL_FINISHED,
+];
+
+/// Scripts that go to the limits.
+const LIMITS: [Row; 3] = [EIGHT_WORKERS, LAST_FRAME_AND_SLOT, NUMBERS_AT_THE_LIMIT];
+
+#[derive(Drop)]
+struct Outcome {
+    result: Result<Summary, DriveFault>,
+    text: ArrayVec<u8, 4096>,
+}
+
+/// Runs the script over devices in memory.
+fn run(alloc: Global, script: &[u8], limits: Limits) -> Outcome {
+    run_counted::<Brand, Brand>(alloc, script, limits, Blank::new(1), Blank::new(1))
+}
+
+fn run_counted<I: Ledger, O: Ledger>(
+    alloc: Global,
+    script: &[u8],
+    limits: Limits,
+    input: Blank,
+    output: Blank,
+) -> Outcome
+    requires input_name { input.name ≡ I.name }
+    requires input_parts { (input.parts ≡ I.parts) × (I.parts ≡ 1) }
+    requires output_name { output.name ≡ O.name }
+    requires output_parts { (output.parts ≡ O.parts) × (O.parts ≡ 1) }
+{
+    let mut reader = Script::new(
+        script,
+        limits.pieces,
+        limits.reads,
+        Failures::<I>::none(input),
+    );
+    let mut writer = Page::new(limits.pieces, limits.writes, Failures::<O>::none(output));
+    let result = drive(alloc, &mut reader, &mut writer);
+    Outcome {
+        result,
+        text: writer.into_bytes(),
+    }
+}
+
+fn fault(refusal: Refusal, line: u64) -> Result<Summary, DriveFault> {
+    Err(DriveFault { refusal, line })
+}
+
+/// The number of lines that end in these bytes.
+fn lines_in(bytes: &[u8]) -> usize
+    ensures { result ≤ length bytes.now }
+{
+    bytes.iter().filter(|byte| **byte == b'\n').count()
+}
+
+/// The first lines, as many as are asked for.
+fn first_lines(bytes: &[u8], count: usize) -> &[u8] {
+    if count == 0 {
+        return &[];
+    }
+    let mut left = count;
+    for (place, byte) in bytes.iter().enumerate() {
+        if *byte == b'\n' {
+            left = left.saturating_sub(1);
+        }
+        if left == 0 {
+            return &bytes[..place + 1];
+        }
+    }
+    bytes
+}
+
+#[test]
+fn rows_are_reported(rt: HostRuntime) {
+    for row in ROWS {
+        for limits in [WHOLE, bytewise(usize::MAX, usize::MAX)] {
+            let outcome = run(rt.alloc(), row.script, limits);
+            assert_eq!(rt; outcome.text.as_slice(), row.report);
+            assert_eq!(rt; outcome.result.err(), row.fault);
+        }
+    }
+}
+
+#[test]
+fn the_limits_are_reported(rt: HostRuntime) {
+    for row in LIMITS {
+        let outcome = run(rt.alloc(), row.script, WHOLE);
+        assert_eq!(rt; outcome.text.as_slice(), row.report);
+        assert_eq!(rt; outcome.result.err(), row.fault);
+    }
+}
+
+#[test]
+fn a_summary_has_the_numbers_of_the_end(rt: HostRuntime) {
+    let outcome = run(rt.alloc(), CHAIN_IN_ORDER.script, WHOLE);
+    assert!(rt;
+        outcome.result
+            == Ok(Summary {
+                steps: 14,
+                refused: 0,
+                enqueued: 2,
+                finished: 1,
+                forfeited: 0,
+                in_hand: 1,
+                left: 0,
+            })
+    );
+}
+
+/// Whether a run of the script ends with this fault, in the line after the given ones, and has written just this text.
+fn fails(alloc: Global, limits: Limits, refusal: Refusal, lines: usize, text: &[u8]) -> bool
+    requires { lines < 2 ^ 32 }
+{
+    let outcome = run(alloc, ONE_OBJECT_LIFE.script, limits);
+    outcome.result == fault(refusal, lines as u64 + 1) && outcome.text.as_slice() == text
+}
+
+/// Each read of the script fails in turn: whole lines before it are answered, and nothing else.
+#[test]
+fn each_read_fails(rt: HostRuntime) {
+    let Row { script, report, .. } = ONE_OBJECT_LIFE;
+    for reads in 0..script.len() + 1 {
+        let lines = lines_in(&script[..reads]);
+        let replies = first_lines(report, lines);
+        let limits = bytewise(reads, usize::MAX);
+        assert!(rt;
+            fails(rt.alloc(), limits, Refusal::Input, lines, replies),
+            "at read {reads}"
+        );
+    }
+}
+
+/// Each write of the report fails in turn.
+#[test]
+fn each_write_fails(rt: HostRuntime) {
+    let Row { report, .. } = ONE_OBJECT_LIFE;
+    for writes in 0..report.len() {
+        let lines = lines_in(&report[..writes]);
+        let limits = bytewise(usize::MAX, writes);
+        assert!(rt;
+            fails(
+                rt.alloc(),
+                limits,
+                Refusal::Output,
+                lines,
+                &report[..writes]
+            ),
+            "at write {writes}"
+        );
+    }
+}
+
+/// A writer that takes all that it is offered is called once for each line.
+#[test]
+fn a_reply_is_one_write(rt: HostRuntime) {
+    let row = ONE_OBJECT_LIFE;
+    let all = lines_in(row.report);
+    for writes in 0..all {
+        let outcome = run(
+            rt.alloc(),
+            row.script,
+            Limits {
+                writes: writes as u64,
+                ..WHOLE
+            },
+        );
+        assert!(rt;
+            outcome.result == fault(Refusal::Output, writes as u64 + 1),
+            "at write {writes}"
+        );
+        assert_eq!(rt;
+            outcome.text.as_slice(),
+            first_lines(row.report, writes),
+            "at write {writes}"
+        );
+    }
+    let outcome = run(
+        rt.alloc(),
+        row.script,
+        Limits {
+            writes: all as u64,
+            ..WHOLE
+        },
+    );
+    assert_eq!(rt; outcome.text.as_slice(), row.report);
+}
+
+/// A script that ends behind any of its lines, with or without the line feed.
+#[test]
+fn a_last_line_needs_no_line_feed(rt: HostRuntime) {
+    for row in ROWS {
+        if row.fault.is_some() {
+            continue;
+        }
+        for (place, byte) in row.script.iter().enumerate() {
+            if *byte == b'\n' {
+                assert!(rt; ends_alike(rt.alloc(), row, place), "at byte {place}");
+            }
+        }
+    }
+}
+
+/// Whether the script ends alike before and behind the line feed at this place, with the replies to its lines so far.
+fn ends_alike(alloc: Global, row: Row, place: usize) -> bool
+    requires { place < length row.script.now }
+{
+    let cut = run(alloc, &row.script[..place], WHOLE);
+    let ended = run(alloc, &row.script[..place + 1], WHOLE);
+    let replies = first_lines(row.report, lines_in(&row.script[..place + 1]));
+    let text = cut.text.as_slice();
+    cut.result == ended.result
+        && text == ended.text.as_slice()
+        && text.starts_with(replies)
+        && text[replies.len()..].starts_with(b"end enqueued ")
+}
+
+/// Scripts with a malformed line, their reports, and the number of that line.
+const MALFORMED: [(&[u8], &[u8], u64); 12] = [
+    (b"#\n\n", b"line 3 refused 15 BadLine\n", 3),
+    (b"set 0 0 1\n", b"line 1 refused 15 BadLine\n", 1),
+    (b"open 1 1 1 \n", b"line 1 refused 15 BadLine\n", 1),
+    (b"\nopen 1 1 1\r\n", b"line 2 refused 15 BadLine\n", 2),
+    (
+        b"open 1 1 1\nopen 1 1 1\n",
+        b"ok\nline 2 refused 15 BadLine\n",
+        2,
+    ),
+    (
+        b"open 1 1 1\nset 0 0 1\r\n",
+        b"ok\nline 2 refused 15 BadLine\n",
+        2,
+    ),
+    (
+        b"open 1 1 1\n#\r\nset  0 0 1",
+        b"ok\nline 3 refused 15 BadLine\n",
+        3,
+    ),
+    (
+        b"open 1 1 1\nset 0 0 18446744073709551616",
+        b"ok\nline 2 refused 15 BadLine\n",
+        2,
+    ),
+    (
+        b"open 1 1 1\nset 0 0 +1",
+        b"ok\nline 2 refused 15 BadLine\n",
+        2,
+    ),
+    (
+        b"open 1 1 1\nset 0 0",
+        b"ok\nline 2 refused 15 BadLine\n",
+        2,
+    ),
+    (
+        b"open 1 1 1\n set 0 0 1",
+        b"ok\nline 2 refused 15 BadLine\n",
+        2,
+    ),
+    (
+        b"open 1 1 1\nnew 0 0 1 Scanned\n",
+        b"ok\nline 2 refused 15 BadLine\n",
+        2,
+    ),
+];
+
+#[test]
+fn malformed_lines(rt: HostRuntime) {
+    for (script, report, line) in MALFORMED {
+        let outcome = run(rt.alloc(), script, WHOLE);
+        assert_eq!(rt; outcome.text.as_slice(), report);
+        assert!(rt; outcome.result == fault(Refusal::BadLine, line));
+    }
+}
+
+/// A comment of 200 bytes is skipped, and one of 201 is malformed as soon as its last byte was read.
+#[test]
+fn long_lines(rt: HostRuntime) {
+    let mut bytes = [b'#'; 202];
+    bytes[201] = b'\n';
+    let outcome = run(rt.alloc(), &bytes[1..], WHOLE);
+    assert!(rt; outcome.result == fault(Refusal::BadLine, 2));
+    let outcome = run(rt.alloc(), &bytes[..200], WHOLE);
+    assert!(rt; outcome.result == fault(Refusal::BadLine, 2));
+    let outcome = run(rt.alloc(), &bytes, WHOLE);
+    assert!(rt; outcome.result == fault(Refusal::BadLine, 1));
+    let outcome = run(rt.alloc(), &bytes, bytewise(201, usize::MAX));
+    assert!(rt; outcome.result == fault(Refusal::BadLine, 1));
+    let outcome = run(rt.alloc(), &bytes, bytewise(200, usize::MAX));
+    assert!(rt; outcome.result == fault(Refusal::Input, 1));
+}
+
+#[test]
+fn openings_outside_the_limits(rt: HostRuntime) {
+    let scripts: [&[u8]; 6] = [
+        b"open 0 1 1\n",
+        b"open 4097 1 1\n",
+        b"open 1 0 1\n",
+        b"open 1 9 1\n",
+        b"open 1 1 0\n",
+        b"open 1 1 9\n",
+    ];
+    for script in scripts {
+        let outcome = run(rt.alloc(), script, WHOLE);
+        assert_eq!(rt; outcome.text.as_slice(), b"refused 7 BadCount\n".as_slice());
+        assert!(rt; outcome.result == fault(Refusal::BadCount, 1));
+    }
+}
+
+/// What the workers are refused, and what stays in their hands.
+#[test]
+fn workers_are_refused(rt: HostRuntime) {
+    let script =
+        b"open 4 1 1\ntake 1\nfinish 1\nfinish 0\ntake 0\nnew 0 0 2 scanned\nregister 0 0 normal 7 0\n\
+        set 0 0 0\ncollect\ntake 0\ntake 0\nfinish 0\nfinish 0\n";
+    let report =
+        b"ok\nrefused 16 SeatsMissing\nrefused 16 SeatsMissing\nrefused 10 NotHeld\nempty\nnew 65536 0\nreg 0\n\
+        ok\npass 1 picked 1 reclaimed 0\nentry 0 1 0 65536 0 7 0\nrefused 16 SeatsMissing\nok\nrefused 10 NotHeld\n\
+        end enqueued 1 finished 1 forfeited 0 in_hand 0 left 0\n";
+    let outcome = run(rt.alloc(), script, WHOLE);
+    assert_eq!(rt; outcome.text.as_slice(), report.as_slice());
+    assert!(rt;
+        outcome.result
+            == Ok(Summary {
+                steps: 13,
+                refused: 5,
+                enqueued: 1,
+                finished: 1,
+                forfeited: 0,
+                in_hand: 0,
+                left: 0,
+            })
+    );
+}
