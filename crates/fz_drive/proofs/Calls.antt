@@ -24,14 +24,6 @@ pub call_refuses : (old new : World) (e : Event) (r : Refusal) (result : Result 
 call_refuses old new e r result does error =
     subst (λ x. CallDoes old e x new) (sym (the_error result r error)) (record { reply = Err r; does = does; tells = record { words = refl; refused = refl; finish = refl; forfeit = refl } })
 
-called_for : (m : Machine) (w : World) (step : Step) (e : Event) (result : Result Reply Refusal) → event_of step ≡ Some (Call e) → IsFalse (is_finish e) → CallDoes m.world e result w → StepDoes m step result (record m { world = w })
+pub called_for : (m : Machine) (w : World) (step : Step) (e : Event) (result : Result Reply Refusal) → event_of step ≡ Some (Call e) → IsFalse (is_finish e) → CallDoes m.world e result w → StepDoes m step result (record m { world = w })
 called_for m w step e result asked call does =
     record { event = Call e; reply = does.reply; asked = asked; does = called m (record m { world = w }) e does.reply call does.does refl refl; tells = does.tells }
-
-pub call_answered : (m : Machine) (w : World) (step : Step) (e : Event) (reply : Reply) → event_of step ≡ Some (Call e) → IsFalse (is_finish e) → CallDoes m.world e (Ok reply) w → CarriesOut m step (Ok (Some reply)) (record m { world = w })
-call_answered m w step e reply asked call does = called_for m w step e (Ok reply) asked call does
-
--- the refusal that a call gives back is the step's
-pub call_refused : (m : Machine) (w : World) (step : Step) (e : Event) (r : Refusal) (result : Result (Option Reply) Refusal) → event_of step ≡ Some (Call e) → IsFalse (is_finish e) → CallDoes m.world e (Err r) w
-    → IsErrAnd result (λ x. x ≡ r) → CarriesOut m step result (record m { world = w })
-call_refused m w step e r result asked call does error = subst (λ x. CarriesOut m step x (record m { world = w })) (sym (the_error result r error)) (called_for m w step e (Err r) asked call does)

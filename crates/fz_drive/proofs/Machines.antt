@@ -217,8 +217,8 @@ accepted old new step e answer reply asked does words finish forfeit =
     record { event = e; reply = Ok answer; asked = asked; does = does; tells = record { words = words; refused = refl; finish = finish; forfeit = forfeit } }
 
 -- the error that a call gives back is the step's
-pub refuses : (old new : Machine) (step : Step) (e : JointEvent) (r : Refusal) (result : Result (Option Reply) Refusal) → event_of step ≡ Some e → JointDoes old e (Err r) new → IsErrAnd result (λ x. x ≡ r) → CarriesOut old step result new
-refuses old new step e r result asked does error = subst (λ x. CarriesOut old step x new) (sym (the_error result r error)) (refused old new step e r asked does)
+pub refuses : (old new : Machine) (step : Step) (e : JointEvent) (r : Refusal) (result : Result Reply Refusal) → event_of step ≡ Some e → JointDoes old e (Err r) new → IsErrAnd result (λ x. x ≡ r) → StepDoes old step result new
+refuses old new step e r result asked does error = subst (λ x. StepDoes old step x new) (sym (the_error result r error)) (refused old new step e r asked does)
 
 -- ---- a step that is a call of the world alone
 

@@ -1,6 +1,6 @@
 //! What one line of a script gives.
 
-ghost use Rattle.std.specs.Prelude.{◌≡◌};
+ghost use Rattle.std.specs.Prelude.{◌≡◌, None, Some, true};
 ghost use Rattle.fz_drive.specs.Script.{is_kept};
 ghost use Rattle.fz_drive.specs.Script as script;
 ghost use Rattle.fz_drive.specs.Machines.{Gives, Given};
@@ -47,29 +47,51 @@ fn answer_to(alloc: Global, machine: &mut Option<Machine>, line: &[u8]) -> Answe
     if !is_kept(line) {
         return Answer::Skipped;
     }
+    match machine {
+        None => first_answer(alloc, machine, line),
+        Some(machine) => later_answer(machine, line),
+    }
+}
+
+// Apart from what the other lines ask for, since the room that an opening takes is cleared at each call.
+/// What the first line of a step gives.
+#[inline(never)]
+fn first_answer(alloc: Global, machine: &mut Option<Machine>, line: &[u8]) -> Answer
+    requires closed { machine.old ≡ None }
+    requires kept { script.is_kept line.now ≡ true }
+    ensures { Gives machine.old line.now result machine.new }
+{
     let Some(step) = step_of(line) else {
         return Answer::Malformed;
     };
-    match machine {
-        None => match step {
-            Step::Open {
-                blocks,
-                frames,
-                workers,
-            } => match Machine::open(alloc, blocks, frames, workers) {
-                Ok(opened) => {
-                    *machine = Some(opened);
-                    Answer::Opened
-                }
-                Err(refusal) => Answer::Ended(refusal),
-            },
-            _ => Answer::Malformed,
+    match step {
+        Step::Open {
+            blocks,
+            frames,
+            workers,
+        } => match Machine::open(alloc, blocks, frames, workers) {
+            Ok(opened) => {
+                *machine = Some(opened);
+                Answer::Opened
+            }
+            Err(refusal) => Answer::Ended(refusal),
         },
-        Some(machine) => match machine.carry_out(step) {
-            Ok(Some(reply)) => Answer::Replied(Ok(reply)),
-            Ok(None) => Answer::Malformed,
-            Err(refusal) => Answer::Replied(Err(refusal)),
-        },
+        _ => Answer::Malformed,
+    }
+}
+
+/// What a line of a step gives once there is a machine.
+fn later_answer(machine: &mut Machine, line: &[u8]) -> Answer
+    requires { script.is_kept line.now ≡ true }
+    ensures { Gives (Some machine.old) line.now result (Some machine.new) }
+{
+    let Some(step) = step_of(line) else {
+        return Answer::Malformed;
+    };
+    match machine.carry_out(step) {
+        Ok(Some(reply)) => Answer::Replied(Ok(reply)),
+        Ok(None) => Answer::Malformed,
+        Err(refusal) => Answer::Replied(Err(refusal)),
     }
 }
 

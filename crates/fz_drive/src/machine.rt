@@ -1,10 +1,12 @@
 //! A world with its workers: what a script's steps are carried out by.
 
-ghost use Rattle.std.specs.Prelude.{◌≡◌, ◌-◌, true, None, Some, IfOk, IfErr, OnOk, ◌<◌, slice_get, is_some, count_by, length, replicate, ◌≤◌};
+ghost use Rattle.std.specs.Prelude.{◌≡◌, ◌-◌, true, false, None, Some, IfOk, IfErr, OnOk, ◌<◌, slice_get, is_some, count_by, length, replicate, ◌≤◌};
 ghost use Rattle.fz_model.specs.Causes.{first_cause, IsRefusedFor};
 ghost use Rattle.fz_model.specs.Joint.{Take, HoldOwn, FinishOwn, Forfeit, joint_opening};
 ghost use Rattle.fz_drive.specs.Report.{opening_causes};
-ghost use Rattle.fz_drive.specs.Machines.{StandsForJoint, JointDoes, CarriesOut};
+ghost use Rattle.fz_drive.specs.Machines.{StandsForJoint, JointDoes, StepDoes, CarriesOut};
+ghost use Rattle.fz_drive.specs.Script.{is_open};
+ghost use Rattle.fz_script.specs.declared.step.Step.TheVariants as steps;
 
 mod calls;
 
@@ -29,6 +31,7 @@ pub(crate) struct Machine {
 
 impl Machine {
     /// Opens a world, whose workers have nothing in hand.
+    #[inline(never)]
     pub(crate) fn open(
         alloc: Global,
         blocks: u64,
@@ -112,34 +115,46 @@ impl Machine {
     pub(crate) fn carry_out(&mut self, step: Step) -> Result<Option<Reply>, Refusal>
         ensures { CarriesOut self.old step result self.new }
     {
-        Ok(Some(match step {
+        if let Step::Open { .. } = step {
+            return Ok(None);
+        }
+        Ok(Some(self.answer(step)?))
+    }
+
+    // Each call of the world hands its result on as it is, so that no step pays for the results of others.
+    /// What a step answers that is no opening.
+    fn answer(&mut self, step: Step) -> Result<Reply, Refusal>
+        requires { is_open step ≡ false }
+        ensures { StepDoes self.old step result self.new }
+    {
+        match step {
             Step::New {
                 frame,
                 slot,
                 size,
                 kind,
-            } => calls::alloc(&mut self.world, frame, slot, size, kind)?,
-            Step::Set { frame, slot, word } => calls::set(&mut self.world, frame, slot, word)?,
+            } => calls::alloc(&mut self.world, frame, slot, size, kind),
+            Step::Set { frame, slot, word } => calls::set(&mut self.world, frame, slot, word),
             Step::Copy {
                 frame,
                 slot,
                 to_frame,
                 to_slot,
-            } => calls::copy(&mut self.world, frame, slot, to_frame, to_slot)?,
+            } => calls::copy(&mut self.world, frame, slot, to_frame, to_slot),
             Step::Load {
                 frame,
                 slot,
                 offset,
                 to_frame,
                 to_slot,
-            } => calls::load(&mut self.world, frame, slot, offset, to_frame, to_slot)?,
+            } => calls::load(&mut self.world, frame, slot, offset, to_frame, to_slot),
             Step::Store {
                 frame,
                 slot,
                 offset,
                 from_frame,
                 from_slot,
-            } => calls::store(&mut self.world, frame, slot, offset, from_frame, from_slot)?,
+            } => calls::store(&mut self.world, frame, slot, offset, from_frame, from_slot),
             Step::Register {
                 frame,
                 slot,
@@ -155,8 +170,8 @@ impl Machine {
                 procedure,
                 client_data,
                 rank,
-            )?,
-            Step::Unregister { frame, slot } => calls::unregister(&mut self.world, frame, slot)?,
+            ),
+            Step::Unregister { frame, slot } => calls::unregister(&mut self.world, frame, slot),
             Step::Link {
                 which,
                 frame,
@@ -172,13 +187,13 @@ impl Machine {
                 offset,
                 target_frame,
                 target_slot,
-            )?,
+            ),
             Step::Unlink {
                 which,
                 frame,
                 slot,
                 offset,
-            } => calls::unlink(&mut self.world, which, frame, slot, offset)?,
+            } => calls::unlink(&mut self.world, which, frame, slot, offset),
             Step::Move {
                 which,
                 frame,
@@ -196,32 +211,40 @@ impl Machine {
                 to_frame,
                 to_slot,
                 to_offset,
-            )?,
-            Step::Begin => calls::begin(&mut self.world)?,
-            Step::Mark { budget } => calls::mark(&mut self.world, budget)?,
-            Step::Pause => calls::pause(&mut self.world)?,
-            Step::Collect => calls::collect(&mut self.world)?,
-            Step::Take { worker } => Reply::Taken(self.take(worker)?),
+            ),
+            Step::Begin => calls::begin(&mut self.world),
+            Step::Mark { budget } => calls::mark(&mut self.world, budget),
+            Step::Pause => calls::pause(&mut self.world),
+            Step::Collect => calls::collect(&mut self.world),
+            Step::Take { worker } => self.answer_take(worker),
             Step::Hold {
                 worker,
                 frame,
                 slot,
             } => {
                 self.hold(worker, frame, slot)?;
-                Reply::Done
+                Ok(Reply::Done)
             }
             Step::Finish { worker } => {
                 self.finish(worker)?;
-                Reply::Finished
+                Ok(Reply::Finished)
             }
             Step::Forfeit { worker } => {
                 self.forfeit(worker)?;
-                Reply::Forfeited
+                Ok(Reply::Forfeited)
             }
-            Step::Close => calls::close(&mut self.world)?,
-            Step::Outstanding => Reply::Outstanding(self.world.outstanding()),
-            Step::Open { .. } => return Ok(None),
-        }))
+            Step::Close => calls::close(&mut self.world),
+            Step::Outstanding => Ok(Reply::Outstanding(self.world.outstanding())),
+            Step::Open { .. } => unreachable!(),
+        }
+    }
+
+    /// What the step answers by which the worker takes an entry.
+    #[inline(never)]
+    fn answer_take(&mut self, worker: u64) -> Result<Reply, Refusal>
+        ensures { StepDoes self.old (steps.Take worker) result self.new }
+    {
+        Ok(Reply::Taken(self.take(worker)?))
     }
 
     /// The number of entries in the queue.

@@ -9,6 +9,7 @@ use fz_model::{LinkKind, ObjKind, Refusal, RegKind};
 use fz_world::World;
 
 #[tactic(auto, using(crate::proofs::Calls::call_answers, crate::proofs::Calls::call_refuses))]
+#[inline(never)]
 pub(super) fn alloc(
     world: &mut World,
     frame: u64,
@@ -74,6 +75,7 @@ pub(super) fn store(
 }
 
 #[tactic(auto, using(crate::proofs::Calls::call_answers, crate::proofs::Calls::call_refuses))]
+#[inline(never)]
 pub(super) fn register(
     world: &mut World,
     frame: u64,
@@ -96,6 +98,7 @@ pub(super) fn register(
 }
 
 #[tactic(auto, using(crate::proofs::Calls::call_answers, crate::proofs::Calls::call_refuses))]
+#[inline(never)]
 pub(super) fn unregister(world: &mut World, frame: u64, slot: u64) -> Result<Reply, Refusal>
     ensures { CallDoes world.old (Unregister frame slot) result world.new }
 {
@@ -103,6 +106,7 @@ pub(super) fn unregister(world: &mut World, frame: u64, slot: u64) -> Result<Rep
 }
 
 #[tactic(auto, using(crate::proofs::Calls::call_answers, crate::proofs::Calls::call_refuses))]
+#[inline(never)]
 pub(super) fn link(
     world: &mut World,
     which: LinkKind,
@@ -118,6 +122,7 @@ pub(super) fn link(
 }
 
 #[tactic(auto, using(crate::proofs::Calls::call_answers, crate::proofs::Calls::call_refuses))]
+#[inline(never)]
 pub(super) fn unlink(
     world: &mut World,
     which: LinkKind,
@@ -131,6 +136,7 @@ pub(super) fn unlink(
 }
 
 #[tactic(auto, using(crate::proofs::Calls::call_answers, crate::proofs::Calls::call_refuses))]
+#[inline(never)]
 pub(super) fn move_link(
     world: &mut World,
     which: LinkKind,
@@ -147,6 +153,7 @@ pub(super) fn move_link(
 }
 
 #[tactic(auto, using(crate::proofs::Calls::call_answers, crate::proofs::Calls::call_refuses))]
+#[inline(never)]
 pub(super) fn begin(world: &mut World) -> Result<Reply, Refusal>
     ensures { CallDoes world.old Begin result world.new }
 {
@@ -155,6 +162,7 @@ pub(super) fn begin(world: &mut World) -> Result<Reply, Refusal>
 }
 
 #[tactic(auto, using(crate::proofs::Calls::call_answers, crate::proofs::Calls::call_refuses))]
+#[inline(never)]
 pub(super) fn mark(world: &mut World, budget: u64) -> Result<Reply, Refusal>
     ensures { CallDoes world.old (Mark budget) result world.new }
 {
@@ -162,6 +170,7 @@ pub(super) fn mark(world: &mut World, budget: u64) -> Result<Reply, Refusal>
 }
 
 #[tactic(auto, using(crate::proofs::Calls::call_answers, crate::proofs::Calls::call_refuses))]
+#[inline(never)]
 pub(super) fn pause(world: &mut World) -> Result<Reply, Refusal>
     ensures { CallDoes world.old Pause result world.new }
 {
@@ -169,6 +178,7 @@ pub(super) fn pause(world: &mut World) -> Result<Reply, Refusal>
 }
 
 #[tactic(auto, using(crate::proofs::Calls::call_answers, crate::proofs::Calls::call_refuses))]
+#[inline(never)]
 pub(super) fn collect(world: &mut World) -> Result<Reply, Refusal>
     ensures { CallDoes world.old Collect result world.new }
 {
@@ -176,6 +186,7 @@ pub(super) fn collect(world: &mut World) -> Result<Reply, Refusal>
 }
 
 #[tactic(auto, using(crate::proofs::Calls::call_answers, crate::proofs::Calls::call_refuses))]
+#[inline(never)]
 pub(super) fn close(world: &mut World) -> Result<Reply, Refusal>
     ensures { CallDoes world.old Close result world.new }
 {
