@@ -10,7 +10,6 @@ mod files;
 mod mutator;
 mod owners;
 mod session;
-mod workers;
 
 use anyhow::{Result, bail};
 use close::CloseFile;

@@ -6,19 +6,25 @@ use crate::files::OpenFiles;
 use crate::mutator::{mutate, refused};
 use crate::owners;
 use crate::owners::{CACHE, CLOSED};
-use crate::workers::{Carried, Worker};
-use anyhow::{Result, bail};
-use fz_service::{Final, Opening, Prepared, Proc, Seat, Service};
+use anyhow::Result;
+use fz_service::{Final, Gate, Opening, Prepared, Proc, Seat, Service};
 use std::alloc::Global;
 use std::fs::File;
 use std::rt::Files;
 use std::sync::atomic::{AtomicBool, Ordering};
 use std::sync::{Mutex, Wait};
-use std::thread;
 use std::thread::Threads;
+use std::{mem, thread};
 
 /// A list of procedures for each worker.
 type Procs = Vec<Vec<Box<dyn Proc + Send>>>;
+
+/// A gate that lets all pass.
+struct Open;
+
+impl Gate for Open {
+    fn entered(&self, _seq: u64) {}
+}
 
 /// Opens the service, lets the mutator and the workers run beside each other, ends it, and prints the totals.
 pub(crate) fn run<O: Opening + Send + Sync, R: Files<File = File> + Print + Threads + Wait + Sync>(
@@ -31,50 +37,36 @@ pub(crate) fn run<O: Opening + Send + Sync, R: Files<File = File> + Print + Thre
 ) -> Result<()>
     requires { prepared ≡ O.origin }
 {
-    let (service, seats) = Service::<O>::open(prepared).map_err(refused)?;
-    let workers = workers(alloc, seats, procs)?;
+    let (service, mut seats) = Service::<O>::open(prepared).map_err(refused)?;
     let stop = AtomicBool::new(false);
-    let (carried, mutated) = thread::join(
+    let slot = &mut seats;
+    let (back, mutated) = thread::join(
         rt,
-        || thread::map_vec(
-            rt,
-            workers,
-            &|worker: Worker<O>| worker.serve(rt, &service, &stop),
-        ),
+        || serve(rt, alloc, &service, slot, procs, &stop),
         || {
             let mutated = mutate(rt, &service, files, names);
             stop.store(true, Ordering::SeqCst);
             mutated
         },
     );
-    mutated?;
-    print_files(rt, &service, files, names.len() as u64)?;
-    let end = end(alloc, service, carried?)?;
-    let left = end.left.len();
-    println!(rt;
-        "queued {}, finished {}, given up {}",
-        end.enqueued, end.finished, end.forfeited
-    )?;
-    println!(rt; "left {left}, reclaimed {}", end.reclaimed)?;
-    Ok(())
+    retire_all(seats);
+    let printed = mutated.and_then(|()| print_files(rt, &service, files, names.len() as u64));
+    let end = end(service, back);
+    printed?;
+    print_end(rt, &end?)
 }
 
-/// A worker for each seat.
-fn workers<O: Opening>(
+/// Lets a worker on a thread of its own serve with each seat until `stop`; returns the seats.
+fn serve<O: Opening + Send + Sync, R: Threads + Wait + Sync>(
+    rt: &R,
     alloc: Global,
-    mut seats: Vec<Seat<O>>,
+    service: &Service<O>,
+    seats: &mut Vec<Seat<O>>,
     mut procs: Procs,
-) -> Result<Vec<Worker<O>>> {
-    let mut workers = Vec::new(alloc);
-    while let Some(seat) = seats.pop() {
-        let list = procs.pop().unwrap_or(Vec::new(alloc));
-        let Ok(()) = workers.push(Worker::new(seat, list)) else {
-            retire_all(seats);
-            bail!("no memory for a worker");
-        };
-    }
-    seats.destroy_empty();
-    Ok(workers)
+    stop: &AtomicBool,
+) -> Vec<Seat<O>> {
+    let seats = mem::replace(seats, Vec::new(alloc));
+    service.run_workers(seats, procs.as_mut_slice(), &Open, stop, rt)
 }
 
 /// Ends these seats for good.
@@ -101,13 +93,7 @@ fn print_files<O: Opening, R: Print + Wait>(
 }
 
 /// Ends the service with all its seats.
-fn end<O: Opening>(alloc: Global, service: Service<O>, carried: Vec<Carried<O>>) -> Result<Final> {
-    let mut seats = Vec::new(alloc);
-    for one in carried {
-        if let Err(failed) = seats.push(one.into_seat()) {
-            failed.value.retire();
-        }
-    }
+fn end<O: Opening>(service: Service<O>, seats: Vec<Seat<O>>) -> Result<Final> {
     match service.shutdown(seats) {
         Ok(end) => Ok(end),
         Err((refusal, _, seats)) => {
@@ -115,4 +101,15 @@ fn end<O: Opening>(alloc: Global, service: Service<O>, carried: Vec<Carried<O>>)
             Err(refused(refusal))
         }
     }
+}
+
+/// Prints the totals.
+fn print_end<R: Print>(rt: &R, end: &Final) -> Result<()> {
+    println!(rt;
+        "queued {}, finished {}, given up {}",
+        end.enqueued, end.finished, end.forfeited
+    )?;
+    let left = end.left.len();
+    println!(rt; "left {left}, reclaimed {}", end.reclaimed)?;
+    Ok(())
 }
