@@ -1,6 +1,6 @@
 //! Lines of words, each written at once.
 
-ghost use Rattle.std.specs.Prelude.{◌≡◌, ◌≤◌, ◌+◌, ◌++◌, IsTrue, map, true};
+ghost use Rattle.std.specs.Prelude.{◌≡◌, ◌≤◌, ◌+◌, ◌++◌, [], IsTrue, map, true};
 ghost use Rattle.arrayvec.specs.ArrayString.{array_string_len};
 ghost use Rattle.fz_script.specs.Spelling.{text};
 ghost use Rattle.fz_drive.specs.Devices.{Emits};
@@ -63,18 +63,17 @@ fn push_word(line: &mut Line, word: Word)
     }
 }
 
-/// The words with one space between two, and LF at the end.
-fn line_of(words: &[Word]) -> Line
-    requires { fits_line words.now ≡ true }
-    ensures { result.bytes ≡ text_line (map said words.now) }
+/// Puts the words on an empty line, with one space between two, and LF at the end.
+fn put_words(line: &mut Line, words: &[Word])
+    requires empty { line.old.bytes ≡ [] }
+    requires fits { fits_line words.now ≡ true }
+    ensures { line.new.bytes ≡ text_line (map said words.now) }
 {
-    let mut line = Line::new();
     for (place, word) in words.iter().enumerate() {
-        push_separator(&mut line, place);
-        push_word(&mut line, *word);
+        push_separator(line, place);
+        push_word(line, *word);
     }
     line.push_str("\n");
-    line
 }
 
 /// Writes the words as a line, in one write where the writer takes it whole.
@@ -83,6 +82,7 @@ pub(crate) fn write_line<W: Sink>(writer: &mut W, words: &[Word]) -> Result<(), 
     ensures { Emits (W.written writer.old) (W.failures writer.old) (text_line (map said words.now))
         result (W.written writer.new) (W.failures writer.new) }
 {
-    let line = line_of(words);
+    let mut line = Line::new();
+    put_words(&mut line, words);
     write_all(writer, line.as_str().as_bytes())
 }

@@ -1,6 +1,6 @@
 use Rattle.std.proofs.Common.{◌≡◌, ◌≤◌, ◌*◌, length, take}
 use Rattle.fz_drive.proofs.Words.{joined}
-use Rattle.fz_drive.proofs.output.line_of.Given as goal
+use Rattle.fz_drive.proofs.output.put_words.Given as goal
 
 abbrev pub invariant-loop-place : goal.invariant-loop-place
 invariant-loop-place l = record {
