@@ -51,7 +51,7 @@ IsTurn {origin} new register drop holds =
     (first : List (Hold origin)) × (rest : List (Hold origin)) × (holds ≡ first ++ rest) × (map event_in first ≡ new)
     × (map event_in rest ≡ if count_by is_refused first == 0 then register ++ drop else [])
 
--- so many turns, one after another
+-- a number of turns, one after another
 pub data AreTurns {origin : Origin} (new register drop : List Event) : ℕ → List (Hold origin) → Type 0 where
   NoTurn : AreTurns new register drop 0 []
   OneTurn : (n : ℕ) (holds more : List (Hold origin)) → AreTurns new register drop n holds → IsTurn new register drop more → AreTurns new register drop (n + 1) (holds ++ more)
@@ -78,7 +78,7 @@ begins_section Mutator = true
 begins_section Collector = true
 begins_section _ = false
 
--- the jobs of the section with this number, where so many sections have begun
+-- the jobs of the section with this number, where `begun` sections have begun before
 abbrev pub own_from : ℕ → ℕ → List Job → List Job
 own_from begun number [] = []
 own_from begun number (job ∷ jobs) =
@@ -88,7 +88,7 @@ own_from begun number (job ∷ jobs) =
 abbrev pub own_jobs : ℕ → List Job → List Job
 own_jobs number jobs = own_from 0 number jobs
 
--- so many holds of such a list were refused
+-- this number of holds of such a list were refused
 abbrev pub HasRefused : (origin : Origin) → (List (Hold origin) → Type 0) → ℕ → Type 0
 HasRefused origin P refused = (holds : List (Hold origin)) × P holds × (refused ≡ count_by is_refused holds)
 

@@ -39,7 +39,7 @@ opening_fault refusal line = lineless refusal
 abbrev pub asked_from : Origin → ℕ → List Job → Asked
 asked_from origin collections jobs = record { blocks = origin.blocks; frames = origin.frames; workers = origin.workers; collections = collections; body = jobs }
 
--- the numbers are those of the ended service, and of so many refused steps
+-- the numbers are those of the ended service, and this number of refused steps
 abbrev pub TellsEnd : Origin → ℕ → Tally → Type 0
 TellsEnd origin refused tally =
     (seats : List SeatState) × (end : Final) × IsEndOfRun origin seats end × IsEachOnce origin.workers seats × (tally ≡ tally_of end refused)

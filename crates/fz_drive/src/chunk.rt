@@ -31,7 +31,7 @@ impl Chunk {
         &self.bytes[self.at..self.len]
     }
 
-    /// Uses so many bytes more.
+    /// Uses the next `count` bytes.
     pub(crate) fn advance(&mut self, count: usize)
         requires { count ≤ length (drop self.old.at (take self.old.len self.old.bytes)) }
         ensures { drop self.new.at (take self.new.len self.new.bytes) ≡ drop count (drop self.old.at (take self.old.len self.old.bytes)) }

@@ -5,7 +5,7 @@ use std::rt::Clock;
 use std::sync::{Mutex, Wait};
 use std::time::Instant;
 
-/// The nanoseconds in which a lock is taken so often, and a word under it written each time.
+/// The nanoseconds in which a lock is taken `count` times, and a word under it written each time.
 pub(crate) fn lock_bare<R: Clock + Wait>(rt: &R, count: u64) -> io::Result<u128> {
     let lock = Mutex::new(0u64);
     let start = Instant::now(rt)?;

@@ -31,7 +31,7 @@ impl Gate for OpenGate {
     fn entered(&self, _seq: u64) {}
 }
 
-/// Makes so many objects of one word, each registered, to which nothing leads. Whether all calls were accepted.
+/// Makes `count` objects of one word, each registered, to which nothing leads. Returns whether all calls were accepted.
 fn make<O: Opening, R: Wait>(rt: &R, service: &Service<O>, count: u64) -> bool {
     let mut locked = service.enter(rt);
     for _ in 0..count {
@@ -57,8 +57,8 @@ fn serve<O: Opening + Send + Sync, R: Threads + Wait + Sync>(
     service.run_workers(seats, procs.as_mut_slice(), &OpenGate, stop, rt)
 }
 
-/// The nanoseconds from a collection of so many registered objects until workers have finished all of their entries, with the seats; nothing where
-/// there is no room for so many objects.
+/// The nanoseconds from a collection of `count` registered objects until workers have finished all of their entries, with the seats; nothing where
+/// there is no room for the objects.
 pub(crate) fn finish_all<O: Opening + Send + Sync, R: Clock + Threads + Wait + Sync>(
     rt: &R,
     alloc: Global,

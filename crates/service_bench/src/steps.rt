@@ -6,7 +6,7 @@ use std::rt::Clock;
 use std::sync::Wait;
 use std::time::Instant;
 
-/// The nanoseconds in which a service is entered so often, and a slot set each time.
+/// The nanoseconds in which a service is entered `count` times, and a slot set each time.
 pub(crate) fn enter_and_set<O: Opening, R: Clock + Wait>(
     rt: &R,
     service: &Service<O>,

@@ -58,7 +58,7 @@ fn a_longer_file_is_malformed(rt: HostRuntime) -> Result<(), Fail> {
     Ok(())
 }
 
-/// A file with a comment of so many bytes in its third line.
+/// A file whose third line is a comment of this length, in bytes.
 fn commented(alloc: Global, bytes: usize) -> Result<Vec<u8>, AllocError> {
     let mut file = joined(alloc, &[b"open 1 1 1\nsettle 1\n"])?;
     for _byte in 0..bytes {

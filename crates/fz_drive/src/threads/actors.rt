@@ -53,7 +53,7 @@ fn run_sections<O: Opening + Send + Sync, R: Threads + Wait + Sync>(
     Ok(total(refused.as_slice()))
 }
 
-/// Ends the cycle, if one is open, and collects so many times.
+/// Ends the cycle, if one is open, and makes this number of collections.
 fn settle<O: Opening, R: Wait>(service: &Service<O>, collections: u64, rt: &R)
     ensures { Settles O.origin collections }
 {

@@ -29,7 +29,7 @@ fn turn<O: Opening, R: Wait>(
     registered as u64 + dropped as u64
 }
 
-/// So many turns; returns how many of their steps were refused.
+/// Carries out `count` turns; returns how many of their steps were refused.
 fn turns<O: Opening, R: Wait>(
     service: &Service<O>,
     count: u64,
