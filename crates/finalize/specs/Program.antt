@@ -5,9 +5,9 @@ use Rattle.fz_model.specs.declared.refusal.Refusal.TheVariants.{Input, Output, N
 use Rattle.finalize.specs.declared.program.Program.{Program}
 use Rattle.finalize.specs.declared.program.Program.TheVariants.{Run, Threads}
 use Rattle.fz_drive.specs.declared.run.Summary.{Summary}
-use Rattle.fz_drive.specs.declared.run.DriveFault.{DriveFault}
+use Rattle.fz_text.specs.declared.fault.DriveFault.{DriveFault}
 use Rattle.fz_drive.specs.Report.{Reported, Stopped}
-use Rattle.fz_drive.specs.Threads.{Summarized, RunStopped}
+use Rattle.fz_threads.specs.Threads.{Summarized, RunStopped}
 
 abbrev pub want_line : List ℕ
 want_line = codes "finalize: want run FILE or threads FILE\n"

@@ -8,9 +8,10 @@ mod stream;
 #[cfg(test)]
 mod tests;
 
-use fz_drive::{Failures, Keep, Nothing, Sink};
 use fz_model::MAX_WORKERS;
 use fz_service::Proc;
+use fz_text::{Failures, Sink};
+use fz_threads::{Keep, Nothing};
 use program::{execute, out_of_memory, wrong_words};
 use std::alloc::AllocError;
 use std::convert::AsStr;

@@ -2,16 +2,18 @@
 
 ghost use Rattle.std.specs.Prelude.{◌≡◌, ◌≢◌, ◌≤◌, ◌⊎◌, ◌+◌, List, ℕ, Option, IfSome, IsNone, codes, length, map, slice_get, Err, Some};
 ghost use Rattle.finalize.specs.Program.{want_line, memory_line, open_line, fault_line, Names, Completes, Stops};
-ghost use Rattle.fz_drive.specs.Devices.{Says};
+ghost use Rattle.fz_text.specs.Devices.{Says};
 ghost use Rattle.fz_drive.specs.Report.{failures_of};
-ghost use Rattle.fz_drive.specs.declared.run.DriveFault.{DriveFault};
+ghost use Rattle.fz_text.specs.declared.fault.DriveFault.{DriveFault};
 
 use crate::stream::Stream;
 use clap::error::ErrorKind;
 use clap::{Arg, Command, Error};
-use fz_drive::{DriveFault, Failures, Sink, drive, drive_threads, write_all};
+use fz_drive::drive;
 use fz_model::Refusal;
 use fz_service::Proc;
+use fz_text::{DriveFault, Failures, Sink, write_all};
+use fz_threads::drive_threads;
 use std::alloc::{AllocError, Global};
 use std::convert::AsStr;
 use std::fs;

@@ -2,7 +2,7 @@
 
 ghost use Rattle.std.specs.Prelude.{◌≡◌, None};
 
-use fz_drive::{Failures, Sink, Source};
+use fz_text::{Failures, Sink, Source};
 use std::io;
 use std::sync::ledger::Ledger;
 

@@ -5,7 +5,7 @@ ghost use Rattle.std.specs.Prelude.{◌≡◌};
 use crate::stream::Stream;
 use crate::with_procedures;
 use arrayvec::ArrayVec;
-use fz_drive::Failures;
+use fz_text::Failures;
 use std::alloc::AllocError;
 use std::marker::Brand;
 use std::rt::Files;

@@ -1,13 +1,5 @@
-pub mod Writing
-pub mod Lines
-pub mod Words
 pub mod Machines
 pub mod Calls
 pub mod Scripts
 pub mod Balance
 pub mod Runs
-pub mod FileReading
-pub mod Holding
-pub mod Sections
-pub mod Telling
-pub mod Seating

@@ -10,22 +10,25 @@ use Rattle.fz_model.specs.declared.refusal.Refusal.TheVariants.{BadLine, BadCoun
 use Rattle.fz_model.specs.Causes.{bad_count, first_cause, IsRefusedFor}
 use Rattle.fz_model.specs.Joint.{Move}
 use Rattle.fz_script.specs.Spelling.{Word}
-use Rattle.fz_drive.specs.declared.input.Ending.{Ending}
-use Rattle.fz_drive.specs.declared.input.Ending.TheVariants.{Whole, Last, Nothing, TooLong}
+use Rattle.fz_text.specs.declared.input.Ending.{Ending}
+use Rattle.fz_text.specs.declared.input.Ending.TheVariants.{Whole, Last, Nothing, TooLong}
 use Rattle.fz_drive.specs.declared.machine.Machine.{Machine}
 use Rattle.fz_drive.specs.declared.answer.Answer.{Answer}
 use Rattle.fz_drive.specs.declared.answer.Answer.TheVariants.{Skipped, Opened, Replied, Malformed}
 use Rattle.fz_drive.specs.declared.answer.Answer.TheVariants as answers
 use Rattle.fz_drive.specs.declared.run.Counts.{Counts}
 use Rattle.fz_drive.specs.declared.run.Summary.{Summary}
-use Rattle.fz_drive.specs.declared.run.DriveFault.{DriveFault}
+use Rattle.fz_text.specs.declared.fault.DriveFault.{DriveFault}
 use Rattle.std.specs.Io.KnownBytes.{Consumes, Appends, IsAtEnd, prepend_known}
-use Rattle.fz_drive.specs.Script.{with_lf, IsOneLine, all_lines, max_line, max_lines, may_come, IsMalformed}
-use Rattle.fz_drive.specs.Replies.{text_line, done, refused_words, reply_words, malformed_words, end_words}
-use Rattle.fz_drive.specs.Report.{Course, Reports, opening_causes, summary_of, AtEnd, IsReport, IsEnded, AtLine, IsRefusedOpening, IsDue, Opens, OpensNot, Replies, closing_words, Explains, Reported, Stopped, failures_of}
+use Rattle.fz_drive.specs.Script.{max_lines, may_come, IsMalformed}
+use Rattle.fz_text.specs.Lines.{with_lf, IsOneLine, all_lines, max_line}
+use Rattle.fz_drive.specs.Replies.{reply_words, end_words}
+use Rattle.fz_text.specs.Written.{text_line, done, refused_words, malformed_words}
+use Rattle.fz_drive.specs.Report.{Course, Reports, opening_causes, summary_of, AtEnd, IsReport, AtLine, IsRefusedOpening, IsDue, Opens, OpensNot, Replies, closing_words, Explains, Reported, Stopped, failures_of}
+use Rattle.fz_text.specs.Lines.{IsEnded}
 use Rattle.fz_drive.specs.Report as report
-use Rattle.fz_drive.specs.declared.chunk.Chunk.{Chunk}
-use Rattle.fz_drive.specs.Lines.{unread, TakenFor, EndsInput}
+use Rattle.fz_text.specs.Reading.{TakenFor, EndsInput}
+use Rattle.fz_text.proofs.Taking.{took_ahead, took_all}
 use Rattle.fz_drive.specs.Machines.{Gives, Given, answer_text, is_told, stop_of, bit, TellsAnswer, counts_after, counts_of, no_counts, summary_at, ending_words, Finishes}
 use Rattle.std.proofs.KnownBytes.{Appends-trans}
 use Rattle.fz_drive.proofs.Balance.{balanced}
@@ -41,26 +44,6 @@ pub record Position (bytes : List ℕ) (number : ℕ) (text : List ℕ) (machine
 
 pub at_first : Position [] 1 [] None no_counts
 at_first = record { lines = []; is = refl; each = All-nil IsOneLine; place = refl; after = at_start }
-
--- nothing is unread before the first read
-pub fresh : (chunk : Chunk) → (chunk.at ≡ 0) × (chunk.len ≡ 0) → unread chunk ≡ []
-fresh chunk h = ap (λ a. drop a (take chunk.len chunk.bytes)) h.0 ∙ ap (λ n. take n chunk.bytes) h.1
-
-pub took_start : (r : Option (List ℕ)) (u : List ℕ) → u ≡ [] → Consumes r (prepend_known u r) []
-took_start None u e = tt
-took_start (Some v) u e = ap (λ w. w ++ v) (sym e)
-
--- what was used and what was read beyond it
-pub took_ahead : (a r : Option (List ℕ)) (y u : List ℕ) → Consumes a (prepend_known u r) y → Consumes a r (y ++ u)
-took_ahead None r y u e = tt
-took_ahead (Some x) None y u e = absurd e
-took_ahead (Some x) (Some v) y u e = e ∙ sym (append_assoc y u v)
-
-took_all : (a r : Option (List ℕ)) (y u : List ℕ) → IsAtEnd (prepend_known u r) → Consumes a (prepend_known u r) y → Consumes a r y × IsAtEnd r
-took_all None None y u h e = (tt, tt)
-took_all (Some x) None y u h e = absurd e
-took_all a (Some v) y [] h e = (e, h)
-took_all a (Some v) y (b ∷ bs) h e = cc
 
 -- ---- the run goes on
 
@@ -410,10 +393,6 @@ counts_bound counts (Replied result) n a b c d = (omega arith, one_more counts.r
     one_more m false n l = omega arith
 counts_bound counts (answers.Ended e) n a b c d = (omega arith, omega arith, omega arith, omega arith)
 counts_bound counts Malformed n a b c d = (omega arith, omega arith, omega arith, omega arith)
-
--- no failure came
-pub no_more : {n m k : ℕ} → n ≡ m → k ≡ 0 → n ≡ m + k
-no_more e z = omega (arith, e, z)
 
 pub report_balanced : (result : Result Summary DriveFault) (a b : Option (List ℕ)) (w v : Option (List ℕ)) → IfOk result (Reported a b w v)
     → IfOk result (λ summary. summary.enqueued ≡ summary.finished + summary.forfeited + summary.in_hand + summary.left)

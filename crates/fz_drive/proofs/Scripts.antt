@@ -17,8 +17,10 @@ use Rattle.fz_drive.specs.declared.answer.Answer.{Answer}
 use Rattle.fz_drive.specs.declared.answer.Answer.TheVariants.{Skipped, Opened, Replied, Ended, Malformed}
 use Rattle.fz_drive.specs.declared.run.Counts.{Counts}
 use Rattle.fz_drive.specs.declared.run.Summary.{Summary}
-use Rattle.fz_drive.specs.Script.{is_kept, max_line, max_lines, IsScript, event_of}
-use Rattle.fz_drive.specs.Replies.{text_line, done, reply_line, end_words}
+use Rattle.fz_drive.specs.Script.{max_lines, IsScript, event_of}
+use Rattle.fz_text.specs.Lines.{is_kept, max_line}
+use Rattle.fz_drive.specs.Replies.{reply_line, end_words}
+use Rattle.fz_text.specs.Written.{text_line, done}
 use Rattle.fz_drive.specs.Report.{Course, Reports, AsksFor, summary_of, closing_words, finishes, forfeits}
 use Rattle.fz_drive.specs.Machines.{StandsForJoint, Gives, answer_text, stop_of, bit, no_counts, counts_after, counts_of, result_words, summary_at, ending_words, is_finish, is_forfeit}
 

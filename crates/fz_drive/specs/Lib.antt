@@ -1,14 +1,5 @@
-pub mod Devices
 pub mod Replies
 pub mod Script
 pub mod Report
-pub mod Lines
-pub mod Words
 pub mod Machines
 pub mod Calls
-pub mod Jobs
-pub mod Plans
-pub mod Holds
-pub mod Tallies
-pub mod Threads
-pub mod Telling

@@ -13,15 +13,17 @@ use Rattle.fz_drive.specs.declared.reply.Reply.{Reply}
 use Rattle.fz_drive.specs.declared.reply.Reply.TheVariants as replies
 use Rattle.fz_drive.specs.declared.answer.Answer.{Answer}
 use Rattle.fz_drive.specs.declared.answer.Answer.TheVariants.{Skipped, Opened, Replied, Ended, Malformed}
-use Rattle.fz_drive.specs.declared.input.Ending.{Ending}
-use Rattle.fz_drive.specs.declared.input.Ending.TheVariants.{TooLong}
+use Rattle.fz_text.specs.declared.input.Ending.{Ending}
+use Rattle.fz_text.specs.declared.input.Ending.TheVariants.{TooLong}
 use Rattle.fz_drive.specs.declared.run.Summary.{Summary}
 use Rattle.fz_drive.specs.declared.run.Counts.{Counts}
-use Rattle.fz_drive.specs.declared.run.DriveFault.{DriveFault}
+use Rattle.fz_text.specs.declared.fault.DriveFault.{DriveFault}
 use Rattle.std.specs.Io.KnownBytes.{Appends}
-use Rattle.fz_drive.specs.Devices.{IsPart}
-use Rattle.fz_drive.specs.Script.{is_kept, max_lines, may_come, event_of}
-use Rattle.fz_drive.specs.Replies.{text_line, done, registered_words, unregistered_words, linked_words, unlinked_words, moved_words, marked_words, passed_words, taken_words, refused_words, reply_words, malformed_words, end_words}
+use Rattle.fz_text.specs.Devices.{IsPart}
+use Rattle.fz_drive.specs.Script.{max_lines, may_come, event_of}
+use Rattle.fz_text.specs.Lines.{is_kept}
+use Rattle.fz_drive.specs.Replies.{registered_words, unregistered_words, linked_words, unlinked_words, moved_words, marked_words, passed_words, taken_words, reply_words, end_words}
+use Rattle.fz_text.specs.Written.{text_line, done, refused_words, malformed_words}
 use Rattle.fz_drive.specs.Report.{Course, opening_causes, AsksFor, IsRefusedOpening, finishes, forfeits}
 
 -- The machine is where the joint state is. What the workers took and forfeited is history, which it doesn't keep.

@@ -17,15 +17,9 @@ use Rattle.fz_model.specs.declared.refusal.Refusal.TheVariants.{BadLine}
 use Rattle.fz_model.specs.Refusals.{code_of, name_of}
 use Rattle.fz_model.specs.Events.{Event, Alloc, Load, Store, Set, Copy, Register, Unregister, Link, Unlink, MoveLink, Begin, Mark, Pause, Collect, Hold, Finish, Close, Outstanding, Queue, Answer}
 use Rattle.fz_model.specs.Joint.{JointEvent, Call, Take, HoldOwn, FinishOwn, Forfeit, JointAnswer, Move}
-use Rattle.fz_script.specs.Spelling.{Word, Number, Text, text}
+use Rattle.fz_script.specs.Spelling.{Word, Number, Text}
+use Rattle.fz_text.specs.Written.{text_line, done, refused_words}
 use Rattle.fz_drive.specs.declared.run.Summary.{Summary}
-
--- the line of these words: one space (byte 32) between two, and LF (byte 10) at the end
-abbrev pub text_line : List Word → List ℕ
-text_line words = join_with_byte 32 (map text words) ++ 10 ∷ []
-
-abbrev pub done : List Word
-done = Text (codes "ok") ∷ []
 
 abbrev pub pair_words : Option Old → List Word
 pair_words None = []
@@ -94,19 +88,12 @@ answer_words (HoldOwn worker frame slot) answer = done
 answer_words (FinishOwn worker) answer = done
 answer_words (Forfeit worker) answer = done
 
-abbrev pub refused_words : Refusal → List Word
-refused_words refusal = Text (codes "refused") ∷ Number (code_of refusal) ∷ Text (name_of refusal) ∷ []
-
 abbrev pub reply_words : (e : JointEvent) → Result (JointAnswer e) Refusal → List Word
 reply_words e (Ok answer) = answer_words e answer
 reply_words e (Err refusal) = refused_words refusal
 
 abbrev pub reply_line : Move → List ℕ
 reply_line m = text_line (reply_words m.event m.reply)
-
--- of a malformed line, or of an input that ends without an opening
-abbrev pub malformed_words : ℕ → List Word
-malformed_words number = Text (codes "line") ∷ Number number ∷ refused_words BadLine
 
 -- the last line of a whole report
 abbrev pub end_words : Summary → List Word

@@ -12,10 +12,12 @@ use Rattle.fz_script.specs.declared.step.Step.{Step}
 use Rattle.fz_script.specs.declared.step.Step.TheVariants.{Open}
 use Rattle.fz_script.specs.Spelling.{Word, spelling, Fits}
 use Rattle.fz_drive.specs.declared.run.Summary.{Summary}
-use Rattle.fz_drive.specs.declared.run.DriveFault.{DriveFault}
+use Rattle.fz_text.specs.declared.fault.DriveFault.{DriveFault}
 use Rattle.std.specs.Io.KnownBytes.{Consumes, Appends, IsAtEnd, prepend_known}
-use Rattle.fz_drive.specs.Script.{with_lf, IsOneLine, Lines, all_lines, is_kept, max_line, max_lines, IsScript, IsMalformed, event_of}
-use Rattle.fz_drive.specs.Replies.{text_line, done, refused_words, reply_words, reply_line, malformed_words, end_words}
+use Rattle.fz_drive.specs.Script.{max_lines, IsScript, IsMalformed, event_of}
+use Rattle.fz_text.specs.Lines.{with_lf, IsOneLine, Lines, all_lines, is_kept, max_line, IsEnded}
+use Rattle.fz_drive.specs.Replies.{reply_words, reply_line, end_words}
+use Rattle.fz_text.specs.Written.{text_line, done, refused_words, malformed_words}
 
 -- the causes of refusal of an opening
 abbrev pub opening_causes : ℕ → ℕ → ℕ → Causes
@@ -83,10 +85,6 @@ pub record IsReport (bytes text : List ℕ) (summary : Summary) : Type 0 where
   pub at_end : AtEnd bytes number before (Some course)
   pub counted : summary ≡ summary_of course
   pub told : text ≡ before ++ text_line (end_words summary)
-
--- A line ends with LF or with the input, or it is too long with its last byte. `left` is what can still be read.
-abbrev pub IsEnded : List ℕ → List ℕ → Option (List ℕ) → Type 0
-IsEnded line end left = (end ≡ 10 ∷ []) ⊎ ((end ≡ []) × ((IsAtEnd left × (line ≢ [])) ⊎ (length line ≡ max_line + 1)))
 
 -- the bytes end with this line; the lines before it were carried out, and this is their report
 pub record AtLine (bytes : List ℕ) (left : Option (List ℕ)) (number : ℕ) (line text : List ℕ) (course : Option Course) : Type 0 where

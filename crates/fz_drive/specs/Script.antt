@@ -8,34 +8,9 @@ use Rattle.fz_model.specs.Joint as joint
 use Rattle.fz_script.specs.declared.step.Step.{Step}
 use Rattle.fz_script.specs.declared.step.Step.TheVariants.{Open, New, Set, Copy, Load, Store, Register, Unregister, Link, Unlink, Move, Begin, Mark, Pause, Collect, Take, Hold, Finish, Forfeit, Close, Outstanding}
 use Rattle.fz_script.specs.Spelling.{spelling, Fits}
+use Rattle.fz_text.specs.Lines.{is_kept, max_line}
 
--- a line with its LF (byte 10)
-abbrev pub with_lf : List ℕ → List ℕ
-with_lf line = line ++ 10 ∷ []
-
-abbrev pub IsOneLine : List ℕ → Type 0
-IsOneLine bytes = All (λ b. b ≢ 10) bytes
-
--- the bytes are these lines, each with its LF, and then `last`, in which no LF stands
-pub record Lines (bytes : List ℕ) (lines : List (List ℕ)) (last : List ℕ) : Type 0 where
-  pub is : bytes ≡ flat_map with_lf lines ++ last
-  pub each : All IsOneLine lines
-  pub one : IsOneLine last
-
--- what follows the last LF is a line if it has a byte
-abbrev pub all_lines : List (List ℕ) → List ℕ → List (List ℕ)
-all_lines lines [] = lines
-all_lines lines (b ∷ bs) = lines ++ (b ∷ bs) ∷ []
-
--- an empty line and one whose first byte is # (35) ask for nothing
-abbrev pub is_kept : List ℕ → Bool
-is_kept [] = false
-is_kept (b ∷ bs) = not (b == 35)
-
--- the most bytes of a line, its LF not counted, and the most lines of a script
-abbrev pub max_line : ℕ
-max_line = 200
-
+-- the most lines of a script
 abbrev pub max_lines : ℕ
 max_lines = 2 ^ 32
 

@@ -1,15 +1,14 @@
 //! What one line of a script gives.
 
 ghost use Rattle.std.specs.Prelude.{◌≡◌, None, Some, true};
-ghost use Rattle.fz_drive.specs.Script.{is_kept};
-ghost use Rattle.fz_drive.specs.Script as script;
+ghost use Rattle.fz_text.specs.Lines.{is_kept};
 ghost use Rattle.fz_drive.specs.Machines.{Gives, Given};
 
-use crate::input::Ending;
 use crate::machine::Machine;
 use crate::reply::Reply;
 use fz_model::Refusal;
 use fz_script::{Step, step_of};
+use fz_text::{Ending, is_kept};
 use std::alloc::Global;
 
 /// A line with a greater number is malformed.
@@ -30,16 +29,6 @@ pub(crate) enum Answer {
     Malformed,
 }
 
-/// Whether the line is a step's.
-pub(crate) fn is_kept(line: &[u8]) -> bool
-    ensures { result ≡ script.is_kept line.now }
-{
-    match line {
-        [] => false,
-        [first, ..] => *first != b'#',
-    }
-}
-
 /// Carries out a line. There is no machine before the opening.
 fn answer_to(alloc: Global, machine: &mut Option<Machine>, line: &[u8]) -> Answer
     ensures { Gives machine.old line.now result machine.new }
@@ -58,7 +47,7 @@ fn answer_to(alloc: Global, machine: &mut Option<Machine>, line: &[u8]) -> Answe
 #[inline(never)]
 fn first_answer(alloc: Global, machine: &mut Option<Machine>, line: &[u8]) -> Answer
     requires closed { machine.old ≡ None }
-    requires kept { script.is_kept line.now ≡ true }
+    requires kept { is_kept line.now ≡ true }
     ensures { Gives machine.old line.now result machine.new }
 {
     let Some(step) = step_of(line) else {
@@ -82,7 +71,7 @@ fn first_answer(alloc: Global, machine: &mut Option<Machine>, line: &[u8]) -> An
 
 /// What a line of a step gives once there is a machine.
 fn later_answer(machine: &mut Machine, line: &[u8]) -> Answer
-    requires { script.is_kept line.now ≡ true }
+    requires { is_kept line.now ≡ true }
     ensures { Gives (Some machine.old) line.now result (Some machine.new) }
 {
     let Some(step) = step_of(line) else {

@@ -1,15 +1,15 @@
 //! The replies of a report.
 
 ghost use Rattle.std.specs.Prelude.{◌≡◌};
-ghost use Rattle.fz_drive.specs.Devices.{Emits};
-ghost use Rattle.fz_drive.specs.Replies.{text_line, done, registered_words, unregistered_words, linked_words, unlinked_words, moved_words, marked_words, passed_words, taken_words, refused_words, malformed_words, end_words};
+ghost use Rattle.fz_text.specs.Devices.{Emits};
+ghost use Rattle.fz_drive.specs.Replies.{registered_words, unregistered_words, linked_words, unlinked_words, moved_words, marked_words, passed_words, taken_words, end_words};
+ghost use Rattle.fz_text.specs.Written.{text_line, done, refused_words, malformed_words};
 ghost use Rattle.fz_drive.specs.declared.reply.Reply.TheVariants as replies;
 ghost use Rattle.fz_drive.specs.Machines.{words_of, result_words};
 
-use crate::device::Sink;
-use crate::output::{Word, WriteFailed, write_all, write_line};
 use crate::run::Summary;
 use fz_model::{Addr, Entry, LinkAnswer, MoveAnswer, Old, Passed, Progress, Refusal, RegAnswer};
+use fz_text::{Sink, Word, WriteFailed, write_all, write_line, write_refused};
 
 /// What an accepted step answers.
 #[derive(Clone, Copy, Debug, PartialEq, Eq)]
@@ -148,34 +148,6 @@ pub(crate) fn write_done<W: Sink>(writer: &mut W) -> Result<(), WriteFailed>
     ensures { Emits (W.written writer.old) (W.failures writer.old) (text_line done) result (W.written writer.new) (W.failures writer.new) }
 {
     write_all(writer, b"ok\n")
-}
-
-pub(crate) fn write_refused<W: Sink>(writer: &mut W, refusal: Refusal) -> Result<(), WriteFailed>
-    ensures { Emits (W.written writer.old) (W.failures writer.old) (text_line (refused_words refusal)) result (W.written writer.new) (W.failures writer.new) }
-{
-    write_line(
-        writer,
-        &[
-            Word::Text("refused"),
-            Word::Number(u64::from(refusal.code())),
-            Word::Text(refusal.name()),
-        ],
-    )
-}
-
-pub(crate) fn write_malformed<W: Sink>(writer: &mut W, number: u64) -> Result<(), WriteFailed>
-    ensures { Emits (W.written writer.old) (W.failures writer.old) (text_line (malformed_words number)) result (W.written writer.new) (W.failures writer.new) }
-{
-    write_line(
-        writer,
-        &[
-            Word::Text("line"),
-            Word::Number(number),
-            Word::Text("refused"),
-            Word::Number(u64::from(Refusal::BadLine.code())),
-            Word::Text(Refusal::BadLine.name()),
-        ],
-    )
 }
 
 pub(crate) fn write_end<W: Sink>(writer: &mut W, summary: Summary) -> Result<(), WriteFailed>

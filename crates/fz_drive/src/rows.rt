@@ -7,9 +7,8 @@ pub(crate) mod objects;
 pub(crate) mod order;
 pub(crate) mod refused;
 pub(crate) mod registrations;
-pub(crate) mod threads;
 
-use crate::run::DriveFault;
+use fz_text::DriveFault;
 
 /// A script, its report, and how its run ends.
 #[derive(Clone, Copy)]

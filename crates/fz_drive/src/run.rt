@@ -5,29 +5,12 @@ ghost use Rattle.fz_drive.specs.Report.{Reported, Stopped, failures_of};
 ghost use Rattle.fz_drive.specs.Machines.{counts_after, summary_at, TellsAnswer, Finishes};
 
 use crate::answer::{Answer, answer_at};
-use crate::chunk::Chunk;
-use crate::device::{Sink, Source};
-use crate::input::{Ending, next_line};
 use crate::machine::Machine;
-use crate::reply::{Reply, write_done, write_end, write_malformed, write_refused, write_reply};
+use crate::reply::{Reply, write_done, write_end, write_reply};
 use arrayvec::ArrayVec;
 use fz_model::Refusal;
+use fz_text::{Chunk, DriveFault, Ending, Sink, Source, next_line, write_malformed, write_refused};
 use std::alloc::Global;
-use thiserror::Error;
-
-/// Why a run ended early, and at which line.
-///
-/// `BadLine`: the line is malformed, or the input has ended without an opening, one past its last
-/// line. `BadCount` and `NoMemory`: the opening was refused. `Output`: what this line gets wasn't
-/// written whole; one past the last line, the report's end wasn't. `Input`: the reader failed in this
-/// line.
-#[derive(Clone, Copy, Debug, PartialEq, Eq, Error)]
-#[error("line {line}: {refusal:?}")]
-pub struct DriveFault {
-    pub refusal: Refusal,
-    /// Lines are counted from 1.
-    pub line: u64,
-}
 
 /// The numbers of a run.
 #[derive(Clone, Copy, Debug, PartialEq, Eq)]

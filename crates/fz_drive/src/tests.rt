@@ -2,8 +2,6 @@
 
 ghost use Rattle.std.specs.Prelude.{◌≡◌, ◌≤◌, ◌<◌, ◌^◌, length};
 
-use crate::failures::Failures;
-use crate::memory::{Limits, Page, Pieces, Script, WHOLE, bytewise};
 use crate::rows::Row;
 use crate::rows::cycles::{CLOSE_INSIDE_A_CYCLE, SWAP_BEHIND_THE_MARKER};
 use crate::rows::limits::{EIGHT_WORKERS, LAST_FRAME_AND_SLOT, NUMBERS_AT_THE_LIMIT};
@@ -17,9 +15,10 @@ use crate::rows::refused::{EMPTY_FILE, LEADING_ZERO, NO_BLOCKS, RANK_TOO_LARGE};
 use crate::rows::registrations::{
     CLIENT_DATA_IS_A_ROOT, HELD_UNTIL_FINISHED, ONE_OBJECT_LIFE, REPLACED_AND_REMOVED_REGISTRATION,
 };
-use crate::run::{DriveFault, Summary, drive};
+use crate::run::{Summary, drive};
 use arrayvec::ArrayVec;
 use fz_model::Refusal;
+use fz_text::{DriveFault, Failures, Limits, MemorySink, MemorySource, Pieces, WHOLE, bytewise};
 use std::alloc::Global;
 use std::marker::Brand;
 use std::sync::ledger::{Blank, Ledger};
@@ -77,13 +76,13 @@ fn run_counted<I: Ledger, O: Ledger>(
     requires output_name { output.name ≡ O.name }
     requires output_parts { (output.parts ≡ O.parts) × (O.parts ≡ 1) }
 {
-    let mut reader = Script::new(
+    let mut reader = MemorySource::new(
         script,
         limits.pieces,
         limits.reads,
         Failures::<I>::none(input),
     );
-    let mut writer = Page::new(limits.pieces, limits.writes, Failures::<O>::none(output));
+    let mut writer = MemorySink::new(limits.pieces, limits.writes, Failures::<O>::none(output));
     let result = drive(alloc, &mut reader, &mut writer);
     Outcome {
         result,

@@ -1,8 +1,8 @@
 //! Scripts that go to the limits.
 
 use super::Row;
-use crate::run::DriveFault;
 use fz_model::Refusal;
+use fz_text::DriveFault;
 
 /// Eight frames and eight workers: twelve entries are queued, each worker takes one, and four are left.
 pub(crate) const EIGHT_WORKERS: Row = Row {

@@ -1,8 +1,8 @@
 //! Scripts that end at a line or an opening that is refused.
 
 use super::Row;
-use crate::run::DriveFault;
 use fz_model::Refusal;
+use fz_text::DriveFault;
 
 /// A script begins with an opening.
 pub(crate) const EMPTY_FILE: Row = Row {

@@ -2,10 +2,10 @@ use Rattle.std.proofs.Common.{◌≡◌, ℕ, List, Option, refl, inl, inr}
 use Rattle.finalize.specs.declared.program.Program.{Program}
 use Rattle.finalize.specs.declared.program.Program.TheVariants.{Run, Threads}
 use Rattle.fz_drive.specs.declared.run.Summary.{Summary}
-use Rattle.fz_drive.specs.declared.run.DriveFault.{DriveFault}
+use Rattle.fz_text.specs.declared.fault.DriveFault.{DriveFault}
 use Rattle.finalize.specs.Program.{Completes, Stops}
 use Rattle.fz_drive.specs.Report.{Reported, Stopped}
-use Rattle.fz_drive.specs.Threads.{Summarized, RunStopped}
+use Rattle.fz_threads.specs.Threads.{Summarized, RunStopped}
 use Rattle.finalize.proofs.program.run_file.Goals as goal
 
 -- What each program promises, said of the one that ran.

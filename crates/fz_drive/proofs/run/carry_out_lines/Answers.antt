@@ -1,13 +1,14 @@
 use Rattle.std.proofs.Common.{arith, refl, ◌+◌, ◌++◌, ◌∙◌, [], sym, subst, IsTrue}
-use Rattle.fz_drive.specs.Lines.{unread}
-use Rattle.fz_drive.specs.declared.run.DriveFault.{DriveFault}
+use Rattle.fz_text.specs.Reading.{unread}
+use Rattle.fz_text.specs.declared.fault.DriveFault.{DriveFault}
 use Rattle.std.specs.Io.KnownBytes.{Consumes, prepend_known}
-use Rattle.fz_drive.specs.Script.{with_lf}
+use Rattle.fz_text.specs.Lines.{with_lf}
 use Rattle.fz_drive.specs.Report.{Explains}
 use Rattle.fz_drive.specs.Machines.{answer_text, is_told, no_counts}
-use Rattle.fz_drive.proofs.Runs.{Position, Ended, at_first, fresh, took_start, took_ahead, finish_ok, finish_fault, finish_failures, tell_fault, tell_failures, reach, close_here, close_last, break_off, goes_on, position_more, whole_taken, IsBelow, counts_bound, no_more, report_balanced}
+use Rattle.fz_drive.proofs.Runs.{Position, Ended, at_first, finish_ok, finish_fault, finish_failures, tell_fault, tell_failures, reach, close_here, close_last, break_off, goes_on, position_more, whole_taken, IsBelow, counts_bound, report_balanced}
+use Rattle.fz_text.proofs.Taking.{fresh, took_start, took_ahead, no_more}
 use Rattle.std.proofs.KnownBytes.{Appends-trans, Consumes-trans}
-use Rattle.fz_drive.proofs.Writing.{wrote_none}
+use Rattle.fz_text.proofs.Writing.{wrote_none}
 use Rattle.fz_drive.proofs.run.carry_out_lines.Goals as goal
 
 pub lines-init : goal.lines-init

@@ -1,5 +1,5 @@
 use Rattle.std.proofs.Common.{◌≡◌, ◌<◌, ◌≤◌, ◌^◌, ℕ, ◌+◌, ◌-◌, List}
-use Rattle.fz_drive.specs.Lines.{unread}
+use Rattle.fz_text.specs.Reading.{unread}
 use Rattle.std.specs.Io.KnownBytes.{Consumes, Appends, prepend_known}
 use Rattle.fz_drive.proofs.Runs.{Position}
 use Rattle.fz_drive.proofs.run.carry_out_lines.Given as goal

@@ -1,6 +1,7 @@
 use Rattle.std.proofs.Common.{subst}
 use Rattle.std.specs.Io.KnownBytes.{Appends}
-use Rattle.fz_drive.specs.Replies.{text_line, end_words}
+use Rattle.fz_drive.specs.Replies.{end_words}
+use Rattle.fz_text.specs.Written.{text_line}
 use Rattle.fz_drive.proofs.run.finish.Goals as goal
 
 pub returns-in-Ok-write_end : goal.returns-in-Ok-write_end

@@ -1,5 +1,0 @@
-use Rattle.fz_drive.proofs.Holding.{settles_more}
-use Rattle.fz_drive.proofs.threads.actors.settle.Goals as goal
-
-pub loop-turn-preserved : goal.loop-turn-preserved
-loop-turn-preserved g c = settles_more _ _ _ c.loop-turn.invariant c.hold_for-exhausted.ensures

@@ -1,7 +1,0 @@
-use Rattle.std.proofs.Common.{subst, sym}
-use Rattle.fz_service.specs.States.{IsInOrder}
-use Rattle.fz_drive.proofs.Holding.{held}
-use Rattle.fz_drive.proofs.threads.holds.hold_for.Goals as goal
-
-pub returns : goal.returns
-returns g c = held _ _ _ _ _ (subst (λ s. IsInOrder g.O.Opening.origin s) (sym c.deref_mut.ensures.value) c.enter-locked.ensures) c.carry_out.ensures

@@ -1,7 +1,0 @@
-use Rattle.fz_drive.specs.Plans.{asked_by}
-use Rattle.fz_drive.proofs.Telling.{refusal_stops}
-use Rattle.fz_drive.proofs.threads.run_plan.Goals as goal
-
-pub returns-in-Err : goal.returns-in-Err
-returns-in-Err g c =
-    refusal_stops (asked_by c.args.plan) c.args.plan.size.line c.in-Err.refusal _ _ _ _ c.tell_refused.result c.in-Err.ensures.judged c.tell_refused.ensures

@@ -1,4 +1,0 @@
-use Rattle.fz_drive.proofs.threads.run_plan.Given as goal
-
-abbrev pub ghosts-carry_out : goal.ghosts-carry_out
-ghosts-carry_out g a = record { origin = a.prepared }

@@ -1,0 +1,53 @@
+-- The reading of lines, one by one.
+use Rattle.std.specs.Prelude.{◌≡◌, ◌≢◌, ℕ, ◌≤◌, ◌+◌, List, [], ◌∷◌, ◌++◌, Option, Some, None, Bool, true, false, Result, Ok, Err, length, take, drop}
+use Rattle.fz_text.specs.declared.chunk.Chunk.{Chunk}
+use Rattle.fz_text.specs.declared.input.Ending.{Ending}
+use Rattle.fz_text.specs.declared.input.Ending.TheVariants.{Whole, Last, Nothing, TooLong}
+use Rattle.std.specs.Io.KnownBytes.{Consumes, IsAtEnd}
+use Rattle.fz_text.specs.Lines.{IsOneLine, max_line}
+
+-- the bytes of a chunk that were read and not used
+abbrev pub unread : Chunk → List ℕ
+unread chunk = drop chunk.at (take chunk.len chunk.bytes)
+
+-- the bytes that were taken for a line, by how it ends
+abbrev pub TakenFor : Ending → List ℕ → List ℕ → Type 0
+TakenFor Whole line bytes = bytes ≡ line ++ 10 ∷ []
+TakenFor Last line bytes = (bytes ≡ line) × (line ≢ [])
+TakenFor Nothing line bytes = (bytes ≡ []) × (line ≡ [])
+TakenFor TooLong line bytes = (b : ℕ) × (bytes ≡ line ++ b ∷ []) × (b ≢ 10) × (length line ≡ max_line)
+
+abbrev pub EndsInput : Ending → Option (List ℕ) → Type 0
+EndsInput Whole left = Unit {0}
+EndsInput Last left = IsAtEnd left
+EndsInput Nothing left = IsAtEnd left
+EndsInput TooLong left = Unit {0}
+
+-- the next line was read; or the reader failed first
+abbrev pub Reads : {E : Type 0} → Option (List ℕ) → ℕ → Result Ending E → List ℕ → List ℕ → Option (List ℕ) → ℕ → Type 0
+Reads before failures (Ok ending) line unread left failures' =
+    ((bytes : List ℕ) × TakenFor ending line bytes × Consumes before left bytes) × EndsInput ending left × IsOneLine line × (length line ≤ max_line) × (failures' ≡ failures)
+Reads before failures (Err e) line unread left failures' =
+    Consumes before left line × IsOneLine line × (length line ≤ max_line) × (unread ≡ []) × (failures' ≡ failures + 1)
+
+-- a byte is unread; or the input has ended; or the reader failed
+abbrev pub Fills : {E : Type 0} → Option (List ℕ) → ℕ → Result Bool E → List ℕ → Option (List ℕ) → ℕ → Type 0
+Fills before failures (Ok true) unread left failures' = Consumes before left [] × (unread ≢ []) × (failures' ≡ failures)
+Fills before failures (Ok false) unread left failures' = Consumes before left [] × IsAtEnd left × (failures' ≡ failures)
+Fills before failures (Err e) unread left failures' = Consumes before left [] × (unread ≡ []) × (failures' ≡ failures + 1)
+
+-- what was unread of a line went to its end: with its LF, or to the one byte too many, or all of it
+abbrev pub MovesLine : List ℕ → List ℕ → Option Ending → List ℕ → List ℕ → Type 0
+MovesLine unread line (Some Whole) unread' line' =
+    (part : List ℕ) × (unread ≡ (part ++ 10 ∷ []) ++ unread') × (line' ≡ line ++ part) × IsOneLine part × (length line' ≤ max_line)
+MovesLine unread line (Some TooLong) unread' line' =
+    (part : List ℕ) × (b : ℕ) × (unread ≡ (part ++ b ∷ []) ++ unread') × (b ≢ 10) × (line' ≡ line ++ part) × IsOneLine part × (length line' ≡ max_line)
+MovesLine unread line (Some _) unread' line' = ⊥
+MovesLine unread line None unread' line' = (unread' ≡ []) × (line' ≡ line ++ unread) × IsOneLine unread × (length line' ≤ max_line)
+
+-- how a line ends where the input does
+abbrev pub EndsWithInput : Ending → List ℕ → Type 0
+EndsWithInput Whole line = ⊥
+EndsWithInput Last line = line ≢ []
+EndsWithInput Nothing line = line ≡ []
+EndsWithInput TooLong line = ⊥

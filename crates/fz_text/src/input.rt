@@ -1,0 +1,141 @@
+//! Lines of input.
+
+ghost use Rattle.std.specs.Prelude.{◌≡◌, ◌≢◌, ℕ, ◌<◌, ◌≤◌, ◌+◌, ◌++◌, ◌==◌, length, get_or, position};
+ghost use Rattle.std.specs.Io.KnownBytes.{prepend_known};
+ghost use Rattle.fz_text.specs.Lines as lines;
+ghost use Rattle.fz_text.specs.Reading.{unread, Reads, Fills, MovesLine, EndsWithInput};
+
+use crate::chunk::Chunk;
+use crate::device::Source;
+use arrayvec::ArrayVec;
+
+/// The most bytes that a line may have, its LF not counted.
+pub const MAX_LINE: usize = 200;
+
+/// The reader failed.
+#[derive(Clone, Copy, Debug, PartialEq, Eq)]
+pub struct ReadFailed;
+
+/// How the next line ends.
+#[derive(Clone, Copy, Debug, PartialEq, Eq)]
+pub enum Ending {
+    /// With LF.
+    Whole,
+    /// With the input, after a byte.
+    Last,
+    /// There is no line.
+    Nothing,
+    /// It has too many bytes.
+    TooLong,
+}
+
+/// Sees to it that a byte is unread. `false`: the input has ended.
+fn fill<R: Source>(source: &mut R, chunk: &mut Chunk) -> Result<bool, ReadFailed>
+    ensures { Fills (prepend_known (unread chunk.old) (R.remaining source.old)) (R.failures source.old)
+        result (unread chunk.new)
+        (prepend_known (unread chunk.new) (R.remaining source.new)) (R.failures source.new) }
+{
+    if chunk.at == chunk.len {
+        match source.read(&mut chunk.bytes) {
+            None => return Err(ReadFailed),
+            Some(0) => return Ok(false),
+            Some(count) => {
+                chunk.at = 0;
+                chunk.len = count;
+            }
+        }
+    }
+    Ok(true)
+}
+
+/// Where the first LF is.
+fn line_feed_in(bytes: &[u8]) -> Option<usize>
+    ensures { result ≡ position (λ byte. byte == 10) bytes.now }
+{
+    bytes.iter().position(|byte| *byte == b'\n')
+}
+
+/// How many bytes stand before the first LF, or in all.
+#[tactic(auto, using(crate::proofs::Reading::feed_at, crate::proofs::Reading::no_feed))]
+fn line_length(bytes: &[u8]) -> usize
+    ensures within { result ≤ length bytes.now }
+    ensures before { (i : ℕ) → i < result → get_or bytes.now i 0 ≢ 10 }
+    ensures feed { result < length bytes.now → get_or bytes.now result 0 ≡ 10 }
+{
+    match line_feed_in(bytes) {
+        Some(place) => place,
+        None => bytes.len(),
+    }
+}
+
+fn append(line: &mut ArrayVec<u8, MAX_LINE>, bytes: &[u8])
+    requires { length line.old.items + length bytes.now ≤ 200 }
+    ensures { line.new.items ≡ line.old.items ++ bytes.now }
+{
+    let Ok(()) = line.try_extend_from_slice(bytes) else {
+        unreachable!();
+    };
+}
+
+/// Moves what is unread of a line from the chunk to its end, and tells how the line ends, if it ends there.
+fn move_line(chunk: &mut Chunk, line: &mut ArrayVec<u8, MAX_LINE>) -> Option<Ending>
+    ensures { MovesLine (unread chunk.old) line.old.items result (unread chunk.new) line.new.items }
+{
+    let unread = chunk.unread();
+    let end = line_length(unread);
+    let room = line.remaining_capacity();
+    if room < end {
+        append(line, &unread[..room]);
+        chunk.advance(room + 1);
+        return Some(Ending::TooLong);
+    }
+    append(line, &unread[..end]);
+    if end < unread.len() {
+        chunk.advance(end + 1);
+        return Some(Ending::Whole);
+    }
+    chunk.advance(end);
+    None
+}
+
+/// How a line ends with the input.
+fn last_ending(line: &ArrayVec<u8, MAX_LINE>) -> Ending
+    ensures { EndsWithInput result line.now.items }
+{
+    if line.is_empty() {
+        Ending::Nothing
+    } else {
+        Ending::Last
+    }
+}
+
+/// Reads the next line, without its LF. Of a line that is too long it uses one byte more than a line may have.
+pub fn next_line<R: Source>(
+    source: &mut R,
+    chunk: &mut Chunk,
+    line: &mut ArrayVec<u8, MAX_LINE>,
+) -> Result<Ending, ReadFailed>
+    ensures { Reads (prepend_known (unread chunk.old) (R.remaining source.old)) (R.failures source.old)
+        result line.new.items (unread chunk.new)
+        (prepend_known (unread chunk.new) (R.remaining source.new)) (R.failures source.new) }
+{
+    line.clear();
+    loop {
+        if !fill(source, chunk)? {
+            return Ok(last_ending(line));
+        }
+        if let Some(ending) = move_line(chunk, line) {
+            return Ok(ending);
+        }
+    }
+}
+
+/// Whether a line asks for something: it has a byte, and isn't a comment, which begins with `#`.
+pub fn is_kept(line: &[u8]) -> bool
+    ensures { result ≡ lines.is_kept line.now }
+{
+    match line {
+        [] => false,
+        [first, ..] => *first != b'#',
+    }
+}

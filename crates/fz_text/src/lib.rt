@@ -1,0 +1,20 @@
+//! Text by lines: what is read of a source, and what is written to a sink.
+#![tactic(auto)]
+
+mod chunk;
+mod device;
+mod failures;
+mod fault;
+mod input;
+mod memory;
+mod output;
+mod refusals;
+
+pub use chunk::Chunk;
+pub use device::{Sink, Source};
+pub use failures::Failures;
+pub use fault::DriveFault;
+pub use input::{Ending, MAX_LINE, ReadFailed, is_kept, next_line};
+pub use memory::{Limits, MemorySink, MemorySource, Pieces, WHOLE, bytewise};
+pub use output::{Word, WriteFailed, write_all, write_line};
+pub use refusals::{write_malformed, write_refused};

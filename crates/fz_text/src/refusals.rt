@@ -1,0 +1,38 @@
+//! What is said of refused and malformed lines.
+
+ghost use Rattle.fz_text.specs.Devices.{Emits};
+ghost use Rattle.fz_text.specs.Written.{text_line, refused_words, malformed_words};
+
+use crate::device::Sink;
+use crate::output::{Word, WriteFailed, write_line};
+use fz_model::Refusal;
+
+/// `refused`, the refusal's number and its name.
+pub fn write_refused<W: Sink>(writer: &mut W, refusal: Refusal) -> Result<(), WriteFailed>
+    ensures { Emits (W.written writer.old) (W.failures writer.old) (text_line (refused_words refusal)) result (W.written writer.new) (W.failures writer.new) }
+{
+    write_line(
+        writer,
+        &[
+            Word::Text("refused"),
+            Word::Number(u64::from(refusal.code())),
+            Word::Text(refusal.name()),
+        ],
+    )
+}
+
+/// `line`, its number, and that it is refused as malformed.
+pub fn write_malformed<W: Sink>(writer: &mut W, number: u64) -> Result<(), WriteFailed>
+    ensures { Emits (W.written writer.old) (W.failures writer.old) (text_line (malformed_words number)) result (W.written writer.new) (W.failures writer.new) }
+{
+    write_line(
+        writer,
+        &[
+            Word::Text("line"),
+            Word::Number(number),
+            Word::Text("refused"),
+            Word::Number(u64::from(Refusal::BadLine.code())),
+            Word::Text(Refusal::BadLine.name()),
+        ],
+    )
+}

@@ -1,0 +1,126 @@
+-- Holds of the lock, and how many of them were refused.
+use Rattle.std.proofs.Common.{◌≡◌, ℕ, ◌+◌, ◌==◌, Result, List, [], ◌∷◌, ◌++◌, Bool, true, false, ◌∙◌, ap, sym, refl, subst, append-nil, append_assoc, zero-add, map, drop, get_or, length, ◌<◌, count_by, is_err, cond, if◌then◌else◌}
+use Rattle.std.proofs.lemmas.List.{map-append, replicate-append-replicate, drop_more}
+use Rattle.std.proofs.lemmas.List.Sums.{sum_by-append, sum_by-cons}
+use mir.Val.{bool_byte}
+use Rattle.fz_model.specs.declared.refusal.Refusal.{Refusal}
+use Rattle.fz_model.specs.Events.{Event, Answer}
+use Rattle.fz_world.specs.World.{WorldView}
+use Rattle.fz_world.specs.Does.{Does}
+use Rattle.fz_model.specs.Steps.{NoStep, OneMore}
+use Rattle.fz_service.specs.States.{Origin, LockedState, IsInOrder, RunsCalls, is_no_finish}
+use Rattle.fz_model.specs.Events as events
+use Rattle.fz_script.specs.declared.step.Step.{Step}
+use Rattle.fz_script.specs.declared.job.Job.{Job}
+use Rattle.fz_script.specs.declared.job.Job.TheVariants.{One}
+use Rattle.fz_threads.specs.Holds.{Hold, event_in, is_refused, calls_of, Carried, Held, HasRefused, IsTurn, AreTurns, NoTurn, OneTurn, Carries, Works, NoWork, OneJob, begins_section, own_from, own_jobs, Settles, settling}
+
+counted_one : (b : Bool) → cond b 1 0 + 0 ≡ if b then 1 else 0
+counted_one true = refl
+counted_one false = refl
+
+pub held : (origin : Origin) (old : LockedState) (events : List Event) (refused : Bool) (new : WorldView) → IsInOrder origin old → Carried events old.world refused new → Held origin events refused
+held origin old [] refused new ordered c = ([], refl, ap (λ b. if b then 1 else 0) (sym c))
+held origin old (e ∷ []) refused new ordered c =
+    (record { old = old; in_order = ordered; event = e; reply = c.0; new = new; does = c.1 } ∷ [], refl, sum_by-cons (λ h. cond (is_refused h) 1 0) (record { old = old; in_order = ordered; event = e; reply = c.0; new = new; does = c.1 }) [] ∙ counted_one (is_err c.0) ∙ ap (λ b. if b then 1 else 0) (sym c.2))
+held origin old (e ∷ f ∷ es) refused new ordered c = absurd c
+
+-- ---- sums of refused holds
+
+bit_is : (b : Bool) → (if b then 1 else 0) ≡ bool_byte b
+bit_is true = refl
+bit_is false = refl
+
+counts_add : {origin : Origin} (xs ys : List (Hold origin)) (x y : ℕ) → x ≡ count_by is_refused xs → y ≡ count_by is_refused ys → x + y ≡ count_by is_refused (xs ++ ys)
+counts_add xs ys x y e f = ap (λ n. n + y) e ∙ ap (λ n. count_by is_refused xs + n) f ∙ sym (sum_by-append (λ h. cond (is_refused h) 1 0) xs ys)
+
+pub turn_refused : (origin : Origin) (new register drop : List Event) → Held origin new true → HasRefused origin (IsTurn new register drop) 1
+turn_refused origin new register drop h =
+    (h.0 ++ [], (h.0, [], refl, h.1, ap (λ n. if n == 0 then register ++ drop else []) (sym h.2)), sym h.2 ∙ ap (λ l. count_by is_refused l) (sym (append-nil h.0)))
+
+pub turn_taken : (origin : Origin) (new register drop : List Event) (r d : Bool) → Held origin new false → Held origin register r → Held origin drop d → HasRefused origin (IsTurn new register drop) (bool_byte r + bool_byte d)
+turn_taken origin new register drop r d h hr hd = (
+  h.0 ++ (hr.0 ++ hd.0),
+  (h.0, hr.0 ++ hd.0, refl, h.1, map-append event_in hr.0 hd.0 ∙ ap (λ l. l ++ map event_in hd.0) hr.1 ∙ ap (λ l. register ++ l) hd.1 ∙ ap (λ n. if n == 0 then register ++ drop else []) (sym h.2)),
+  sym (zero-add (bool_byte r + bool_byte d)) ∙ counts_add h.0 (hr.0 ++ hd.0) 0 (bool_byte r + bool_byte d) (sym h.2) (counts_add hr.0 hd.0 (bool_byte r) (bool_byte d) (sym (bit_is r) ∙ sym hr.2) (sym (bit_is d) ∙ sym hd.2)),
+)
+
+pub no_turn : (origin : Origin) (new register drop : List Event) → HasRefused origin (AreTurns new register drop 0) 0
+no_turn origin new register drop = ([], NoTurn, refl)
+
+pub turns_more : (origin : Origin) (new register drop : List Event) (n x y : ℕ) → HasRefused origin (AreTurns new register drop n) x → HasRefused origin (IsTurn new register drop) y → HasRefused origin (AreTurns new register drop (n + 1)) (x + y)
+turns_more origin new register drop n x y h t = (h.0 ++ t.0, OneTurn n h.0 t.0 h.1 t.1, counts_add h.0 t.0 x y h.2 t.2)
+
+-- one step in a hold of its own is a job
+pub one_step : (origin : Origin) (step : Step) (b : Bool) → Held origin (calls_of step) b → HasRefused origin (Carries (One step)) (bool_byte b)
+one_step origin step b h = (h.0, h.1, sym (bit_is b) ∙ sym h.2)
+
+pub no_work : (origin : Origin) → HasRefused origin (Works []) 0
+no_work origin = ([], NoWork, refl)
+
+pub work_more : (origin : Origin) (jobs : List Job) (job : Job) (x y : ℕ) → HasRefused origin (Works jobs) x → HasRefused origin (Carries job) y → HasRefused origin (Works (jobs ++ job ∷ [])) (x + y)
+work_more origin jobs job x y h t = (h.0 ++ t.0, OneJob jobs h.0 job t.0 h.1 t.1, counts_add h.0 t.0 x y h.2 t.2)
+
+-- ---- the jobs of a section
+
+-- what was done, and what is to be done where so many sections have begun
+pub record Doing (origin : Origin) (number : ℕ) (jobs : List Job) (begun : ℕ) (left : List Job) (refused : ℕ) : Type 0 where
+  pub done : List Job
+  pub own : own_from 0 number jobs ≡ done ++ own_from begun number left
+  pub works : HasRefused origin (Works done) refused
+
+pub doing_first : (origin : Origin) (number : ℕ) (jobs : List Job) → Doing origin number jobs 0 jobs 0
+doing_first origin number jobs = record { done = []; own = refl; works = no_work origin }
+
+pub doing_begins : (origin : Origin) (number : ℕ) (jobs : List Job) (begun : ℕ) (job : Job) (left : List Job) (refused : ℕ) → begins_section job ≡ true → Doing origin number jobs begun (job ∷ left) refused → Doing origin number jobs (begun + 1) left refused
+doing_begins origin number jobs begun job left refused b d = record { done = d.done; own = d.own ∙ ap (λ l. d.done ++ l) (rw b refl); works = d.works }
+
+pub doing_skips : (origin : Origin) (number : ℕ) (jobs : List Job) (begun : ℕ) (job : Job) (left : List Job) (refused : ℕ) → begins_section job ≡ false → (begun == number) ≡ false → Doing origin number jobs begun (job ∷ left) refused → Doing origin number jobs begun left refused
+doing_skips origin number jobs begun job left refused b other d = record { done = d.done; own = d.own ∙ ap (λ l. d.done ++ l) (rw (b, other) refl); works = d.works }
+
+pub doing_does : (origin : Origin) (number : ℕ) (jobs : List Job) (begun : ℕ) (job : Job) (left : List Job) (x y : ℕ) → begins_section job ≡ false → (begun == number) ≡ true → HasRefused origin (Carries job) y → Doing origin number jobs begun (job ∷ left) x → Doing origin number jobs begun left (x + y)
+doing_does origin number jobs begun job left x y b same carries d = record {
+  done = d.done ++ job ∷ [];
+  own = d.own ∙ ap (λ l. d.done ++ l) (rw (b, same) refl) ∙ sym (append_assoc d.done (job ∷ []) (own_from begun number left));
+  works = work_more origin d.done job x y d.works carries;
+}
+
+-- the next job, at its place in the list
+pub at_place : (origin : Origin) (number : ℕ) (jobs : List Job) (begun i : ℕ) (d : Job) (refused : ℕ) → i < length jobs → Doing origin number jobs begun (drop i jobs) refused → Doing origin number jobs begun (get_or jobs i d ∷ drop (i + 1) jobs) refused
+at_place origin number jobs begun i d refused within doing = subst (λ left. Doing origin number jobs begun left refused) (drop_more jobs i d within) doing
+
+-- one job on: a section begins, or the job is this section's, or another's
+pub next_begins : (origin : Origin) (number : ℕ) (jobs : List Job) (begun begun' i : ℕ) (d : Job) (x x' : ℕ) → i < length jobs → begins_section (get_or jobs i d) ≡ true → begun' ≡ begun + 1 → x' ≡ x → Doing origin number jobs begun (drop i jobs) x → Doing origin number jobs begun' (drop (i + 1) jobs) x'
+next_begins origin number jobs begun begun' i d x x' within b is same doing =
+    let here = doing_begins origin number jobs begun (get_or jobs i d) (drop (i + 1) jobs) x b (at_place origin number jobs begun i d x within doing) in
+    subst (λ n. Doing origin number jobs n (drop (i + 1) jobs) x') (sym is) (subst (λ r. Doing origin number jobs (begun + 1) (drop (i + 1) jobs) r) (sym same) here)
+
+pub next_skips : (origin : Origin) (number : ℕ) (jobs : List Job) (begun begun' i : ℕ) (d : Job) (x x' : ℕ) → i < length jobs → begins_section (get_or jobs i d) ≡ false → (begun == number) ≡ false → begun' ≡ begun → x' ≡ x → Doing origin number jobs begun (drop i jobs) x → Doing origin number jobs begun' (drop (i + 1) jobs) x'
+next_skips origin number jobs begun begun' i d x x' within b other is same doing =
+    let here = doing_skips origin number jobs begun (get_or jobs i d) (drop (i + 1) jobs) x b other (at_place origin number jobs begun i d x within doing) in
+    subst (λ n. Doing origin number jobs n (drop (i + 1) jobs) x') (sym is) (subst (λ r. Doing origin number jobs begun (drop (i + 1) jobs) r) (sym same) here)
+
+pub next_does : (origin : Origin) (number : ℕ) (jobs : List Job) (begun begun' i : ℕ) (d : Job) (x y x' : ℕ) → i < length jobs → begins_section (get_or jobs i d) ≡ false → (begun == number) ≡ true → HasRefused origin (Carries (get_or jobs i d)) y → begun' ≡ begun → x' ≡ x + y → Doing origin number jobs begun (drop i jobs) x → Doing origin number jobs begun' (drop (i + 1) jobs) x'
+next_does origin number jobs begun begun' i d x y x' within b own carries is same doing =
+    let here = doing_does origin number jobs begun (get_or jobs i d) (drop (i + 1) jobs) x y b own carries (at_place origin number jobs begun i d x within doing) in
+    subst (λ n. Doing origin number jobs n (drop (i + 1) jobs) x') (sym is) (subst (λ r. Doing origin number jobs begun (drop (i + 1) jobs) r) (sym same) here)
+
+pub doing_last : (origin : Origin) (number : ℕ) (jobs : List Job) (begun refused : ℕ) → Doing origin number jobs begun [] refused → HasRefused origin (Works (own_jobs number jobs)) refused
+doing_last origin number jobs begun refused d = subst (λ js. HasRefused origin (Works js) refused) (sym (d.own ∙ append-nil d.done)) d.works
+
+-- ---- the end of a run
+
+pub settles_first : (origin : Origin) (b : Bool) → Held origin (events.Pause ∷ []) b → Settles origin 0
+settles_first origin b h = (h.0, h.1)
+
+pub settles_more : (origin : Origin) (n : ℕ) (b : Bool) → Settles origin n → Held origin (events.Collect ∷ []) b → Settles origin (n + 1)
+settles_more origin n b s h = (s.0 ++ h.0, map-append event_in s.0 h.0 ∙ ap (λ l. l ++ map event_in h.0) s.1 ∙ ap (λ l. settling n ++ l) h.1 ∙ ap (λ l. events.Pause ∷ l) (replicate-append-replicate n 1 events.Collect))
+
+-- one call of the world
+pub runs_one : (old : WorldView) (e : Event) (reply : Result (Answer e) Refusal) (new : WorldView) → is_no_finish e ≡ true → Does old e reply new → RunsCalls old new
+unfolding Does
+runs_one old e reply new may does = λ s stands. let d = does s stands in (d.0, OneMore e reply may NoStep d.1, d.2)
+
+-- a step asked for this one call
+pub carried : (step known : Step) (e : Event) (reply : Result (Answer e) Refusal) (refused : Bool) (old new : WorldView) → step ≡ known → calls_of known ≡ e ∷ [] → Does old e reply new → refused ≡ is_err reply → Carried (calls_of step) old refused new
+carried step known e reply refused old new is asks does r = subst (λ es. Carried es old refused new) (sym (ap calls_of is ∙ asks)) (reply, does, r)

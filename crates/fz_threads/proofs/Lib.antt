@@ -1,0 +1,5 @@
+pub mod FileReading
+pub mod Holding
+pub mod Sections
+pub mod Telling
+pub mod Seating

@@ -1,0 +1,8 @@
+use Rattle.std.proofs.Common.{◌≡◌, ◌≤◌, ◌*◌, sum, take}
+use Rattle.fz_threads.proofs.actors.total.Given as goal
+
+abbrev pub invariant-loop-count : goal.invariant-loop-count
+invariant-loop-count l = record {
+  is : l.total ≡ sum (take l.count-index l.counts);
+  few : l.total ≤ 81920000 * l.count-index;
+}

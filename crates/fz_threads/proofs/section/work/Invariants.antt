@@ -1,0 +1,10 @@
+use Rattle.std.proofs.Common.{◌≤◌, ◌*◌, drop}
+use Rattle.fz_threads.proofs.Holding.{Doing}
+use Rattle.fz_threads.proofs.section.work.Given as goal
+
+abbrev pub invariant-loop-job : goal.invariant-loop-job
+invariant-loop-job g l = record {
+  doing : Doing g.O.Opening.origin l.number l.jobs l.begun (drop l.job-index l.jobs) l.refused;
+  few : l.refused ≤ 20000 * l.job-index;
+  begun : l.begun ≤ l.job-index;
+}

@@ -1,0 +1,171 @@
+-- A threads file: the jobs that its lines ask for, and where each of them may stand.
+use Rattle.std.specs.Prelude.{◌≡◌, ℕ, ◌+◌, ◌==◌, ◌≤◌, ◌<◌, Bool, true, false, nat_lt, if◌then◌else◌, ◌⊎◌, List, [], ◌∷◌, ◌++◌, length, map, filter, flat_map, fold, Option, IsTrue}
+use Rattle.std.specs.List.{All}
+use Rattle.fz_script.specs.declared.step.Step.{Step}
+use Rattle.fz_script.specs.declared.step.Step.TheVariants.{Open, New, Set, Copy, Load, Store, Register, Unregister, Link, Unlink, Move, Begin, Mark, Pause, Collect}
+use Rattle.fz_script.specs.declared.job.Job.{Job}
+use Rattle.fz_script.specs.declared.job.Job.TheVariants.{Settle, Mutator, Collector, Churn, One}
+use Rattle.fz_script.specs.Jobs.{spelling, Fits}
+use Rattle.std.specs.Io.KnownBytes.{Consumes, IsAtEnd, prepend_known}
+use Rattle.fz_model.specs.declared.refusal.Refusal.{Refusal}
+use Rattle.fz_model.specs.declared.refusal.Refusal.TheVariants.{BadLine, NoMemory, Input}
+use Rattle.fz_model.specs.Refusals.{code_of}
+use Rattle.fz_text.specs.declared.fault.DriveFault.{DriveFault}
+use Rattle.fz_text.specs.Lines.{IsEnded}
+use Rattle.fz_text.specs.Lines.{with_lf, IsOneLine, Lines, all_lines, is_kept, max_line}
+use Rattle.fz_threads.specs.declared.stage.Actor.{Actor}
+use Rattle.fz_threads.specs.declared.stage.Actor.TheVariants as actor
+use Rattle.fz_threads.specs.declared.stage.Stage.{Stage}
+
+abbrev pub max_file_lines : ℕ
+max_file_lines = 4096
+
+abbrev pub is_opening : Job → Bool
+is_opening (One (Open blocks frames workers)) = true
+is_opening _ = false
+
+abbrev pub is_settle : Job → Bool
+is_settle (Settle collections) = true
+is_settle _ = false
+
+-- the steps of a mutator
+abbrev pub is_mutators : Step → Bool
+is_mutators (New frame slot size kind) = true
+is_mutators (Set frame slot word) = true
+is_mutators (Copy frame slot to_frame to_slot) = true
+is_mutators (Load frame slot offset to_frame to_slot) = true
+is_mutators (Store frame slot offset from_frame from_slot) = true
+is_mutators (Register frame slot kind procedure client_data rank) = true
+is_mutators (Unregister frame slot) = true
+is_mutators (Link which frame slot offset target_frame target_slot) = true
+is_mutators (Unlink which frame slot offset) = true
+is_mutators (Move which frame slot offset to_frame to_slot to_offset) = true
+is_mutators _ = false
+
+-- the steps of the collector
+abbrev pub is_collectors : Step → Bool
+is_collectors Begin = true
+is_collectors (Mark budget) = true
+is_collectors Pause = true
+is_collectors Collect = true
+is_collectors _ = false
+
+abbrev pub is_step_of : Actor → Step → Bool
+is_step_of actor.Nobody step = false
+is_step_of actor.Mutator step = is_mutators step
+is_step_of actor.Collector step = is_collectors step
+
+abbrev pub may_churn : Actor → Bool
+may_churn actor.Nobody = false
+may_churn actor.Mutator = true
+may_churn actor.Collector = false
+
+-- whether the job may come after `settle`, at this stage: at most eight mutators, at most one collector, and each has its own steps
+abbrev pub may_come : Stage → Job → Bool
+may_come stage (Settle collections) = false
+may_come stage Mutator = nat_lt stage.mutators 8
+may_come stage Collector = nat_lt stage.collectors 1
+may_come stage (Churn count frame slot size kind finalizer_kind procedure) = may_churn stage.actor
+may_come stage (One step) = is_step_of stage.actor step
+
+-- the stage after the job
+abbrev pub stage_after : Stage → Job → Stage
+stage_after stage Mutator = record { actor = actor.Mutator; mutators = stage.mutators + 1; collectors = stage.collectors }
+stage_after stage Collector = record { actor = actor.Collector; mutators = stage.mutators; collectors = stage.collectors + 1 }
+stage_after stage _ = stage
+
+abbrev pub first_stage : Stage
+first_stage = record { actor = actor.Nobody; mutators = 0; collectors = 0 }
+
+-- whether the job may follow these: the opening comes first, `settle` second, and then sections
+abbrev pub may_follow : List Job → Job → Bool
+may_follow [] job = is_opening job
+may_follow (first ∷ []) job = is_settle job
+may_follow (first ∷ second ∷ body) job = may_come (fold stage_after first_stage body) job
+
+-- each job may follow those before it
+pub data AreInOrder : List Job → Type 0 where
+  NoJob : AreInOrder []
+  OneMore : (jobs : List Job) (job : Job) → AreInOrder jobs → may_follow jobs job ≡ true → AreInOrder (jobs ++ job ∷ [])
+
+-- these lines ask for these jobs, one after another
+pub record AreJobs (lines : List (List ℕ)) (jobs : List Job) : Type 0 where
+  pub spelled : filter is_kept lines ≡ map spelling jobs
+  pub fit : All Fits jobs
+  pub in_order : AreInOrder jobs
+  pub short : All (λ line. length line ≤ max_line) lines
+  pub few : length lines ≤ max_file_lines
+
+-- the line breaks the rules: it is too long, one too many, or asks for no job that may follow
+abbrev pub IsNoJob : List Job → ℕ → List ℕ → Type 0
+IsNoJob jobs number line =
+    (max_line < length line) ⊎ ((max_file_lines < number) ⊎ (IsTrue (is_kept line) × ((job : Job) → Fits job → line ≡ spelling job → may_follow jobs job ≡ false)))
+
+-- what a file asks for: a world, how often it is collected at the end, and the jobs of the sections, with the first line of each
+pub record Asked : Type 0 where
+  pub blocks : ℕ
+  pub frames : ℕ
+  pub workers : ℕ
+  pub collections : ℕ
+  pub body : List Job
+
+abbrev pub asked_jobs : Asked → List Job
+asked_jobs asked = One (Open asked.blocks asked.frames asked.workers) ∷ Settle asked.collections ∷ asked.body
+
+-- the bytes are a threads file that asks for this
+pub record IsThreadsFile (bytes : List ℕ) (asked : Asked) : Type 0 where
+  pub lines : List (List ℕ)
+  pub last : List ℕ
+  pub split : Lines bytes lines last
+  pub jobs : AreJobs (all_lines lines last) (asked_jobs asked)
+
+-- the line with this number asks for the job
+pub record AsksAt (bytes : List ℕ) (number : ℕ) (job : Job) : Type 0 where
+  pub before : List (List ℕ)
+  pub after : List (List ℕ)
+  pub last : List ℕ
+  pub split : Lines bytes (before ++ spelling job ∷ after) last
+  pub place : length before + 1 ≡ number
+
+-- the line with this number asks for the opening
+abbrev pub OpensAt : List ℕ → ℕ → Asked → Type 0
+OpensAt bytes number asked = AsksAt bytes number (One (Open asked.blocks asked.frames asked.workers))
+
+-- the lines of these bytes ask for these jobs; a further line would have this number
+pub record FileIs (bytes : List ℕ) (jobs : List Job) (number : ℕ) : Type 0 where
+  pub lines : List (List ℕ)
+  pub last : List ℕ
+  pub split : Lines bytes lines last
+  pub jobs_are : AreJobs (all_lines lines last) jobs
+  pub place : length (all_lines lines last) + 1 ≡ number
+
+-- the bytes end with this line, and the lines before it ask for these jobs; `left` is what can still be read
+pub record AtJob (bytes : List ℕ) (left : Option (List ℕ)) (number : ℕ) (line : List ℕ) (jobs : List Job) : Type 0 where
+  pub lines : List (List ℕ)
+  pub end : List ℕ
+  pub is : bytes ≡ flat_map with_lf lines ++ (line ++ end)
+  pub each : All IsOneLine lines
+  pub one : IsOneLine line
+  pub ended : IsEnded line end left
+  pub place : length lines + 1 ≡ number
+  pub jobs_are : AreJobs lines jobs
+
+-- Why a file can't be carried out, and at which line. These bytes were used, and `unread` was read beyond them; `left` is what the reader has left.
+abbrev pub Unreadable : Refusal → ℕ → List ℕ → List ℕ → Option (List ℕ) → Type 0
+-- the line is malformed, or the file has ended before `settle`
+Unreadable BadLine number bytes unread left =
+    ((line : List ℕ) × (jobs : List Job) × AtJob bytes (prepend_known unread left) number line jobs × IsNoJob jobs number line)
+    ⊎ ((jobs : List Job) × FileIs bytes jobs number × (length jobs < 2) × IsAtEnd (prepend_known unread left))
+-- the reader failed in a line, and no line before it was malformed
+Unreadable Input number bytes unread left =
+    (number ≡ 0) × (unread ≡ []) × (lines : List (List ℕ)) × (line : List ℕ) × (jobs : List Job) × Lines bytes lines line × (length line ≤ max_line) × AreJobs lines jobs
+-- there was no room for a job
+Unreadable NoMemory number bytes unread left = number ≡ 0
+Unreadable _ number bytes unread left = ⊥
+
+abbrev pub IsUnreadable : Option (List ℕ) → Option (List ℕ) → DriveFault → Type 0
+IsUnreadable before left fault = (bytes : List ℕ) × (unread : List ℕ) × Consumes before left (bytes ++ unread) × Unreadable fault.refusal fault.line bytes unread left
+
+-- a read failed just where the fault says so
+abbrev pub input_failures : DriveFault → ℕ
+input_failures fault = if code_of fault.refusal == code_of Input then 1 else 0

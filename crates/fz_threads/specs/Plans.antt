@@ -1,0 +1,87 @@
+-- How a threads file is read, line by line. Means only: no public contract cites this file.
+use Rattle.std.specs.Prelude.{◌≡◌, ◌≢◌, ℕ, ◌+◌, ◌≤◌, ◌<◌, true, false, ◌⊎◌, List, [], ◌∷◌, ◌++◌, length, Option, Result, Ok, Err, IsTrue}
+use Rattle.std.specs.Io.KnownBytes.{Consumes, IsAtEnd}
+use Rattle.fz_script.specs.Jobs.{spelling, Fits}
+use Rattle.fz_text.specs.Lines.{is_kept}
+use Rattle.fz_text.specs.declared.input.Ending.{Ending}
+use Rattle.fz_text.specs.declared.input.Ending.TheVariants.{TooLong}
+use Rattle.fz_text.specs.declared.fault.DriveFault.{DriveFault}
+use Rattle.fz_model.specs.declared.refusal.Refusal.{Refusal}
+use Rattle.fz_model.specs.declared.refusal.Refusal.TheVariants.{BadLine, NoMemory}
+use Rattle.fz_script.specs.declared.step.Step.TheVariants.{Open}
+use Rattle.fz_script.specs.declared.job.Job.{Job}
+use Rattle.fz_script.specs.declared.job.Job.TheVariants.{One}
+use Rattle.fz_threads.specs.declared.plan.Plan.{Plan}
+use Rattle.fz_threads.specs.declared.draft.Draft.{Draft}
+use Rattle.fz_threads.specs.declared.draft.Draft.TheVariants.{Empty, Opened, Settled}
+use Rattle.fz_threads.specs.Jobs.{Asked, asked_jobs, may_follow, max_file_lines, AsksAt, OpensAt, FileIs, IsThreadsFile, IsUnreadable, input_failures}
+
+abbrev pub asked_by : Plan → Asked
+asked_by plan = record { blocks = plan.size.blocks; frames = plan.size.frames; workers = plan.size.workers; collections = plan.collections; body = plan.jobs.items }
+
+abbrev pub jobs_in : Draft → List Job
+jobs_in Empty = []
+jobs_in (Opened size) = One (Open size.blocks size.frames size.workers) ∷ []
+jobs_in (Settled plan) = asked_jobs (asked_by plan)
+
+-- the line that asked for the opening, where there is one
+abbrev pub opened_at : Draft → ℕ
+opened_at Empty = 0
+opened_at (Opened size) = size.line
+opened_at (Settled plan) = plan.size.line
+
+-- the line of the opening, where this line comes next
+abbrev pub opens_at : Draft → ℕ → ℕ
+opens_at Empty line = line
+opens_at (Opened size) line = size.line
+opens_at (Settled plan) line = plan.size.line
+
+-- the line's job was added; or it may not follow, or there was no memory for it
+abbrev pub Adds : Draft → ℕ → Job → Result (Unit {0}) Refusal → Draft → Type 0
+Adds old line job (Ok x) new = (may_follow (jobs_in old) job ≡ true) × (jobs_in new ≡ jobs_in old ++ job ∷ []) × (opened_at new ≡ opens_at old line)
+Adds old line job (Err refusal) new = (refusal ≡ NoMemory) ⊎ ((refusal ≡ BadLine) × (may_follow (jobs_in old) job ≡ false))
+
+abbrev pub is_empty : Draft → Type 0
+is_empty draft = draft ≡ Empty
+
+-- a malformed line has its number, and no other cause has one
+abbrev pub unreadable : Refusal → ℕ → DriveFault
+unreadable BadLine number = record { refusal = BadLine; line = number }
+unreadable refusal number = record { refusal = refusal; line = 0 }
+
+-- the line asks for nothing, or its job was added
+abbrev pub TakesLine : Draft → ℕ → List ℕ → Draft → Type 0
+TakesLine old number line new =
+    ((is_kept line ≡ false) × (new ≡ old))
+    ⊎ ((job : Job) × (is_kept line ≡ true) × Fits job × (line ≡ spelling job) × Adds old number job (Ok tt) new)
+
+-- what the line with this number gives
+abbrev pub ReadsJob : ℕ → Ending → Draft → List ℕ → Result (Unit {0}) Refusal → Draft → Type 0
+ReadsJob number ending old line (Ok x) new = (ending ≢ TooLong) × (number ≤ max_file_lines) × TakesLine old number line new
+ReadsJob number ending old line (Err refusal) new =
+    (refusal ≡ NoMemory) ⊎ ((refusal ≡ BadLine) × ((ending ≡ TooLong) ⊎ ((max_file_lines < number) ⊎ (IsTrue (is_kept line) × ((job : Job) → Fits job → line ≡ spelling job → may_follow (jobs_in old) job ≡ false)))))
+
+-- the plan is whole, or the file has ended too early
+abbrev pub Ends : Draft → ℕ → Result Plan DriveFault → Type 0
+Ends draft number (Ok plan) = draft ≡ Settled plan
+Ends draft number (Err fault) = (fault ≡ record { refusal = BadLine; line = number }) × (length (jobs_in draft) < 2)
+
+-- the first of these jobs, if there are more, is asked for in the line with this number
+abbrev pub FirstAt : List ℕ → List Job → ℕ → Type 0
+FirstAt bytes [] number = Unit {0}
+FirstAt bytes (job ∷ []) number = Unit {0}
+FirstAt bytes (job ∷ next ∷ jobs) number = AsksAt bytes number job
+
+-- these bytes were read, and their lines ask for the draft's jobs; a further line would have this number
+abbrev pub WasRead : Option (List ℕ) → Option (List ℕ) → Draft → ℕ → Type 0
+WasRead before left draft number =
+    (bytes : List ℕ) × Consumes before left bytes × IsAtEnd left × FileIs bytes (jobs_in draft) number × FirstAt bytes (jobs_in draft) (opened_at draft)
+
+-- all lines were read; or one of them stopped the reading
+abbrev pub ReadsAll : Option (List ℕ) → ℕ → Draft → Result ℕ DriveFault → Option (List ℕ) → ℕ → Type 0
+ReadsAll before failures draft (Ok number) left failures' = WasRead before left draft number × (failures' ≡ failures)
+ReadsAll before failures draft (Err fault) left failures' = IsUnreadable before left fault × (failures' ≡ failures + input_failures fault)
+
+abbrev pub PlanIsRead : Option (List ℕ) → ℕ → Result Plan DriveFault → Option (List ℕ) → ℕ → Type 0
+PlanIsRead before failures (Ok plan) left failures' = ((bytes : List ℕ) × Consumes before left bytes × IsAtEnd left × IsThreadsFile bytes (asked_by plan) × OpensAt bytes plan.size.line (asked_by plan)) × (failures' ≡ failures)
+PlanIsRead before failures (Err fault) left failures' = IsUnreadable before left fault × (failures' ≡ failures + input_failures fault)

@@ -1,0 +1,69 @@
+-- What the run of a threads file writes, function by function. Means only: no public contract cites this file.
+use Rattle.std.specs.Prelude.{◌≡◌, ◌≢◌, ℕ, ◌+◌, ◌⊎◌, true, List, [], ◌++◌, Option, Result, Ok, Err}
+use Rattle.std.specs.Io.KnownBytes.{Appends}
+use Rattle.fz_model.specs.declared.refusal.Refusal.{Refusal}
+use Rattle.fz_model.specs.declared.refusal.Refusal.TheVariants.{BadLine, BadCount, NoMemory, Output}
+use Rattle.fz_model.specs.Causes.{IsRefusedFor}
+use Rattle.fz_script.specs.declared.job.Job.{Job}
+use Rattle.fz_line.specs.States.{SeatState}
+use Rattle.fz_service.specs.States.{Origin}
+use Rattle.fz_service.specs.Ends.{IsEndOfRun, IsEachOnce}
+use Rattle.fz_service.specs.declared.ending.Final.{Final}
+use Rattle.fz_text.specs.declared.fault.DriveFault.{DriveFault}
+use Rattle.fz_threads.specs.declared.tally.Tally.{Tally}
+use Rattle.fz_text.specs.Devices.{IsPart}
+use Rattle.fz_text.specs.Written.{text_line, malformed_words, refused_words}
+use Rattle.fz_threads.specs.Jobs.{Asked}
+use Rattle.fz_threads.specs.Tallies.{summary_text}
+use Rattle.fz_threads.specs.Threads.{tally_of, Summarizes, service_causes, faults_of}
+
+abbrev pub lineless : Refusal → DriveFault
+lineless refusal = record { refusal = refusal; line = 0 }
+
+-- the text was written whole, and this fault is told; or the writer failed
+abbrev pub TellsFault : List ℕ → DriveFault → Option (List ℕ) → ℕ → DriveFault → Option (List ℕ) → ℕ → Type 0
+TellsFault text known before failures fault after failures' =
+    ((fault ≡ known) × Appends before after text × (failures' ≡ failures)) ⊎ ((fault ≡ lineless Output) × IsPart before text after × (failures' ≡ failures + 1))
+
+-- what is written of a file that can't be carried out: its malformed line, and nothing of another cause
+abbrev pub text_for : Refusal → ℕ → List ℕ
+text_for BadLine number = text_line (malformed_words number)
+text_for _ number = []
+
+-- only an opening outside its limits has a line
+abbrev pub opening_fault : Refusal → ℕ → DriveFault
+opening_fault BadCount line = record { refusal = BadCount; line = line }
+opening_fault refusal line = lineless refusal
+
+-- what was asked of a service of this origin
+abbrev pub asked_from : Origin → ℕ → List Job → Asked
+asked_from origin collections jobs = record { blocks = origin.blocks; frames = origin.frames; workers = origin.workers; collections = collections; body = jobs }
+
+-- the numbers are those of the ended service, and this number of refused steps
+abbrev pub TellsEnd : Origin → ℕ → Tally → Type 0
+TellsEnd origin refused tally =
+    (seats : List SeatState) × (end : Final) × IsEndOfRun origin seats end × IsEachOnce origin.workers seats × (tally ≡ tally_of end refused)
+
+-- the summary was written whole; or the writer failed
+abbrev pub TellsSummary : Tally → Option (List ℕ) → ℕ → Result (Unit {0}) DriveFault → Option (List ℕ) → ℕ → Type 0
+TellsSummary tally before failures (Ok x) after failures' = Appends before after (summary_text tally) × (failures' ≡ failures)
+TellsSummary tally before failures (Err fault) after failures' = (fault ≡ lineless Output) × IsPart before (summary_text tally) after × (failures' ≡ failures + 1)
+
+-- what is due once an opening was asked for: that it was refused, or the summary
+pub data IsDueAfter (asked : Asked) : List ℕ → Type 0 where
+  Refused : (refusal : Refusal) → IsRefusedFor (service_causes asked) true refusal → IsDueAfter asked (text_line (refused_words refusal))
+  Summed : (tally : Tally) → Summarizes asked tally → IsDueAfter asked (summary_text tally)
+
+-- why there is no summary, at which line, where the opening was asked for in the line `opening`, and what was written
+abbrev pub StopsRun : Asked → ℕ → Refusal → ℕ → List ℕ → Type 0
+StopsRun asked opening BadCount number text = (number ≡ opening) × IsRefusedFor (service_causes asked) true BadCount × (text ≡ text_line (refused_words BadCount))
+StopsRun asked opening NoMemory number text = (number ≡ 0) × ((text ≡ []) ⊎ (IsRefusedFor (service_causes asked) true NoMemory × (text ≡ text_line (refused_words NoMemory))))
+StopsRun asked opening Output number text = (number ≡ 0) × (due : List ℕ) × (rest : List ℕ) × (due ≡ text ++ rest) × (rest ≢ []) × IsDueAfter asked due
+StopsRun asked opening _ number text = ⊥
+
+-- the summary was written; or the run stopped
+abbrev pub RunsPlan : Asked → ℕ → Option (List ℕ) → ℕ → Result (Unit {0}) DriveFault → Option (List ℕ) → ℕ → Type 0
+RunsPlan asked opening before failures (Ok x) after failures' =
+    (tally : Tally) × Summarizes asked tally × Appends before after (summary_text tally) × (failures' ≡ failures)
+RunsPlan asked opening before failures (Err fault) after failures' =
+    (text : List ℕ) × Appends before after text × StopsRun asked opening fault.refusal fault.line text × (failures' ≡ failures + faults_of Output (Err fault))

@@ -1,0 +1,90 @@
+-- A run of a threads file: what its summary says, and why a run ends without one.
+use Rattle.std.specs.Prelude.{◌≡◌, ◌≢◌, ℕ, ◌+◌, ◌==◌, if◌then◌else◌, ◌⊎◌, true, List, [], ◌∷◌, ◌++◌, length, Option, None, Result, Ok, Err}
+use Rattle.std.specs.Io.KnownBytes.{Consumes, Appends, IsAtEnd}
+use Rattle.fz_model.specs.declared.refusal.Refusal.{Refusal}
+use Rattle.fz_model.specs.declared.refusal.Refusal.TheVariants.{BadLine, BadCount, NoMemory, Output, Input}
+use Rattle.fz_model.specs.Refusals.{code_of}
+use Rattle.fz_model.specs.Causes.{Causes, bad_count, first_cause, IsRefusedFor}
+use Rattle.fz_model.specs.declared.limits.TheConstants.{MAX_WORKERS}
+use Rattle.fz_world.specs.Does.{open_causes}
+use Rattle.fz_line.specs.States.{SeatState}
+use Rattle.fz_service.specs.States.{Origin}
+use Rattle.fz_service.specs.Ends.{IsEndOfRun, IsEachOnce}
+use Rattle.fz_service.specs.declared.ending.Final.{Final}
+use Rattle.fz_text.specs.declared.fault.DriveFault.{DriveFault}
+use Rattle.fz_threads.specs.declared.tally.Tally.{Tally}
+use Rattle.fz_text.specs.Written.{text_line, malformed_words, refused_words}
+use Rattle.fz_threads.specs.Jobs.{Asked, IsThreadsFile, Unreadable, OpensAt}
+use Rattle.fz_threads.specs.Holds.{SectionsRefused, Settles}
+use Rattle.fz_threads.specs.Tallies.{summary_text}
+
+-- the numbers of an ended service, and the refused steps of all sections
+abbrev pub tally_of : Final → ℕ → Tally
+tally_of end refused =
+    record { enqueued = end.enqueued; finished = end.finished; forfeited = end.forfeited; left = length end.left.items; passes = end.passes; reclaimed = end.reclaimed; refused = refused }
+
+-- the causes of refusal of an opening
+abbrev pub service_causes : Asked → Causes
+service_causes asked = open_causes asked.blocks asked.frames ++ bad_count MAX_WORKERS asked.workers ∷ []
+
+-- the numbers are those of one service of the size that was asked for, which is within its limits: its sections were carried out, then a pause and the collections that were
+-- asked for, and it ended with all its seats
+pub record Summarizes (asked : Asked) (tally : Tally) : Type 0 where
+  pub origin : Origin
+  pub opened : (origin.blocks ≡ asked.blocks) × (origin.frames ≡ asked.frames) × (origin.workers ≡ asked.workers)
+  pub within : first_cause (service_causes asked) ≡ None
+  pub seats : List SeatState
+  pub end : Final
+  pub ended : IsEndOfRun origin seats end
+  pub each_once : IsEachOnce origin.workers seats
+  pub told : tally ≡ tally_of end tally.refused
+  pub refused : SectionsRefused origin asked.body tally.refused
+  pub settled : Settles origin asked.collections
+  pub balanced : tally.enqueued ≡ tally.finished + tally.forfeited + tally.left
+
+-- the whole file was read, and the summary of its run was written
+pub record Summarized (input left before after : Option (List ℕ)) : Type 0 where
+  pub bytes : List ℕ
+  pub asked : Asked
+  pub tally : Tally
+  pub read : Consumes input left bytes
+  pub whole : IsAtEnd left
+  pub file : IsThreadsFile bytes asked
+  pub summary : Summarizes asked tally
+  pub written : Appends before after (summary_text tally)
+
+-- what is to be written for a file
+pub data IsDueFor (bytes unread : List ℕ) (left : Option (List ℕ)) : List ℕ → Type 0 where
+  Malformed : (number : ℕ) → Unreadable BadLine number bytes unread left → IsDueFor bytes unread left (text_line (malformed_words number))
+  NotOpened : (asked : Asked) (refusal : Refusal) → unread ≡ [] → IsAtEnd left → IsThreadsFile bytes asked → IsRefusedFor (service_causes asked) true refusal → IsDueFor bytes unread left (text_line (refused_words refusal))
+  Summary : (asked : Asked) (tally : Tally) → unread ≡ [] → IsAtEnd left → IsThreadsFile bytes asked → Summarizes asked tally → IsDueFor bytes unread left (summary_text tally)
+
+-- Why there is no summary, and at which line: only a malformed line and an opening outside its limits have one. These bytes were used, and `unread` was
+-- read beyond them; `left` is what the reader has left; and the text was written.
+abbrev pub ExplainsRun : Refusal → ℕ → List ℕ → List ℕ → Option (List ℕ) → List ℕ → Type 0
+ExplainsRun BadLine number bytes unread left text = Unreadable BadLine number bytes unread left × (text ≡ text_line (malformed_words number))
+-- the opening was refused, and its reply was written
+ExplainsRun BadCount number bytes unread left text =
+    (asked : Asked) × (unread ≡ []) × IsAtEnd left × IsThreadsFile bytes asked × OpensAt bytes number asked × IsRefusedFor (service_causes asked) true BadCount × (text ≡ text_line (refused_words BadCount))
+-- memory was short: of an opening, which nothing else stood against, the reply was written, and of any other call nothing
+ExplainsRun NoMemory number bytes unread left text =
+    (number ≡ 0)
+    × ((text ≡ []) ⊎ ((asked : Asked) × (unread ≡ []) × IsAtEnd left × IsThreadsFile bytes asked × IsRefusedFor (service_causes asked) true NoMemory × (text ≡ text_line (refused_words NoMemory))))
+ExplainsRun Input number bytes unread left text = Unreadable Input number bytes unread left × (text ≡ [])
+-- what was due wasn't written whole
+ExplainsRun Output number bytes unread left text = (number ≡ 0) × (due : List ℕ) × (rest : List ℕ) × (due ≡ text ++ rest) × (rest ≢ []) × IsDueFor bytes unread left due
+ExplainsRun _ number bytes unread left text = ⊥
+
+-- the run ended without a summary: the fault stands where its cause does, and nothing else was written
+pub record RunStopped (input left before after : Option (List ℕ)) (fault : DriveFault) : Type 0 where
+  pub bytes : List ℕ
+  pub unread : List ℕ
+  pub text : List ℕ
+  pub read : Consumes input left (bytes ++ unread)
+  pub written : Appends before after text
+  pub explains : ExplainsRun fault.refusal fault.line bytes unread left text
+
+-- 1 where the run ended for this cause, and 0 otherwise
+abbrev pub faults_of : Refusal → Result (Unit {0}) DriveFault → ℕ
+faults_of refusal (Ok x) = 0
+faults_of refusal (Err fault) = if code_of fault.refusal == code_of refusal then 1 else 0

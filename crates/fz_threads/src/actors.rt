@@ -1,0 +1,133 @@
+//! The actors of a threads file, side by side.
+
+ghost use Rattle.std.specs.Prelude.{◌≡◌, ◌≤◌, ◌<◌, ◌+◌, sum, length, IfOk};
+ghost use Rattle.std.specs.List.{All};
+ghost use Rattle.fz_service.specs.Workers.{ExtendEach};
+ghost use Rattle.fz_threads.specs.Holds.{HasRefused, Works, own_jobs, SectionsRefused, Settles};
+
+use crate::holds::hold_for;
+use crate::section::Sections;
+use fz_script::Step;
+use fz_service::{Gate, Opening, Proc, Seat, Service};
+use std::alloc::{AllocError, Global};
+use std::sync::Wait;
+use std::sync::atomic::{AtomicBool, Ordering};
+use std::thread::Threads;
+use std::{mem, thread};
+
+/// A gate that lets each entry through.
+struct OpenGate;
+
+impl Gate for OpenGate {
+    fn entered(&self, _seq: u64) {}
+}
+
+/// The sum of these numbers.
+fn total(counts: &[u64]) -> u64
+    requires each { All (λ count. count ≤ 81920000) counts.now }
+    requires few { length counts.now ≤ 4096 }
+    ensures { result ≡ sum counts.now }
+{
+    let mut total = 0;
+    for count in counts {
+        total += *count;
+    }
+    total
+}
+
+/// Carries out all sections, each on a thread of its own; returns how many of their steps were refused.
+fn run_sections<O: Opening + Send + Sync, R: Threads + Wait + Sync>(
+    alloc: Global,
+    service: &Service<O>,
+    sections: &Sections,
+    rt: &R,
+) -> Result<u64, AllocError>
+    ensures { IfOk result (SectionsRefused O.origin sections.now.jobs.items) }
+{
+    let section = |index: usize| -> u64
+        requires { index < 4096 }
+        ensures refused { HasRefused O.origin (Works (own_jobs (index + 1) sections.entry.now.jobs.items)) result }
+        ensures few { result ≤ 81920000 }
+    { sections.work(service, index + 1, rt) };
+    let refused = thread::map_indices(rt, alloc, sections.count(), &section)?;
+    Ok(total(refused.as_slice()))
+}
+
+/// Ends the cycle, if one is open, and makes this number of collections.
+fn settle<O: Opening, R: Wait>(service: &Service<O>, collections: u64, rt: &R)
+    ensures { Settles O.origin collections }
+{
+    let _no_cycle = hold_for(service, Step::Pause, rt);
+    for _turn in 0..collections {
+        let _exhausted = hold_for(service, Step::Collect, rt);
+    }
+}
+
+/// What the main thread does: all sections, and the run's end. Then the workers may stop.
+fn lead<O: Opening + Send + Sync, R: Threads + Wait + Sync>(
+    alloc: Global,
+    service: &Service<O>,
+    sections: &Sections,
+    collections: u64,
+    stop: &AtomicBool,
+    rt: &R,
+) -> Result<u64, AllocError>
+    ensures refused { IfOk result (SectionsRefused O.origin sections.now.jobs.items) }
+    ensures settled { Settles O.origin collections }
+{
+    let refused = run_sections(alloc, service, sections, rt);
+    settle(service, collections, rt);
+    stop.store(true, Ordering::SeqCst);
+    refused
+}
+
+/// Ends all these seats.
+pub(crate) fn retire_all<O: Opening>(mut seats: Vec<Seat<O>>) {
+    while let Some(seat) = seats.pop() {
+        seat.retire();
+    }
+    seats.destroy_empty();
+}
+
+/// Serves with all seats until it is told to stop; returns them.
+fn serve<O: Opening + Send + Sync, R: Threads + Wait + Sync>(
+    alloc: Global,
+    service: &Service<O>,
+    seats: &mut Vec<Seat<O>>,
+    mut procs: Vec<Vec<Box<dyn Proc + Send>>>,
+    stop: &AtomicBool,
+    rt: &R,
+) -> Vec<Seat<O>>
+    ensures { ExtendEach seats.old.items result.items }
+{
+    let seats = mem::replace(seats, Vec::new(alloc));
+    service.run_workers(seats, procs.as_mut_slice(), &OpenGate, stop, rt)
+}
+
+/// Carries out all sections, with the workers beside them; returns the seats, and how many of the sections' steps were refused.
+pub(crate) fn side_by_side<O: Opening + Send + Sync, R: Threads + Wait + Sync>(
+    alloc: Global,
+    service: &Service<O>,
+    seats: Vec<Seat<O>>,
+    sections: &Sections,
+    collections: u64,
+    procs: Vec<Vec<Box<dyn Proc + Send>>>,
+    rt: &R,
+) -> (Vec<Seat<O>>, Result<u64, AllocError>)
+    ensures seats { ExtendEach seats.items result.0.items }
+    ensures refused { IfOk result.1 (SectionsRefused O.origin sections.now.jobs.items) }
+    ensures settled { Settles O.origin collections }
+{
+    let stop = AtomicBool::new(false);
+    let mut given = seats;
+    let slot = &mut given;
+    let (back, refused) = thread::join(
+        rt,
+        || -> Vec<Seat<O>>
+            ensures { ExtendEach slot.entry.now.items result.items }
+        { serve(alloc, service, slot, procs, &stop, rt) },
+        || lead(alloc, service, sections, collections, &stop, rt),
+    );
+    retire_all(given);
+    (back, refused)
+}

@@ -1,0 +1,52 @@
+//! What the lines of a threads file ask for so far.
+
+ghost use Rattle.fz_threads.specs.Plans.{Adds};
+
+use crate::plan::{Plan, Size};
+use fz_model::Refusal;
+use fz_script::{Job, Step};
+use std::alloc::Global;
+
+/// What the lines so far ask for.
+#[derive(Drop)]
+pub(crate) enum Draft {
+    Empty,
+    Opened(Size),
+    Settled(Plan),
+}
+
+impl Draft {
+    /// Adds the job of this line where it may come next.
+    pub(crate) fn add(&mut self, alloc: Global, line: u64, job: Job) -> Result<(), Refusal>
+        ensures { Adds self.old line job result self.new }
+    {
+        match self {
+            Draft::Empty => match job {
+                Job::One(
+                    Step::Open {
+                        blocks,
+                        frames,
+                        workers,
+                    },
+                ) => {
+                    *self = Draft::Opened(Size {
+                        blocks,
+                        frames,
+                        workers,
+                        line,
+                    });
+                    Ok(())
+                }
+                _ => Err(Refusal::BadLine),
+            },
+            Draft::Opened(size) => match job {
+                Job::Settle { collections } => {
+                    *self = Draft::Settled(Plan::new(alloc, *size, collections));
+                    Ok(())
+                }
+                _ => Err(Refusal::BadLine),
+            },
+            Draft::Settled(plan) => plan.add(job),
+        }
+    }
+}

@@ -1,0 +1,203 @@
+//! A threads file from its first byte to its last.
+
+ghost use Rattle.std.specs.Prelude.{◌≡◌, ◌+◌, ◌≤◌, None, IfErr, IfOk, length};
+ghost use Rattle.std.specs.List.{All};
+ghost use Rattle.fz_model.specs.Causes.{first_cause};
+ghost use Rattle.fz_service.specs.Ends.{IsEachOnce};
+ghost use Rattle.fz_text.specs.Written.{text_line, refused_words};
+ghost use Rattle.fz_threads.specs.Plans.{asked_by};
+ghost use Rattle.fz_threads.specs.Holds.{turns_of, SectionsRefused};
+ghost use Rattle.fz_threads.specs.Threads.{Summarized, RunStopped, faults_of, tally_of, service_causes};
+ghost use Rattle.fz_threads.specs.Telling.{lineless, TellsFault, text_for, opening_fault, asked_from, TellsEnd, TellsSummary, RunsPlan};
+
+use crate::actors::{retire_all, side_by_side};
+use crate::plan::Plan;
+use crate::reading::read_plan;
+use crate::section::Sections;
+use crate::summary::write_summary;
+use crate::tally::Tally;
+use fz_model::Refusal;
+use fz_service::{Final, Opening, Prepared, Proc, Seat, Service};
+use fz_text::{DriveFault, Sink, Source, write_malformed, write_refused};
+use fz_world::Config;
+use std::alloc::Global;
+use std::marker::Brand;
+use std::sync::Wait;
+use std::thread::Threads;
+
+/// A fault that has no line.
+fn lineless(refusal: Refusal) -> DriveFault
+    ensures { result ≡ lineless refusal }
+{
+    DriveFault { refusal, line: 0 }
+}
+
+/// Says of a file why it can't be carried out, where the report is to say so.
+fn tell_unreadable<W: Sink>(writer: &mut W, fault: DriveFault) -> DriveFault
+    ensures { TellsFault (text_for fault.refusal fault.line) fault (W.written writer.old) (W.failures writer.old) result (W.written writer.new) (W.failures writer.new) }
+{
+    match fault.refusal {
+        Refusal::BadLine => match write_malformed(writer, fault.line) {
+            Ok(()) => fault,
+            Err(_) => lineless(Refusal::Output),
+        },
+        _ => fault,
+    }
+}
+
+/// The fault of a refused opening: only one outside its limits has a line.
+fn opening_fault(refusal: Refusal, line: u64) -> DriveFault
+    ensures { result ≡ opening_fault refusal line }
+{
+    match refusal {
+        Refusal::BadCount => DriveFault { refusal, line },
+        _ => lineless(refusal),
+    }
+}
+
+/// Says that the opening in this line was refused.
+fn tell_refused<W: Sink>(writer: &mut W, refusal: Refusal, line: u64) -> DriveFault
+    ensures { TellsFault (text_line (refused_words refusal)) (opening_fault refusal line) (W.written writer.old) (W.failures writer.old) result (W.written writer.new) (W.failures writer.new) }
+{
+    match write_refused(writer, refusal) {
+        Ok(()) => opening_fault(refusal, line),
+        Err(_) => lineless(Refusal::Output),
+    }
+}
+
+fn tally_of(end: &Final, refused: u64) -> Tally
+    ensures { result ≡ tally_of end.now refused }
+{
+    Tally {
+        enqueued: end.enqueued,
+        finished: end.finished,
+        forfeited: end.forfeited,
+        left: end.left.len() as u64,
+        passes: end.passes,
+        reclaimed: end.reclaimed,
+        refused,
+    }
+}
+
+/// Ends the service with all its seats; returns the numbers of the run.
+fn end_of<O: Opening>(
+    service: Service<O>,
+    seats: Vec<Seat<O>>,
+    refused: u64,
+) -> Result<Tally, Refusal>
+    requires { IsEachOnce O.origin.workers seats.items }
+    ensures ended { IfOk result (TellsEnd O.origin refused) }
+    ensures refused { IfErr result (λ refusal. refusal ≡ Refusal.NoMemory) }
+{
+    match service.shutdown(seats) {
+        Ok(end) => Ok(tally_of(&end, refused)),
+        Err((refusal, _service, seats)) => {
+            retire_all(seats);
+            Err(refusal)
+        }
+    }
+}
+
+/// Writes the summary of a run.
+fn tell_summary<W: Sink>(writer: &mut W, tally: Tally) -> Result<(), DriveFault>
+    ensures { TellsSummary tally (W.written writer.old) (W.failures writer.old) result (W.written writer.new) (W.failures writer.new) }
+{
+    match write_summary(writer, tally) {
+        Ok(()) => Ok(()),
+        Err(_) => Err(lineless(Refusal::Output)),
+    }
+}
+
+/// Carries out the sections over what was prepared for them, and writes the summary. The opening was asked for in this line.
+fn carry_out<O: Opening + Send + Sync, W: Sink, R: Threads + Wait + Sync>(
+    alloc: Global,
+    writer: &mut W,
+    line: u64,
+    sections: &Sections,
+    collections: u64,
+    prepared: Prepared,
+    procs: Vec<Vec<Box<dyn Proc + Send>>>,
+    rt: &R,
+) -> Result<(), DriveFault>
+    requires named { prepared ≡ O.origin }
+    requires within { first_cause (service_causes (asked_from O.origin collections sections.now.jobs.items)) ≡ None }
+    ensures { RunsPlan (asked_from O.origin collections sections.now.jobs.items) line (W.written writer.old) (W.failures writer.old) result (W.written writer.new) (W.failures writer.new) }
+{
+    let (service, seats) = match Service::<O>::open(prepared) {
+        Ok(opened) => opened,
+        Err(refusal) => return Err(tell_refused(writer, refusal, line)),
+    };
+    let (seats, refused) = side_by_side(alloc, &service, seats, sections, collections, procs, rt);
+    let Ok(refused) = refused else {
+        retire_all(seats);
+        return Err(lineless(Refusal::NoMemory));
+    };
+    match end_of(service, seats, refused) {
+        Ok(tally) => tell_summary(writer, tally),
+        Err(refusal) => Err(lineless(refusal)),
+    }
+}
+
+/// Opens a service of the size that the plan asks for, and carries the plan out.
+fn run_plan<W: Sink, T: Threads + Wait + Sync>(
+    alloc: Global,
+    writer: &mut W,
+    plan: Plan,
+    procs: Vec<Vec<Box<dyn Proc + Send>>>,
+    rt: &T,
+) -> Result<(), DriveFault>
+    requires stand { All (λ job. turns_of job ≤ 10000) plan.jobs.items }
+    requires few { length plan.jobs.items ≤ 4096 }
+    ensures { RunsPlan (asked_by plan) plan.size.line (W.written writer.old) (W.failures writer.old) result (W.written writer.new) (W.failures writer.new) }
+{
+    let Plan {
+        size,
+        collections,
+        jobs,
+        ..
+    } = plan;
+    let sections = Sections::of(jobs);
+    let config = Config {
+        blocks: size.blocks,
+        frames: size.frames,
+    };
+    match Service::prepare(alloc, config, size.workers) {
+        Ok(prepared) => carry_out::<Brand, W, T>(
+            alloc,
+            writer,
+            size.line,
+            &sections,
+            collections,
+            prepared,
+            procs,
+            rt,
+        ),
+        Err(refusal) => Err(tell_refused(writer, refusal, size.line)),
+    }
+}
+
+/// Carries out the threads file that the reader hands over, and writes its summary.
+///
+/// The whole file is read and checked before any thread starts. Then each section runs on a thread of its own, beside the workers; when all
+/// sections have ended, an open cycle is ended and the world is collected as often as the file says; then the workers finish what is left. The
+/// worker at each place has the list of procedures at that place.
+pub fn drive_threads<R: Source, W: Sink, T: Threads + Wait + Sync>(
+    alloc: Global,
+    reader: &mut R,
+    writer: &mut W,
+    procs: Vec<Vec<Box<dyn Proc + Send>>>,
+    rt: &T,
+) -> Result<(), DriveFault>
+    // The whole file was read, and the text is the summary of its run: one service, from its opening to its end.
+    ensures ok { IfOk result (λ done. Summarized (R.remaining reader.old) (R.remaining reader.new) (W.written writer.old) (W.written writer.new)) }
+    // A fault comes where its cause stands, and nothing else was written.
+    ensures fault { IfErr result (RunStopped (R.remaining reader.old) (R.remaining reader.new) (W.written writer.old) (W.written writer.new)) }
+    // In this call a read failed just where it says so, and so for writes.
+    ensures reads { R.failures reader.new ≡ R.failures reader.old + faults_of Refusal.Input result }
+    ensures writes { W.failures writer.new ≡ W.failures writer.old + faults_of Refusal.Output result }
+{
+    match read_plan(alloc, reader) {
+        Ok(plan) => run_plan(alloc, writer, plan, procs, rt),
+        Err(fault) => Err(tell_unreadable(writer, fault)),
+    }
+}

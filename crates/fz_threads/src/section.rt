@@ -1,0 +1,162 @@
+//! What a section does.
+
+ghost use Rattle.std.specs.Prelude.{◌≡◌, ◌≤◌, ◌*◌, length};
+ghost use Rattle.std.specs.List.{All};
+ghost use Rattle.fz_threads.specs.Holds.{calls_of, HasRefused, IsTurn, AreTurns, Carries, Works, own_jobs, begins_section, turns_of};
+ghost use Rattle.std.specs.List.{count_by};
+
+use crate::holds::hold_for;
+use fz_script::{Job, Step};
+use fz_service::{Opening, Service};
+use std::sync::Wait;
+
+/// One turn of `churn`; returns how many of its steps were refused. A refused `new` leaves out the other two.
+fn turn<O: Opening, R: Wait>(
+    service: &Service<O>,
+    new: Step,
+    register: Step,
+    let_go: Step,
+    rt: &R,
+) -> u64
+    ensures refused { HasRefused O.origin (IsTurn (calls_of new) (calls_of register) (calls_of let_go)) result }
+    ensures few { result ≤ 2 }
+{
+    if hold_for(service, new, rt) {
+        return 1;
+    }
+    let registered = hold_for(service, register, rt);
+    let dropped = hold_for(service, let_go, rt);
+    registered as u64 + dropped as u64
+}
+
+/// Carries out `count` turns; returns how many of their steps were refused.
+fn turns<O: Opening, R: Wait>(
+    service: &Service<O>,
+    count: u64,
+    new: Step,
+    register: Step,
+    let_go: Step,
+    rt: &R,
+) -> u64
+    requires { count ≤ 10000 }
+    ensures refused { HasRefused O.origin (AreTurns (calls_of new) (calls_of register) (calls_of let_go) count) result }
+    ensures few { result ≤ 20000 }
+{
+    let mut refused = 0;
+    for _turn in 0..count {
+        refused += turn(service, new, register, let_go, rt);
+    }
+    refused
+}
+
+/// Carries out a job; returns how many of its steps were refused.
+fn carry<O: Opening, R: Wait>(service: &Service<O>, job: Job, rt: &R) -> u64
+    requires { turns_of job ≤ 10000 }
+    ensures refused { HasRefused O.origin (Carries job) result }
+    ensures few { result ≤ 20000 }
+{
+    match job {
+        Job::One(step) => hold_for(service, step, rt) as u64,
+        Job::Churn {
+            count,
+            frame,
+            slot,
+            size,
+            kind,
+            finalizer_kind,
+            procedure,
+        } => turns(
+            service,
+            count,
+            Step::New {
+                frame,
+                slot,
+                size,
+                kind,
+            },
+            Step::Register {
+                frame,
+                slot,
+                kind: finalizer_kind,
+                procedure,
+                client_data: 0,
+                rank: None,
+            },
+            Step::Set {
+                frame,
+                slot,
+                word: 0,
+            },
+            rt,
+        ),
+        Job::Settle { .. } | Job::Mutator | Job::Collector => 0,
+    }
+}
+
+/// Whether the job is the first line of a section.
+fn begins_section(job: Job) -> bool
+    ensures { result ≡ begins_section job }
+{
+    match job {
+        Job::Mutator | Job::Collector => true,
+        Job::Settle { .. } | Job::Churn { .. } | Job::One(_) => false,
+    }
+}
+
+/// Carries out the jobs of the section with this number, counted from 1; returns how many of its steps were refused.
+fn work<O: Opening, R: Wait>(service: &Service<O>, jobs: &[Job], number: usize, rt: &R) -> u64
+    requires stand { All (λ job. turns_of job ≤ 10000) jobs.now }
+    requires few { length jobs.now ≤ 4096 }
+    ensures refused { HasRefused O.origin (Works (own_jobs number jobs.now)) result }
+    ensures few { result ≤ 20000 * length jobs.now }
+{
+    let mut begun = 0;
+    let mut refused = 0;
+    for job in jobs {
+        if begins_section(*job) {
+            begun += 1;
+        } else if begun == number {
+            refused += carry(service, *job, rt);
+        }
+    }
+    refused
+}
+
+/// The jobs of all sections of a file, with the first line of each.
+#[derive(Drop)]
+pub(crate) struct Sections {
+    pub(crate) jobs: Vec<Job>,
+    ghost stand: { All (λ job. turns_of job ≤ 10000) jobs.items },
+    ghost few: { length jobs.items ≤ 4096 },
+}
+
+impl Sections {
+    pub(crate) fn of(jobs: Vec<Job>) -> Sections
+        requires stand { All (λ job. turns_of job ≤ 10000) jobs.items }
+        requires few { length jobs.items ≤ 4096 }
+        ensures { result.jobs.items ≡ jobs.items }
+    {
+        Sections { jobs }
+    }
+
+    /// How many sections there are.
+    pub(crate) fn count(&self) -> usize
+        ensures count { result ≡ count_by begins_section self.now.jobs.items }
+        ensures few { result ≤ 4096 }
+    {
+        self.jobs.iter().filter(|job| begins_section(**job)).count()
+    }
+
+    /// Carries out the section with this number, counted from 1; returns how many of its steps were refused.
+    pub(crate) fn work<O: Opening, R: Wait>(
+        &self,
+        service: &Service<O>,
+        number: usize,
+        rt: &R,
+    ) -> u64
+        ensures refused { HasRefused O.origin (Works (own_jobs number self.now.jobs.items)) result }
+        ensures few { result ≤ 81920000 }
+    {
+        work(service, self.jobs.as_slice(), number, rt)
+    }
+}

@@ -1,0 +1,125 @@
+//! The procedures of threads files: what they do, and which of them workers call.
+
+use super::run_with;
+use crate::procedures::{Keep, Nothing};
+use fz_model::Entry;
+use fz_model::ObjKind::Scanned;
+use fz_model::RegKind::Normal;
+use fz_service::Proc;
+use fz_text::WHOLE;
+use fz_world::{Config, World};
+use std::alloc::Global;
+use std::process::Abort;
+use std::sync::Arc;
+use std::sync::atomic::{AtomicU64, Ordering};
+use std::test::Fail;
+
+/// Drops a registered object and collects, then runs the procedure on its entry and finishes that. Returns the world, and how many objects the
+/// next collection reclaims.
+fn after<P: Proc>(rt: &impl Abort, alloc: Global, mut procedure: P) -> (World, u64) {
+    let config = Config {
+        blocks: 1,
+        frames: 1,
+    };
+    let mut world = World::open(alloc, config).expect(rt, "memory");
+    assert!(rt; world.alloc(0, 0, 1, Scanned).is_ok());
+    assert!(rt; world.register(0, 0, Normal, 0, 0, 0).is_ok());
+    assert!(rt; world.set(0, 0, 0).is_ok());
+    assert!(rt; world.collect().is_ok());
+    assert_eq!(rt; world.queue().len(), 1);
+    let entry = world.queue()[0];
+    procedure.work(&entry);
+    procedure.run(&entry, &mut world);
+    assert!(rt; world.finish(&entry).is_ok());
+    let passed = world.collect().expect(rt, "a pass");
+    (world, passed.reclaimed)
+}
+
+#[test]
+fn procedure_0_does_nothing(rt: HostRuntime) {
+    let (_world, reclaimed) = after(&rt, rt.alloc(), Nothing);
+    assert_eq!(rt; reclaimed, 1);
+}
+
+#[test]
+fn procedure_1_keeps_the_object_in_the_last_slot_of_the_first_frame(rt: HostRuntime) {
+    let (mut world, reclaimed) = after(&rt, rt.alloc(), Keep);
+    assert_eq!(rt; reclaimed, 0);
+    assert!(rt; world.load(0, 15, 0, 0, 0).is_ok());
+}
+
+/// How often a procedure was called.
+#[derive(Drop)]
+struct Calls {
+    works: AtomicU64,
+    runs: AtomicU64,
+}
+
+impl Calls {
+    fn none() -> Calls {
+        Calls {
+            works: AtomicU64::new(0),
+            runs: AtomicU64::new(0),
+        }
+    }
+
+    fn counts(&self) -> (u64, u64) {
+        (
+            self.works.load(Ordering::SeqCst),
+            self.runs.load(Ordering::SeqCst),
+        )
+    }
+}
+
+/// A procedure that counts its calls.
+#[derive(Drop)]
+struct Counted(Arc<Calls, Global>);
+
+impl Proc for Counted {
+    fn work(&mut self, _entry: &Entry) {
+        self.0.works.fetch_add(1, Ordering::SeqCst);
+    }
+
+    fn run(&mut self, _entry: &Entry, _world: &mut World) {
+        self.0.runs.fetch_add(1, Ordering::SeqCst);
+    }
+}
+
+const THREE_PROCEDURES: &[u8] = b"open 8 2 2\n\
+    settle 2\n\
+    mutator\n\
+    churn 30 0 0 1 scanned normal 0\n\
+    churn 5 0 0 1 scanned normal 2\n\
+    mutator\n\
+    churn 20 1 0 1 scanned normal 1\n";
+
+/// Each of two workers has the two procedures, so it plays no part which of them takes an entry.
+#[test]
+fn each_entry_has_its_procedure_called_once(rt: HostRuntime) -> Result<(), Fail> {
+    let zero = Arc::new(rt.alloc(), Calls::none())?;
+    let one = Arc::new(rt.alloc(), Calls::none())?;
+    let mut procs = Vec::new(rt.alloc());
+    for _worker in 0..2u64 {
+        let mut list: Vec<Box<dyn Proc + Send>> = Vec::new(rt.alloc());
+        list.push(Box::new(rt.alloc(), Counted(Arc::try_clone(&zero)?))?)?;
+        list.push(Box::new(rt.alloc(), Counted(Arc::try_clone(&one)?))?)?;
+        procs.push(list)?;
+    }
+    let outcome = run_with(&rt, THREE_PROCEDURES, WHOLE, procs);
+    assert!(rt;
+        outcome.text.starts_with(b"enqueued 55\nfinished 55\nforfeited 0\nleft 0\npasses 2\n")
+    );
+    assert_eq!(rt; zero.counts(), (30, 30));
+    assert_eq!(rt; one.counts(), (20, 20));
+    Ok(())
+}
+
+/// Workers without lists of procedures finish all entries.
+#[test]
+fn workers_need_no_lists(rt: HostRuntime) -> Result<(), Fail> {
+    let outcome = run_with(&rt, THREE_PROCEDURES, WHOLE, Vec::new(rt.alloc()));
+    assert!(rt;
+        outcome.text.starts_with(b"enqueued 55\nfinished 55\nforfeited 0\nleft 0\npasses 2\n")
+    );
+    Ok(())
+}
