@@ -1,5 +1,5 @@
 -- Calls of the world, and the steps that ask for them.
-use Rattle.std.proofs.Common.{◌≡◌, false, Option, Some, Result, Ok, Err, refl, sym, subst, IsFalse}
+use Rattle.std.proofs.Common.{◌≡◌, false, Some, Result, Ok, Err, refl, sym, subst, IsFalse}
 use Rattle.std.specs.Result.{IsErrAnd}
 use Rattle.fz_model.specs.declared.refusal.Refusal.{Refusal}
 use Rattle.fz_model.specs.Events.{Event, Answer}

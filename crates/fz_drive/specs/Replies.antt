@@ -1,6 +1,5 @@
 -- What a report says of each step: the words of its reply.
-use Rattle.std.specs.Prelude.{ℕ, Bool, true, false, List, [], ◌∷◌, ◌++◌, map, codes, Option, Some, None, Result, Ok, Err}
-use Rattle.std.specs.List.{join_with_byte}
+use Rattle.std.specs.Prelude.{ℕ, Bool, true, false, List, [], ◌∷◌, codes, Option, Some, None, Result, Ok, Err}
 use Rattle.fz_model.specs.declared.answers.Entry.{Entry}
 use Rattle.fz_model.specs.declared.answers.Old.{Old}
 use Rattle.fz_model.specs.declared.answers.Passed.{Passed}
@@ -13,8 +12,6 @@ use Rattle.fz_model.specs.declared.answers.LinkAnswer.TheVariants as linking
 use Rattle.fz_model.specs.declared.answers.MoveAnswer.{MoveAnswer}
 use Rattle.fz_model.specs.declared.answers.MoveAnswer.TheVariants as moving
 use Rattle.fz_model.specs.declared.refusal.Refusal.{Refusal}
-use Rattle.fz_model.specs.declared.refusal.Refusal.TheVariants.{BadLine}
-use Rattle.fz_model.specs.Refusals.{code_of, name_of}
 use Rattle.fz_model.specs.Events.{Event, Alloc, Load, Store, Set, Copy, Register, Unregister, Link, Unlink, MoveLink, Begin, Mark, Pause, Collect, Hold, Finish, Close, Outstanding, Queue, Answer}
 use Rattle.fz_model.specs.Joint.{JointEvent, Call, Take, HoldOwn, FinishOwn, Forfeit, JointAnswer, Move}
 use Rattle.fz_script.specs.Spelling.{Word, Number, Text}

@@ -1,5 +1,5 @@
 -- What was used of an input, and what was read beyond it.
-use Rattle.std.proofs.Common.{◌≡◌, ℕ, ◌+◌, List, [], ◌∷◌, ◌++◌, Option, Some, None, ◌∙◌, ap, sym, refl, arith, take, drop, append_assoc}
+use Rattle.std.proofs.Common.{◌≡◌, ℕ, ◌+◌, List, [], ◌∷◌, ◌++◌, Option, Some, None, ◌∙◌, ap, sym, arith, take, drop, append_assoc}
 use Rattle.std.specs.Io.KnownBytes.{Consumes, IsAtEnd, prepend_known}
 use Rattle.fz_text.specs.declared.chunk.Chunk.{Chunk}
 use Rattle.fz_text.specs.Reading.{unread}
