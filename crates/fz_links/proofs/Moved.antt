@@ -1,10 +1,12 @@
 -- Links that move.
-use Rattle.std.proofs.Common.{◌≡◌, ◌≢◌, ℕ, ◌+◌, ◌-◌, false, cond, is_some, Option, Some, None, refl, sym, ap, subst, ◌∙◌, ⊎_elim, arith}
-use Rattle.std.proofs.lemmas.Bool.{cases_eq, true≢false}
+use Rattle.std.proofs.Common.{◌≡◌, ◌≢◌, ℕ, zero, suc, ◌+◌, ◌-◌, cond, is_some, List, [], ◌∷◌, ◌++◌, slice_get, Option, Some, None, nat_eq, sym, ap, subst, ◌∙◌, ⊎_elim, arith}
+use Rattle.std.proofs.lemmas.Bool.{cases_eq}
 use Rattle.std.proofs.lemmas.Option.{none-some}
+use Rattle.std.specs.Map.{lookup}
 use Rattle.std.specs.Cmp.{nat_cmp_total}
-use Rattle.std.specs.FinMap.{get, len, insert, remove, len-insert, len-remove, same_map, nat_cmp-IsAntisymmetric}
+use Rattle.std.specs.FinMap.{get, len, insert, remove, from_entries, len-insert, len-remove, same_map, nat_cmp-IsAntisymmetric}
 use Rattle.fz_model.specs.State.{Map}
+use Rattle.fz_model.proofs.Tables.{get_made}
 use Rattle.fz_model.proofs.Maps.{get-remove_same, get-remove_other, get-insert_same, get-insert_other}
 
 module _ {X : Type 0} where
@@ -31,6 +33,12 @@ module _ {X : Type 0} where
       let less = len-remove nat_cmp_total (insert m n x) k ∙ ap (λ b. cond b (len (insert m n x) - 1) (len (insert m n x))) there in
       omega (arith, grown, less)
 
-  pub none_of : (o : Option X) → is_some o ≡ false → o ≡ None
-  none_of None e = refl
-  none_of (Some x) e = absurd (true≢false e)
+  -- what a look-up among the entries finds
+  pub looked_up : (es : List (ℕ × X)) (m : Map X) (k : ℕ) (o : Option X) → from_entries es ≡ m → o ≡ lookup (nat_eq k) es → get m k ≡ o
+  looked_up es m k o made is = ap (λ (t : Map X). get t k) (sym made) ∙ get_made es k ∙ sym is
+
+-- an item keeps its place when another goes last
+pub place_kept : {X : Type 0} (xs : List X) (i : ℕ) (x y : X) → slice_get xs i ≡ Some x → slice_get (xs ++ y ∷ []) i ≡ Some x
+place_kept [] i x y at = absurd (none-some x at)
+place_kept (z ∷ xs) zero x y at = at
+place_kept (z ∷ xs) (suc i) x y at = place_kept xs i x y at

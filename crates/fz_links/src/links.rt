@@ -11,6 +11,7 @@ ghost use Rattle.fz_links.specs.Dropped.{ComputesTest, without};
 use crate::iter::LinkEntries;
 use fz_model::{Addr, LinkAnswer, MoveAnswer, Refusal, TABLE_LIMIT};
 use indexmap::IndexMap;
+use indexmap::map::Entry;
 use std::alloc::Global;
 use std::marker::Model;
 
@@ -83,18 +84,19 @@ impl Links {
         ensures answer { IfOk result (λ answer. answer ≡ move_answer self.old link new) }
         ensures moved { OnOk result (self.new ≡ moved_to self.old link new (get self.old link)) }
     {
-        let Some(target) = self.get(link) else {
+        let Some((old_place, _, target)) = self.entries.get_full(&link) else {
             return Ok(MoveAnswer::NotFound);
         };
+        let target = *target;
         if link == new {
             return Ok(MoveAnswer::Success);
         }
-        if self.get(new).is_some() {
+        // Room comes first, so that a refused move leaves the link where it was. The new link goes last, so that place holds.
+        let Entry::Vacant(room) = self.entries.entry(new)? else {
             return Ok(MoveAnswer::Duplicate);
-        }
-        // Room comes first, so that a refused move leaves the link where it was.
-        self.entries.insert(new, target)?;
-        self.entries.swap_remove(&link);
+        };
+        room.insert(target);
+        self.entries.swap_remove_index(old_place);
         Ok(MoveAnswer::Success)
     }
 
