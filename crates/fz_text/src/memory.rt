@@ -19,6 +19,8 @@ pub enum Pieces {
 impl Pieces {
     /// How many of these bytes go into a call.
     fn of(self, len: usize) -> usize
+        ensures whole { self ≡ Pieces.Whole → result ≡ len }
+        ensures single { self ≡ Pieces.Single → result ≤ 1 }
         ensures within { result ≤ len }
         ensures some { 0 < len → 0 < result }
     {
@@ -37,6 +39,7 @@ pub struct Limits {
     pub writes: u64,
 }
 
+/// Devices that hand over and take all that they can, and don't fail.
 pub const WHOLE: Limits = Limits {
     pieces: Pieces::Whole,
     reads: u64::MAX,
@@ -44,7 +47,9 @@ pub const WHOLE: Limits = Limits {
 };
 
 /// Devices that hand over and take a byte in a call, and fail after a given number of calls.
-pub fn bytewise(reads: usize, writes: usize) -> Limits {
+pub fn bytewise(reads: usize, writes: usize) -> Limits
+    ensures { result ≡ record { pieces = Pieces.Single; reads = reads; writes = writes } }
+{
     Limits {
         pieces: Pieces::Single,
         reads: reads as u64,
@@ -62,12 +67,15 @@ pub struct MemorySource<'a, L: Ledger> {
 }
 
 impl<'a, L: Ledger> MemorySource<'a, L> {
+    /// A reader of these bytes, whose read number `reads`, counted from 0, fails, and each after it.
     pub fn new(
         bytes: &'a [u8],
         pieces: Pieces,
         reads: u64,
         failures: Failures<L>,
-    ) -> MemorySource<'a, L> {
+    ) -> MemorySource<'a, L>
+        ensures { (result.rest ≡ bytes.entry) × (result.pieces ≡ pieces) × (result.reads ≡ reads) × (result.failures ≡ failures) }
+    {
         MemorySource {
             rest: bytes,
             pieces,
@@ -106,8 +114,9 @@ pub struct MemorySink<L: Ledger> {
 }
 
 impl<L: Ledger> MemorySink<L> {
+    /// An empty writer, whose write number `writes`, counted from 0, fails, and each after it.
     pub fn new(pieces: Pieces, writes: u64, failures: Failures<L>) -> MemorySink<L>
-        ensures { result.bytes.items ≡ [] }
+        ensures { (result.bytes.items ≡ []) × (result.pieces ≡ pieces) × (result.writes ≡ writes) × (result.failures ≡ failures) }
     {
         MemorySink {
             bytes: ArrayVec::new(),
