@@ -12,6 +12,10 @@ use Rattle.fz_script.specs.declared.job.Job.{Job}
 use Rattle.fz_script.specs.declared.job.Job.TheVariants.{Mutator, Collector, Churn, One}
 use Rattle.fz_service.specs.States.{Origin, LockedState, IsInOrder}
 
+-- the world made this call
+abbrev pub Makes : Event → WorldView → WorldView → Type 0
+Makes event old new = (reply : Result (Answer event) Refusal) × Does old event reply new
+
 -- one hold: in a state that steps reach from the opening, one call of the world
 pub record Hold (origin : Origin) : Type 0 where
   pub old : LockedState

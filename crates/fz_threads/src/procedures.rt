@@ -1,6 +1,9 @@
 //! The procedures of a threads file's finalizers.
 
+ghost use Rattle.std.specs.Prelude.{◌≡◌};
+ghost use Rattle.fz_model.specs.Events.{Hold};
 ghost use Rattle.fz_service.specs.States.{RunsCalls};
+ghost use Rattle.fz_threads.specs.Holds.{Makes};
 
 use fz_model::Entry;
 use fz_service::Proc;
@@ -13,7 +16,10 @@ pub struct Nothing;
 impl Proc for Nothing {
     fn work(&mut self, _entry: &Entry) {}
 
-    fn run(&mut self, _entry: &Entry, _world: &mut World) {}
+    fn run(&mut self, _entry: &Entry, _world: &mut World)
+        ensures calls { RunsCalls _world.old _world.new }
+        ensures nothing { _world.new ≡ _world.old }
+    {}
 }
 
 /// Puts the object into the last slot of the first frame.
@@ -23,7 +29,10 @@ pub struct Keep;
 impl Proc for Keep {
     fn work(&mut self, _entry: &Entry) {}
 
-    fn run(&mut self, entry: &Entry, world: &mut World) {
+    fn run(&mut self, entry: &Entry, world: &mut World)
+        ensures calls { RunsCalls world.old world.new }
+        ensures holds { Makes (Hold 0 15 entry.now) world.old world.new }
+    {
         let _not_held = world.hold(0, 15, entry);
     }
 }

@@ -1,5 +1,5 @@
 use Rattle.fz_model.specs.Steps.{NoStep}
 use Rattle.fz_threads.proofs.procedures.NothingProc.run.Goals as goal
 
-pub returns : goal.returns
-returns c = λ s stands. (s, NoStep, stands)
+pub returns-clause-calls : goal.returns-clause-calls
+returns-clause-calls c = λ s stands. (s, NoStep, stands)
