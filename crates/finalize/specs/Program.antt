@@ -1,5 +1,5 @@
 -- What the program says on standard error, and what its exit statuses mean.
-use Rattle.std.specs.Prelude.{◌≡◌, ℕ, List, [], ◌∷◌, codes, Option}
+use Rattle.std.specs.Prelude.{◌≡◌, ◌≢◌, ◌⊎◌, ℕ, List, [], ◌∷◌, codes, Option, Some, slice_get}
 use Rattle.fz_model.specs.declared.refusal.Refusal.{Refusal}
 use Rattle.fz_model.specs.declared.refusal.Refusal.TheVariants.{Input, Output, NoMemory}
 use Rattle.finalize.specs.declared.program.Program.{Program}
@@ -33,6 +33,10 @@ name_of Threads = codes "threads"
 -- the words are the program's name and a file
 abbrev pub Names : Program → List (List ℕ) → Type 0
 Names program words = (file : List ℕ) × (words ≡ name_of program ∷ file ∷ [])
+
+-- the word is taken as a file: it is `-` alone, or doesn't begin with a hyphen (45)
+abbrev pub IsFile : List ℕ → Type 0
+IsFile word = (word ≡ codes "-") ⊎ (slice_get word 0 ≢ Some 45)
 
 -- the program ran on this input to its end, and wrote its whole report or summary
 abbrev pub Completes : Program → Option (List ℕ) → Option (List ℕ) → Option (List ℕ) → Type 0

@@ -1,7 +1,9 @@
 //! The program, over its words and two writers.
 
-ghost use Rattle.std.specs.Prelude.{◌≡◌, ◌≢◌, ◌≤◌, ◌⊎◌, ◌+◌, List, ℕ, Option, IfSome, IsNone, codes, length, map, slice_get, Err, Some};
-ghost use Rattle.finalize.specs.Program.{want_line, memory_line, open_line, fault_line, Names, Completes, Stops};
+ghost use Rattle.std.specs.Prelude.{◌≡◌, ◌≢◌, ◌≤◌, ◌⊎◌, ◌+◌, List, [], ◌∷◌, ℕ, Option, IfErr, IfOk, IfSome, IsNone, codes, length, map, option_map, slice_get, Err, Some};
+ghost use Rattle.clap.specs.Words.{app_of, kind_of};
+ghost use Rattle.finalize.specs.Words.{TakesFiles};
+ghost use Rattle.finalize.specs.Program.{want_line, memory_line, open_line, fault_line, name_of, IsFile, Names, Completes, Stops};
 ghost use Rattle.fz_text.specs.Devices.{Says};
 ghost use Rattle.fz_drive.specs.Report.{failures_of};
 ghost use Rattle.fz_text.specs.declared.fault.DriveFault.{DriveFault};
@@ -51,7 +53,9 @@ fn program_of<S: AsStr>(words: &[S]) -> Option<Program>
     }
 }
 
-fn command<'a>(alloc: Global) -> Result<Command<'a>, AllocError> {
+fn command<'a>(alloc: Global) -> Result<Command<'a>, AllocError>
+    ensures { IfOk result (λ command. TakesFiles (app_of command)) }
+{
     let run = Command::new(alloc, "run").arg(Arg::new(alloc, "FILE").required(true))?;
     let threads = Command::new(alloc, "threads").arg(Arg::new(alloc, "FILE").required(true))?;
     Command::new(alloc, "finalize")
@@ -62,7 +66,10 @@ fn command<'a>(alloc: Global) -> Result<Command<'a>, AllocError> {
 }
 
 /// The file that the words name. An error says that they are wrong, or that memory was short.
-fn file_of<'a, S: AsStr>(alloc: Global, words: &'a [S]) -> Result<Option<&'a str>, Error> {
+fn file_of<'a, S: AsStr>(alloc: Global, words: &'a [S]) -> Result<Option<&'a str>, Error>
+    ensures found { (program : Program) → (file : List ℕ) → map S.text words.now ≡ name_of program ∷ file ∷ [] → IsFile file → IfOk result (λ some. option_map (λ word. word.now) some ≡ Some file) }
+    ensures taken { (program : Program) → (file : List ℕ) → map S.text words.now ≡ name_of program ∷ file ∷ [] → IsFile file → IfErr result (λ error. kind_of error ≡ ErrorKind.OutOfMemory) }
+{
     let command = command(alloc)?;
     let matches = command.try_get_matches_from(words)?;
     Ok(match matches.subcommand() {
@@ -111,6 +118,8 @@ pub(crate) fn execute<R: Files + AllocGlobal + Threads + Wait + Sync, S: AsStr, 
     ensures counted { length words.now ≢ 2 → result ≡ 2 }
     // So are words whose first is neither `run` nor `threads`.
     ensures named { (first : S) → slice_get words.now 0 ≡ Some first → S.text first ≢ codes "run" → S.text first ≢ codes "threads" → result ≡ 2 }
+    // A program's name and a file are right.
+    ensures taken { (program : Program) → (file : List ℕ) → map S.text words.now ≡ name_of program ∷ file ∷ [] → IsFile file → result ≢ 2 }
     // Of wrong words nothing is written but the line that says so.
     ensures wrong { result ≡ 2 → (O.written out.new ≡ O.written out.old) × (O.failures out.new ≡ O.failures out.old) × Says (E.written err.old) (E.failures err.old) want_line (E.written err.new) (E.failures err.new) }
     // Where it succeeds, the words name a program, and what was written is its whole report or summary. (What a file holds, no contract can tell.)

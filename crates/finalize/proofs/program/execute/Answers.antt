@@ -1,8 +1,12 @@
-use Rattle.std.proofs.Common.{◌≡◌, ◌≢◌, ℕ, List, [], ◌∷◌, Some, codes, map, slice_get}
+use Rattle.std.proofs.Common.{rules, ◌≡◌, ◌≢◌, ◌∙◌, ℕ, List, [], ◌∷◌, Bor, Option, None, Some, Result, Ok, Err, IfOk, is_some, option_map, ap, sym, codes, map, slice_get}
+use denote.Enum.Bare.{same_false}
+use Rattle.clap.specs.contracts.error.kind.ErrorKind.{the_type}
+use Rattle.clap.specs.declared.error.kind.ErrorKind.TheVariants.{OutOfMemory}
 use Rattle.finalize.specs.declared.program.Program.{Program}
 use Rattle.finalize.specs.declared.program.Program.TheVariants.{Run, Threads}
 use Rattle.finalize.specs.Program.{Names}
 use Rattle.finalize.proofs.program.execute.Goals as goal
+use Rattle.finalize.proofs.program.execute.Goals.{in_default-file_of-via-in-Ok+in_default, in_default-file_of-via-in-Err+else-eq}
 
 -- the text of the first word, by its two words for it
 first_text : {A : Type 0} (text : A → List ℕ) (words : List A) (first : A) (name file : List ℕ) → slice_get words 0 ≡ Some first → map text words ≡ name ∷ file ∷ [] → text first ≡ name
@@ -21,3 +25,18 @@ returns-in-Ok-Some-clause-named g c = λ first at run threads.
 pub returns-in-Err-clause-named : goal.returns-in-Err-clause-named
 returns-in-Err-clause-named g c = λ first at run threads.
     absurd (other_name g.S.AsStr.text c.args.words.now first c.in-Some.program at c.in-Some.ensures.some run threads)
+
+-- where a file was found, it isn't missing
+is_there : {E : Type 0} (found : Result (Option (Bor (List ℕ))) E) (file : List ℕ) → IfOk found (λ (some : Option (Bor (List ℕ))). option_map (λ (word : Bor (List ℕ)). word.now) some ≡ Some file) → found ≡ Ok None → ⊥
+is_there (Ok None) file has is = cc
+is_there (Ok (Some word)) file has is = cc
+is_there (Err error) file has is = cc
+
+pub returns-in_default-clause-taken : goal.returns-in_default-clause-taken
+returns-in_default-clause-taken g c = λ program file are is two. c.program_of.ensures.none (ap is_some c.in_default.is) program (file, are)
+
+pub returns-in_default-file_of-clause-taken : goal.returns-in_default-file_of-clause-taken
+returns-in_default-file_of-clause-taken g c = λ program file are is two. elim c.in_default-file_of.branch [
+  | in_default-file_of-via-in-Ok+in_default w ↦ is_there c.file_of.result file (c.file_of.ensures.found program file are is) (search rules)
+  | in_default-file_of-via-in-Err+else-eq w ↦ same_false the_type w.kind.result OutOfMemory (sym w.eq.ensures ∙ w.if-eq.false) (w.kind.ensures ∙ w.in-Err.ensures.taken program file are is)
+]
