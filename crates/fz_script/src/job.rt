@@ -118,7 +118,7 @@ fn is_for_threads(step: Step) -> bool
     }
 }
 
-/// The first word of a line that only a threads file has.
+/// The first words of those lines of threads files that ask for no step.
 #[derive(Clone, Copy)]
 enum Keyword {
     Settle,

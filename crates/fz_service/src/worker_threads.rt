@@ -207,7 +207,7 @@ impl<O: Opening> Service<O> {
     /// `stop` as true. So what was published before `stop` was set is taken. While the line is empty and `stop` is false, it yields, and later
     /// sleeps for a moment at a time. The calling thread is one of the workers: whoever sets `stop` runs in another.
     ///
-    /// Where a thread can't be made, its seat is served on another's thread. Where memory is wanting, all seats come back unused.
+    /// Where a thread can't be started, another one serves its seat too. Without the memory for the threads' slots, all seats come back unused.
     pub fn run_workers<G: Gate + Sync, R: Threads + Wait + Sync>(
         &self,
         mut seats: Vec<Seat<O>>,
