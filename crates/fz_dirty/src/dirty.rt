@@ -12,11 +12,21 @@ use std::alloc::Global;
 use std::marker::Model;
 
 /// A set of pages, each by its number from 0: the dirty pages of Boehm, Demers and Shenker (1991). All its memory is taken by `new`.
-#[derive(Drop)]
 pub struct Dirty {
     noted: Flags<0>,
     pages: u64,
     count: u64,
+}
+
+// Written out: who owns pages then drops it by one call that is proved here, not field by field at each way out of a function.
+impl Drop for Dirty {
+    fn drop(self) {
+        let Dirty {
+            noted: _,
+            pages: _,
+            count: _,
+        } = self;
+    }
 }
 
 impl Model for Dirty {

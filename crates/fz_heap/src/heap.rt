@@ -26,7 +26,6 @@ use std::marker::Model;
 /// of an object that may start there. Objects have no header. The map of the blocks takes memory of its own (`fz_blocks::BlockMap`). After `new` each
 /// call costs the same however many objects there are, except that `alloc` also writes the words of the new object, and that `objects` walks over
 /// the heap.
-#[derive(Drop)]
 pub struct Heap {
     map: BlockMap,
     /// By address, from the heap's first on. Words outside objects mean nothing.
@@ -34,6 +33,18 @@ pub struct Heap {
     /// By address too. Only a birth at the start of an object means anything.
     births: Vec<u64>,
     next_birth: u64,
+}
+
+// Written out: who owns a heap then drops it by one call that is proved here, not field by field at each way out of a function.
+impl Drop for Heap {
+    fn drop(self) {
+        let Heap {
+            map: _,
+            words: _,
+            births: _,
+            next_birth: _,
+        } = self;
+    }
 }
 
 /// So many words, all of them zero.

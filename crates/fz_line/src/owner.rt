@@ -15,10 +15,19 @@ use std::marker::Model;
 ///
 /// A contract sees which line it is, how many seats it has, all that was sent, and what `drain` took out. An owner that is dropped takes
 /// the entries that wait in the line with it.
-#[derive(Drop)]
 pub struct Owner {
     pub(crate) worker: LineWorker,
     pub(crate) seats: usize,
+}
+
+// Written out: who owns an owner then drops it by one call that is proved here, not field by field at each way out of a function.
+impl Drop for Owner {
+    fn drop(self) {
+        let Owner {
+            worker: _,
+            seats: _,
+        } = self;
+    }
 }
 
 impl Model for Owner {

@@ -18,9 +18,15 @@ use std::marker::Model;
 /// Disappearing links by the addresses of their words, each with the start of its target, at most 65,536 at one time.
 ///
 /// One value holds short links or long ones; which they are is for the pass that clears their words (gc.h).
-#[derive(Drop)]
 pub struct Links {
     entries: IndexMap<Addr, Addr>,
+}
+
+// Written out: who owns links then drops it by one call that is proved here, not field by field at each way out of a function.
+impl Drop for Links {
+    fn drop(self) {
+        let Links { entries: _ } = self;
+    }
 }
 
 impl Model for Links {

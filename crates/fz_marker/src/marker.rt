@@ -22,11 +22,21 @@ use std::marker::Model;
 /// Each call with a heap is asked only with one of as many blocks. All its memory is taken by `new`: for each word of the heap 16 bytes, for the two
 /// lists of objects to be read, and four bits. Marking goes by single objects, so that a cycle can be spread over many steps of the program
 /// (Boehm, Demers and Shenker, "Mostly parallel garbage collection", 1991).
-#[derive(Drop)]
 pub struct Marker {
     cycle: Cycle,
     traces: Frontier,
     listed: Flags<HEAP_START>,
+}
+
+// Written out: who owns a marker then drops it by one call that is proved here, not field by field at each way out of a function.
+impl Drop for Marker {
+    fn drop(self) {
+        let Marker {
+            cycle: _,
+            traces: _,
+            listed: _,
+        } = self;
+    }
 }
 
 impl Model for Marker {

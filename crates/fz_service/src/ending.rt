@@ -9,7 +9,6 @@ use crate::opening::{Finishes, Opening};
 use crate::seat::Seat;
 use fz_line::retire_all;
 use fz_model::{Entry, Refusal};
-use fz_world::World;
 use std::alloc::{AllocError, Global};
 use std::sync::ledger::Share;
 
@@ -76,7 +75,7 @@ impl<O: Opening> Locked<O> {
         retire_all(plain);
         let taken = (published - left.len()) as u64;
         append(&mut left, &world.queue()[published..]);
-        let_go(world);
+        drop(world);
         let finished = enqueued - outstanding;
         Final {
             enqueued,
@@ -88,11 +87,6 @@ impl<O: Opening> Locked<O> {
             reclaimed,
         }
     }
-}
-
-/// Drops a world. A function of its own, since what a drop does is spelled out wherever it stands.
-fn let_go(world: World) {
-    drop(world);
 }
 
 /// Room for a number of entries and a number of seats.

@@ -17,10 +17,19 @@ use std::alloc::Global;
 use std::marker::Model;
 
 /// The registrations by the starts of their objects, at most 65,536 at one time. Each gets a number, counted from 0.
-#[derive(Drop)]
 pub struct Table {
     entries: IndexMap<Addr, Registration>,
     next_number: u64,
+}
+
+// Written out: who owns a table then drops it by one call that is proved here, not field by field at each way out of a function.
+impl Drop for Table {
+    fn drop(self) {
+        let Table {
+            entries: _,
+            next_number: _,
+        } = self;
+    }
 }
 
 impl Model for Table {

@@ -32,7 +32,6 @@ pub struct Config {
 /// A contract sees all that a state of the model keeps but what an open cycle has seen, and the marks of the cycle begun last. A refused call
 /// returns the first of its refusals that stands, and changes nothing that a contract sees. Memory is taken by `open`, `alloc`, `register`, `link`
 /// and `move_link` alone.
-#[derive(Drop)]
 pub struct World {
     pub(crate) heap: Heap,
     pub(crate) frames: Frames,
@@ -47,6 +46,26 @@ pub struct World {
     pub(crate) passes: u64,
     pub(crate) closed: bool,
     pub(crate) cycle: bool,
+}
+
+// Written out: who owns a world then drops it by one call that is proved here, not field by field at each way out of a function.
+impl Drop for World {
+    fn drop(self) {
+        let World {
+            heap: _,
+            frames: _,
+            table: _,
+            short: _,
+            long: _,
+            ready: _,
+            marker: _,
+            dirty: _,
+            picks: _,
+            passes: _,
+            closed: _,
+            cycle: _,
+        } = self;
+    }
 }
 
 impl Model for World {
