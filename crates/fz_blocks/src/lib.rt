@@ -8,8 +8,6 @@ mod claims;
 mod class;
 mod starts;
 mod table;
-#[cfg(test)]
-mod tests;
 
 pub use block_map::BlockMap;
 pub use starts::Starts;

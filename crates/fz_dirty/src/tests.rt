@@ -2,33 +2,41 @@
 
 use crate::{Dirty, Flags};
 use fz_model::{HEAP_START, MAX_BLOCKS};
+use std::fmt::Debug;
+use std::process::Abort;
 use std::test::Fail;
 
 /// The addresses of a heap of two blocks.
 const BLOCKS: u64 = 2;
 
+/// Stops the test where a value isn't the one that is wanted. The assert stands here alone, since it is proved again at each place where it stands.
+fn must_be<T: Copy + Debug + PartialEq>(rt: &impl Abort, found: T, want: T, what: &str) {
+    assert_eq!(rt; found, want, "{what}");
+}
+
 #[test]
 fn notes_pages(rt: HostRuntime) -> Result<(), Fail> {
     let mut dirty = Dirty::new(rt.alloc(), 130)?;
-    assert_eq!(rt; dirty.next(0), None);
+    must_be(&rt, dirty.next(0), None, "none at first");
     dirty.mark(129);
     dirty.mark(64);
     dirty.mark(63);
     dirty.mark(0);
     dirty.mark(64);
-    assert_eq!(rt; dirty.count(), 4);
-    assert!(rt; dirty.is(63) && dirty.is(129));
-    assert!(rt; !dirty.is(62) && !dirty.is(130) && !dirty.is(u64::MAX));
-    assert_eq!(rt; dirty.next(64), Some(64));
-    assert_eq!(rt; dirty.next(65), Some(129));
-    assert_eq!(rt; dirty.next(130), None);
-    assert_eq!(rt; dirty.next(u64::MAX), None);
+    must_be(&rt, dirty.count(), 4, "four pages");
+    must_be(&rt, dirty.is(63) && dirty.is(129), true, "two of them");
+    let is_another = dirty.is(62) || dirty.is(130) || dirty.is(u64::MAX);
+    must_be(&rt, is_another, false, "three others");
+    must_be(&rt, dirty.next(64), Some(64), "from a noted page");
+    must_be(&rt, dirty.next(65), Some(129), "from behind it");
+    must_be(&rt, dirty.next(130), None, "from the end");
+    must_be(&rt, dirty.next(u64::MAX), None, "from behind the end");
 
     dirty.take_all();
-    assert_eq!(rt; dirty.count(), 0);
-    assert_eq!(rt; dirty.next(0), None);
+    must_be(&rt, dirty.count(), 0, "how many are left");
+    must_be(&rt, dirty.next(0), None, "none is left");
     dirty.mark(1);
-    assert_eq!(rt; dirty.count(), 1);
+    must_be(&rt, dirty.count(), 1, "a page noted after that");
     Ok(())
 }
 
@@ -38,26 +46,28 @@ fn notes_every_page_of_the_largest_heap(rt: HostRuntime) -> Result<(), Fail> {
     for page in 0..MAX_BLOCKS {
         dirty.mark(page);
     }
-    assert_eq!(rt; dirty.count(), MAX_BLOCKS);
+    must_be(&rt, dirty.count(), MAX_BLOCKS, "how many pages");
     let mut last = None;
     for page in dirty.iter() {
-        assert_eq!(rt; page, last.map_or(0, |last: u64| last.wrapping_add(1)));
+        let next = last.map_or(0, |last: u64| last.wrapping_add(1));
+        must_be(&rt, page, next, "a page in turn");
         last = Some(page);
     }
-    assert_eq!(rt; last, Some(MAX_BLOCKS - 1));
-    assert_eq!(rt; dirty.next(MAX_BLOCKS), None);
+    must_be(&rt, last, Some(MAX_BLOCKS - 1), "the last page");
+    must_be(&rt, dirty.next(MAX_BLOCKS), None, "no page behind it");
     dirty.take_all();
-    assert_eq!(rt; dirty.count(), 0);
-    assert!(rt; dirty.iter().next().is_none());
+    must_be(&rt, dirty.count(), 0, "how many are left");
+    let is_none_left = dirty.iter().next().is_none();
+    must_be(&rt, is_none_left, true, "none is left");
     Ok(())
 }
 
 #[test]
 fn has_no_page_of_none(rt: HostRuntime) -> Result<(), Fail> {
     let dirty = Dirty::new(rt.alloc(), 0)?;
-    assert!(rt; !dirty.is(0));
-    assert_eq!(rt; dirty.count(), 0);
-    assert_eq!(rt; dirty.next(0), None);
+    must_be(&rt, dirty.is(0), false, "no page 0");
+    must_be(&rt, dirty.count(), 0, "how many pages");
+    must_be(&rt, dirty.next(0), None, "no first page");
     Ok(())
 }
 
@@ -69,32 +79,38 @@ fn refuses_more_pages_than_memory_has(rt: HostRuntime) {
 #[test]
 fn holds_addresses(rt: HostRuntime) -> Result<(), Fail> {
     let mut flags = Flags::<HEAP_START>::new(rt.alloc(), BLOCKS)?;
-    assert!(rt; flags.insert(HEAP_START));
-    assert!(rt; flags.insert(HEAP_START + 127));
-    assert!(rt; flags.insert(HEAP_START + 63));
-    assert!(rt; !flags.insert(HEAP_START + 63));
-    assert!(rt; flags.contains(HEAP_START));
-    assert!(rt; !flags.contains(0) && !flags.contains(HEAP_START + 128));
-    assert_eq!(rt; flags.word(0), 1 << 63 | 1);
-    assert_eq!(rt; flags.word(1), 1 << 63);
-    assert_eq!(rt; flags.word(2), 0);
-    assert_eq!(rt; flags.next(0), Some(HEAP_START));
-    assert_eq!(rt; flags.next_in_word(HEAP_START + 1), Some(HEAP_START + 63));
-    assert_eq!(rt; flags.next_in_word(HEAP_START + 64), Some(HEAP_START + 127));
+    must_be(&rt, flags.insert(HEAP_START), true, "the first");
+    must_be(&rt, flags.insert(HEAP_START + 127), true, "the last");
+    must_be(&rt, flags.insert(HEAP_START + 63), true, "one between");
+    must_be(&rt, flags.insert(HEAP_START + 63), false, "once more");
+    must_be(&rt, flags.contains(HEAP_START), true, "a member");
+    let is_outside_in = flags.contains(0) || flags.contains(HEAP_START + 128);
+    must_be(&rt, is_outside_in, false, "none from outside");
+    must_be(&rt, flags.word(0), 1 << 63 | 1, "the first word");
+    must_be(&rt, flags.word(1), 1 << 63, "the second word");
+    must_be(&rt, flags.word(2), 0, "no third word");
+    must_be(&rt, flags.next(0), Some(HEAP_START), "the least");
+    let near = flags.next_in_word(HEAP_START + 1);
+    must_be(&rt, near, Some(HEAP_START + 63), "next in the first word");
+    let near = flags.next_in_word(HEAP_START + 64);
+    must_be(&rt, near, Some(HEAP_START + 127), "next in the second word");
 
     let mut copy = Flags::<HEAP_START>::new(rt.alloc(), BLOCKS)?;
     copy.copy_from(&flags);
-    assert!(rt; copy.remove(HEAP_START + 63));
-    assert!(rt; !copy.remove(HEAP_START + 63) && !copy.remove(5));
-    assert_eq!(rt; copy.next_in_word(HEAP_START + 1), None);
-    assert_eq!(rt; copy.next(HEAP_START + 1), Some(HEAP_START + 127));
+    must_be(&rt, copy.remove(HEAP_START + 63), true, "a member out");
+    let is_another_out = copy.remove(HEAP_START + 63) || copy.remove(5);
+    must_be(&rt, is_another_out, false, "no members");
+    let near = copy.next_in_word(HEAP_START + 1);
+    must_be(&rt, near, None, "none next in the first word");
+    let next = copy.next(HEAP_START + 1);
+    must_be(&rt, next, Some(HEAP_START + 127), "next in the copy");
     copy.clear_word(1);
     let mut members = copy.iter();
-    assert_eq!(rt; members.next(), Some(HEAP_START));
-    assert_eq!(rt; members.next(), None);
+    must_be(&rt, members.next(), Some(HEAP_START), "one is left");
+    must_be(&rt, members.next(), None, "but no second");
 
     copy.clear();
-    assert_eq!(rt; copy.next(0), None);
-    assert!(rt; flags.contains(HEAP_START + 63));
+    must_be(&rt, copy.next(0), None, "none in the end");
+    must_be(&rt, flags.contains(HEAP_START + 63), true, "still in");
     Ok(())
 }

@@ -7,6 +7,7 @@ ghost use Rattle.fz_line.specs.States.{owner_state, new_seats};
 use crate::{Duty, Owner, PlainLine, Seat, Take, line, retire_all};
 use fz_model::{Entry, Refusal};
 use std::alloc::{AllocError, Global};
+use std::fmt::Debug;
 use std::process::Abort;
 use std::test::*;
 use std::thread;
@@ -14,6 +15,11 @@ use std::thread::Threads;
 
 /// The most takes until an answer other than Busy.
 const TRIES: u32 = 1_000;
+
+/// Stops the test where a value isn't the one that is wanted. The assert stands here alone, since it is proved again at each place where it stands.
+fn must_be<T: Copy + Debug + PartialEq>(rt: &impl Abort, found: T, want: T, what: &str) {
+    assert_eq!(rt; found, want, "{what}");
+}
 
 fn entry(seq: u64) -> Entry
     ensures { result.seq ≡ seq }
@@ -77,21 +83,24 @@ fn must_find_nothing(rt: &impl Abort, seat: Seat) -> Seat {
     }
 }
 
+/// How many entries a seat has taken, and how many of them it has finished and forfeited.
+fn counts(seat: &Seat) -> (u64, u64, u64) {
+    (seat.taken(), seat.finished(), seat.forfeited())
+}
+
 #[test]
 fn takes_both_entries_and_then_finds_nothing(rt: HostRuntime) {
     let (mut owner, mut seats) = line(rt.alloc(), 1).expect(&rt, "a line");
     let seat = seats.pop().expect(&rt, "a seat");
-    assert_eq!(rt; owner.publish(&[entry(0), entry(1)]), 2);
+    let sent = owner.publish(&[entry(0), entry(1)]);
+    must_be(&rt, sent, 2, "two entries are sent");
 
     let duty = must_take(&rt, seat);
-    assert_eq!(rt; *duty.entry(), entry(0));
+    must_be(&rt, *duty.entry(), entry(0), "the first entry");
     let duty = must_take(&rt, duty.forfeit());
-    assert_eq!(rt; *duty.entry(), entry(1));
+    must_be(&rt, *duty.entry(), entry(1), "the second entry");
     let seat = must_find_nothing(&rt, duty.forfeit());
-    assert_eq!(rt;
-        (seat.taken(), seat.finished(), seat.forfeited()),
-        (2, 0, 2)
-    );
+    must_be(&rt, counts(&seat), (2, 0, 2), "both are forfeited");
     seat.retire();
     retire_all(seats);
 }
@@ -100,7 +109,7 @@ fn takes_both_entries_and_then_finds_nothing(rt: HostRuntime) {
 fn opens_with_one_to_eight_seats(rt: HostRuntime) {
     for workers in [0, 9, 10, u64::MAX] {
         match line(rt.alloc(), workers) {
-            Err(refusal) => assert_eq!(rt; refusal, Refusal::BadCount),
+            Err(refusal) => must_be(&rt, refusal, Refusal::BadCount, "too few or many"),
             Ok((_, seats)) => {
                 retire_all(seats);
                 panic!(rt; "a line of {workers} seats")
@@ -109,15 +118,12 @@ fn opens_with_one_to_eight_seats(rt: HostRuntime) {
     }
     for workers in 1..9u64 {
         let (mut owner, mut seats) = line(rt.alloc(), workers).expect(&rt, "a line");
-        assert_eq!(rt; owner.seats() as u64, workers);
-        assert_eq!(rt; owner.publish(&[entry(0)]), 1);
+        must_be(&rt, owner.seats() as u64, workers, "a seat for each");
+        must_be(&rt, owner.publish(&[entry(0)]), 1, "an entry is sent");
         let seat = seats.pop().expect(&rt, "a seat");
-        assert_eq!(rt; seat.index() as u64, workers - 1);
+        must_be(&rt, seat.index() as u64, workers - 1, "the last seat");
         let seat = must_take(&rt, seat).done();
-        assert_eq!(rt;
-            (seat.taken(), seat.finished(), seat.forfeited()),
-            (1, 1, 0)
-        );
+        must_be(&rt, counts(&seat), (1, 1, 0), "the entry is finished");
         seat.retire();
         retire_all(seats);
     }
@@ -204,33 +210,44 @@ fn publish_and_take<R: Threads + Sync>(
     (publisher, first, second.take(count))
 }
 
-#[test]
-fn takes_each_entry_once_in_two_threads(rt: HostRuntime) -> Result<(), Fail> {
-    let mut seen = vec![in rt.alloc(); false; 10_000]?;
-    let one = Vec::with_capacity(rt.alloc(), 10_000)?;
-    let two = Vec::with_capacity(rt.alloc(), 10_000)?;
-    let (owner, mut seats) = line(rt.alloc(), 2).expect(&rt, "a line");
+/// A publisher of up to 10,000 entries, and the takers of its line's two seats.
+fn publisher_and_takers(rt: &impl Abort, alloc: Global) -> Result<(Publisher, Taker, Taker), Fail> {
+    let one = Vec::with_capacity(alloc, 10_000)?;
+    let two = Vec::with_capacity(alloc, 10_000)?;
+    let (owner, mut seats) = line(alloc, 2).expect(rt, "a line");
     let first = Taker {
-        seat: seats.pop().expect(&rt, "a seat"),
+        seat: seats.pop().expect(rt, "a seat"),
         numbers: one,
     };
     let second = Taker {
-        seat: seats.pop().expect(&rt, "a seat"),
+        seat: seats.pop().expect(rt, "a seat"),
         numbers: two,
     };
     retire_all(seats);
+    Ok((Publisher { owner, sent: 0 }, first, second))
+}
 
-    let publisher = Publisher { owner, sent: 0 };
-    let (publisher, first, second) = publish_and_take(&rt, publisher, first, second, 10_000);
-    assert_eq!(rt; publisher.sent, 10_000);
-    for numbers in [&first.numbers, &second.numbers] {
-        for &number in numbers.iter() {
-            assert!(rt; number < 10_000);
-            assert!(rt; !seen[number as usize], "{number} was taken twice");
-            seen[number as usize] = true;
-        }
+/// Notes numbers that have places, none of which may be noted before.
+fn note_numbers(rt: &impl Abort, seen: &mut [bool], numbers: &[u64]) {
+    for &number in numbers {
+        let Some(is_seen) = seen.get_mut(number as usize) else {
+            panic!(rt; "{number} wasn't sent")
+        };
+        assert!(rt; !*is_seen, "{number} was taken twice");
+        *is_seen = true;
     }
-    assert!(rt; seen.iter().all(|&taken| taken));
+}
+
+#[test]
+fn takes_each_entry_once_in_two_threads(rt: HostRuntime) -> Result<(), Fail> {
+    let mut seen = vec![in rt.alloc(); false; 10_000]?;
+    let (publisher, first, second) = publisher_and_takers(&rt, rt.alloc())?;
+    let (publisher, first, second) = publish_and_take(&rt, publisher, first, second, 10_000);
+    must_be(&rt, publisher.sent, 10_000, "all entries are sent");
+    note_numbers(&rt, &mut seen, &first.numbers);
+    note_numbers(&rt, &mut seen, &second.numbers);
+    let are_all_taken = seen.iter().all(|&taken| taken);
+    must_be(&rt, are_all_taken, true, "all entries are taken");
     Ok(())
 }
 
@@ -243,7 +260,7 @@ fn line_again(rt: &impl Abort, alloc: Global, workers: u64) -> (Owner, Vec<Seat>
     match line(alloc, workers) {
         Ok(made) => made,
         Err(refusal) => {
-            assert_eq!(rt; refusal, Refusal::NoMemory);
+            must_be(rt, refusal, Refusal::NoMemory, "no line");
             line(alloc, workers).expect(rt, "a line")
         }
     }
@@ -263,10 +280,10 @@ fn stands_a_refused_push(rt: HostRuntime) -> Result<(), Fail> {
     let (mut owner, mut seats) = line_again(&rt, rt.alloc(), 1);
     let sent = owner.publish(&all);
     let rest = &all[sent..];
-    assert_eq!(rt; owner.publish(rest), rest.len());
+    must_be(&rt, owner.publish(rest), rest.len(), "the rest is sent");
     owner.drain(seats.as_mut_slice(), &mut out);
     retire_all(seats);
-    assert!(rt; out == all);
+    must_be(&rt, out == all, true, "all come out in order");
     Ok(())
 }
 
@@ -274,8 +291,10 @@ fn stands_a_refused_push(rt: HostRuntime) -> Result<(), Fail> {
 fn hands_a_queue_out_on_one_thread(rt: HostRuntime) {
     let mut plain = PlainLine::new();
     let queue = [entry(0), entry(1), entry(2)];
-    assert_eq!(rt; plain.take(&queue[..1]), Some(entry(0)));
-    assert_eq!(rt; plain.take(&queue[..1]), None);
-    assert_eq!(rt; plain.take(&queue), Some(entry(1)));
-    assert_eq!(rt; plain.taken(), 2);
+    let taken = plain.take(&queue[..1]);
+    must_be(&rt, taken, Some(entry(0)), "the first entry");
+    let taken = plain.take(&queue[..1]);
+    must_be(&rt, taken, None, "no more than one entry");
+    must_be(&rt, plain.take(&queue), Some(entry(1)), "the second");
+    must_be(&rt, plain.taken(), 2, "two entries");
 }

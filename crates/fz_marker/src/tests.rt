@@ -12,7 +12,14 @@ use fz_model::ObjKind::{Atomic, Scanned};
 use fz_model::Progress::{Done, More};
 use fz_model::{Addr, BLOCK_WORDS, HEAP_START, MAX_BLOCKS, Progress};
 use std::alloc::Global;
+use std::fmt::Debug;
+use std::process::Abort;
 use std::test::Fail;
+
+/// Stops the test where a value isn't the one that is wanted. The assert stands here alone, since it is proved again at each place where it stands.
+fn must_be<T: Copy + Debug + PartialEq>(rt: &impl Abort, found: T, want: T, what: &str) {
+    assert_eq!(rt; found, want, "{what}");
+}
 
 /// Makes one-word objects, each but the last pointing to the next one.
 fn make_chain(heap: &mut Heap, count: u64) -> Result<(), Fail>
@@ -44,15 +51,17 @@ fn a_chain_is_scanned_once(rt: HostRuntime) -> Result<(), Fail> {
     make_chain(&mut heap, 100)?;
     let mut marker = Marker::new(rt.alloc(), 2)?;
     let mut dirty = Dirty::new(rt.alloc(), 2)?;
-    assert_eq!(rt; begin_with(&mut marker, &heap, HEAP_START, 100), Done);
-    assert_eq!(rt; marker.scans(), 100);
+    let progress = begin_with(&mut marker, &heap, HEAP_START, 100);
+    must_be(&rt, progress, Done, "as many scans as objects");
+    must_be(&rt, marker.scans(), 100, "each object once");
     marker.finish(&heap, &dirty);
-    assert_eq!(rt; marker.scans(), 100);
+    must_be(&rt, marker.scans(), 100, "and none again");
 
     dirty.mark(1);
-    assert_eq!(rt; begin_with(&mut marker, &heap, HEAP_START, 100), Done);
+    let progress = begin_with(&mut marker, &heap, HEAP_START, 100);
+    must_be(&rt, progress, Done, "a second cycle");
     marker.finish(&heap, &dirty);
-    assert_eq!(rt; marker.scans(), 136, "those of the second page again");
+    must_be(&rt, marker.scans(), 136, "those of the second page again");
     Ok(())
 }
 
@@ -61,12 +70,14 @@ fn a_step_stops_at_its_budget(rt: HostRuntime) -> Result<(), Fail> {
     let mut heap = Heap::new(rt.alloc(), 2)?;
     make_chain(&mut heap, 100)?;
     let mut marker = Marker::new(rt.alloc(), 2)?;
-    assert_eq!(rt; begin_with(&mut marker, &heap, HEAP_START, 99), More);
-    assert_eq!(rt; marker.scans(), 99);
-    assert!(rt; marker.is_marked(HEAP_START + 99));
-    assert_eq!(rt; marker.step(&heap, 0), More);
-    assert_eq!(rt; marker.step(&heap, 1), Done);
-    assert_eq!(rt; marker.scans(), 100);
+    let progress = begin_with(&mut marker, &heap, HEAP_START, 99);
+    must_be(&rt, progress, More, "one scan too few");
+    must_be(&rt, marker.scans(), 99, "all but one");
+    let is_marked = marker.is_marked(HEAP_START + 99);
+    must_be(&rt, is_marked, true, "the one that is left");
+    must_be(&rt, marker.step(&heap, 0), More, "no more scans");
+    must_be(&rt, marker.step(&heap, 1), Done, "one more scan");
+    must_be(&rt, marker.scans(), 100, "each object once");
     Ok(())
 }
 
@@ -107,17 +118,20 @@ fn a_store_to_a_later_page_is_found(rt: HostRuntime) -> Result<(), Fail> {
     heap.write(HEAP_START, 3 * BLOCK_WORDS - 1, SMALL)?;
     dirty.mark(2);
     marker.finish(&heap, &dirty);
-    assert!(rt; marker.is_marked(SMALL));
-    assert_eq!(rt; marker.scans(), 2);
+    must_be(&rt, marker.is_marked(SMALL), true, "the small object");
+    must_be(&rt, marker.scans(), 2, "the large object twice");
     Ok(())
 }
 
 #[test]
 fn a_large_object_is_scanned_again_once(rt: HostRuntime) -> Result<(), Fail> {
     let heap = large_and_small(rt.alloc())?;
-    assert_eq!(rt; scans_with(rt.alloc(), &heap, &[1])?, 2);
-    assert_eq!(rt; scans_with(rt.alloc(), &heap, &[0, 1, 2])?, 2);
-    assert_eq!(rt; scans_with(rt.alloc(), &heap, &[3, 4])?, 1);
+    let scans = scans_with(rt.alloc(), &heap, &[1])?;
+    must_be(&rt, scans, 2, "one page of it");
+    let scans = scans_with(rt.alloc(), &heap, &[0, 1, 2])?;
+    must_be(&rt, scans, 2, "all its pages");
+    let scans = scans_with(rt.alloc(), &heap, &[3, 4])?;
+    must_be(&rt, scans, 1, "other pages");
     Ok(())
 }
 
@@ -128,10 +142,12 @@ fn the_largest_heap_is_marked(rt: HostRuntime) -> Result<(), Fail> {
     make_chain(&mut heap, count)?;
     let mut marker = Marker::new(rt.alloc(), MAX_BLOCKS)?;
     let dirty = Dirty::new(rt.alloc(), MAX_BLOCKS)?;
-    assert_eq!(rt; begin_with(&mut marker, &heap, HEAP_START, count - 1), More);
+    let progress = begin_with(&mut marker, &heap, HEAP_START, count - 1);
+    must_be(&rt, progress, More, "one scan too few");
     marker.finish(&heap, &dirty);
-    assert_eq!(rt; marker.scans(), count);
-    assert!(rt; marker.is_marked(HEAP_START + count - 1));
+    must_be(&rt, marker.scans(), count, "each object once");
+    let is_marked = marker.is_marked(HEAP_START + count - 1);
+    must_be(&rt, is_marked, true, "the last object");
     Ok(())
 }
 
@@ -151,15 +167,16 @@ fn a_trace_leaves_the_marks(rt: HostRuntime) -> Result<(), Fail> {
     make_chain(&mut heap, 100)?;
     let mut marker = Marker::new(rt.alloc(), 2)?;
     trace_alone(&mut marker, &heap, HEAP_START + 50);
-    assert!(rt; marker.traced(HEAP_START + 99));
-    assert!(rt; !marker.traced(HEAP_START + 49));
-    assert!(rt; !marker.is_marked(HEAP_START + 50));
+    must_be(&rt, marker.traced(HEAP_START + 99), true, "the last");
+    must_be(&rt, marker.traced(HEAP_START + 49), false, "one before");
+    let is_marked = marker.is_marked(HEAP_START + 50);
+    must_be(&rt, is_marked, false, "a trace marks none");
     marker.root(&heap, HEAP_START + 99);
     marker.trace_found();
-    assert!(rt;
-        marker.kept().contains(HEAP_START + 99) && marker.found().contains(HEAP_START + 99)
-    );
-    assert!(rt; !marker.traced(HEAP_START + 50));
+    let is_last_in_both = marker.kept().contains(HEAP_START + 99)
+        && marker.found().contains(HEAP_START + 99);
+    must_be(&rt, is_last_in_both, true, "the last in both sets");
+    must_be(&rt, marker.traced(HEAP_START + 50), false, "not kept");
     Ok(())
 }
 
@@ -168,11 +185,15 @@ fn a_list_is_walked_by_address(rt: HostRuntime) -> Result<(), Fail> {
     let mut marker = Marker::new(rt.alloc(), 2)?;
     marker.list(HEAP_START + 99);
     marker.list(HEAP_START + 50);
-    assert_eq!(rt; marker.next_listed(0), Some(HEAP_START + 50));
-    assert_eq!(rt; marker.next_listed(HEAP_START + 51), Some(HEAP_START + 99));
-    assert_eq!(rt; marker.next_listed(HEAP_START + 100), None);
-    assert!(rt; marker.listed().contains(HEAP_START + 99));
+    let first = marker.next_listed(0);
+    must_be(&rt, first, Some(HEAP_START + 50), "the first");
+    let second = marker.next_listed(HEAP_START + 51);
+    must_be(&rt, second, Some(HEAP_START + 99), "the second");
+    let third = marker.next_listed(HEAP_START + 100);
+    must_be(&rt, third, None, "no third");
+    let is_listed = marker.listed().contains(HEAP_START + 99);
+    must_be(&rt, is_listed, true, "the second in the list");
     marker.clear_list();
-    assert_eq!(rt; marker.next_listed(0), None);
+    must_be(&rt, marker.next_listed(0), None, "none in the end");
     Ok(())
 }

@@ -13,7 +13,14 @@ use fz_model::RegKind::{IgnoreSelf, NoOrder, Normal};
 use fz_model::{Addr, HEAP_START, MAX_BLOCKS, ObjKind, Pick, RegKind, Word};
 use fz_table::Table;
 use std::alloc::Global;
+use std::fmt::Debug;
+use std::process::Abort;
 use std::test::Fail;
+
+/// Stops the test where a value isn't the one that is wanted. The assert stands here alone, since it is proved again at each place where it stands.
+fn must_be<T: Copy + Debug + PartialEq>(rt: &impl Abort, found: T, want: T, what: &str) {
+    assert_eq!(rt; found, want, "{what}");
+}
 
 const FIRST: Addr = HEAP_START;
 
@@ -115,6 +122,19 @@ fn picked(
     objects_of(alloc, &picks)
 }
 
+/// A pass without roots has to pick these objects among those with these words, in order.
+fn must_pick(
+    rt: &impl Abort,
+    alloc: Global,
+    words: &[Word],
+    registered: &[(Addr, RegKind, u8)],
+    want: &[Addr],
+) -> Result<(), Fail> {
+    let objects = picked(alloc, words, registered)?;
+    assert_eq!(rt; objects.as_slice(), want, "of {registered:?}");
+    Ok(())
+}
+
 /// Of four objects the first is registered and found, the second is registered and leads to the third, and nothing leads to the fourth.
 #[test]
 fn picks_keeps_and_reclaims(rt: HostRuntime) -> Result<(), Fail> {
@@ -130,13 +150,17 @@ fn picks_keeps_and_reclaims(rt: HostRuntime) -> Result<(), Fail> {
         proc: 7,
         cd: 8,
     };
-    assert_eq!(rt; picks.as_slice(), [pick].as_slice());
-    assert_eq!(rt; reclaimed, 1);
-    assert_eq!(rt; parts.heap.condemned(), 1);
-    assert!(rt; parts.heap.facts(THIRD).is_some(), "the pick leads to it");
-    assert!(rt; parts.heap.facts(FOURTH).is_none());
-    assert!(rt; parts.table.get(FIRST).is_some(), "it was found");
-    assert!(rt; parts.table.get(SECOND).is_none(), "it is picked once");
+    must_be(&rt, picks.as_slice(), &[pick], "the second alone");
+    must_be(&rt, reclaimed, 1, "how many are reclaimed");
+    must_be(&rt, parts.heap.condemned(), 1, "how many are condemned");
+    let is_kept = parts.heap.facts(THIRD).is_some();
+    must_be(&rt, is_kept, true, "the pick leads to it");
+    let is_kept = parts.heap.facts(FOURTH).is_some();
+    must_be(&rt, is_kept, false, "nothing leads to it");
+    let is_registered = parts.table.get(FIRST).is_some();
+    must_be(&rt, is_registered, true, "it was found");
+    let is_registered = parts.table.get(SECOND).is_some();
+    must_be(&rt, is_registered, false, "it is picked once");
     Ok(())
 }
 
@@ -145,10 +169,9 @@ fn picks_keeps_and_reclaims(rt: HostRuntime) -> Result<(), Fail> {
 fn a_cycle_waits(rt: HostRuntime) -> Result<(), Fail> {
     let pair = [SECOND, FIRST];
     let normal = [(FIRST, Normal, 0), (SECOND, Normal, 0)];
-    assert!(rt; picked(rt.alloc(), &pair, &normal)?.is_empty());
+    must_pick(&rt, rt.alloc(), &pair, &normal, &[])?;
     let ignore_self = [(FIRST, IgnoreSelf, 0), (SECOND, IgnoreSelf, 0)];
-    assert!(rt; picked(rt.alloc(), &pair, &ignore_self)?.is_empty());
-    Ok(())
+    must_pick(&rt, rt.alloc(), &pair, &ignore_self, &[])
 }
 
 /// A word that leads back to its own object holds back a normal one alone.
@@ -160,9 +183,7 @@ fn a_self_reference_counts_by_kind(rt: HostRuntime) -> Result<(), Fail> {
         (SECOND, IgnoreSelf, 0),
         (THIRD, NoOrder, 0),
     ];
-    let objects = picked(rt.alloc(), &words, &registered)?;
-    assert_eq!(rt; objects.as_slice(), [SECOND, THIRD].as_slice());
-    Ok(())
+    must_pick(&rt, rt.alloc(), &words, &registered, &[SECOND, THIRD])
 }
 
 /// A no-order object holds nothing back, and waits for a normal one that leads to it.
@@ -174,9 +195,7 @@ fn no_order_waits_for_normal(rt: HostRuntime) -> Result<(), Fail> {
         (SECOND, Normal, 0),
         (THIRD, NoOrder, 0),
     ];
-    let objects = picked(rt.alloc(), &chain, &registered)?;
-    assert_eq!(rt; objects.as_slice(), [FIRST, SECOND].as_slice());
-    Ok(())
+    must_pick(&rt, rt.alloc(), &chain, &registered, &[FIRST, SECOND])
 }
 
 #[test]
@@ -187,12 +206,8 @@ fn ranks_come_before_addresses(rt: HostRuntime) -> Result<(), Fail> {
         (THIRD, Normal, 255),
         (FOURTH, Normal, 0),
     ];
-    let objects = picked(rt.alloc(), &[0; 4], &registered)?;
-    assert_eq!(rt;
-        objects.as_slice(),
-        [FOURTH, SECOND, FIRST, THIRD].as_slice()
-    );
-    Ok(())
+    let want = [FOURTH, SECOND, FIRST, THIRD];
+    must_pick(&rt, rt.alloc(), &[0; 4], &registered, &want)
 }
 
 /// What is tried with one heap and its tables, which one function owns and lends.

@@ -2,6 +2,16 @@
 
 use crate::{Job, Step, job_of, step_of};
 use fz_model::{LinkKind, ObjKind, RegKind};
+use std::process::Abort;
+use std::str;
+
+fn must_read_step(rt: &impl Abort, line: &[u8], want: Option<Step>) {
+    assert_eq!(rt; step_of(line), want, "at {:?}", str::from_utf8(line));
+}
+
+fn must_read_job(rt: &impl Abort, line: &[u8], want: Option<Job>) {
+    assert_eq!(rt; job_of(line), want, "at {:?}", str::from_utf8(line));
+}
 
 /// A line of each verb.
 const EACH_VERB: [(&[u8], Step); 21] = [
@@ -125,37 +135,32 @@ const EACH_VERB: [(&[u8], Step); 21] = [
 #[test]
 fn reads_each_verb(rt: HostRuntime) {
     for (line, want) in EACH_VERB {
-        assert_eq!(rt; step_of(line), Some(want), "at {want:?}");
+        must_read_step(&rt, line, Some(want));
     }
 }
 
 #[test]
 fn reads_the_other_kinds(rt: HostRuntime) {
-    assert_eq!(rt;
-        step_of(b"new 0 0 64 scanned"),
-        Some(Step::New {
-            frame: 0,
-            slot: 0,
-            size: 64,
-            kind: ObjKind::Scanned
-        })
-    );
+    let new = Step::New {
+        frame: 0,
+        slot: 0,
+        size: 64,
+        kind: ObjKind::Scanned,
+    };
+    must_read_step(&rt, b"new 0 0 64 scanned", Some(new));
     for (line, kind) in [
         (b"register 0 0 normal 1 2".as_slice(), RegKind::Normal),
         (b"register 0 0 no_order 1 2", RegKind::NoOrder),
     ] {
-        assert_eq!(rt;
-            step_of(line),
-            Some(Step::Register {
-                frame: 0,
-                slot: 0,
-                kind,
-                procedure: 1,
-                client_data: 2,
-                rank: None
-            }),
-            "at {kind:?}"
-        );
+        let register = Step::Register {
+            frame: 0,
+            slot: 0,
+            kind,
+            procedure: 1,
+            client_data: 2,
+            rank: None,
+        };
+        must_read_step(&rt, line, Some(register));
     }
 }
 
@@ -165,18 +170,15 @@ fn reads_ranks(rt: HostRuntime) {
         (b"register 0 0 normal 1 2 0".as_slice(), 0u8),
         (b"register 0 0 normal 1 2 255", 255),
     ] {
-        assert_eq!(rt;
-            step_of(line),
-            Some(Step::Register {
-                frame: 0,
-                slot: 0,
-                kind: RegKind::Normal,
-                procedure: 1,
-                client_data: 2,
-                rank: Some(rank)
-            }),
-            "at {rank}"
-        );
+        let register = Step::Register {
+            frame: 0,
+            slot: 0,
+            kind: RegKind::Normal,
+            procedure: 1,
+            client_data: 2,
+            rank: Some(rank),
+        };
+        must_read_step(&rt, line, Some(register));
     }
 }
 
@@ -213,8 +215,8 @@ fn reads_nothing_else(rt: HostRuntime) {
         b"register 0 0 normal 1",
         b"link normal 0 0 0 0 1",
     ];
-    for (at, line) in lines.into_iter().enumerate() {
-        assert_eq!(rt; step_of(line), None, "at {at}");
+    for line in lines {
+        must_read_step(&rt, line, None);
     }
 }
 
@@ -250,7 +252,7 @@ fn reads_each_job(rt: HostRuntime) {
             },
         ),
     ] {
-        assert_eq!(rt; job_of(line), Some(want), "at {want:?}");
+        must_read_job(&rt, line, Some(want));
     }
 }
 
@@ -266,7 +268,7 @@ fn a_step_of_threads_is_a_job(rt: HostRuntime) {
             | Step::Outstanding => None,
             _ => Some(Job::One(step)),
         };
-        assert_eq!(rt; job_of(line), want, "at {step:?}");
+        must_read_job(&rt, line, want);
     }
 }
 
@@ -303,7 +305,7 @@ fn reads_no_other_job(rt: HostRuntime) {
         b"collect 1",
         b"set 0 0 01",
     ];
-    for (at, line) in lines.into_iter().enumerate() {
-        assert_eq!(rt; job_of(line), None, "at {at}");
+    for line in lines {
+        must_read_job(&rt, line, None);
     }
 }

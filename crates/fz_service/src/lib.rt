@@ -11,8 +11,6 @@ mod opening;
 mod prepared;
 mod seat;
 mod service;
-#[cfg(test)]
-mod tests;
 mod worker_threads;
 mod workers;
 

@@ -1,0 +1,254 @@
+//! What no clause says: that memory is asked for only where it is needed, that takes need no lock and look at the line, which procedures workers call,
+//! that they run at the same time, and the service's answers from end to end.
+
+mod rows;
+mod stops;
+mod threads;
+mod wanted;
+mod workers;
+
+ghost use Rattle.std.specs.Prelude.{◌≡◌};
+
+use fz_model::ObjKind::Scanned;
+use fz_model::RegKind::Normal;
+use fz_model::{Passed, Refusal};
+use fz_service::{Duty, Final, Gate, Locked, Opening, Prepared, Seat, Service, Take};
+use fz_world::Config;
+use std::alloc::Global;
+use std::marker::Brand;
+use std::process::Abort;
+use std::sync::Wait;
+use std::test::*;
+use wanted::{accepted, collects, count_seats, put_back, same};
+
+/// The most takes until an answer other than Busy.
+const TRIES: u32 = 1_000;
+
+/// A gate that lets all pass.
+struct Open;
+
+impl Gate for Open {
+    fn entered(&self, _seq: u64) {}
+}
+
+fn prepared(rt: &impl Abort, alloc: Global, workers: u64) -> Prepared {
+    prepared_with(rt, alloc, 4, workers)
+}
+
+fn prepared_with(rt: &impl Abort, alloc: Global, blocks: u64, workers: u64) -> Prepared {
+    let config = Config { blocks, frames: 1 };
+    Service::prepare(alloc, config, workers).expect(rt, "memory")
+}
+
+/// Ends all these seats.
+fn retire_all<O: Opening>(mut seats: Vec<Seat<O>>) {
+    while let Some(seat) = seats.pop() {
+        seat.retire();
+    }
+    seats.destroy_empty();
+}
+
+/// Makes an object of one word, registers it with this procedure, and drops it.
+fn make_and_drop_with<O: Opening>(rt: &impl Abort, locked: &mut Locked<O>, proc: u64) {
+    accepted(rt, "alloc", locked.alloc(0, 0, 1, Scanned));
+    accepted(rt, "register", locked.register(0, 0, Normal, proc, 0, 0));
+    accepted(rt, "set", locked.set(0, 0, 0));
+}
+
+/// The same with procedure 1.
+fn make_and_drop<O: Opening>(rt: &impl Abort, locked: &mut Locked<O>) {
+    make_and_drop_with(rt, locked, 1);
+}
+
+/// Queues and sends entries of these procedures.
+fn queue_entries<O: Opening>(rt: &impl Abort, locked: &mut Locked<O>, procs: &[u64]) {
+    for proc in procs {
+        make_and_drop_with(rt, locked, *proc);
+    }
+    accepted(rt, "collect", locked.collect());
+    same(rt, "queued", locked.queue().len(), procs.len());
+    same(rt, "not sent", locked.outbox().len(), 0);
+}
+
+/// The first answer other than Busy.
+fn take_soon<O: Opening>(mut seat: Seat<O>) -> Take<O> {
+    for _ in 0..TRIES {
+        match seat.take() {
+            Take::Busy(same) => seat = same,
+            answer => return answer,
+        }
+    }
+    Take::Busy(seat)
+}
+
+/// A take that has to give an entry.
+fn must_take<O: Opening>(rt: &impl Abort, seat: Seat<O>) -> Duty<O> {
+    match take_soon(seat) {
+        Take::Taken(duty) => duty,
+        Take::Empty(same) | Take::Busy(same) => {
+            same.retire();
+            panic!(rt; "no entry")
+        }
+    }
+}
+
+/// A finish that has to be accepted.
+fn must_finish<O: Opening, R: Abort + Wait>(
+    rt: &R,
+    service: &Service<O>,
+    duty: Duty<O>,
+) -> Seat<O> {
+    match service.enter(rt).finish(duty) {
+        Ok(seat) => seat,
+        Err((_, duty)) => {
+            duty.forfeit().retire();
+            panic!(rt; "not held")
+        }
+    }
+}
+
+/// A take that has to give the entry with this number.
+fn take_next<O: Opening>(rt: &impl Abort, seat: Seat<O>, seq: u64) -> Duty<O> {
+    let duty = must_take(rt, seat);
+    same(rt, "the entry's number", duty.entry().seq, seq);
+    duty
+}
+
+/// A take that has to give the entry with this number, which is given up.
+fn forfeit_next<O: Opening>(rt: &impl Abort, seat: Seat<O>, seq: u64) -> Seat<O> {
+    take_next(rt, seat, seq).forfeit()
+}
+
+/// A take that has to give the entry with this number, which is finished.
+fn finish_next<O: Opening, R: Abort + Wait>(
+    rt: &R,
+    service: &Service<O>,
+    seat: Seat<O>,
+    seq: u64,
+) -> Seat<O> {
+    let duty = take_next(rt, seat, seq);
+    must_finish(rt, service, duty)
+}
+
+/// A take that has to find the line empty.
+fn find_nothing<O: Opening>(rt: &impl Abort, seat: Seat<O>) -> Seat<O> {
+    match take_soon(seat) {
+        Take::Empty(same) => same,
+        Take::Taken(duty) => {
+            duty.forfeit().retire();
+            panic!(rt; "an entry")
+        }
+        Take::Busy(same) => {
+            same.retire();
+            panic!(rt; "busy")
+        }
+    }
+}
+
+fn opened<O: Opening>(rt: &impl Abort, prepared: Prepared) -> (Service<O>, Vec<Seat<O>>)
+    requires { prepared ≡ O.origin }
+{
+    Service::<O>::open(prepared).expect(rt, "memory")
+}
+
+fn ended<O: Opening>(rt: &impl Abort, service: Service<O>, seats: Vec<Seat<O>>) -> Final {
+    match service.shutdown(seats) {
+        Ok(end) => end,
+        Err((_, _, seats)) => {
+            retire_all(seats);
+            panic!(rt; "refused")
+        }
+    }
+}
+
+/// Two entries are taken and given up while the lock is held; then the line is empty, and the service ends with two forfeits.
+fn takes_under_the_lock<O: Opening, R: Abort + Wait>(rt: &R, prepared: Prepared)
+    requires { prepared ≡ O.origin }
+{
+    let (service, mut seats) = opened::<O>(rt, prepared);
+    count_seats(rt, seats.as_slice(), 1);
+    let seat = seats.remove(0);
+    let mut locked = service.enter(rt);
+    make_and_drop(rt, &mut locked);
+    make_and_drop(rt, &mut locked);
+    collects(rt, &mut locked, 1, 2, 0);
+    let seat = forfeit_next(rt, seat, 0);
+    let seat = forfeit_next(rt, seat, 1);
+    let seat = find_nothing(rt, seat);
+    let counts = (seat.taken(), seat.finished(), seat.forfeited());
+    same(rt, "the seat's counts", counts, (2, 0, 2));
+    same(rt, "outstanding", locked.outstanding(), 2);
+    drop(locked);
+    seats.push_reserved(seat);
+    let end = ended(rt, service, seats);
+    let counts = (end.enqueued, end.taken, end.forfeited);
+    same(rt, "the end's counts", counts, (2, 2, 2));
+}
+
+/// A shutdown without all seats is refused and gives everything back; with all of them it succeeds. A pass that wasn't carried out isn't counted.
+fn ends_with_all_seats<O: Opening, R: Abort + Wait>(rt: &R, prepared: Prepared)
+    requires { prepared ≡ O.origin }
+{
+    let (service, mut seats) = opened::<O>(rt, prepared);
+    make_and_drop(rt, &mut service.enter(rt));
+    accepted(rt, "collect", service.enter(rt).collect());
+    make_and_drop(rt, &mut service.enter(rt));
+    accepted(rt, "begin", service.enter(rt).begin());
+    count_seats(rt, seats.as_slice(), 2);
+    let second = seats.remove(1);
+    match service.shutdown(seats) {
+        Ok(_) => {
+            second.retire();
+            panic!(rt; "a seat is missing")
+        }
+        Err((refusal, service, mut seats)) => {
+            same(rt, "the refusal", refusal, Refusal::SeatsMissing);
+            let second = finish_next(rt, &service, second, 0);
+            put_back(rt, &mut seats, second);
+            let end = ended(rt, service, seats);
+            let counts = (end.enqueued, end.taken, end.finished, end.forfeited);
+            same(rt, "the end's counts", counts, (1, 1, 1, 0));
+            let rest = (end.left.len(), end.passes, end.reclaimed);
+            same(rt, "left, passes and reclaimed", rest, (0, 1, 0));
+        }
+    }
+}
+
+/// A world that is closed in an open cycle queues nothing.
+fn closes_in_a_cycle<O: Opening, R: Abort + Wait>(rt: &R, prepared: Prepared)
+    requires { prepared ≡ O.origin }
+{
+    let (service, seats) = opened::<O>(rt, prepared);
+    make_and_drop(rt, &mut service.enter(rt));
+    accepted(rt, "begin", service.enter(rt).begin());
+    accepted(rt, "close", service.enter(rt).close());
+    let passed = Passed {
+        pass: 1,
+        picked: 0,
+        reclaimed: 0,
+    };
+    same(rt, "pause", service.enter(rt).pause(), Ok(passed));
+    let again = service.enter(rt).close();
+    same(rt, "a second close", again, Err(Refusal::Closed));
+    let end = ended(rt, service, seats);
+    let counts = (end.enqueued, end.left.len(), end.passes);
+    same(rt, "queued, left and passes", counts, (0, 0, 1));
+}
+
+#[test]
+fn takes_need_no_lock(rt: HostRuntime) {
+    let prepared = prepared(&rt, rt.alloc(), 1);
+    takes_under_the_lock::<Brand, HostRuntime>(&rt, prepared);
+}
+
+#[test]
+fn a_missing_seat_is_refused(rt: HostRuntime) {
+    let prepared = prepared(&rt, rt.alloc(), 2);
+    ends_with_all_seats::<Brand, HostRuntime>(&rt, prepared);
+}
+
+#[test]
+fn a_closed_world_queues_nothing(rt: HostRuntime) {
+    let prepared = prepared(&rt, rt.alloc(), 1);
+    closes_in_a_cycle::<Brand, HostRuntime>(&rt, prepared);
+}

@@ -1,0 +1,50 @@
+//! What stops a test where an answer isn't the wanted one, and tells which. An assertion is proved anew wherever it stands, so what many tests
+//! assert stands here.
+
+ghost use Rattle.std.specs.Prelude.{◌≡◌, length};
+
+use fz_model::{Passed, Refusal};
+use fz_service::{Locked, Opening, Seat};
+use std::fmt::Debug;
+use std::process::Abort;
+
+/// Two equal values.
+pub(crate) fn same<T: PartialEq + Debug + Drop>(rt: &impl Abort, what: &str, got: T, want: T) {
+    assert_eq!(rt; got, want, "{what}");
+}
+
+/// The answer of a call that is accepted.
+pub(crate) fn accepted<T: Drop>(rt: &impl Abort, what: &str, answer: Result<T, Refusal>) {
+    assert!(rt; answer.is_ok(), "{what} is refused");
+}
+
+/// A seat comes back to the others, for which there has to be room.
+pub(crate) fn put_back<O: Opening>(rt: &impl Abort, seats: &mut Vec<Seat<O>>, seat: Seat<O>) {
+    assert!(rt; seats.len() < seats.capacity());
+    seats.push_reserved(seat);
+}
+
+/// As many seats as this.
+pub(crate) fn count_seats<O: Opening>(rt: &impl Abort, seats: &[Seat<O>], count: usize)
+    ensures { length seats.now ≡ count }
+{
+    let length = seats.len();
+    assert!(rt; length == count, "{length} seats, not {count}");
+}
+
+/// A collection that carries out this pass, after which all is sent.
+pub(crate) fn collects<O: Opening>(
+    rt: &impl Abort,
+    locked: &mut Locked<O>,
+    pass: u64,
+    picked: u64,
+    reclaimed: u64,
+) {
+    let passed = Passed {
+        pass,
+        picked,
+        reclaimed,
+    };
+    same(rt, "collect", locked.collect(), Ok(passed));
+    assert_eq!(rt; locked.outbox().len(), 0, "not sent after pass {pass}");
+}

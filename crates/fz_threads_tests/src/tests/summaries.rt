@@ -1,0 +1,196 @@
+//! What the summaries of whole runs say.
+
+use super::files::{
+    ALL_ACTORS, FOUR_MUTATORS, FreeRow, KEPT_OBJECT, MUTATORS_AND_COLLECTOR, NEVER_COLLECTED,
+    NINE_FRAMES, NO_OPENING, NO_SECTIONS, NO_SUCH_PROCEDURE, OPEN_CYCLE, REFUSED_CYCLES,
+    REFUSED_STEPS,
+};
+use super::wanted::{prints, runs_rows};
+use super::{Outcome, Row, joined, run};
+use fz_text::WHOLE;
+use std::alloc::AllocError;
+use std::process::Abort;
+use std::sync::Wait;
+use std::test::Fail;
+use std::thread::Threads;
+
+const ROWS: [Row; 10] = [
+    FOUR_MUTATORS,
+    NO_SECTIONS,
+    NEVER_COLLECTED,
+    KEPT_OBJECT,
+    NO_SUCH_PROCEDURE,
+    OPEN_CYCLE,
+    REFUSED_STEPS,
+    REFUSED_CYCLES,
+    NO_OPENING,
+    NINE_FRAMES,
+];
+
+#[test]
+fn rows_are_summarized(rt: HostRuntime) -> Result<(), Fail> {
+    runs_rows(&rt, &ROWS, WHOLE)?;
+    Ok(())
+}
+
+/// The number that stands between these two parts of the text.
+fn number_between(text: &[u8], before: &[u8], after: &[u8]) -> Option<u64> {
+    let digits = text.strip_prefix(before)?.strip_suffix(after)?;
+    str::from_utf8(digits).ok()?.parse::<u64>().ok()
+}
+
+/// Whether the outcome is a summary of the row.
+fn fits(outcome: &Outcome, row: FreeRow) -> bool {
+    match number_between(outcome.text.as_slice(), row.before, row.after) {
+        Some(number) => number <= row.most && outcome.result == Ok(()),
+        None => false,
+    }
+}
+
+/// Runs the row's threads file twenty times, and each outcome fits.
+fn always_fits<R: AllocGlobal + Abort + Threads + Wait + Sync>(
+    rt: &R,
+    row: FreeRow,
+) -> Result<(), AllocError> {
+    for round in 0..20u64 {
+        let outcome = run(rt, row.file)?;
+        assert!(rt; fits(&outcome, row), "in round {round}");
+    }
+    Ok(())
+}
+
+#[test]
+fn a_collector_runs_beside_mutators(rt: HostRuntime) -> Result<(), Fail> {
+    always_fits(&rt, MUTATORS_AND_COLLECTOR)?;
+    Ok(())
+}
+
+#[test]
+fn all_actors_run_side_by_side(rt: HostRuntime) -> Result<(), Fail> {
+    always_fits(&rt, ALL_ACTORS)?;
+    Ok(())
+}
+
+/// What a mutator does before one pass, with how many entries that queues and how many objects it reclaims.
+const ONE_PASS: [(&[u8], u64, u64); 12] = [
+    // objects that nothing holds, one of them in the slot's old word
+    (b"new 0 0 1 scanned\nnew 0 0 1 atomic\nset 0 0 0\n", 0, 2),
+    // a word of a frame holds its object, wherever the word came from
+    (
+        b"new 0 0 2 scanned\nnew 0 1 1 scanned\nstore 0 0 1 0 1\nset 0 1 0\ncopy 0 0 1 0\nset 0 0 0\n",
+        0,
+        0,
+    ),
+    (
+        b"new 0 0 2 scanned\nnew 0 1 1 scanned\nstore 0 0 1 0 1\nset 0 1 0\nload 0 0 1 1 0\nset 0 0 0\n",
+        0,
+        1,
+    ),
+    // registrations: a replaced one counts once, a removed one doesn't
+    (
+        b"new 0 0 1 scanned\nregister 0 0 normal 0 0\nregister 0 0 normal 1 0 255\nset 0 0 0\n",
+        1,
+        0,
+    ),
+    (
+        b"new 0 0 1 scanned\nregister 0 0 normal 0 0\nunregister 0 0\nset 0 0 0\n",
+        0,
+        1,
+    ),
+    // client data holds the object
+    (
+        b"new 0 0 1 scanned\nregister 0 0 normal 0 65536\nset 0 0 0\n",
+        0,
+        0,
+    ),
+    // an object that leads to itself, by kind
+    (
+        b"new 0 0 1 scanned\nstore 0 0 0 0 0\nregister 0 0 normal 0 0\nset 0 0 0\n",
+        0,
+        0,
+    ),
+    (
+        b"new 0 0 1 scanned\nstore 0 0 0 0 0\nregister 0 0 ignore_self 0 0\nset 0 0 0\n",
+        1,
+        0,
+    ),
+    (
+        b"new 0 0 1 scanned\nstore 0 0 0 0 0\nregister 0 0 no_order 0 0\nset 0 0 0\n",
+        1,
+        0,
+    ),
+    // of two in a chain the second waits
+    (
+        b"new 0 0 1 scanned\nnew 0 1 1 scanned\nstore 0 0 0 0 1\nregister 0 0 normal 0 0\nregister 0 1 normal 0 0\n\
+        set 0 0 0\nset 0 1 0\n",
+        1,
+        0,
+    ),
+    // a line that skips nothing and a line that is skipped
+    (
+        b"\n# new 0 0 1 scanned\nnew 0 0 1 scanned\n\nset 0 0 0",
+        0,
+        1,
+    ),
+    (b"mutator\nmutator\nnew 1 0 1 scanned\n", 0, 0),
+];
+
+/// Runs a threads file of one pass, which queues so many entries and reclaims so many objects. The place tells which file of a test it is.
+fn passes_once<R: AllocGlobal + Abort + Threads + Wait + Sync>(
+    rt: &R,
+    place: usize,
+    file: &[u8],
+    enqueued: u64,
+    reclaimed: u64,
+) -> Result<(), AllocError> {
+    let outcome = run(rt, file)?;
+    let summary = format!(in rt.alloc();
+        "enqueued {enqueued}\nfinished {enqueued}\nforfeited 0\nleft 0\npasses 1\nreclaimed {reclaimed}\nrefused 0\n"
+    )?;
+    let text = summary.as_str().as_bytes();
+    prints(rt, "file", place as u64, &outcome, text);
+    Ok(())
+}
+
+#[test]
+fn one_pass_over_what_a_mutator_did(rt: HostRuntime) -> Result<(), Fail> {
+    for (place, (steps, enqueued, reclaimed)) in ONE_PASS.iter().enumerate() {
+        let file = joined(rt.alloc(), &[b"open 8 2 1\nsettle 1\nmutator\n", *steps])?;
+        passes_once(&rt, place, file.as_slice(), *enqueued, *reclaimed)?;
+    }
+    Ok(())
+}
+
+/// Two normal objects that lead to one another, and an object for links.
+const LOOP: &[u8] = b"open 8 1 1\n\
+    settle 1\n\
+    mutator\n\
+    new 0 0 1 scanned\n\
+    new 0 1 1 scanned\n\
+    new 0 2 1 atomic\n\
+    store 0 0 0 0 1\n\
+    store 0 1 0 0 0\n\
+    register 0 0 normal 0 0\n\
+    register 0 1 normal 0 0\n";
+
+const DROPPED: &[u8] = b"set 0 0 0\nset 0 1 0\n";
+
+/// Links, with how many of the two objects a pass queues: one, if a short link stands where the first leads to the second, and else none.
+const LINKS: [(&[u8], u64); 7] = [
+    (b"", 0),
+    (b"link short 0 0 0 0 1\n", 1),
+    (b"link long 0 0 0 0 1\n", 0),
+    (b"link short 0 0 0 0 1\nunlink short 0 0 0\n", 0),
+    (b"link short 0 0 0 0 1\nunlink long 0 0 0\n", 1),
+    (b"link short 0 0 0 0 1\nmove short 0 0 0 0 2 0\n", 0),
+    (b"link short 0 2 0 0 1\nmove short 0 2 0 0 0 0\n", 1),
+];
+
+#[test]
+fn links_are_made_moved_and_removed(rt: HostRuntime) -> Result<(), Fail> {
+    for (place, (links, enqueued)) in LINKS.iter().enumerate() {
+        let file = joined(rt.alloc(), &[LOOP, *links, DROPPED])?;
+        passes_once(&rt, place, file.as_slice(), *enqueued, 0)?;
+    }
+    Ok(())
+}

@@ -1,0 +1,76 @@
+//! What stops a test where an answer isn't the wanted one, and tells which. An assertion is proved anew wherever it stands, so what many tests
+//! assert stands here.
+
+use super::{Outcome, Row, run_within};
+use fz_model::Refusal;
+use fz_text::{DriveFault, Limits};
+use std::alloc::AllocError;
+use std::fmt::Debug;
+use std::process::Abort;
+use std::sync::Wait;
+use std::thread::Threads;
+
+/// Two equal values.
+pub(crate) fn same<T: PartialEq + Debug + Drop>(rt: &impl Abort, what: &str, got: T, want: T) {
+    assert_eq!(rt; got, want, "{what}");
+}
+
+/// The answer of a call that is accepted.
+pub(crate) fn accepted<T: Drop>(rt: &impl Abort, what: &str, answer: Result<T, Refusal>) {
+    assert!(rt; answer.is_ok(), "{what} is refused");
+}
+
+/// A run that printed this text.
+pub(crate) fn prints(rt: &impl Abort, what: &str, number: u64, outcome: &Outcome, text: &[u8]) {
+    assert_eq!(rt; outcome.text.as_slice(), text, "at {what} {number}");
+}
+
+/// A run with this result.
+pub(crate) fn ends(
+    rt: &impl Abort,
+    what: &str,
+    number: u64,
+    outcome: &Outcome,
+    end: Result<(), DriveFault>,
+) {
+    assert!(rt; outcome.result == end, "at {what} {number}");
+}
+
+/// A run that printed this text and has this result.
+pub(crate) fn prints_and_ends(
+    rt: &impl Abort,
+    what: &str,
+    number: u64,
+    outcome: &Outcome,
+    text: &[u8],
+    end: Result<(), DriveFault>,
+) {
+    prints(rt, what, number, outcome, text);
+    ends(rt, what, number, outcome, end);
+}
+
+/// Runs the row's threads file, over devices with these limits: it prints the row's text and ends with the row's fault. The place tells which row of
+/// a test it is.
+pub(crate) fn runs_row<R: AllocGlobal + Abort + Threads + Wait + Sync>(
+    rt: &R,
+    place: usize,
+    row: &Row,
+    limits: Limits,
+) -> Result<(), AllocError> {
+    let outcome = run_within(rt, row.file, limits)?;
+    prints(rt, "row", place as u64, &outcome, row.text);
+    assert_eq!(rt; outcome.result.err(), row.fault, "at row {place}");
+    Ok(())
+}
+
+/// The same for each of these rows.
+pub(crate) fn runs_rows<R: AllocGlobal + Abort + Threads + Wait + Sync>(
+    rt: &R,
+    rows: &[Row],
+    limits: Limits,
+) -> Result<(), AllocError> {
+    for (place, row) in rows.iter().enumerate() {
+        runs_row(rt, place, row, limits)?;
+    }
+    Ok(())
+}

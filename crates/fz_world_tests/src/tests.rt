@@ -1,0 +1,645 @@
+//! Lives of objects from end to end as tables of steps, and the limits of a world. A call that is refused for want of memory is made again at once,
+//! and then every answer is as if nothing had been short: `tests/refused-allocations` makes each allocation of these tests fail in turn.
+
+use fz_model::LinkKind::{Long, Short};
+use fz_model::ObjKind::{Atomic, Scanned};
+use fz_model::Progress::{Done, More};
+use fz_model::RegKind::{IgnoreSelf, NoOrder, Normal};
+use fz_model::{
+    BLOCK_WORDS, Entry, HEAP_START, LinkAnswer, LinkKind, MAX_BLOCKS, MAX_FRAMES, MAX_OBJECT_WORDS,
+    MoveAnswer, ObjKind, Old, Passed, Progress, Refusal, RegAnswer, RegKind, SLOTS, TABLE_LIMIT,
+};
+use fz_world::{Config, World};
+use std::alloc::Global;
+
+/// A call and the answer that it is to give. All slots are those of the first frame.
+#[derive(Clone, Copy)]
+enum Step {
+    /// An object of that many words goes into the slot.
+    New(u64, u64, ObjKind, Result<u64, Refusal>),
+    /// A word of what the first slot points to becomes the second slot's.
+    Store(u64, u64, u64, Result<(), Refusal>),
+    /// A word of what the first slot points to goes into the second.
+    Load(u64, u64, u64, Result<u64, Refusal>),
+    Set(u64, u64),
+    /// The registration of what the slot holds has the next number, which is given last, and replaces none.
+    Register(u64, RegKind, u8, u64),
+    /// The answer to a registration of the kind normal and of rank 0.
+    Registers(u64, Result<RegAnswer, Refusal>),
+    Unregister(u64, Result<Option<Old>, Refusal>),
+    Link(LinkKind, u64, u64, u64, LinkAnswer),
+    Unlink(LinkKind, u64, u64, bool),
+    Move(LinkKind, u64, u64, u64, MoveAnswer),
+    Begin(Result<(), Refusal>),
+    Mark(u64, Progress),
+    /// The number of the pass, and how much it picks and reclaims.
+    Pause(u64, u64, u64),
+    Collect(u64, u64, u64),
+    /// The slot holds the object of the entry at a place of the queue.
+    Hold(u64, usize),
+    /// The entry at a place of the queue is finished, and has this object.
+    Finish(usize, Result<u64, Refusal>),
+    Close(Result<(), Refusal>),
+    Outstanding(u64),
+    Scans(u64),
+    Noted(u64),
+    /// So many pairs of entries are finished, whose objects are the second and the third of each three blocks.
+    FinishPairs(u32),
+}
+
+use Step::{
+    Begin, Close, Collect, Finish, FinishPairs, Hold, Link, Load, Mark, Move, New, Noted,
+    Outstanding, Pause, Register, Registers, Scans, Set, Store, Unlink, Unregister,
+};
+
+fn opened(alloc: Global, blocks: u64, frames: u64) -> Result<World, Refusal> {
+    let config = Config { blocks, frames };
+    match World::open(alloc, config) {
+        Err(Refusal::NoMemory) => World::open(alloc, config),
+        answer => answer,
+    }
+}
+
+/// Makes an object into a slot of the first frame; returns its address.
+fn made(world: &mut World, slot: u64, size: u64, kind: ObjKind) -> Result<u64, Refusal> {
+    Ok(world.alloc(0, slot, size, kind)?.0)
+}
+
+/// Registers what a slot of the first frame holds, with procedure 7 and no client data.
+fn registered(world: &mut World, slot: u64, kind: RegKind, rank: u8) -> Result<RegAnswer, Refusal> {
+    match world.register(0, slot, kind, 7, 0, rank) {
+        Err(Refusal::NoMemory) => world.register(0, slot, kind, 7, 0, rank),
+        answer => answer,
+    }
+}
+
+/// Makes a word of what a slot of the first frame points to a link to the object in another slot.
+fn linked(
+    world: &mut World,
+    which: LinkKind,
+    slot: u64,
+    offset: u64,
+    target: u64,
+) -> Result<LinkAnswer, Refusal> {
+    match world.link(which, 0, slot, offset, 0, target) {
+        Err(Refusal::NoMemory) => world.link(which, 0, slot, offset, 0, target),
+        answer => answer,
+    }
+}
+
+/// Moves a link between two words of what a slot of the first frame points to.
+fn moved(
+    world: &mut World,
+    which: LinkKind,
+    slot: u64,
+    from: u64,
+    to: u64,
+) -> Result<MoveAnswer, Refusal> {
+    match world.move_link(which, 0, slot, from, 0, slot, to) {
+        Err(Refusal::NoMemory) => world.move_link(which, 0, slot, from, 0, slot, to),
+        answer => answer,
+    }
+}
+
+/// What a pass answers.
+fn passed(pass: u64, picked: u64, reclaimed: u64) -> Result<Passed, Refusal> {
+    Ok(Passed {
+        pass,
+        picked,
+        reclaimed,
+    })
+}
+
+/// What a new registration answers.
+fn number(number: u64) -> Result<RegAnswer, Refusal> {
+    Ok(RegAnswer::Number(number, None))
+}
+
+/// The entry at a place of the queue.
+fn entry_at(world: &World, place: usize) -> Result<Entry, Refusal> {
+    world.queue().get(place).copied().ok_or(Refusal::NotHeld)
+}
+
+/// Finishes the entry at a place of the queue; returns its object.
+fn finished(world: &mut World, place: usize) -> Result<u64, Refusal> {
+    let entry = entry_at(world, place)?;
+    world.finish(&entry)?;
+    Ok(entry.obj)
+}
+
+/// Puts the object of the entry at a place of the queue into a slot of the first frame.
+fn held(world: &mut World, slot: u64, place: usize) -> Result<(), Refusal> {
+    let entry = entry_at(world, place)?;
+    world.hold(0, slot, &entry)
+}
+
+/// Whether a step gives its answer.
+fn answers(world: &mut World, step: Step) -> bool {
+    match step {
+        New(slot, size, kind, want) => made(world, slot, size, kind) == want,
+        Store(slot, word, from, want) => world.store(0, slot, word, 0, from) == want,
+        Load(slot, word, to, want) => world.load(0, slot, word, 0, to) == want,
+        Set(slot, word) => world.set(0, slot, word) == Ok(()),
+        Register(slot, kind, rank, want) => registered(world, slot, kind, rank) == number(want),
+        Registers(slot, want) => registered(world, slot, Normal, 0) == want,
+        Unregister(slot, want) => world.unregister(0, slot) == want,
+        Link(which, slot, word, to, want) => linked(world, which, slot, word, to) == Ok(want),
+        Unlink(which, slot, word, want) => world.unlink(which, 0, slot, word) == Ok(want),
+        Move(which, slot, word, to, want) => moved(world, which, slot, word, to) == Ok(want),
+        Begin(want) => world.begin() == want,
+        Mark(budget, want) => world.mark(budget) == Ok(want),
+        Pause(pass, picked, reclaimed) => world.pause() == passed(pass, picked, reclaimed),
+        Collect(pass, picked, reclaimed) => world.collect() == passed(pass, picked, reclaimed),
+        Hold(slot, place) => held(world, slot, place) == Ok(()),
+        Finish(place, want) => finished(world, place) == want,
+        Close(want) => world.close() == want,
+        Outstanding(want) => world.outstanding() == want,
+        Scans(want) => world.scans() == want,
+        Noted(want) => world.noted() == want,
+        FinishPairs(pairs) => first_out_of_turn(world, pairs).is_none(),
+    }
+}
+
+/// The place of the first step that gives another answer.
+fn first_wrong(world: &mut World, steps: &[Step]) -> Option<usize> {
+    for (place, step) in steps.iter().enumerate() {
+        if !answers(world, *step) {
+            return Some(place);
+        }
+    }
+    None
+}
+
+/// The same for a world that was just made. It is dropped here, at one place.
+fn first_wrong_of(made: Result<World, Refusal>, steps: &[Step]) -> Result<Option<usize>, Refusal> {
+    let mut world = made?;
+    Ok(first_wrong(&mut world, steps))
+}
+
+const ONE_OBJECT_LIFE: [Step; 13] = [
+    New(0, 2, Scanned, Ok(HEAP_START)),
+    Register(0, Normal, 0, 0),
+    Set(0, 0),
+    Collect(1, 1, 0),
+    Outstanding(1),
+    Collect(2, 0, 0),
+    Hold(3, 0),
+    Finish(0, Ok(HEAP_START)),
+    Finish(0, Err(Refusal::NotHeld)),
+    Outstanding(0),
+    Collect(3, 0, 0),
+    Set(3, 0),
+    Collect(4, 0, 1),
+];
+
+/// The object is made, registered, dropped, finalized, held again by a slot, dropped and reclaimed.
+#[test]
+fn one_object_life(rt: HostRuntime) {
+    let made = opened(rt.alloc(), 4, 1);
+    assert_eq!(rt; first_wrong_of(made, &ONE_OBJECT_LIFE), Ok(None));
+}
+
+const CHAIN_IN_ORDER: [Step; 12] = [
+    New(0, 1, Scanned, Ok(HEAP_START)),
+    New(1, 1, Scanned, Ok(HEAP_START + 1)),
+    Store(0, 0, 1, Ok(())),
+    Register(0, Normal, 1, 0),
+    Register(1, Normal, 0, 1),
+    Set(0, 0),
+    Set(1, 0),
+    Collect(1, 1, 0),
+    Collect(2, 0, 0),
+    Finish(0, Ok(HEAP_START)),
+    Collect(3, 1, 1),
+    Finish(1, Ok(HEAP_START + 1)),
+];
+
+/// An object that leads to another is ready before it, whatever their ranks.
+#[test]
+fn chain_in_order(rt: HostRuntime) {
+    let made = opened(rt.alloc(), 4, 1);
+    assert_eq!(rt; first_wrong_of(made, &CHAIN_IN_ORDER), Ok(None));
+}
+
+const RANKS_IN_ORDER: [Step; 17] = [
+    New(0, 1, Scanned, Ok(HEAP_START)),
+    New(1, 1, Scanned, Ok(HEAP_START + 1)),
+    New(2, 1, Scanned, Ok(HEAP_START + 2)),
+    Register(0, Normal, 255, 0),
+    Register(1, Normal, 7, 1),
+    Register(2, NoOrder, 7, 2),
+    New(3, 1, Scanned, Ok(HEAP_START + 3)),
+    Register(3, Normal, 0, 3),
+    Set(0, 0),
+    Set(1, 0),
+    Set(2, 0),
+    Set(3, 0),
+    Collect(1, 4, 0),
+    Finish(0, Ok(HEAP_START + 3)),
+    Finish(1, Ok(HEAP_START + 1)),
+    Finish(2, Ok(HEAP_START + 2)),
+    Finish(3, Ok(HEAP_START)),
+];
+
+/// One pass queues by rank, and objects of one rank by address.
+#[test]
+fn ranks_in_order(rt: HostRuntime) {
+    let made = opened(rt.alloc(), 4, 1);
+    assert_eq!(rt; first_wrong_of(made, &RANKS_IN_ORDER), Ok(None));
+}
+
+const SHORT_LINK_BREAKS_A_CYCLE: [Step; 13] = [
+    New(0, 1, Scanned, Ok(HEAP_START)),
+    New(1, 1, Scanned, Ok(HEAP_START + 1)),
+    Register(0, Normal, 0, 0),
+    Register(1, Normal, 0, 1),
+    Store(0, 0, 1, Ok(())),
+    Store(1, 0, 0, Ok(())),
+    Link(Short, 0, 0, 1, LinkAnswer::Success),
+    Set(0, 0),
+    Set(1, 0),
+    Collect(1, 1, 0),
+    Finish(0, Ok(HEAP_START + 1)),
+    Collect(2, 1, 1),
+    Finish(1, Ok(HEAP_START)),
+];
+
+/// A short link's word is zero before the order is decided: so of two registered objects that point to each other one is ready.
+#[test]
+fn short_link_breaks_a_cycle(rt: HostRuntime) {
+    let made = opened(rt.alloc(), 4, 1);
+    assert_eq!(rt; first_wrong_of(made, &SHORT_LINK_BREAKS_A_CYCLE), Ok(None));
+}
+
+const LONG_LINK_WAITS_FOR_ITS_TARGET: [Step; 16] = [
+    New(0, 2, Atomic, Ok(HEAP_START)),
+    New(1, 1, Scanned, Ok(HEAP_START + BLOCK_WORDS)),
+    Store(0, 0, 1, Ok(())),
+    Store(0, 1, 1, Ok(())),
+    Link(Short, 0, 0, 1, LinkAnswer::Success),
+    Link(Long, 0, 1, 1, LinkAnswer::Success),
+    Register(1, Normal, 0, 0),
+    Set(1, 0),
+    Collect(1, 1, 0),
+    Load(0, 0, 2, Ok(0)),
+    Load(0, 1, 2, Ok(HEAP_START + BLOCK_WORDS)),
+    Set(2, 0),
+    Finish(0, Ok(HEAP_START + BLOCK_WORDS)),
+    Collect(2, 0, 1),
+    Load(0, 1, 2, Ok(0)),
+    Unlink(Long, 0, 1, false),
+];
+
+/// Of two links to a queued object the short one's word is zero at once, and the long one's when the object is reclaimed.
+#[test]
+fn long_link_waits_for_its_target(rt: HostRuntime) {
+    let made = opened(rt.alloc(), 4, 1);
+    assert_eq!(rt;
+        first_wrong_of(made, &LONG_LINK_WAITS_FOR_ITS_TARGET),
+        Ok(None)
+    );
+}
+
+const MOVED_LINK: [Step; 12] = [
+    New(0, 2, Atomic, Ok(HEAP_START)),
+    New(1, 1, Scanned, Ok(HEAP_START + BLOCK_WORDS)),
+    Store(0, 0, 1, Ok(())),
+    Store(0, 1, 1, Ok(())),
+    Link(Short, 0, 0, 1, LinkAnswer::Success),
+    Link(Short, 0, 0, 1, LinkAnswer::Duplicate),
+    Move(Short, 0, 1, 0, MoveAnswer::NotFound),
+    Move(Short, 0, 0, 1, MoveAnswer::Success),
+    Set(1, 0),
+    Collect(1, 0, 1),
+    Load(0, 0, 2, Ok(HEAP_START + BLOCK_WORDS)),
+    Load(0, 1, 2, Ok(0)),
+];
+
+/// A link clears the word at which it stands last.
+#[test]
+fn moved_link(rt: HostRuntime) {
+    let made = opened(rt.alloc(), 4, 1);
+    assert_eq!(rt; first_wrong_of(made, &MOVED_LINK), Ok(None));
+}
+
+const LINK_IN_GARBAGE: [Step; 9] = [
+    New(0, 1, Scanned, Ok(HEAP_START)),
+    New(1, 1, Scanned, Ok(HEAP_START + 1)),
+    Link(Short, 0, 0, 1, LinkAnswer::Success),
+    Link(Long, 0, 0, 1, LinkAnswer::Success),
+    Set(0, 0),
+    Collect(1, 0, 1),
+    New(0, 1, Scanned, Ok(HEAP_START)),
+    Unlink(Short, 0, 0, false),
+    Unlink(Long, 0, 0, false),
+];
+
+/// A link goes with the object in which it stands: a new object at the same place has none.
+#[test]
+fn link_in_garbage(rt: HostRuntime) {
+    let made = opened(rt.alloc(), 4, 1);
+    assert_eq!(rt; first_wrong_of(made, &LINK_IN_GARBAGE), Ok(None));
+}
+
+const CLOSE_IN_A_CYCLE: [Step; 13] = [
+    New(0, 1, Scanned, Ok(HEAP_START)),
+    Register(0, Normal, 0, 0),
+    Set(0, 0),
+    Begin(Ok(())),
+    Close(Ok(())),
+    Close(Err(Refusal::Closed)),
+    Pause(1, 0, 0),
+    Collect(2, 0, 0),
+    Set(0, HEAP_START),
+    Unregister(0, Ok(Some(Old { proc: 7, cd: 0 }))),
+    Set(0, 0),
+    Collect(3, 0, 1),
+    Outstanding(0),
+];
+
+/// A world that closes in a cycle queues nothing at its end, nor later. What is no longer registered is reclaimed.
+#[test]
+fn close_in_a_cycle(rt: HostRuntime) {
+    let made = opened(rt.alloc(), 4, 1);
+    assert_eq!(rt; first_wrong_of(made, &CLOSE_IN_A_CYCLE), Ok(None));
+}
+
+const LIMITS_OF_AN_OBJECT: [Step; 6] = [
+    New(0, 0, Scanned, Err(Refusal::BadSize)),
+    New(0, MAX_OBJECT_WORDS + 1, Scanned, Err(Refusal::BadSize)),
+    New(0, MAX_OBJECT_WORDS, Scanned, Ok(HEAP_START)),
+    Store(0, MAX_OBJECT_WORDS - 1, 0, Ok(())),
+    Load(0, MAX_OBJECT_WORDS - 1, 1, Ok(HEAP_START)),
+    Store(0, MAX_OBJECT_WORDS, 0, Err(Refusal::OutsideObject)),
+];
+
+/// Objects have 1 to 1,024 words.
+#[test]
+fn limits_of_an_object(rt: HostRuntime) {
+    let made = opened(rt.alloc(), MAX_BLOCKS, 1);
+    assert_eq!(rt; first_wrong_of(made, &LIMITS_OF_AN_OBJECT), Ok(None));
+}
+
+const STORE_BEHIND_THE_MARKER: [Step; 24] = [
+    New(0, 2, Scanned, Ok(HEAP_START)),
+    New(1, 2, Scanned, Ok(HEAP_START + 2)),
+    New(2, 1, Scanned, Ok(HEAP_START + BLOCK_WORDS)),
+    New(3, 1, Scanned, Ok(HEAP_START + BLOCK_WORDS + 1)),
+    Register(2, Normal, 0, 0),
+    Register(3, Normal, 0, 1),
+    Store(1, 0, 2, Ok(())),
+    Store(0, 0, 3, Ok(())),
+    Set(2, 0),
+    Set(3, 0),
+    Begin(Ok(())),
+    Mark(1, More),
+    Noted(0),
+    Load(1, 0, 2, Ok(HEAP_START + BLOCK_WORDS)),
+    Store(0, 1, 2, Ok(())),
+    Load(0, 0, 3, Ok(HEAP_START + BLOCK_WORDS + 1)),
+    Store(1, 1, 3, Ok(())),
+    Set(2, 0),
+    Set(3, 0),
+    Store(1, 0, 2, Ok(())),
+    Store(0, 0, 2, Ok(())),
+    Noted(1),
+    Pause(1, 0, 0),
+    Collect(2, 0, 0),
+];
+
+/// Two objects swap what they point to while one of them is scanned and the other is not: nothing is lost.
+#[test]
+fn store_behind_the_marker(rt: HostRuntime) {
+    let made = opened(rt.alloc(), 4, 1);
+    assert_eq!(rt; first_wrong_of(made, &STORE_BEHIND_THE_MARKER), Ok(None));
+}
+
+const STORE_BEHIND_THE_MARKER_ON_A_SECOND_PAGE: [Step; 24] = [
+    New(0, BLOCK_WORDS + 2, Scanned, Ok(HEAP_START)),
+    New(
+        1,
+        BLOCK_WORDS + 2,
+        Scanned,
+        Ok(HEAP_START + 2 * BLOCK_WORDS),
+    ),
+    New(2, 1, Scanned, Ok(HEAP_START + 4 * BLOCK_WORDS)),
+    New(3, 1, Scanned, Ok(HEAP_START + 4 * BLOCK_WORDS + 1)),
+    Register(2, Normal, 0, 0),
+    Register(3, Normal, 0, 1),
+    Store(1, BLOCK_WORDS, 2, Ok(())),
+    Store(0, BLOCK_WORDS, 3, Ok(())),
+    Set(2, 0),
+    Set(3, 0),
+    Begin(Ok(())),
+    Mark(1, More),
+    Noted(0),
+    Load(1, BLOCK_WORDS, 2, Ok(HEAP_START + 4 * BLOCK_WORDS)),
+    Store(0, BLOCK_WORDS + 1, 2, Ok(())),
+    Load(0, BLOCK_WORDS, 3, Ok(HEAP_START + 4 * BLOCK_WORDS + 1)),
+    Store(1, BLOCK_WORDS + 1, 3, Ok(())),
+    Set(2, 0),
+    Set(3, 0),
+    Store(1, BLOCK_WORDS, 2, Ok(())),
+    Store(0, BLOCK_WORDS, 2, Ok(())),
+    Noted(2),
+    Pause(1, 0, 0),
+    Collect(2, 0, 0),
+];
+
+/// So too on the second page of large objects.
+#[test]
+fn store_behind_the_marker_on_a_second_page(rt: HostRuntime) {
+    let made = opened(rt.alloc(), 8, 1);
+    assert_eq!(rt;
+        first_wrong_of(made, &STORE_BEHIND_THE_MARKER_ON_A_SECOND_PAGE),
+        Ok(None)
+    );
+}
+
+/// Makes a chain of one-word objects, whose first is in the first slot.
+fn make_chain(world: &mut World, count: u64) -> Result<(), Refusal> {
+    made(world, 0, 1, Scanned)?;
+    world.copy(0, 0, 0, 1)?;
+    for _ in 1..count {
+        made(world, 2, 1, Scanned)?;
+        world.store(0, 1, 0, 0, 2)?;
+        world.copy(0, 2, 0, 1)?;
+    }
+    world.set(0, 1, 0)?;
+    world.set(0, 2, 0)
+}
+
+/// A world of a chain alone.
+fn chained(alloc: Global, count: u64) -> Result<World, Refusal> {
+    let mut world = opened(alloc, 4, 1)?;
+    make_chain(&mut world, count)?;
+    Ok(world)
+}
+
+const SCANS_OF_A_CHAIN: [Step; 15] = [
+    Begin(Ok(())),
+    Begin(Err(Refusal::CycleOpen)),
+    Scans(0),
+    Mark(100, Done),
+    Scans(100),
+    Pause(1, 0, 0),
+    Scans(100),
+    Begin(Ok(())),
+    Mark(99, More),
+    Store(0, 0, 1, Ok(())),
+    Noted(1),
+    Pause(2, 0, 0),
+    Scans(99 + BLOCK_WORDS + 1),
+    Collect(3, 0, 99),
+    Scans(1),
+];
+
+/// A chain of two pages is scanned once; a pause scans again what stands on the page of a store.
+#[test]
+fn scans_of_a_chain(rt: HostRuntime) {
+    let made = chained(rt.alloc(), 100);
+    assert_eq!(rt; first_wrong_of(made, &SCANS_OF_A_CHAIN), Ok(None));
+}
+
+/// Makes one-word objects and registers each.
+fn registered_many(world: &mut World, count: u64) -> Result<(), Refusal> {
+    for _ in 0..count {
+        made(world, 0, 1, Scanned)?;
+        registered(world, 0, Normal, 0)?;
+    }
+    Ok(())
+}
+
+/// A world whose table is full.
+fn filled(alloc: Global) -> Result<World, Refusal> {
+    let mut world = opened(alloc, MAX_BLOCKS, 1)?;
+    registered_many(&mut world, TABLE_LIMIT)?;
+    Ok(world)
+}
+
+const FULL_TABLE: [Step; 4] = [
+    New(0, 1, Scanned, Ok(HEAP_START + TABLE_LIMIT)),
+    Registers(0, Err(Refusal::TableFull)),
+    Set(0, HEAP_START),
+    Registers(
+        0,
+        Ok(RegAnswer::Number(TABLE_LIMIT, Some(Old { proc: 7, cd: 0 }))),
+    ),
+];
+
+/// The table holds registrations of 65,536 objects. Then it has no room for another object's, but takes a new one of one of them.
+#[test]
+fn full_table(rt: HostRuntime) {
+    let made = filled(rt.alloc());
+    assert_eq!(rt; first_wrong_of(made, &FULL_TABLE), Ok(None));
+}
+
+/// Makes and drops an object that points to itself and is registered.
+fn made_and_dropped(world: &mut World, kind: RegKind) -> Result<(), Refusal> {
+    made(world, 0, BLOCK_WORDS, Scanned)?;
+    world.store(0, 0, 0, 0, 0)?;
+    registered(world, 0, kind, 0)?;
+    world.set(0, 0, 0)
+}
+
+/// Makes and drops such objects, of each kind in turn.
+fn many_of_each_kind(world: &mut World, count: u64) -> Result<(), Refusal> {
+    for _ in 0..count {
+        made_and_dropped(world, Normal)?;
+        made_and_dropped(world, IgnoreSelf)?;
+        made_and_dropped(world, NoOrder)?;
+    }
+    Ok(())
+}
+
+/// The place of the first of many entries that isn't held or has another object than its turn. Of three objects, a block each, two are queued.
+fn first_out_of_turn(world: &mut World, pairs: u32) -> Option<u32> {
+    for pair in 0..pairs {
+        let first = HEAP_START + 3 * BLOCK_WORDS * pair as u64;
+        let place = 2 * pair as usize;
+        if finished(world, place) != Ok(first + BLOCK_WORDS) {
+            return Some(pair);
+        }
+        if finished(world, place + 1) != Ok(first + 2 * BLOCK_WORDS) {
+            return Some(pair);
+        }
+    }
+    None
+}
+
+/// A world of three thousand such objects.
+fn filled_with_garbage(alloc: Global) -> Result<World, Refusal> {
+    let mut world = opened(alloc, MAX_BLOCKS, 1)?;
+    many_of_each_kind(&mut world, 1_000)?;
+    Ok(world)
+}
+
+const THOUSANDS_OF_PICKS: [Step; 5] = [
+    Collect(1, 2_000, 0),
+    Outstanding(2_000),
+    FinishPairs(1_000),
+    Outstanding(0),
+    Collect(2, 0, 2_000),
+];
+
+/// Of three thousand objects that point to themselves, of each kind in turn, those of the kind normal wait for themselves.
+#[test]
+fn thousands_of_picks(rt: HostRuntime) {
+    let made = filled_with_garbage(rt.alloc());
+    assert_eq!(rt; first_wrong_of(made, &THOUSANDS_OF_PICKS), Ok(None));
+}
+
+const EDGE_OF_THE_HEAP: [Step; 6] = [
+    Registers(0, Ok(RegAnswer::Outside)),
+    Set(0, HEAP_START + BLOCK_WORDS * MAX_BLOCKS),
+    Registers(0, Ok(RegAnswer::Outside)),
+    Set(0, HEAP_START + BLOCK_WORDS * MAX_BLOCKS - 1),
+    Registers(0, Err(Refusal::NotPointer)),
+    Load(0, 0, 1, Err(Refusal::NotPointer)),
+];
+
+/// A word at the end of the heap lies outside it.
+#[test]
+fn edge_of_the_heap(rt: HostRuntime) {
+    let made = opened(rt.alloc(), MAX_BLOCKS, 1);
+    assert_eq!(rt; first_wrong_of(made, &EDGE_OF_THE_HEAP), Ok(None));
+}
+
+const BAD_COUNTS: [(u64, u64); 4] = [(0, 1), (MAX_BLOCKS + 1, 1), (1, 0), (1, MAX_FRAMES + 1)];
+
+/// The place of the first counts of blocks and frames that aren't refused.
+fn first_opened(alloc: Global, counts: &[(u64, u64)]) -> Option<usize> {
+    for (place, (blocks, frames)) in counts.iter().enumerate() {
+        if opened(alloc, *blocks, *frames).err() != Some(Refusal::BadCount) {
+            return Some(place);
+        }
+    }
+    None
+}
+
+/// Worlds open with 1 to 8 frames and 1 to 4,096 blocks.
+#[test]
+fn limits_of_an_opening(rt: HostRuntime) {
+    assert_eq!(rt; first_opened(rt.alloc(), &BAD_COUNTS), None);
+}
+
+/// What the calls on the last slot, and past it, answer.
+fn slots_answer(world: &mut World) -> bool {
+    let (frame, slot) = (MAX_FRAMES - 1, SLOTS - 1);
+    world.set(frame, slot, 1) == Ok(())
+        && world.set(frame + 1, 0, 1) == Err(Refusal::BadSlot)
+        && world.set(frame, slot + 1, 1) == Err(Refusal::BadSlot)
+        && world.copy(frame, slot, 0, slot) == Ok(())
+}
+
+/// Whether the slots of a world with all frames answer so.
+fn all_slots_answer(alloc: Global) -> Result<bool, Refusal> {
+    let mut world = opened(alloc, 1, MAX_FRAMES)?;
+    Ok(slots_answer(&mut world))
+}
+
+/// A world has at most 8 frames of 16 slots.
+#[test]
+fn limits_of_frames(rt: HostRuntime) {
+    assert_eq!(rt; all_slots_answer(rt.alloc()), Ok(true));
+}
