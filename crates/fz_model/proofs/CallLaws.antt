@@ -1,7 +1,7 @@
 -- Links that are made and moved, and entries that are held on to.
-use Rattle.std.proofs.Common.{◌≡◌, ◌≢◌, ℕ, ◌+◌, ◌-◌, ◌≤◌, ◌==◌, ◌&&◌, Bool, true, false, cond, if◌then◌else◌, List, [], ◌∷◌, length, Option, Some, None, is_some, refl, sym, ap, ◌∙◌, subst, arith, get_or, set, All, nat_lt, true≢false, get_or-set_same, Contains}
+use Rattle.std.proofs.Common.{◌≡◌, ◌≢◌, ℕ, ◌+◌, ◌-◌, ◌≤◌, ◌==◌, ◌&&◌, Bool, true, false, cond, if◌then◌else◌, List, [], ◌∷◌, length, Option, Some, None, is_some, refl, sym, ap, ◌∙◌, subst, inl, inr, ⊎_elim, arith, get_or, set, All, nat_lt, true≢false, get_or-set_same, Contains}
 use Rattle.std.proofs.lemmas.Bool.{not-false, and_parts, eqb-true, eq-eqb, ltb-true}
-use Rattle.std.proofs.lemmas.Option.{slice_get_within}
+use Rattle.std.proofs.lemmas.Option.{slice_get_within, none-some}
 use Rattle.std.specs.List.{list_any}
 use Rattle.std.specs.Cmp.{nat_cmp_total}
 use Rattle.std.specs.FinMap.{get, len, insert, remove, contains_key, len-insert, len-remove, len-entries, entries}
@@ -15,7 +15,7 @@ use Rattle.fz_model.specs.Memory.{slot_word, with_slot, lacks_slot}
 use Rattle.fz_model.specs.Events.{same_entry, not_held}
 use Rattle.fz_model.specs.Causes.{slot_causes}
 use Rattle.fz_model.specs.Steps.{IsReached, move_answer, moved_to}
-use Rattle.fz_model.specs.CallLaws.{HasLink, IsLinked, LinksAreMade, IsMoved, LinksAreMoved, HoldGivesTheObject}
+use Rattle.fz_model.specs.CallLaws.{HasLink, IsLinked, LinksAreMade, IsUnlinked, LinksAreUnlinked, IsAnswered, IsMoved, LinksAreMoved, HoldGivesTheObject}
 use Rattle.fz_model.proofs.Lists.{contains_at, any_at}
 use Rattle.fz_model.proofs.Events.{one_entry}
 use Rattle.fz_model.proofs.MapEntries.{place_of_key}
@@ -49,6 +49,29 @@ pub links_are_made : (s : State) (frame slot offset to_frame to_slot : ℕ) → 
 links_are_made s frame slot offset to_frame to_slot = record {
   short = λ answer new step. (linked_as s.short new.short _ _ answer step.1.0 (ap (λ (c : Core). c.short) step.1.1), ap (λ (c : Core). c.long) step.1.1);
   long = λ answer new step. (linked_as s.long new.long _ _ answer step.1.0 (ap (λ (c : Core). c.long) step.1.1), ap (λ (c : Core). c.short) step.1.1);
+}
+
+-- ---- a link is removed
+
+unlinked : (old : Map ℕ) (place : ℕ) → IsUnlinked old place (contains_key old place) (remove old place)
+unlinked old place = record {
+  there = (at (get old place) refl, λ had. ap is_some had.1);
+  gone = get-remove_same old place;
+  others = λ p ne. get-remove_other old place p ne;
+}
+  where
+    at : (g : Option ℕ) → get old place ≡ g → is_some g ≡ true → HasLink old place
+    at None is on = absurd (true≢false (sym on))
+    at (Some target) is on = (target, is)
+
+unlinked_as : (old new : Map ℕ) (place : ℕ) (answer : Bool) → answer ≡ contains_key old place → new ≡ remove old place → IsUnlinked old place answer new
+unlinked_as old new place answer is becomes =
+    subst (IsUnlinked old place answer) (sym becomes) (subst (λ r. IsUnlinked old place r (remove old place)) (sym is) (unlinked old place))
+
+pub links_are_unlinked : (s : State) (frame slot offset : ℕ) → LinksAreUnlinked s frame slot offset
+links_are_unlinked s frame slot offset = record {
+  short = λ answer new step. (unlinked_as s.short new.short _ answer step.1.0 (ap (λ (c : Core). c.short) step.1.1), ap (λ (c : Core). c.long) step.1.1);
+  long = λ answer new step. (unlinked_as s.long new.long _ answer step.1.0 (ap (λ (c : Core). c.long) step.1.1), ap (λ (c : Core). c.short) step.1.1);
 }
 
 -- ---- a link is moved
@@ -97,7 +120,7 @@ module _ (old : Map ℕ) (from to target : ℕ) (here : get old from ≡ Some ta
     unmoved = λ not_success. absurd (not_success refl);
   }
 
-moves : (old : Map ℕ) (from to : ℕ) → IsMoved old from to (move_answer old from to) (moved_to old from to (get old from))
+pub moves : (old : Map ℕ) (from to : ℕ) → IsMoved old from to (move_answer old from to) (moved_to old from to (get old from))
 moves old from to = at (get old from) refl
   where
     apart_case : (target : ℕ) → get old from ≡ Some target → from ≢ to → (g : Option ℕ) → get old to ≡ g → IsMoved old from to (if is_some g then moving.Duplicate else moving.Success) (if is_some g then old else insert (remove old from) to target)
@@ -128,10 +151,50 @@ moved_as : (old new : Map ℕ) (from to : ℕ) (answer : MoveAnswer) → answer 
 moved_as old new from to answer is becomes =
     subst (IsMoved old from to answer) (sym becomes) (subst (λ r. IsMoved old from to r (moved_to old from to (get old from))) (sym is) (moves old from to))
 
+abbrev is_duplicate_move : MoveAnswer → Bool
+is_duplicate_move moving.Duplicate = true
+is_duplicate_move moving.Success = false
+is_duplicate_move moving.NotFound = false
+
+abbrev is_not_found : MoveAnswer → Bool
+is_not_found moving.NotFound = true
+is_not_found moving.Success = false
+is_not_found moving.Duplicate = false
+
+answers : (old : Map ℕ) (from to : ℕ) → IsAnswered old from to (move_answer old from to)
+answers old from to = at (get old from) refl (from == to) refl (get old to) refl
+  where
+    at : (g : Option ℕ) → get old from ≡ g → (b : Bool) → (from == to) ≡ b → (h : Option ℕ) → get old to ≡ h → IsAnswered old from to (if is_some g then (if b then moving.Success else (if is_some h then moving.Duplicate else moving.Success)) else moving.NotFound)
+    at None is b same h other = record {
+      not_found = (λ _. is, λ _. refl);
+      duplicate = (λ e. absurd (true≢false (sym (ap is_duplicate_move e))), λ had. absurd (none-some had.0.0 (sym is ∙ had.0.1)));
+      success = (λ e. absurd (true≢false (sym (ap is_success e))), λ had. absurd (none-some had.0.0 (sym is ∙ had.0.1)));
+    }
+    at (Some target) is true same h other = record {
+      not_found = (λ e. absurd (true≢false (sym (ap is_not_found e))), λ none. absurd (none-some target (sym none ∙ is)));
+      duplicate = (λ e. absurd (true≢false (sym (ap is_duplicate_move e))), λ had. absurd (had.1 (eqb-true from to same)));
+      success = (λ _. ((target, is), inl (eqb-true from to same)), λ _. refl);
+    }
+    at (Some target) is false same None free = record {
+      not_found = (λ e. absurd (true≢false (sym (ap is_not_found e))), λ none. absurd (none-some target (sym none ∙ is)));
+      duplicate = (λ e. absurd (true≢false (sym (ap is_duplicate_move e))), λ had. absurd (none-some had.2.0 (sym free ∙ had.2.1)));
+      success = (λ _. ((target, is), inr free), λ _. refl);
+    }
+    at (Some target) is false same (Some other) taken =
+        let apart : from ≢ to = λ equal. true≢false (sym (eq-eqb from to equal) ∙ same) in
+        record {
+          not_found = (λ e. absurd (true≢false (sym (ap is_not_found e))), λ none. absurd (none-some target (sym none ∙ is)));
+          duplicate = (λ _. ((target, is), apart, (other, taken)), λ _. refl);
+          success = (λ e. absurd (true≢false (sym (ap is_success e))), λ had. absurd (⊎_elim (λ equal. apart equal) (λ free. none-some other (sym free ∙ taken)) had.1));
+        }
+
+answered_as : (old : Map ℕ) (from to : ℕ) (answer : MoveAnswer) → answer ≡ move_answer old from to → IsAnswered old from to answer
+answered_as old from to answer is = subst (IsAnswered old from to) (sym is) (answers old from to)
+
 pub links_are_moved : (s : State) (frame slot offset to_frame to_slot to_offset : ℕ) → LinksAreMoved s frame slot offset to_frame to_slot to_offset
 links_are_moved s frame slot offset to_frame to_slot to_offset = record {
-  short = λ answer new step. (moved_as s.short new.short _ _ answer step.1.0 (ap (λ (c : Core). c.short) step.1.1), ap (λ (c : Core). c.long) step.1.1);
-  long = λ answer new step. (moved_as s.long new.long _ _ answer step.1.0 (ap (λ (c : Core). c.long) step.1.1), ap (λ (c : Core). c.short) step.1.1);
+  short = λ answer new step. (moved_as s.short new.short _ _ answer step.1.0 (ap (λ (c : Core). c.short) step.1.1), answered_as s.short _ _ answer step.1.0, ap (λ (c : Core). c.long) step.1.1);
+  long = λ answer new step. (moved_as s.long new.long _ _ answer step.1.0 (ap (λ (c : Core). c.long) step.1.1), answered_as s.long _ _ answer step.1.0, ap (λ (c : Core). c.short) step.1.1);
 }
 
 -- ---- a hold

@@ -1,17 +1,19 @@
 -- Laws that test the definitions of the calls: what is expected of each, in words that don't repeat how it is defined.
-use Rattle.std.specs.Prelude.{◌≡◌, ◌≢◌, ℕ, ◌+◌, ◌<◌, Bool, false, length, None, Some, Contains, Result, Ok, Err, IsTrue, IsFalse, ◌↔◌}
+use Rattle.std.specs.Prelude.{◌≡◌, ◌≢◌, ℕ, ◌+◌, ◌<◌, ◌≤◌, ◌⊎◌, Bool, false, length, None, Some, Contains, Result, Ok, Err, IsTrue, IsFalse, ◌↔◌}
 use Rattle.std.specs.FinMap.{get, len}
 use Rattle.fz_model.specs.declared.kinds.LinkKind.TheVariants.{Short, Long}
 use Rattle.fz_model.specs.declared.answers.Entry.{Entry}
 use Rattle.fz_model.specs.declared.answers.LinkAnswer.{LinkAnswer}
 use Rattle.fz_model.specs.declared.answers.LinkAnswer.TheVariants.{Duplicate}
 use Rattle.fz_model.specs.declared.answers.MoveAnswer.{MoveAnswer}
-use Rattle.fz_model.specs.declared.answers.MoveAnswer.TheVariants.{Success}
+use Rattle.fz_model.specs.declared.answers.MoveAnswer.TheVariants.{Success, NotFound}
+use Rattle.fz_model.specs.declared.answers.MoveAnswer.TheVariants as moving
+use Rattle.fz_model.specs.declared.limits.TheConstants.{TABLE_LIMIT}
 use Rattle.fz_model.specs.declared.refusal.Refusal.{Refusal}
 use Rattle.fz_model.specs.declared.refusal.Refusal.TheVariants.{NotHeld, Closed}
 use Rattle.fz_model.specs.State.{Map, Object, State}
 use Rattle.fz_model.specs.Memory.{points, slot_word}
-use Rattle.fz_model.specs.Events.{Event, Link, MoveLink, Hold, Close, Answer, causes}
+use Rattle.fz_model.specs.Events.{Event, Link, Unlink, MoveLink, Hold, Close, Answer, causes}
 use Rattle.fz_model.specs.Causes.{first_cause}
 use Rattle.fz_model.specs.Steps.{Step}
 use Rattle.fz_model.specs.Joint.{Joint, JointEvent, Call, HoldOwn, JointAnswer, worker_at, is_finish, JointStep}
@@ -58,6 +60,22 @@ pub record LinksAreMade (s : State) (frame slot offset to_frame to_slot : ℕ) :
   pub short : (answer : LinkAnswer) (new : State) → Step s (Link Short frame slot offset to_frame to_slot) (Ok answer) new → IsLinked s.short (slot_word s.frames frame slot + offset) (slot_word s.frames to_frame to_slot) answer new.short × (new.long ≡ s.long)
   pub long : (answer : LinkAnswer) (new : State) → Step s (Link Long frame slot offset to_frame to_slot) (Ok answer) new → IsLinked s.long (slot_word s.frames frame slot + offset) (slot_word s.frames to_frame to_slot) answer new.long × (new.short ≡ s.short)
 
+-- the answer tells whether a link was there; none is left there, and no other changes
+pub record IsUnlinked (old : Map ℕ) (place : ℕ) (answer : Bool) (new : Map ℕ) : Type 0 where
+  pub there : IsTrue answer ↔ HasLink old place
+  pub gone : get new place ≡ None
+  pub others : (p : ℕ) → p ≢ place → get new p ≡ get old p
+
+pub record LinksAreUnlinked (s : State) (frame slot offset : ℕ) : Type 0 where
+  pub short : (answer : Bool) (new : State) → Step s (Unlink Short frame slot offset) (Ok answer) new → IsUnlinked s.short (slot_word s.frames frame slot + offset) answer new.short × (new.long ≡ s.long)
+  pub long : (answer : Bool) (new : State) → Step s (Unlink Long frame slot offset) (Ok answer) new → IsUnlinked s.long (slot_word s.frames frame slot + offset) answer new.long × (new.short ≡ s.short)
+
+-- when a move gives each of its three answers
+pub record IsAnswered (old : Map ℕ) (from to : ℕ) (answer : MoveAnswer) : Type 0 where
+  pub not_found : answer ≡ NotFound ↔ (get old from ≡ None)
+  pub duplicate : answer ≡ moving.Duplicate ↔ HasLink old from × (from ≢ to) × HasLink old to
+  pub success : answer ≡ Success ↔ HasLink old from × ((from ≡ to) ⊎ (get old to ≡ None))
+
 -- a move keeps the number of links; one that succeeds keeps the link's target and leaves nothing at the old place, and any other changes nothing
 pub record IsMoved (old : Map ℕ) (from to : ℕ) (answer : MoveAnswer) (new : Map ℕ) : Type 0 where
   pub number : len new ≡ len old
@@ -66,8 +84,14 @@ pub record IsMoved (old : Map ℕ) (from to : ℕ) (answer : MoveAnswer) (new : 
   pub unmoved : answer ≢ Success → new ≡ old
 
 pub record LinksAreMoved (s : State) (frame slot offset to_frame to_slot to_offset : ℕ) : Type 0 where
-  pub short : (answer : MoveAnswer) (new : State) → Step s (MoveLink Short frame slot offset to_frame to_slot to_offset) (Ok answer) new → IsMoved s.short (slot_word s.frames frame slot + offset) (slot_word s.frames to_frame to_slot + to_offset) answer new.short × (new.long ≡ s.long)
-  pub long : (answer : MoveAnswer) (new : State) → Step s (MoveLink Long frame slot offset to_frame to_slot to_offset) (Ok answer) new → IsMoved s.long (slot_word s.frames frame slot + offset) (slot_word s.frames to_frame to_slot + to_offset) answer new.long × (new.short ≡ s.short)
+  pub short : (answer : MoveAnswer) (new : State) → Step s (MoveLink Short frame slot offset to_frame to_slot to_offset) (Ok answer) new → IsMoved s.short (slot_word s.frames frame slot + offset) (slot_word s.frames to_frame to_slot + to_offset) answer new.short × IsAnswered s.short (slot_word s.frames frame slot + offset) (slot_word s.frames to_frame to_slot + to_offset) answer × (new.long ≡ s.long)
+  pub long : (answer : MoveAnswer) (new : State) → Step s (MoveLink Long frame slot offset to_frame to_slot to_offset) (Ok answer) new → IsMoved s.long (slot_word s.frames frame slot + offset) (slot_word s.frames to_frame to_slot + to_offset) answer new.long × IsAnswered s.long (slot_word s.frames frame slot + offset) (slot_word s.frames to_frame to_slot + to_offset) answer × (new.short ≡ s.short)
+
+-- no table is larger than its limit
+pub record TablesAreWithin (s : State) : Type 0 where
+  pub registrations : len s.registrations ≤ TABLE_LIMIT
+  pub short : len s.short ≤ TABLE_LIMIT
+  pub long : len s.long ≤ TABLE_LIMIT
 
 -- ---- entries
 

@@ -18,6 +18,7 @@ pub mod Headline
 pub mod CallLaws
 pub mod PassLaws
 pub mod CycleLaws
+pub mod OrderLaws
 pub mod Seen
 -- means only
 pub mod Codes

@@ -6,9 +6,10 @@ ghost use Rattle.fz_model.specs.Extents.{extents, AreApart, AreWithin};
 ghost use Rattle.fz_model.specs.Seen.{SeenIsClosed};
 ghost use Rattle.fz_model.specs.Steps.{IsReached};
 ghost use Rattle.fz_model.specs.Joint.{Joint, Move, IsRun};
-ghost use Rattle.fz_model.specs.CallLaws.{EachCallHasStep, EachJointEventHasStep, LinksStand, LinksAreMade, LinksAreMoved, HoldGivesTheObject, EmptyHandIsRefused, ClosesOnce};
+ghost use Rattle.fz_model.specs.CallLaws.{EachCallHasStep, EachJointEventHasStep, LinksStand, LinksAreMade, LinksAreUnlinked, LinksAreMoved, TablesAreWithin, HoldGivesTheObject, EmptyHandIsRefused, ClosesOnce};
 ghost use Rattle.fz_model.specs.PassLaws.{EachPassIsLawful};
 ghost use Rattle.fz_model.specs.CycleLaws.{SeenInThisCycle};
+ghost use Rattle.fz_model.specs.OrderLaws.{FirstIsTold};
 
 /// Does nothing. Its contract says of every reached state what is expected of each call and of each pass, in words of their own: so it tests the
 /// definitions by which all other contracts speak.
@@ -22,8 +23,13 @@ pub fn every_call()
     // Each link's target starts an object, and its word lies in one.
     ensures short_links_stand { (s : State) → IsReached s → LinksStand s.objects s.short }
     ensures long_links_stand { (s : State) → IsReached s → LinksStand s.objects s.long }
-    // A link has the target that was named last; a move keeps the target, and the number of links.
+    // Where a call could be refused for two causes, the first is told.
+    ensures first_is_told { (s : State) → IsReached s → FirstIsTold s }
+    // No table is larger than its limit.
+    ensures tables_are_within { (s : State) → IsReached s → TablesAreWithin s }
+    // A link has the target that was named last; one that is removed is gone; a move keeps the target, and the number of links.
     ensures links_are_made { (s : State) → IsReached s → (frame slot offset to_frame to_slot : ℕ) → LinksAreMade s frame slot offset to_frame to_slot }
+    ensures links_are_unlinked { (s : State) → IsReached s → (frame slot offset : ℕ) → LinksAreUnlinked s frame slot offset }
     ensures links_are_moved { (s : State) → IsReached s → (frame slot offset to_frame to_slot to_offset : ℕ) → LinksAreMoved s frame slot offset to_frame to_slot to_offset }
     // A pass keeps all that is reachable and all that is registered, as it was but for the words of lost links; it keeps no more than what was seen and
     // what registered objects lead to; no word that stays leads to what went; each link that stays leads to an object that stays, from one that

@@ -207,6 +207,7 @@ impl<O: Opening> Locked<O> {
     /// Refusals, in their order: `CycleOpen`, `Exhausted` at the 2^48th pass.
     pub fn begin(&mut self) -> Result<(), Refusal>
         ensures step { Does self.old.world Begin result self.new.world }
+        ensures caused { IsJudgedBy (causes self.old.world.core Begin) result }
         ensures line { KeepsLine self.old self.new }
         ensures refused { OnErr result (self.new ≡ self.old) }
         ensures begun { OnOk result (IsBegun self.old.world self.new.world) }
@@ -219,6 +220,7 @@ impl<O: Opening> Locked<O> {
     /// Refusals, in their order: `BadCount` where the budget is 0, `NoCycle`.
     pub fn mark(&mut self, budget: u64) -> Result<Progress, Refusal>
         ensures step { Does self.old.world (Mark budget) result self.new.world }
+        ensures caused { IsJudgedBy (causes self.old.world.core (Mark budget)) result }
         ensures line { KeepsLine self.old self.new }
         ensures refused { OnErr result (self.new ≡ self.old) }
         ensures same { self.new.world ≡ record self.old.world { marked = self.new.world.marked; scanned = self.new.world.scanned; scans = self.new.world.scans } }
@@ -257,6 +259,7 @@ impl<O: Opening> Locked<O> {
     /// Refused `NoCycle` where no cycle is open.
     pub fn pause(&mut self) -> Result<Passed, Refusal>
         ensures step { Does self.old.world Pause result self.new.world }
+        ensures caused { IsJudgedBy (causes self.old.world.core Pause) result }
         ensures sent { OnOk result (SendsMore self.old self.new) }
         ensures refused { OnErr result (self.new ≡ self.old) }
         ensures scans { self.old.world.scans ≤ self.new.world.scans }
@@ -273,6 +276,7 @@ impl<O: Opening> Locked<O> {
     /// Refusals, in their order: `CycleOpen`, `Exhausted` at the 2^48th pass.
     pub fn collect(&mut self) -> Result<Passed, Refusal>
         ensures step { Does self.old.world Collect result self.new.world }
+        ensures caused { IsJudgedBy (causes self.old.world.core Collect) result }
         ensures sent { OnOk result (SendsMore self.old self.new) }
         ensures refused { OnErr result (self.new ≡ self.old) }
         ensures few { OnOk result (self.new.world.scans ≤ len self.old.world.objects) }
