@@ -118,9 +118,7 @@ impl Links {
         ensures found { IsSome result ↔ (place < len self.now) }
         ensures entry { IfSome result (λ entry. get self.now entry.0 ≡ Some entry.1) }
     {
-        // Its clauses tell that no link stands at two places.
-        let _count = self.entries.len();
-        let (link, target) = self.entries.get_index(place)?;
+        let (link, target) = self.entries.as_slice().get_index(place)?;
         Some((*link, *target))
     }
 
