@@ -72,9 +72,7 @@ fn append(line: &mut ArrayVec<u8, MAX_LINE>, bytes: &[u8])
     requires { length line.old.items + length bytes.now ≤ 200 }
     ensures { line.new.items ≡ line.old.items ++ bytes.now }
 {
-    let Ok(()) = line.try_extend_from_slice(bytes) else {
-        unreachable!();
-    };
+    line.try_extend_from_slice(bytes).unwrap();
 }
 
 /// Moves what is unread of a line from the chunk to its end, and tells how the line ends, if it ends there.
