@@ -223,7 +223,8 @@ impl Marker {
 
     /// The listed objects.
     pub fn listed(&self) -> &Flags<HEAP_START>
-        ensures { result.now ≡ record { size = self.now.size; members = self.now.listed } }
+        ensures listed { result.now ≡ record { size = self.now.size; members = self.now.listed } }
+        ensures few { self.now.size ≤ BLOCK_WORDS * MAX_BLOCKS }
     {
         &self.listed
     }
@@ -232,6 +233,7 @@ impl Marker {
     pub fn next_listed(&self, from: Addr) -> Option<Addr>
         ensures next { MatchOption result ((n : ℕ) → from ≤ n → IsFalse (contains self.now.listed n)) (λ next. IsNext self.now.listed from next) }
         ensures within { IfSome result (λ next. (HEAP_START ≤ next) × (next < HEAP_START + self.now.size)) }
+        ensures few { self.now.size ≤ BLOCK_WORDS * MAX_BLOCKS }
     {
         self.listed.next(from)
     }

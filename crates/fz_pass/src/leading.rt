@@ -102,8 +102,6 @@ pub(crate) fn trace_listed(heap: &Heap, marker: &mut Marker)
     requires closed { IsClosed heap.now.objects marker.old.traced }
     ensures { Traces heap.now.objects marker.old marker.new (AreReaching heap.now.objects (contains marker.old.listed)) }
 {
-    // Its clauses tell that an address is small.
-    let _blocks = heap.blocks();
     let mut from = 0;
     while let Some(start) = marker.next_listed(from) {
         marker.trace(heap, start);

@@ -42,7 +42,7 @@ returns-clause-decided c =
     let list : m2.listed ≡ m1.listed = ap (λ (m : Marking). m.listed) c.trace_led.ensures.same in
     let marked : m3.marked ≡ m0.marked =
     ap (λ (m : Marking). m.marked) c.trace_listed.ensures.same ∙ ap (λ (m : Marking). m.marked) c.trace_led.ensures.same ∙ ap (λ (m : Marking). m.marked) c.list_unreachable.ensures.same ∙ ap (λ (m : Marking). m.marked) c.trace_found.ensures in
-    let picks = subst (λ (s : Set). Picks heap1.objects (is_free s m2.traced) table0 table1 out0 out1) (ap (λ (f : Flagged). f.members) c.listed.ensures ∙ list)
+    let picks = subst (λ (s : Set). Picks heap1.objects (is_free s m2.traced) table0 table1 out0 out1) (ap (λ (f : Flagged). f.members) c.listed.ensures.listed ∙ list)
     (subst (λ (s : Set). Picks heap1.objects (is_free c.listed.result.now.members s) table0 table1 out0 out1) (ap (λ (f : Flagged). f.members) c.kept.ensures) c.pick_free.ensures.picks) in
     let reached = subst (λ (s : Set). Traces heap1.objects m2 m3 (AreReaching heap1.objects (contains s))) list c.trace_listed.ensures in
     let second = cleared_by heap1 heap2 long c.kept-kept.result.now.members m3.traced (ap (λ (f : Flagged). f.members) c.kept-kept.ensures) c.clear_dead-2.ensures in
