@@ -19,7 +19,7 @@ impl World {
         ensures step { Does self.old (Hold frame slot entry.now) result self.new }
         ensures marks { KeepsMarks self.old self.new }
     {
-        self.frames.get(frame, slot)?;
+        self.frames.check(frame, slot)?;
         self.ready.check_held(entry)?;
         self.frames.set(frame, slot, entry.obj);
         Ok(())

@@ -42,6 +42,19 @@ impl Frames {
         Ok(Frames { rows })
     }
 
+    /// Refuses a slot that isn't there: `BadSlot`.
+    pub(crate) fn check(&self, frame: u64, slot: u64) -> Result<(), Refusal>
+        ensures judged { IsJudgedBy (slot_causes self.now frame slot) result }
+        ensures there { OnOk result (lacks_slot self.now frame slot ≡ false) }
+        // Each frame has all its slots.
+        ensures whole { All (λ (row : List ℕ). length row ≡ SLOTS) self.now }
+    {
+        if frame >= self.rows.len() as u64 || slot >= SLOTS {
+            return Err(Refusal::BadSlot);
+        }
+        Ok(())
+    }
+
     /// The word of a slot.
     ///
     /// Refused `BadSlot` where there is no such slot.
@@ -52,9 +65,7 @@ impl Frames {
         // Each frame has all its slots.
         ensures whole { All (λ (row : List ℕ). length row ≡ SLOTS) self.now }
     {
-        if frame >= self.rows.len() as u64 || slot >= SLOTS {
-            return Err(Refusal::BadSlot);
-        }
+        self.check(frame, slot)?;
         let row = &self.rows[frame as usize];
         Ok(row[slot as usize])
     }

@@ -55,7 +55,7 @@ impl World {
         ensures refused { OnErr result (self.new ≡ self.old) }
         ensures marks { IfOk result (λ made. self.new ≡ record self.old { core = self.new.core; marked = with_in_cycle self.old.cycle self.old.marked made.0; noted = with_in_cycle self.old.cycle self.old.noted (block_of made.0) }) }
     {
-        self.frames.get(frame, slot)?;
+        self.frames.check(frame, slot)?;
         let (address, birth) = self.heap.alloc(size, kind)?;
         self.frames.set(frame, slot, address);
         mark_new(&mut self.marker, self.cycle, address, self.heap.blocks());
@@ -78,7 +78,7 @@ impl World {
         ensures marks { KeepsMarks self.old self.new }
     {
         let word = self.frames.get(frame, slot)?;
-        self.frames.get(to_frame, to_slot)?;
+        self.frames.check(to_frame, to_slot)?;
         let read = self.heap.read(word, offset)?;
         self.frames.set(to_frame, to_slot, read);
         Ok(read)
@@ -114,7 +114,7 @@ impl World {
         ensures step { Does self.old (Set frame slot word) result self.new }
         ensures marks { KeepsMarks self.old self.new }
     {
-        self.frames.get(frame, slot)?;
+        self.frames.check(frame, slot)?;
         self.frames.set(frame, slot, word);
         Ok(())
     }
@@ -133,7 +133,7 @@ impl World {
         ensures marks { KeepsMarks self.old self.new }
     {
         let word = self.frames.get(frame, slot)?;
-        self.frames.get(to_frame, to_slot)?;
+        self.frames.check(to_frame, to_slot)?;
         self.frames.set(to_frame, to_slot, word);
         Ok(())
     }
