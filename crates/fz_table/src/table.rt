@@ -100,6 +100,33 @@ impl Table {
         }) }
     {
         self.check(object)?;
+        self.register_checked(object, kind, proc, cd, rank)
+    }
+
+    /// Registers an object, as `register` does. Asked only where `check` refuses nothing.
+    ///
+    /// Refused `NoMemory` when the table has to grow for a new object and can't.
+    pub fn register_checked(
+        &mut self,
+        object: Addr,
+        kind: RegKind,
+        proc: u64,
+        cd: Word,
+        rank: u8,
+    ) -> Result<(u64, Option<Old>), Refusal>
+        requires few { self.old.next_number < COUNT_LIMIT }
+        requires room { IsFalse (full self.old.registrations object).0 }
+        ensures judged { IsJudgedOrLacks (register_causes self.old.registrations self.old.next_number object) result }
+        // Only an object's first registration can lack memory.
+        ensures growth { IfErr result (λ r. r ≡ NoMemory → IsNone (get self.old.registrations object)) }
+        ensures unchanged { OnErr result (self.new ≡ self.old) }
+        ensures number { IfOk result (λ answer. answer.0 ≡ self.old.next_number) }
+        ensures replaced { IfOk result (λ answer. answer.1 ≡ old_of self.old.registrations object) }
+        ensures registered { OnOk result (self.new ≡ record {
+          registrations = insert self.old.registrations object (record { number = self.old.next_number; kind = kind; proc = proc; cd = cd; rank = rank });
+          next_number = self.old.next_number + 1;
+        }) }
+    {
         let number = self.next_number;
         let registration = Registration {
             number,

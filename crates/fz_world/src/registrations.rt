@@ -97,7 +97,7 @@ fn enroll(
     let (kind, proc, cd, rank) = registration;
     table.check(object)?;
     make_room(table, ready, picks, object)?;
-    table.register(object, kind, proc, cd, rank)
+    table.register_checked(object, kind, proc, cd, rank)
 }
 
 #[tactic(auto, using(fz_model::proofs::Judged::judged_more, fz_model::proofs::Judged::judged_err, crate::proofs::Whole::world_room, crate::proofs::Whole::world_pick_room, crate::proofs::Whole::world_registered, crate::proofs::Whole::world_roomier, crate::proofs::Whole::world_removed, crate::proofs::Does::start_refused, crate::proofs::Does::does_refused, crate::proofs::Does::does_accepted))]

@@ -9,7 +9,7 @@ use Rattle.fz_model.proofs.Tables.{get_made, made_inserted}
 use Rattle.fz_table.specs.Registered.{Registered}
 use Rattle.fz_model.proofs.KeyedEntries.{limit_inserted}
 use Rattle.fz_table.proofs.Entries.{pair_of}
-use Rattle.fz_table.proofs.table.Table.register.Goals as goal
+use Rattle.fz_table.proofs.table.Table.register_checked.Goals as goal
 
 IfErr-always : {A E : Type 0} {P : E → Type 0} (result : Result A E) → ((e : E) → P e) → IfErr result P
 IfErr-always (Ok x) h = tt
@@ -19,11 +19,11 @@ pub returns-in_err-replaced-clause-growth : goal.returns-in_err-replaced-clause-
 returns-in_err-replaced-clause-growth c =
     let absent : get c.args.self.now.registrations c.args.object ≡ None = ap (λ (t : Registered). get t.registrations c.args.object) (sym c.self.view_is)
     ∙ get_made c.self.inside.entries.entries c.args.object ∙ c.in_err-replaced.ensures.absent in
-    IfErr-always c.from_residual-in_err-replaced.result (λ _ _. subst IsNone (sym absent) (search rules))
+    IfErr-always c.from_residual.result (λ _ _. subst IsNone (sym absent) (search rules))
 
 pub invariant_of-self-2 : goal.invariant_of-self-2
 invariant_of-self-2 c =
-    let free = ap (λ (t : Registered). (full t.registrations c.args.object).0) c.self.view_is ∙ c.in_ok-check.ensures.room in
+    let free = ap (λ (t : Registered). (full t.registrations c.args.object).0) c.self.view_is ∙ c.requires.room in
     subst (λ m. len m ≤ TABLE_LIMIT) (sym (made_inserted c.self.inside.entries.entries _ c.args.object _ c.in_ok-replaced.ensures.updates.0)) (limit_inserted _ c.args.object _ free c.self.invariant)
 
 pub returns-clause-replaced : goal.returns-clause-replaced
