@@ -18,6 +18,12 @@ use Rattle.fz_model.proofs.Sound.{removed_back, is_some_of}
 pub points_itself : (blocks : ℕ) (extents : Map Extent) → AreApart extents → AreWithin blocks extents → (a : ℕ) (x : Extent) → get extents a ≡ Some x → points_in extents a ≡ Some a
 points_itself blocks extents apart within a x here = points_at extents apart a a x here (to_covers a a x (omega arith) (omega (arith, (within a x here).1)))
 
+-- the same of an address that may be a start
+pub points_start : (blocks : ℕ) (extents : Map Extent) → AreApart extents → AreWithin blocks extents → (a : ℕ) → contains_key extents a ≡ true → points_in extents a ≡ Some a
+points_start blocks extents apart within a here =
+    let found = is_some_of (get extents a) (ap not here) in
+    points_itself blocks extents apart within a found.0 found.1
+
 -- a start lies in the heap
 pub start_within : (blocks : ℕ) (extents : Map Extent) (a : ℕ) → AreWithin blocks extents → contains_key extents a ≡ true → IsInHeap blocks a
 start_within blocks extents a within here =

@@ -130,6 +130,7 @@ impl Heap {
     pub fn resolve(&self, word: Word) -> Option<Addr>
         ensures points { result ≡ points self.now.objects word }
         ensures within { IfSome result (λ start. IsInHeap self.now.blocks start × IsTrue (contains_key self.now.objects start)) }
+        ensures itself { IsTrue (contains_key self.now.objects word) → points self.now.objects word ≡ Some word }
         ensures apart { AreApart (extents self.now.objects) }
     {
         let (start, _) = self.map.cell_of(word)?;

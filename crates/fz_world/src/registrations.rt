@@ -29,10 +29,11 @@ fn is_off_heap(heap: &Heap, word: Word) -> bool
 pub(crate) fn check_start(heap: &Heap, word: Word) -> Result<(), Refusal>
     ensures judged { IsJudgedBy (start_causes heap.now.objects word) result }
 {
-    if heap.resolve(word).is_none() {
+    let Some(start) = heap.resolve(word) else {
         return Err(Refusal::NotPointer);
-    }
-    if heap.facts(word).is_none() {
+    };
+    // A start points to its own object.
+    if start != word {
         return Err(Refusal::NotStart);
     }
     Ok(())

@@ -2,6 +2,7 @@ use Rattle.std.proofs.Common.{◌∙◌, sym, ap, arith, is_some}
 use Rattle.fz_heap.specs.Flat.{object_at}
 use Rattle.fz_heap.proofs.Mapped.{has_key}
 use Rattle.fz_heap.proofs.Flat.{extents_flat}
+use Rattle.fz_heap.proofs.Extents.{points_start}
 use Rattle.fz_heap.proofs.heap.Heap.resolve.Goals as goal
 
 pub returns-in_err-start-clause-points : goal.returns-in_err-start-clause-points
@@ -22,3 +23,15 @@ returns-in_err-start-clause-apart c = rw (← c.self.view_is, extents_flat) c.se
 
 pub returns-clause-apart : goal.returns-clause-apart
 returns-clause-apart c = rw (← c.self.view_is, extents_flat) c.self.invariant.apart
+
+pub returns-in_err-start-clause-itself : goal.returns-in_err-start-clause-itself
+returns-in_err-start-clause-itself c =
+    let h = c.self.inside in
+    rw (← c.self.view_is, extents_flat)
+    (λ here. points_start h.map.blocks h.map.extents c.self.invariant.apart c.self.invariant.within c.args.word (sym (has_key (object_at h.words.items h.births.items) h.map.extents c.args.word) ∙ here))
+
+pub returns-clause-itself : goal.returns-clause-itself
+returns-clause-itself c =
+    let h = c.self.inside in
+    rw (← c.self.view_is, extents_flat)
+    (λ here. points_start h.map.blocks h.map.extents c.self.invariant.apart c.self.invariant.within c.args.word (sym (has_key (object_at h.words.items h.births.items) h.map.extents c.args.word) ∙ here))
