@@ -2,6 +2,7 @@
 
 ghost use Rattle.std.specs.Prelude.{◌≡◌, ◌≤◌, ◌<◌, ◌+◌, ◌*◌, ◌↔◌, ◌⊎◌, ℕ, IsTrue, IsFalse, IfOk, IfErr, IfSome, MatchOption};
 ghost use Rattle.std.specs.FinSet.{contains, insert, empty, len};
+ghost use Rattle.std.specs.FinMap.{contains_key};
 ghost use Rattle.fz_model.specs.declared.limits.TheConstants.{HEAP_START, BLOCK_WORDS, MAX_BLOCKS};
 ghost use Rattle.fz_model.specs.Extents.{IsInHeap};
 ghost use Rattle.fz_model.specs.Memory.{points};
@@ -90,7 +91,9 @@ impl Marker {
     /// Marks the object to which the word points, if it points to one.
     pub fn root(&mut self, heap: &Heap, word: Word)
         requires { self.old.size ≡ BLOCK_WORDS * heap.now.blocks }
-        ensures { self.new ≡ record self.old { marked = with_target self.old.marked (points heap.now.objects word) } }
+        ensures marked { self.new ≡ record self.old { marked = with_target self.old.marked (points heap.now.objects word) } }
+        // The start of an object is one.
+        ensures itself { IsTrue (contains_key heap.now.objects word) → points heap.now.objects word ≡ Some word }
     {
         if let Some(start) = heap.resolve(word) {
             self.born(start);

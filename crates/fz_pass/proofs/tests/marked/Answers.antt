@@ -6,5 +6,5 @@ use Rattle.fz_pass.proofs.tests.marked.Goals as goal
 
 pub returns-clause-closed : goal.returns-clause-closed
 returns-clause-closed c = c.finish.ensures.closed (λ a scanned clean.
-    let none = ap (λ (m : Marking). contains m.scanned a) c.root.ensures ∙ ap (λ (m : Marking). contains m.scanned a) c.begin.ensures ∙ contains-empty nat_cmp a in
+    let none = ap (λ (m : Marking). contains m.scanned a) c.root.ensures.marked ∙ ap (λ (m : Marking). contains m.scanned a) c.begin.ensures ∙ contains-empty nat_cmp a in
     absurd (both_ways (contains c.root.new.self.scanned a) none scanned))
