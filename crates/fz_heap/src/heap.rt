@@ -221,6 +221,7 @@ impl Heap {
         ensures count { result ≡ sets.len self.now.condemned }
         ensures gone { AreGone self.now }
         ensures within { (a : ℕ) → IsTrue (sets.contains self.now.condemned a) → IsInHeap self.now.blocks a }
+        ensures objects { All (IsInHeap self.now.blocks) (keys self.now.objects) }
     {
         self.map.condemned()
     }

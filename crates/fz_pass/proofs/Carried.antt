@@ -1,10 +1,11 @@
 -- A pass that was carried out.
-use Rattle.std.proofs.Common.{◌≡◌, ◌||◌, true, ℕ, ◌↔◌, ◌⊎◌, ◌&&◌, ◌++◌, not, Bool, false, None, List, refl, sym, ap, ◌∙◌, subst, IsTrue}
+use Rattle.std.proofs.Common.{◌≡◌, ◌||◌, true, ℕ, ◌↔◌, ◌⊎◌, ◌&&◌, ◌++◌, not, Bool, false, Option, None, Some, is_some, List, All, refl, sym, ap, ◌∙◌, subst, arith, IsTrue}
 use Rattle.std.specs.Option.{option_map_or}
 use Rattle.std.specs.FinSet.{contains}
-use Rattle.std.specs.FinMap.{get, len, contains_key, retain_keys}
+use Rattle.std.specs.FinMap.{get, keys, len, contains_key, retain_keys}
 use Rattle.fz_model.specs.State.{Map, Object}
 use Rattle.fz_model.specs.declared.answers.Pick.{Pick}
+use Rattle.fz_model.specs.Extents.{IsInHeap, extents, extent_of}
 use Rattle.fz_model.specs.Memory.{points}
 use Rattle.fz_model.specs.Pass.{is_outside, cleared, is_dead, links_within}
 use Rattle.fz_heap.specs.Contents.{Contents}
@@ -14,9 +15,12 @@ use Rattle.fz_marker.specs.Marking.{Marking, IsClosed}
 use Rattle.fz_pass.specs.Leading.{Traces, AreLeading, AreReaching, is_unreachable}
 use Rattle.fz_pass.specs.Picking.{is_free, AreReady, Picks}
 use Rattle.fz_pass.specs.Decides.{Decides, parts}
+use Rattle.fz_model.proofs.Maps.{filling}
+use Rattle.fz_model.proofs.Objects.{from_covers, points_target}
 use Rattle.fz_model.proofs.SeenKept.{points-filled}
+use Rattle.fz_heap.proofs.Mapped.{has_key, keys-mapped}
 use Rattle.fz_pass.proofs.Filling.{has_filled, len_filled}
-use Rattle.fz_pass.proofs.Condemned.{has_retained}
+use Rattle.fz_pass.proofs.Condemned.{has_retained, of_keys}
 use Rattle.fz_pass.proofs.Decided.{are_picks, computes_kept, child_before}
 
 -- links are within the same sets where words point to the same objects
@@ -71,6 +75,24 @@ module _ (heap0 heap1 heap2 heap3 : Contents) (m0 m1 m2 m3 : Marking) (table0 ta
   )
 
 -- ---- what the parts of a pass ask for
+
+-- where each object lies in the heap, zero points to none,
+pub nothing_at_zero : (blocks : ℕ) (objects : Map Object) → All (IsInHeap blocks) (keys objects) → points objects 0 ≡ None
+nothing_at_zero blocks objects within = by (points objects 0) refl
+  where
+    by : (found : Option ℕ) → points objects 0 ≡ found → points objects 0 ≡ None
+    by None is = is
+    by (Some a) is =
+        let there = points_target (extents objects) 0 a is in
+        let below = (from_covers a 0 there.0 there.2).0 in
+        let low = (of_keys objects (IsInHeap blocks) within a (sym (has_key (λ _. extent_of) objects a) ∙ ap is_some there.1)).0 in
+        absurd (omega (arith, below, low))
+
+-- and each still lies there when words are cleared
+pub still_within : (heap new : Contents) (links : Map ℕ) (set : Set) → new ≡ record heap { objects = cleared links (contains set) heap.objects } → All (IsInHeap heap.blocks) (keys heap.objects) → All (IsInHeap new.blocks) (keys new.objects)
+still_within heap new links set is within =
+    subst (λ (h : Contents). All (IsInHeap h.blocks) (keys h.objects)) (sym is)
+    (subst (All (IsInHeap heap.blocks)) (sym (keys-mapped (filling (is_dead heap.objects links (contains set)) 0) heap.objects)) within)
 
 -- the marks stay closed when the words of dead links are zero
 pub closed_after : (objects : Map Object) (short : Map ℕ) (marked : Set) → points objects 0 ≡ None → IsClosed objects marked → IsClosed (cleared short (contains marked) objects) marked

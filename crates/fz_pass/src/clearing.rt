@@ -1,9 +1,9 @@
 //! The words of links whose targets are gone.
 
-ghost use Rattle.std.specs.Prelude.{◌≡◌, nat_eq, ◌&&◌, None, IsTrue};
+ghost use Rattle.std.specs.Prelude.{◌≡◌, nat_eq, ◌&&◌, IsTrue};
 ghost use Rattle.std.specs.FinSet.{contains};
 ghost use Rattle.fz_model.specs.Extents.{IsInHeap};
-ghost use Rattle.fz_model.specs.Memory.{points, filled, written};
+ghost use Rattle.fz_model.specs.Memory.{filled, written};
 ghost use Rattle.fz_model.specs.Pass.{is_outside, cleared};
 
 use fz_dirty::Flags;
@@ -44,11 +44,4 @@ pub(crate) fn clear_dead(heap: &mut Heap, links: &Links, set: &Flags<HEAP_START>
     for (link, target) in links.iter() {
         clear_if_dead(heap, set, link, target);
     }
-}
-
-/// Tells a proof that zero points to no object: it lies below the heap.
-pub(crate) fn learn_zero(heap: &Heap)
-    ensures { points heap.now.objects 0 ≡ None }
-{
-    let _nothing = heap.resolve(0);
 }

@@ -9,7 +9,7 @@ ghost use Rattle.fz_model.specs.declared.limits.TheConstants.{BLOCK_WORDS};
 ghost use Rattle.fz_marker.specs.Marking.{IsClosed};
 ghost use Rattle.fz_pass.specs.Decides.{Decides, parts};
 
-use crate::clearing::{clear_dead, learn_zero};
+use crate::clearing::clear_dead;
 use crate::keeping::keep_within;
 use crate::leading::{list_unreachable, trace_led, trace_listed};
 use crate::picking::pick_free;
@@ -47,7 +47,7 @@ pub fn decide(
     ensures marker { marker.new ≡ record marker.old { traced = marker.new.traced; listed = marker.new.listed } }
     ensures table { table.new ≡ record table.old { registrations = table.new.registrations } }
 {
-    learn_zero(heap);
+    let before = heap.condemned();
     clear_dead(heap, short, marker.found());
     marker.trace_found();
     list_unreachable(heap, marker, table);
@@ -59,5 +59,6 @@ pub fn decide(
     clear_dead(heap, long, kept);
     keep_within(short, heap, found, kept);
     keep_within(long, heap, kept, kept);
-    condemn_outside(heap, kept)
+    condemn_outside(heap, kept);
+    heap.condemned() - before
 }

@@ -1,5 +1,6 @@
 -- The parts of the pass fit together.
 use Rattle.std.proofs.Common.{◌≡◌, ◌||◌, ◌∙◌, ℕ, sym, ap, subst, arith}
+use Rattle.std.specs.FinSet as sets
 use Rattle.std.specs.FinSet.{contains}
 use Rattle.std.specs.FinMap.{retain_keys}
 use Rattle.fz_model.specs.Pass.{is_outside, links_within}
@@ -8,7 +9,7 @@ use Rattle.fz_dirty.specs.Flags.{Set, Flagged}
 use Rattle.fz_marker.specs.Marking.{Marking, IsClosed}
 use Rattle.fz_pass.specs.Leading.{Traces, AreReaching, is_unreachable}
 use Rattle.fz_pass.specs.Picking.{Picks, is_free}
-use Rattle.fz_pass.proofs.Carried.{decided, closed_after, cleared_by, condemned, len_cleared}
+use Rattle.fz_pass.proofs.Carried.{decided, nothing_at_zero, still_within, closed_after, cleared_by, condemned, len_cleared}
 use Rattle.fz_pass.proofs.pass.decide.Goals as goal
 
 pub trace_led-requires-clause-closed : goal.trace_led-requires-clause-closed
@@ -18,7 +19,7 @@ trace_led-requires-clause-closed c =
     let first = cleared_by heap0 c.clear_dead.new.heap c.args.short.now c.found.result.now.members m0.marked (ap (λ (f : Flagged). f.members) c.found.ensures) c.clear_dead.ensures in
     let begun : c.list_unreachable.new.marker.traced ≡ m0.marked = ap (λ (m : Marking). m.traced) c.list_unreachable.ensures.same ∙ ap (λ (m : Marking). m.traced) c.trace_found.ensures in
     subst (IsClosed c.clear_dead.new.heap.objects) (sym begun)
-    (subst (λ (h : Contents). IsClosed h.objects m0.marked) (sym first) (closed_after heap0.objects c.args.short.now m0.marked c.learn_zero.ensures c.requires.closed))
+    (subst (λ (h : Contents). IsClosed h.objects m0.marked) (sym first) (closed_after heap0.objects c.args.short.now m0.marked (nothing_at_zero heap0.blocks heap0.objects c.condemned-before.ensures.objects) c.requires.closed))
 
 pub returns-clause-decided : goal.returns-clause-decided
 returns-clause-decided c =
@@ -62,8 +63,27 @@ returns-clause-condemned c =
     (c.condemn_outside.ensures.objects ∙ ap (λ (f : Flagged). retain_keys heap2.objects (contains f.members)) c.kept-kept.ensures)
     (λ a. c.condemn_outside.ensures.condemned a ∙ ap (λ (f : Flagged). is_outside heap2.objects (contains f.members) a || contains heap2.condemned a) c.kept-kept.ensures)
 
+pub condemn_outside-requires : goal.condemn_outside-requires
+condemn_outside-requires c =
+    still_within c.clear_dead.new.heap c.clear_dead-2.new.heap c.args.long.now c.kept-kept.result.now.members c.clear_dead-2.ensures
+    (still_within c.args.heap.now c.clear_dead.new.heap c.args.short.now c.found.result.now.members c.clear_dead.ensures c.condemned-before.ensures.objects)
+
+pub overflow_sub-result : goal.overflow_sub-result
+overflow_sub-result c =
+    let first = ap (λ (h : Contents). sets.len h.condemned) c.clear_dead.ensures in
+    let second = ap (λ (h : Contents). sets.len h.condemned) c.clear_dead-2.ensures in
+    omega (arith, first, second, c.condemned-before.ensures.count, c.condemn_outside.ensures.more, c.condemned.ensures.count)
+
+pub returns-clause-count : goal.returns-clause-count
+returns-clause-count c =
+    let first = ap (λ (h : Contents). sets.len h.condemned) c.clear_dead.ensures in
+    let second = ap (λ (h : Contents). sets.len h.condemned) c.clear_dead-2.ensures in
+    omega (arith, first, second, c.condemned-before.ensures.count, c.condemn_outside.ensures.more, c.condemned.ensures.count)
+
 pub returns-clause-reclaimed : goal.returns-clause-reclaimed
 returns-clause-reclaimed c =
     let first = len_cleared c.args.heap.now c.clear_dead.new.heap c.args.short.now c.found.result.now.members c.clear_dead.ensures in
     let second = len_cleared c.clear_dead.new.heap c.clear_dead-2.new.heap c.args.long.now c.kept-kept.result.now.members c.clear_dead-2.ensures in
-    omega (arith, first, second, c.condemn_outside.ensures.fewer)
+    let held = ap (λ (h : Contents). sets.len h.condemned) c.clear_dead.ensures in
+    let still = ap (λ (h : Contents). sets.len h.condemned) c.clear_dead-2.ensures in
+    omega (arith, first, second, held, still, c.condemned-before.ensures.count, c.condemn_outside.ensures.count, c.condemn_outside.ensures.more, c.condemned.ensures.count)

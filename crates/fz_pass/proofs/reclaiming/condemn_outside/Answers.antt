@@ -44,7 +44,7 @@ loop-block-preserved c =
     let outside : (place : ℕ) → place < 64 → has_bit places place ≡ not (kept (HEAP_START + BLOCK_WORDS * block + place)) =
     λ place lt. not_bit c.word.result place c.word.type_inv lt ∙ ap not (c.word.ensures place lt) in
     let step : (a : ℕ) → contains_key m a ≡ true → (not (stands_at block places a) && is_left kept block a) ≡ is_left kept (block + 1) a =
-    λ a here. left_step kept block places outside a (of_keys m (IsInHeap c.args.heap.now.blocks) c.objects-starts.ensures.within a here).0 in
+    λ a here. left_step kept block places outside a (of_keys m (IsInHeap c.args.heap.now.blocks) c.requires a here).0 in
     record {
       rest = call.rest ∙ ap (λ (h : Contents). record h { objects = new.objects; condemned = new.condemned }) inv.rest;
       objects = call.objects ∙ ap (λ (m : Map Object). retain_keys m (λ a. not (stands_at block places a))) inv.objects ∙ retain_twice m (is_left kept block) (λ a. not (stands_at block places a))
@@ -62,7 +62,7 @@ returns-clause-objects c =
     let m = c.args.heap.now.objects in
     let kept = contains c.args.kept.now.members in
     let last : (a : ℕ) → contains_key m a ≡ true → is_left kept c.loop-block.block a ≡ kept a =
-    λ a here. left_last kept c.args.heap.now.blocks c.loop-block.block a (of_keys m (IsInHeap c.args.heap.now.blocks) c.objects-starts.ensures.within a here) (omega (arith, c.loop-block-test.false, c.blocks-block-end.ensures.blocks)) in
+    λ a here. left_last kept c.args.heap.now.blocks c.loop-block.block a (of_keys m (IsInHeap c.args.heap.now.blocks) c.requires a here) (omega (arith, c.loop-block-test.false, c.blocks-block-end.ensures.blocks)) in
     c.loop-block.invariant.objects ∙ retain_on m (is_left kept c.loop-block.block) kept last
 
 pub returns-clause-condemned : goal.returns-clause-condemned
@@ -71,4 +71,4 @@ returns-clause-condemned c = λ a.
     let kept = contains c.args.kept.now.members in
     c.loop-block.invariant.condemned a
     ∙ at_the_end (contains_key m a) (is_left kept c.loop-block.block a) (kept a) (contains c.args.heap.now.condemned a)
-    (λ here. left_last kept c.args.heap.now.blocks c.loop-block.block a (of_keys m (IsInHeap c.args.heap.now.blocks) c.objects-starts.ensures.within a here) (omega (arith, c.loop-block-test.false, c.blocks-block-end.ensures.blocks)))
+    (λ here. left_last kept c.args.heap.now.blocks c.loop-block.block a (of_keys m (IsInHeap c.args.heap.now.blocks) c.requires a here) (omega (arith, c.loop-block-test.false, c.blocks-block-end.ensures.blocks)))
