@@ -2,6 +2,7 @@
 
 ghost use Rattle.std.specs.Prelude.{◌≡◌, ◌+◌, ◌-◌, ◌≤◌, ◌⊎◌, ◌↔◌, [], ◌++◌, IsTrue, IfOk, IfErr, length, sum_by, All, vec_capacity};
 ghost use Rattle.std.specs.FinMap.{len};
+ghost use Rattle.fz_service.specs.States.{IsInOrder};
 ghost use Rattle.fz_service.specs.Ends.{IsEnd, IsEachOnce, IsOfLine, IsRefusedEnd, has_index};
 
 use crate::locked::Locked;
@@ -38,6 +39,7 @@ impl<O: Opening> Locked<O> {
     /// allocation failed.
     pub fn end(self, seats: Vec<Seat<O>>) -> Result<Final, (Refusal, Locked<O>, Vec<Seat<O>>)>
         ensures ended { IfOk result (λ end. IsEnd self seats.items end × IsEachOnce O.origin.workers seats.items) }
+        ensures order { IsInOrder O.origin self }
         ensures refused { IfErr result (λ refused. IsRefusedEnd O.origin.workers seats.items refused.0) }
         ensures same { IfErr result (λ refused. (refused.1 ≡ self) × (refused.2.items ≡ seats.items)) }
     {

@@ -7,7 +7,7 @@ ghost use Rattle.fz_line.specs.States.{owner_state};
 ghost use Rattle.fz_line.specs.Views.{first_room};
 ghost use Rattle.fz_world.specs.Does.{Does, StandsFor};
 ghost use Rattle.fz_world.specs.World.{KeepsMarks};
-ghost use Rattle.fz_service.specs.States.{locked_state, IsInOrder, LetsGo, RunsCalls, KeepsLine};
+ghost use Rattle.fz_service.specs.States.{locked_state, LetsGo, RunsCalls, KeepsLine};
 ghost use Rattle.fz_service.specs.Takes.{reply_of};
 
 use crate::opening::{Finishes, Opening};
@@ -66,13 +66,6 @@ impl<O: Opening> Locked<O> {
             book,
             rest,
         }
-    }
-
-    /// Does nothing: it tells what every hold of the lock may rely on.
-    pub(crate) fn look(&self)
-        ensures { IsInOrder O.origin self.now }
-    {
-        let _ = &self.published;
     }
 
     /// The entries that weren't sent: the queue from the published count on.

@@ -97,7 +97,8 @@ impl<O: Opening> Service<O> {
         ensures { IsInOrder O.origin (mutex_guard_value result) }
     {
         let guard = self.lock.lock(rt);
-        guard.look();
+        let locked: &Locked<O> = &guard;
+        let _ = &locked.published;
         guard
     }
 
@@ -111,9 +112,7 @@ impl<O: Opening> Service<O> {
         ensures same { IfErr result (λ refused. refused.2.items ≡ seats.items) }
     {
         let Service { lock } = self;
-        let locked = lock.into_inner();
-        locked.look();
-        match locked.end(seats) {
+        match lock.into_inner().end(seats) {
             Ok(end) => Ok(end),
             Err((refusal, locked, seats)) => {
                 let lock = Mutex::new(locked);
