@@ -45,7 +45,7 @@ fn all_blocks(alloc: Global, blocks: u64) -> Result<BlockSet, Refusal>
 fn no_rooms(alloc: Global, blocks: u64) -> Result<Vec<BlockSet>, Refusal>
     requires { blocks ≤ MAX_BLOCKS }
     ensures refused { IfErr result (λ r. r ≡ Refusal.NoMemory) }
-    ensures long { IfOk result (λ rooms. length rooms.items ≡ 128) }
+    ensures long { IfOk result (λ rooms. length rooms.items ≡ CLASSES) }
     ensures made { IfOk result (λ rooms. All (λ s. (s.members ≡ sets.empty) × (blocks ≤ 64 * s.room)) rooms.items) }
 {
     let mut rooms = Vec::new(alloc);
@@ -58,8 +58,8 @@ fn no_rooms(alloc: Global, blocks: u64) -> Result<Vec<BlockSet>, Refusal>
 
 /// A block leaves the set of its class, if it is in one.
 fn leave(rooms: &mut [BlockSet], block: &Block, at: u64)
-    requires classes { length rooms.old ≡ 128 }
-    requires room { (class : ℕ) → class < 128 → at < 64 * room_at rooms.old class }
+    requires classes { length rooms.old ≡ CLASSES }
+    requires room { (class : ℕ) → class < CLASSES → at < 64 * room_at rooms.old class }
     ensures { Leaves rooms.old rooms.new block.now at }
 {
     if block.has_room() {
@@ -69,8 +69,8 @@ fn leave(rooms: &mut [BlockSet], block: &Block, at: u64)
 
 /// A block joins the set of its class, if it has room.
 fn join(rooms: &mut [BlockSet], block: &Block, at: u64)
-    requires classes { length rooms.old ≡ 128 }
-    requires room { (class : ℕ) → class < 128 → at < 64 * room_at rooms.old class }
+    requires classes { length rooms.old ≡ CLASSES }
+    requires room { (class : ℕ) → class < CLASSES → at < 64 * room_at rooms.old class }
     ensures { Joins rooms.old rooms.new block.now at }
 {
     if block.has_room() {
@@ -80,9 +80,9 @@ fn join(rooms: &mut [BlockSet], block: &Block, at: u64)
 
 /// A block that becomes another leaves the set of its class and joins the other's, where these differ.
 fn change_room(rooms: &mut [BlockSet], old: &Block, block: &Block, at: u64)
-    requires classes { length rooms.old ≡ 128 }
-    requires room { (class : ℕ) → class < 128 → at < 64 * room_at rooms.old class }
-    requires listed { (class : ℕ) → class < 128 → contains (members_at rooms.old class) at ≡ has_room class old.now }
+    requires classes { length rooms.old ≡ CLASSES }
+    requires room { (class : ℕ) → class < CLASSES → at < 64 * room_at rooms.old class }
+    requires listed { (class : ℕ) → class < CLASSES → contains (members_at rooms.old class) at ≡ has_room class old.now }
     ensures { Changes rooms.old rooms.new block.now at }
 {
     if old.has_same_room(block) {
