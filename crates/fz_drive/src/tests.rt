@@ -1,19 +1,28 @@
 //! Runs of whole scripts.
 
+mod cuts;
+
 ghost use Rattle.std.specs.Prelude.{◌≡◌, ◌≤◌, ◌<◌, ◌^◌, length};
 
 use crate::rows::Row;
-use crate::rows::cycles::{CLOSE_INSIDE_A_CYCLE, SWAP_BEHIND_THE_MARKER};
+use crate::rows::cycles::{
+    CLOSE_INSIDE_A_CYCLE, CYCLE_REFUSALS, DIRTY_SECOND_PAGE, SWAP_BEHIND_THE_MARKER,
+};
 use crate::rows::limits::{EIGHT_WORKERS, LAST_FRAME_AND_SLOT, NUMBERS_AT_THE_LIMIT};
-use crate::rows::links::MOVED_LINKS;
-use crate::rows::objects::{EMPTY_HEAP, INTERIOR_POINTER, LARGE_OBJECTS, SIZES_AND_FULL_HEAP};
+use crate::rows::links::{MOVED_LINKS, SHORT_AND_LONG_LINKS};
+use crate::rows::objects::{
+    EMPTY_HEAP, INTERIOR_POINTER, LARGE_OBJECTS, LARGE_SIZE_AND_FULL_HEAP, SIZES_AND_FULL_HEAP,
+    SWEPT_CELL_REUSED,
+};
 use crate::rows::order::{
-    CHAIN_IN_ORDER, CHAIN_IN_ORDER_RANKED, CYCLE_NEVER_PICKED, NO_ORDER_CYCLE_BY_ADDRESS,
-    NO_ORDER_LEADS_BACK, NORMAL_LEADS_TO_NO_ORDER, RANKS, SELF_REFERENCE_BY_KIND,
+    CHAIN_IN_ORDER, CHAIN_IN_ORDER_RANKED, CYCLE_CUT_BY_SHORT_LINK, CYCLE_NEVER_PICKED,
+    NO_ORDER_CYCLE_BY_ADDRESS, NO_ORDER_LEADS_BACK, NORMAL_LEADS_TO_NO_ORDER, RANKS,
+    SELF_REFERENCE_BY_KIND,
 };
 use crate::rows::refused::{EMPTY_FILE, LEADING_ZERO, NO_BLOCKS, RANK_TOO_LARGE};
 use crate::rows::registrations::{
-    CLIENT_DATA_IS_A_ROOT, HELD_UNTIL_FINISHED, ONE_OBJECT_LIFE, REPLACED_AND_REMOVED_REGISTRATION,
+    CLIENT_DATA_IS_A_ROOT, CLOSED_WORLD_KEEPS, FORFEITED_ENTRY, HELD_UNTIL_FINISHED,
+    ONE_OBJECT_LIFE, REPLACED_AND_REMOVED_REGISTRATION,
 };
 use crate::run::{Summary, drive};
 use arrayvec::ArrayVec;
@@ -21,12 +30,12 @@ use fz_model::Refusal;
 use fz_text::{DriveFault, Failures, Limits, MemorySink, MemorySource, Pieces, WHOLE, bytewise};
 use std::alloc::Global;
 use std::marker::Brand;
+use std::process::Abort;
 use std::sync::ledger::{Blank, Ledger};
-use std::test::Fail;
 
-const ROWS: [Row; 23] = [
+/// Scripts over objects and their order, and such as end early.
+const OBJECTS: [Row; 18] = [
     EMPTY_HEAP,
-    ONE_OBJECT_LIFE,
     CHAIN_IN_ORDER,
     CHAIN_IN_ORDER_RANKED,
     RANKS,
@@ -37,21 +46,35 @@ const ROWS: [Row; 23] = [
     EMPTY_FILE,
     INTERIOR_POINTER,
     SIZES_AND_FULL_HEAP,
+    LARGE_SIZE_AND_FULL_HEAP,
     LARGE_OBJECTS,
+    NUMBERS_AT_THE_LIMIT,
     SELF_REFERENCE_BY_KIND,
-    CLIENT_DATA_IS_A_ROOT,
     NO_ORDER_CYCLE_BY_ADDRESS,
     NORMAL_LEADS_TO_NO_ORDER,
     NO_ORDER_LEADS_BACK,
-    REPLACED_AND_REMOVED_REGISTRATION,
-    MOVED_LINKS,
-    SWAP_BEHIND_THE_MARKER,
-    CLOSE_INSIDE_A_CYCLE,
-    HELD_UNTIL_FINISHED,
 ];
 
-/// Scripts that go to the limits.
-const LIMITS: [Row; 3] = [EIGHT_WORKERS, LAST_FRAME_AND_SLOT, NUMBERS_AT_THE_LIMIT];
+/// Scripts over links, cycles in steps, and registrations with their entries.
+const LINKS: [Row; 14] = [
+    MOVED_LINKS,
+    SHORT_AND_LONG_LINKS,
+    CYCLE_CUT_BY_SHORT_LINK,
+    SWAP_BEHIND_THE_MARKER,
+    DIRTY_SECOND_PAGE,
+    CYCLE_REFUSALS,
+    CLOSE_INSIDE_A_CYCLE,
+    CLOSED_WORLD_KEEPS,
+    ONE_OBJECT_LIFE,
+    CLIENT_DATA_IS_A_ROOT,
+    REPLACED_AND_REMOVED_REGISTRATION,
+    HELD_UNTIL_FINISHED,
+    FORFEITED_ENTRY,
+    SWEPT_CELL_REUSED,
+];
+
+/// Scripts over the largest world.
+const LIMITS: [Row; 2] = [EIGHT_WORKERS, LAST_FRAME_AND_SLOT];
 
 #[derive(Drop)]
 struct Outcome {
@@ -118,41 +141,61 @@ fn first_lines(bytes: &[u8], count: usize) -> &[u8] {
     bytes
 }
 
+/// Stops the test where a run has another report. Here and in the next two stand the only asserts, since each is proved again wherever it stands.
+fn must_report(rt: &impl Abort, outcome: &Outcome, report: &[u8], row: usize) {
+    assert_eq!(rt; outcome.text.as_slice(), report, "row {row}");
+}
+
+/// Stops the test where a run ends otherwise.
+fn must_end(rt: &impl Abort, outcome: &Outcome, end: Result<Summary, DriveFault>, row: usize) {
+    assert!(rt; outcome.result == end, "row {row}");
+}
+
+/// Stops the test where something isn't so.
+fn must_hold(rt: &impl Abort, holds: bool, row: usize, place: usize) {
+    assert!(rt; holds, "row {row}, place {place}");
+}
+
+/// Runs the row's script over devices with these limits.
+fn must_run(rt: &impl Abort, alloc: Global, row: Row, limits: Limits, number: usize) {
+    let outcome = run(alloc, row.script, limits);
+    must_report(rt, &outcome, row.report, number);
+    must_hold(rt, outcome.result.err() == row.fault, number, 0);
+}
+
+/// The same for each of these rows.
+fn must_run_all(rt: &impl Abort, alloc: Global, rows: &[Row], limits: Limits) {
+    for (number, row) in rows.iter().enumerate() {
+        must_run(rt, alloc, *row, limits, number);
+    }
+}
+
 #[test]
 fn rows_are_reported(rt: HostRuntime) {
-    for row in ROWS {
-        for limits in [WHOLE, bytewise(usize::MAX, usize::MAX)] {
-            let outcome = run(rt.alloc(), row.script, limits);
-            assert_eq!(rt; outcome.text.as_slice(), row.report);
-            assert_eq!(rt; outcome.result.err(), row.fault);
-        }
+    for limits in [WHOLE, bytewise(usize::MAX, usize::MAX)] {
+        must_run_all(&rt, rt.alloc(), &OBJECTS, limits);
+        must_run_all(&rt, rt.alloc(), &LINKS, limits);
     }
 }
 
 #[test]
 fn the_limits_are_reported(rt: HostRuntime) {
-    for row in LIMITS {
-        let outcome = run(rt.alloc(), row.script, WHOLE);
-        assert_eq!(rt; outcome.text.as_slice(), row.report);
-        assert_eq!(rt; outcome.result.err(), row.fault);
-    }
+    must_run_all(&rt, rt.alloc(), &LIMITS, WHOLE);
 }
 
 #[test]
 fn a_summary_has_the_numbers_of_the_end(rt: HostRuntime) {
     let outcome = run(rt.alloc(), CHAIN_IN_ORDER.script, WHOLE);
-    assert!(rt;
-        outcome.result
-            == Ok(Summary {
-                steps: 14,
-                refused: 0,
-                enqueued: 2,
-                finished: 1,
-                forfeited: 0,
-                in_hand: 1,
-                left: 0,
-            })
-    );
+    let summary = Summary {
+        steps: 14,
+        refused: 0,
+        enqueued: 2,
+        finished: 1,
+        forfeited: 0,
+        in_hand: 1,
+        left: 0,
+    };
+    must_end(&rt, &outcome, Ok(summary), 0);
 }
 
 /// Whether a run of the script ends with this fault, in the line after the given ones, and has written just this text.
@@ -171,10 +214,8 @@ fn each_read_fails(rt: HostRuntime) {
         let lines = lines_in(&script[..reads]);
         let replies = first_lines(report, lines);
         let limits = bytewise(reads, usize::MAX);
-        assert!(rt;
-            fails(rt.alloc(), limits, Refusal::Input, lines, replies),
-            "at read {reads}"
-        );
+        let fails = fails(rt.alloc(), limits, Refusal::Input, lines, replies);
+        must_hold(&rt, fails, 0, reads);
     }
 }
 
@@ -185,16 +226,9 @@ fn each_write_fails(rt: HostRuntime) {
     for writes in 0..report.len() {
         let lines = lines_in(&report[..writes]);
         let limits = bytewise(usize::MAX, writes);
-        assert!(rt;
-            fails(
-                rt.alloc(),
-                limits,
-                Refusal::Output,
-                lines,
-                &report[..writes]
-            ),
-            "at write {writes}"
-        );
+        let written = &report[..writes];
+        let fails = fails(rt.alloc(), limits, Refusal::Output, lines, written);
+        must_hold(&rt, fails, 0, writes);
     }
 }
 
@@ -204,48 +238,39 @@ fn a_reply_is_one_write(rt: HostRuntime) {
     let row = ONE_OBJECT_LIFE;
     let all = lines_in(row.report);
     for writes in 0..all {
-        let outcome = run(
-            rt.alloc(),
-            row.script,
-            Limits {
-                writes: writes as u64,
-                ..WHOLE
-            },
-        );
-        assert!(rt;
-            outcome.result == fault(Refusal::Output, writes as u64 + 1),
-            "at write {writes}"
-        );
-        assert_eq!(rt;
-            outcome.text.as_slice(),
-            first_lines(row.report, writes),
-            "at write {writes}"
-        );
-    }
-    let outcome = run(
-        rt.alloc(),
-        row.script,
-        Limits {
-            writes: all as u64,
+        let limits = Limits {
+            writes: writes as u64,
             ..WHOLE
-        },
-    );
-    assert_eq!(rt; outcome.text.as_slice(), row.report);
+        };
+        let replies = first_lines(row.report, writes);
+        let fails = fails(rt.alloc(), limits, Refusal::Output, writes, replies);
+        must_hold(&rt, fails, 0, writes);
+    }
+    let limits = Limits {
+        writes: all as u64,
+        ..WHOLE
+    };
+    must_run(&rt, rt.alloc(), row, limits, 0);
 }
 
-/// A script that ends behind any of its lines, with or without the line feed.
-#[test]
-fn a_last_line_needs_no_line_feed(rt: HostRuntime) {
-    for row in ROWS {
+/// Ends each of these scripts behind any of its lines, with and without the line feed.
+fn must_end_alike(rt: &impl Abort, alloc: Global, rows: &[Row]) {
+    for (number, row) in rows.iter().enumerate() {
         if row.fault.is_some() {
             continue;
         }
         for (place, byte) in row.script.iter().enumerate() {
             if *byte == b'\n' {
-                assert!(rt; ends_alike(rt.alloc(), row, place), "at byte {place}");
+                must_hold(rt, ends_alike(alloc, *row, place), number, place);
             }
         }
     }
+}
+
+#[test]
+fn a_last_line_needs_no_line_feed(rt: HostRuntime) {
+    must_end_alike(&rt, rt.alloc(), &OBJECTS);
+    must_end_alike(&rt, rt.alloc(), &LINKS);
 }
 
 /// Whether the script ends alike before and behind the line feed at this place, with the replies to its lines so far.
@@ -312,10 +337,10 @@ const MALFORMED: [(&[u8], &[u8], u64); 12] = [
 
 #[test]
 fn malformed_lines(rt: HostRuntime) {
-    for (script, report, line) in MALFORMED {
-        let outcome = run(rt.alloc(), script, WHOLE);
-        assert_eq!(rt; outcome.text.as_slice(), report);
-        assert!(rt; outcome.result == fault(Refusal::BadLine, line));
+    for (number, (script, report, line)) in MALFORMED.iter().enumerate() {
+        let outcome = run(rt.alloc(), *script, WHOLE);
+        must_report(&rt, &outcome, *report, number);
+        must_end(&rt, &outcome, fault(Refusal::BadLine, *line), number);
     }
 }
 
@@ -324,16 +349,17 @@ fn malformed_lines(rt: HostRuntime) {
 fn long_lines(rt: HostRuntime) {
     let mut bytes = [b'#'; 202];
     bytes[201] = b'\n';
-    let outcome = run(rt.alloc(), &bytes[1..], WHOLE);
-    assert!(rt; outcome.result == fault(Refusal::BadLine, 2));
-    let outcome = run(rt.alloc(), &bytes[..200], WHOLE);
-    assert!(rt; outcome.result == fault(Refusal::BadLine, 2));
-    let outcome = run(rt.alloc(), &bytes, WHOLE);
-    assert!(rt; outcome.result == fault(Refusal::BadLine, 1));
-    let outcome = run(rt.alloc(), &bytes, bytewise(201, usize::MAX));
-    assert!(rt; outcome.result == fault(Refusal::BadLine, 1));
-    let outcome = run(rt.alloc(), &bytes, bytewise(200, usize::MAX));
-    assert!(rt; outcome.result == fault(Refusal::Input, 1));
+    let runs: [(&[u8], usize, Refusal, u64); 5] = [
+        (&bytes[1..], usize::MAX, Refusal::BadLine, 2),
+        (&bytes[..200], usize::MAX, Refusal::BadLine, 2),
+        (&bytes, usize::MAX, Refusal::BadLine, 1),
+        (&bytes, 201, Refusal::BadLine, 1),
+        (&bytes, 200, Refusal::Input, 1),
+    ];
+    for (number, (script, reads, refusal, line)) in runs.iter().enumerate() {
+        let outcome = run(rt.alloc(), *script, bytewise(*reads, usize::MAX));
+        must_end(&rt, &outcome, fault(*refusal, *line), number);
+    }
 }
 
 #[test]
@@ -346,10 +372,10 @@ fn openings_outside_the_limits(rt: HostRuntime) {
         b"open 1 1 0\n",
         b"open 1 1 9\n",
     ];
-    for script in scripts {
-        let outcome = run(rt.alloc(), script, WHOLE);
-        assert_eq!(rt; outcome.text.as_slice(), b"refused 7 BadCount\n".as_slice());
-        assert!(rt; outcome.result == fault(Refusal::BadCount, 1));
+    for (number, script) in scripts.iter().enumerate() {
+        let outcome = run(rt.alloc(), *script, WHOLE);
+        must_report(&rt, &outcome, b"refused 7 BadCount\n", number);
+        must_end(&rt, &outcome, fault(Refusal::BadCount, 1), number);
     }
 }
 
@@ -364,17 +390,15 @@ fn workers_are_refused(rt: HostRuntime) {
         ok\npass 1 picked 1 reclaimed 0\nentry 0 1 0 65536 0 7 0\nrefused 16 SeatsMissing\nok\nrefused 10 NotHeld\n\
         end enqueued 1 finished 1 forfeited 0 in_hand 0 left 0\n";
     let outcome = run(rt.alloc(), script, WHOLE);
-    assert_eq!(rt; outcome.text.as_slice(), report.as_slice());
-    assert!(rt;
-        outcome.result
-            == Ok(Summary {
-                steps: 13,
-                refused: 5,
-                enqueued: 1,
-                finished: 1,
-                forfeited: 0,
-                in_hand: 0,
-                left: 0,
-            })
-    );
+    must_report(&rt, &outcome, report, 0);
+    let summary = Summary {
+        steps: 13,
+        refused: 5,
+        enqueued: 1,
+        finished: 1,
+        forfeited: 0,
+        in_hand: 0,
+        left: 0,
+    };
+    must_end(&rt, &outcome, Ok(summary), 0);
 }

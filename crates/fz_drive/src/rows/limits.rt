@@ -162,6 +162,9 @@ pub(crate) const NUMBERS_AT_THE_LIMIT: Row = Row {
       copy 0 1 0 2\n\
       register 0 1 normal 1 0\n\
       register 18446744073709551615 0 normal 1 0\n\
+      begin\n\
+      mark 18446744073709551615\n\
+      pause\n\
       set 0 0 18446744073709551616\n",
     report: b"ok\n\
       new 65536 0\n\
@@ -171,9 +174,12 @@ pub(crate) const NUMBERS_AT_THE_LIMIT: Row = Row {
       ok\n\
       outside\n\
       refused 1 BadSlot\n\
-      line 9 refused 15 BadLine\n",
+      ok\n\
+      done\n\
+      pass 1 picked 0 reclaimed 0\n\
+      line 12 refused 15 BadLine\n",
     fault: Some(DriveFault {
         refusal: Refusal::BadLine,
-        line: 9,
+        line: 12,
     }),
 };

@@ -258,3 +258,39 @@ pub(crate) const NO_ORDER_LEADS_BACK: Row = Row {
       end enqueued 0 finished 0 forfeited 0 in_hand 0 left 0\n",
     fault: None,
 };
+
+/// A short link on a cycle of two normal objects is cleared before the pass looks at what leads to what: its target is finalized first, then the other.
+pub(crate) const CYCLE_CUT_BY_SHORT_LINK: Row = Row {
+    script: b"open 4 1 1\n\
+      new 0 0 1 scanned\n\
+      new 0 1 1 scanned\n\
+      store 0 0 0 0 1\n\
+      store 0 1 0 0 0\n\
+      register 0 0 normal 1 0\n\
+      register 0 1 normal 2 0\n\
+      link short 0 0 0 0 1\n\
+      set 0 0 0\n\
+      set 0 1 0\n\
+      collect\n\
+      take 0\n\
+      finish 0\n\
+      collect\n\
+      take 0\n",
+    report: b"ok\n\
+      new 65536 0\n\
+      new 65537 1\n\
+      ok\n\
+      ok\n\
+      reg 0\n\
+      reg 1\n\
+      success\n\
+      ok\n\
+      ok\n\
+      pass 1 picked 1 reclaimed 0\n\
+      entry 0 1 1 65537 1 2 0\n\
+      ok\n\
+      pass 2 picked 1 reclaimed 1\n\
+      entry 1 2 0 65536 0 1 0\n\
+      end enqueued 2 finished 1 forfeited 0 in_hand 1 left 0\n",
+    fault: None,
+};

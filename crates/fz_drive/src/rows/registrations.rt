@@ -141,3 +141,63 @@ pub(crate) const HELD_UNTIL_FINISHED: Row = Row {
       end enqueued 2 finished 2 forfeited 0 in_hand 0 left 0\n",
     fault: None,
 };
+
+/// An entry that its worker gives up stays held for good.
+pub(crate) const FORFEITED_ENTRY: Row = Row {
+    script: b"open 4 1 1\n\
+      new 0 0 1 scanned\n\
+      register 0 0 no_order 1 0\n\
+      set 0 0 0\n\
+      collect\n\
+      take 0\n\
+      take 0\n\
+      forfeit 0\n\
+      forfeit 0\n\
+      collect\n\
+      outstanding\n",
+    report: b"ok\n\
+      new 65536 0\n\
+      reg 0\n\
+      ok\n\
+      pass 1 picked 1 reclaimed 0\n\
+      entry 0 1 0 65536 0 1 0\n\
+      refused 16 SeatsMissing\n\
+      ok\n\
+      refused 10 NotHeld\n\
+      pass 2 picked 0 reclaimed 0\n\
+      outstanding 1\n\
+      end enqueued 1 finished 0 forfeited 1 in_hand 0 left 0\n",
+    fault: None,
+};
+
+/// A closed world keeps a registered object until it is unregistered.
+pub(crate) const CLOSED_WORLD_KEEPS: Row = Row {
+    script: b"open 4 1 1\n\
+      new 0 0 1 scanned\n\
+      register 0 0 normal 1 0\n\
+      set 0 0 0\n\
+      close\n\
+      collect\n\
+      close\n\
+      unregister 0 0\n\
+      outstanding\n\
+      set 0 0 65536\n\
+      unregister 0 0\n\
+      set 0 0 0\n\
+      collect\n",
+    report: b"ok\n\
+      new 65536 0\n\
+      reg 0\n\
+      ok\n\
+      ok\n\
+      pass 1 picked 0 reclaimed 0\n\
+      refused 11 Closed\n\
+      none\n\
+      outstanding 0\n\
+      ok\n\
+      old 1 0\n\
+      ok\n\
+      pass 2 picked 0 reclaimed 1\n\
+      end enqueued 0 finished 0 forfeited 0 in_hand 0 left 0\n",
+    fault: None,
+};
