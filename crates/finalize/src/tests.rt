@@ -1,13 +1,17 @@
 //! Whole calls of the program.
 
+mod streams;
+
 ghost use Rattle.std.specs.Prelude.{◌≡◌};
 
 use crate::stream::Stream;
 use crate::with_procedures;
 use arrayvec::ArrayVec;
-use fz_text::Failures;
+use fz_text::{Failures, MemorySink, Pieces};
 use std::alloc::AllocError;
+use std::fs;
 use std::marker::Brand;
+use std::process::Abort;
 use std::rt::Files;
 use std::sync::Wait;
 use std::sync::ledger::{Blank, Ledger};
@@ -51,6 +55,63 @@ fn say_counted<O: Ledger, E: Ledger, R: Files + AllocGlobal + Threads + Wait + S
     Ok(Said { status, out, err })
 }
 
+/// Runs the program over a writer that takes a byte in a call, and fails after this many calls.
+fn say_within<R: Files + AllocGlobal + Threads + Wait + Sync>(
+    rt: &R,
+    words: &[&str],
+    writes: usize,
+) -> Result<Said, AllocError> {
+    say_within_counted::<Brand, Brand, R>(rt, words, writes, Blank::new(1), Blank::new(1))
+}
+
+fn say_within_counted<O: Ledger, E: Ledger, R: Files + AllocGlobal + Threads + Wait + Sync>(
+    rt: &R,
+    words: &[&str],
+    writes: usize,
+    output: Blank,
+    error: Blank,
+) -> Result<Said, AllocError>
+    requires output_name { output.name ≡ O.name }
+    requires output_parts { (output.parts ≡ O.parts) × (O.parts ≡ 1) }
+    requires error_name { error.name ≡ E.name }
+    requires error_parts { (error.parts ≡ E.parts) × (E.parts ≡ 1) }
+{
+    let mut out = MemorySink::new(Pieces::Single, writes as u64, Failures::<O>::none(output));
+    let mut err = ArrayVec::new();
+    let status = with_procedures(
+        rt,
+        words,
+        &mut out,
+        &mut Stream::new(&mut err, Failures::<E>::none(error)),
+    )?;
+    Ok(Said {
+        status,
+        out: out.into_bytes(),
+        err,
+    })
+}
+
+/// Stops the test where the program ends otherwise, or writes something else. The asserts stand here alone, since each is proved again at each place
+/// where it stands.
+fn must_say(rt: &impl Abort, case: usize, said: &Said, status: u8, out: &[u8], err: &[u8]) {
+    assert_eq!(rt; said.status, status, "status of {case}");
+    assert_eq!(rt; said.out.as_slice(), out, "output of {case}");
+    assert_eq!(rt; said.err.as_slice(), err, "errors of {case}");
+}
+
+/// Runs the program of this name over a file of these bytes, which is there for that time.
+fn say_of<R: Files + AllocGlobal + Threads + Wait + Sync>(
+    rt: &R,
+    program: &str,
+    file: &str,
+    bytes: &[u8],
+) -> Result<Said, Fail> {
+    fs::write(rt, file, bytes)?;
+    let said = say(rt, &[program, file])?;
+    fs::remove_file(rt, file)?;
+    Ok(said)
+}
+
 #[test]
 fn other_words_are_wrong(rt: HostRuntime) -> Result<(), Fail> {
     let cases: [&[&str]; 20] = [
@@ -75,21 +136,21 @@ fn other_words_are_wrong(rt: HostRuntime) -> Result<(), Fail> {
         &["thread", "a"],
         &["runs", "a"],
     ];
-    for words in cases {
-        let said = say(&rt, words)?;
-        assert_eq!(rt; said.status, 2);
-        assert_eq!(rt; said.out.as_slice(), b"".as_slice());
-        assert_eq!(rt;
-            said.err.as_slice(),
-            b"finalize: want run FILE or threads FILE\n".as_slice()
-        );
+    let want = b"finalize: want run FILE or threads FILE\n";
+    for (case, words) in cases.iter().enumerate() {
+        let said = say(&rt, *words)?;
+        must_say(&rt, case, &said, 2, b"", want);
     }
     Ok(())
 }
 
 /// 120 bytes.
-const LONG_NAME: &str =
+const MISSING_NAME: &str =
     "012345678901234567890123456789012345678901234567890123456789012345678901234567890123456789012345678901234567890123456789";
+
+/// 200 bytes.
+const LONG_NAME: &str =
+    "abcdefghijabcdefghijabcdefghijabcdefghijabcdefghijabcdefghijabcdefghijabcdefghijabcdefghijabcdefghijabcdefghijabcdefghijabcdefghijabcdefghijabcdefghijabcdefghijabcdefghijabcdefghijabcdefghijabcdefghij";
 
 /// The program's two names.
 const NAMES: [&str; 2] = ["run", "threads"];
@@ -97,14 +158,9 @@ const NAMES: [&str; 2] = ["run", "threads"];
 #[test]
 fn files_that_cannot_be_opened(rt: HostRuntime) -> Result<(), Fail> {
     for name in NAMES {
-        for file in ["no such file", LONG_NAME] {
-            let said = say(&rt, &[name, file])?;
-            assert_eq!(rt; said.status, 1);
-            assert_eq!(rt; said.out.as_slice(), b"".as_slice());
-            assert_eq!(rt;
-                said.err.as_slice(),
-                b"finalize: cannot open file\n".as_slice()
-            );
+        for (case, file) in ["no such file", MISSING_NAME].iter().enumerate() {
+            let said = say(&rt, &[name, *file])?;
+            must_say(&rt, case, &said, 1, b"", b"finalize: cannot open file\n");
         }
     }
     Ok(())
@@ -113,11 +169,128 @@ fn files_that_cannot_be_opened(rt: HostRuntime) -> Result<(), Fail> {
 /// A directory can be opened, and its first read fails.
 #[test]
 fn files_that_cannot_be_read(rt: HostRuntime) -> Result<(), Fail> {
-    for name in NAMES {
-        let said = say(&rt, &[name, "."])?;
-        assert_eq!(rt; said.status, 1);
-        assert_eq!(rt; said.out.as_slice(), b"".as_slice());
-        assert_eq!(rt; said.err.as_slice(), b"finalize: input failed\n".as_slice());
+    for (case, name) in NAMES.iter().enumerate() {
+        let said = say(&rt, &[*name, "."])?;
+        must_say(&rt, case, &said, 1, b"", b"finalize: input failed\n");
     }
+    Ok(())
+}
+
+/// A program, the bytes of its file, and how its run ends: its status, and what it writes to standard output. Of none of these is anything written
+/// to standard error.
+const RUNS: [(&str, &[u8], u8, &[u8]); 8] = [
+    ("run", SCRIPT, 0, REPORT),
+    (
+        "run",
+        b"open 1 1 1\ngather\n",
+        1,
+        b"ok\nline 2 refused 15 BadLine\n",
+    ),
+    ("run", b"#\n", 1, b"line 2 refused 15 BadLine\n"),
+    ("run", b"open 4097 1 1\n", 1, b"refused 7 BadCount\n"),
+    ("threads", THREADS_FILE, 0, SUMMARY),
+    (
+        "threads",
+        b"open 1 1 1\nsettle 101\n",
+        1,
+        b"line 2 refused 15 BadLine\n",
+    ),
+    (
+        "threads",
+        b"open 1 1 1\n",
+        1,
+        b"line 2 refused 15 BadLine\n",
+    ),
+    (
+        "threads",
+        b"open 1 1 9\nsettle 0\n",
+        1,
+        b"refused 7 BadCount\n",
+    ),
+];
+
+const SCRIPT: &[u8] = b"open 1 1 1\n\
+  new 0 0 1 atomic\n\
+  take 0\n";
+
+const REPORT: &[u8] = b"ok\n\
+  new 65536 0\n\
+  empty\n\
+  end enqueued 0 finished 0 forfeited 0 in_hand 0 left 0\n";
+
+const THREADS_FILE: &[u8] = b"open 4 1 1\n\
+  settle 1\n\
+  mutator\n\
+  new 0 0 1 scanned\n\
+  register 0 0 normal 0 0\n\
+  set 0 0 0\n";
+
+const SUMMARY: &[u8] = b"enqueued 1\n\
+  finished 1\n\
+  forfeited 0\n\
+  left 0\n\
+  passes 1\n\
+  reclaimed 0\n\
+  refused 0\n";
+
+#[test]
+fn files_are_run(rt: HostRuntime) -> Result<(), Fail> {
+    for (case, (name, file, status, out)) in RUNS.iter().enumerate() {
+        let said = say_of(&rt, *name, "a file", *file)?;
+        must_say(&rt, case, &said, *status, *out, b"");
+    }
+    Ok(())
+}
+
+#[test]
+fn a_file_has_a_long_name(rt: HostRuntime) -> Result<(), Fail> {
+    let said = say_of(&rt, "run", LONG_NAME, SCRIPT)?;
+    must_say(&rt, 0, &said, 0, REPORT, b"");
+    Ok(())
+}
+
+/// A comment of 200 bytes is a line, and one of 201 is malformed.
+#[test]
+fn a_file_has_a_long_line(rt: HostRuntime) -> Result<(), Fail> {
+    for (case, length) in [200, 201].iter().enumerate() {
+        let mut file = Vec::new(rt.alloc());
+        for _ in 0..*length {
+            file.push(b'#')?;
+        }
+        file.push(b'\n')?;
+        file.extend_from_slice(SCRIPT)?;
+        let said = say_of(&rt, "run", "a long line", file.as_slice())?;
+        let (status, out) = if case == 0 {
+            (0, REPORT)
+        } else {
+            (1, b"line 1 refused 15 BadLine\n".as_slice())
+        };
+        must_say(&rt, case, &said, status, out, b"");
+    }
+    Ok(())
+}
+
+/// Runs the program over a file of these bytes, where each write of its text fails in turn.
+fn fails_to_write<R: Files + AllocGlobal + Threads + Wait + Sync + Abort>(
+    rt: &R,
+    program: &str,
+    file: &str,
+    bytes: &[u8],
+    text: &[u8],
+) -> Result<(), Fail> {
+    fs::write(rt, file, bytes)?;
+    for writes in 0..text.len() {
+        let said = say_within(rt, &[program, file], writes)?;
+        let written = &text[..writes];
+        must_say(rt, writes, &said, 1, written, b"finalize: output failed\n");
+    }
+    fs::remove_file(rt, file)?;
+    Ok(())
+}
+
+#[test]
+fn each_write_fails(rt: HostRuntime) -> Result<(), Fail> {
+    fails_to_write(&rt, "run", "a script", SCRIPT, REPORT)?;
+    fails_to_write(&rt, "threads", "a threads file", THREADS_FILE, SUMMARY)?;
     Ok(())
 }
