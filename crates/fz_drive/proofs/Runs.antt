@@ -9,7 +9,7 @@ use Rattle.fz_model.specs.declared.refusal.Refusal.{Refusal}
 use Rattle.fz_model.specs.declared.refusal.Refusal.TheVariants.{BadLine, BadCount, NoMemory, Output, Input}
 use Rattle.fz_model.specs.Causes.{bad_count, first_cause, IsRefusedFor}
 use Rattle.fz_model.specs.Joint.{Move}
-use Rattle.fz_script.specs.Spelling.{Word}
+use Rattle.fz_script.specs.Spelling.{Token}
 use Rattle.fz_text.specs.declared.input.Ending.{Ending}
 use Rattle.fz_text.specs.declared.input.Ending.TheVariants.{Whole, Last, Nothing, TooLong}
 use Rattle.fz_drive.specs.declared.machine.Machine.{Machine}
@@ -175,7 +175,7 @@ no_course : (course : Option Course) → Follows None course → course ≡ None
 no_course None f = refl
 no_course (Some course) f = absurd f
 
-said_part : (words words' : List Word) (part rest : List ℕ) → words ≡ words' → text_line words' ≡ part ++ rest → text_line words ≡ part ++ rest
+said_part : (words words' : List Token) (part rest : List ℕ) → words ≡ words' → text_line words' ≡ part ++ rest → text_line words ≡ part ++ rest
 said_part words words' part rest e h = ap text_line e ∙ h
 
 pub finish_fault : (a r : Option (List ℕ)) (u y text : List ℕ) (w0 w1 w2 : Option (List ℕ)) (f f2 : ℕ) (number : ℕ) (machine : Option Machine) (counts : Counts) (result : Result Summary DriveFault)
@@ -222,7 +222,7 @@ Why number line course _ = Unit {0}
 
 -- the answer is what this line is due
 pub record Due (number : ℕ) (line : List ℕ) (course : Option Course) (answer : Answer) : Type 0 where
-  pub words : List Word
+  pub words : List Token
   pub due : IsDue number line course words
   pub said : answer_text number answer ≡ text_line words
   pub why : Why number line course answer

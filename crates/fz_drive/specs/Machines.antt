@@ -7,7 +7,7 @@ use Rattle.fz_model.specs.Joint.{Worker, Joint, JointEvent, JointAnswer, JointSt
 use Rattle.fz_world.specs.Does.{StandsFor}
 use Rattle.fz_script.specs.declared.step.Step.{Step}
 use Rattle.fz_script.specs.declared.step.Step.TheVariants.{Open}
-use Rattle.fz_script.specs.Spelling.{Word, Number, Text, spelling, Fits}
+use Rattle.fz_script.specs.Spelling.{Token, Number, Text, spelling, Fits}
 use Rattle.fz_drive.specs.declared.machine.Machine.{Machine}
 use Rattle.fz_drive.specs.declared.reply.Reply.{Reply}
 use Rattle.fz_drive.specs.declared.reply.Reply.TheVariants as replies
@@ -36,7 +36,7 @@ pub record StandsForJoint (machine : Machine) (j : Joint) : Type 0 where
 abbrev pub JointDoes : Machine → (e : JointEvent) → Result (JointAnswer e) Refusal → Machine → Type 0
 JointDoes old e reply new = (j : Joint) → StandsForJoint old j → (t : Joint) × JointStep j e reply t × StandsForJoint new t
 
-abbrev pub words_of : Reply → List Word
+abbrev pub words_of : Reply → List Token
 words_of replies.Done = done
 words_of (replies.Allocated address birth) = Text (codes "new") ∷ Number address ∷ Number birth ∷ []
 words_of (replies.Word word) = Text (codes "word") ∷ Number word ∷ []
@@ -52,7 +52,7 @@ words_of replies.Finished = done
 words_of replies.Forfeited = done
 words_of (replies.Outstanding count) = Text (codes "outstanding") ∷ Number count ∷ []
 
-abbrev pub result_words : Result Reply Refusal → List Word
+abbrev pub result_words : Result Reply Refusal → List Token
 result_words (Ok reply) = words_of reply
 result_words (Err refusal) = refused_words refusal
 
@@ -173,7 +173,7 @@ summary_at machine counts =
     }
 
 -- the words that end a report
-abbrev pub ending_words : ℕ → Option Machine → Counts → List Word
+abbrev pub ending_words : ℕ → Option Machine → Counts → List Token
 ending_words number None counts = malformed_words number
 ending_words number (Some machine) counts = end_words (summary_at machine counts)
 

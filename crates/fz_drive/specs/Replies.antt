@@ -14,50 +14,50 @@ use Rattle.fz_model.specs.declared.answers.MoveAnswer.TheVariants as moving
 use Rattle.fz_model.specs.declared.refusal.Refusal.{Refusal}
 use Rattle.fz_model.specs.Events.{Event, Alloc, Load, Store, Set, Copy, Register, Unregister, Link, Unlink, MoveLink, Begin, Mark, Pause, Collect, Hold, Finish, Close, Outstanding, Queue, Answer}
 use Rattle.fz_model.specs.Joint.{JointEvent, Call, Take, HoldOwn, FinishOwn, Forfeit, JointAnswer, Move}
-use Rattle.fz_script.specs.Spelling.{Word, Number, Text}
+use Rattle.fz_script.specs.Spelling.{Token, Number, Text}
 use Rattle.fz_text.specs.Written.{text_line, done, refused_words}
 use Rattle.fz_drive.specs.declared.run.Summary.{Summary}
 
-abbrev pub pair_words : Option Old → List Word
+abbrev pub pair_words : Option Old → List Token
 pair_words None = []
 pair_words (Some old) = Text (codes "old") ∷ Number old.proc ∷ Number old.cd ∷ []
 
-abbrev pub registered_words : RegAnswer → List Word
+abbrev pub registered_words : RegAnswer → List Token
 registered_words registering.Outside = Text (codes "outside") ∷ []
 registered_words (registering.Number number old) = Text (codes "reg") ∷ Number number ∷ pair_words old
 
-abbrev pub unregistered_words : Option Old → List Word
+abbrev pub unregistered_words : Option Old → List Token
 unregistered_words None = Text (codes "none") ∷ []
 unregistered_words (Some old) = pair_words (Some old)
 
-abbrev pub linked_words : LinkAnswer → List Word
+abbrev pub linked_words : LinkAnswer → List Token
 linked_words linking.Success = Text (codes "success") ∷ []
 linked_words linking.Duplicate = Text (codes "duplicate") ∷ []
 
-abbrev pub unlinked_words : Bool → List Word
+abbrev pub unlinked_words : Bool → List Token
 unlinked_words true = Text (codes "true") ∷ []
 unlinked_words false = Text (codes "false") ∷ []
 
-abbrev pub moved_words : MoveAnswer → List Word
+abbrev pub moved_words : MoveAnswer → List Token
 moved_words moving.Success = Text (codes "success") ∷ []
 moved_words moving.Duplicate = Text (codes "duplicate") ∷ []
 moved_words moving.NotFound = Text (codes "notfound") ∷ []
 
-abbrev pub marked_words : Progress → List Word
+abbrev pub marked_words : Progress → List Token
 marked_words More = Text (codes "more") ∷ []
 marked_words Done = Text (codes "done") ∷ []
 
-abbrev pub passed_words : Passed → List Word
+abbrev pub passed_words : Passed → List Token
 passed_words passed =
     Text (codes "pass") ∷ Number passed.pass ∷ Text (codes "picked") ∷ Number passed.picked ∷ Text (codes "reclaimed") ∷ Number passed.reclaimed ∷ []
 
-abbrev pub taken_words : Option Entry → List Word
+abbrev pub taken_words : Option Entry → List Token
 taken_words None = Text (codes "empty") ∷ []
 taken_words (Some entry) =
     Text (codes "entry") ∷ Number entry.seq ∷ Number entry.pass ∷ Number entry.reg ∷ Number entry.obj ∷ Number entry.birth ∷ Number entry.proc ∷ Number entry.cd ∷ []
 
 -- No step of a script asks for the queue.
-abbrev pub call_words : (e : Event) → Answer e → List Word
+abbrev pub call_words : (e : Event) → Answer e → List Token
 call_words (Alloc frame slot size kind) answer = Text (codes "new") ∷ Number answer.0 ∷ Number answer.1 ∷ []
 call_words (Load frame slot offset to_frame to_slot) answer = Text (codes "word") ∷ Number answer ∷ []
 call_words (Store frame slot offset from_frame from_slot) answer = done
@@ -78,14 +78,14 @@ call_words Close answer = done
 call_words Outstanding answer = Text (codes "outstanding") ∷ Number answer ∷ []
 call_words Queue answer = []
 
-abbrev pub answer_words : (e : JointEvent) → JointAnswer e → List Word
+abbrev pub answer_words : (e : JointEvent) → JointAnswer e → List Token
 answer_words (Call e) answer = call_words e answer
 answer_words (Take worker) answer = taken_words answer
 answer_words (HoldOwn worker frame slot) answer = done
 answer_words (FinishOwn worker) answer = done
 answer_words (Forfeit worker) answer = done
 
-abbrev pub reply_words : (e : JointEvent) → Result (JointAnswer e) Refusal → List Word
+abbrev pub reply_words : (e : JointEvent) → Result (JointAnswer e) Refusal → List Token
 reply_words e (Ok answer) = answer_words e answer
 reply_words e (Err refusal) = refused_words refusal
 
@@ -93,7 +93,7 @@ abbrev pub reply_line : Move → List ℕ
 reply_line m = text_line (reply_words m.event m.reply)
 
 -- the last line of a whole report
-abbrev pub end_words : Summary → List Word
+abbrev pub end_words : Summary → List Token
 end_words summary =
     Text (codes "end") ∷ Text (codes "enqueued") ∷ Number summary.enqueued ∷ Text (codes "finished") ∷ Number summary.finished
     ∷ Text (codes "forfeited") ∷ Number summary.forfeited ∷ Text (codes "in_hand") ∷ Number summary.in_hand ∷ Text (codes "left") ∷ Number summary.left ∷ []

@@ -10,7 +10,7 @@ use Rattle.fz_model.specs.Joint.{Worker, Joint, JointEvent, JointAnswer, FinishO
 use Rattle.fz_world.specs.Does.{open_causes}
 use Rattle.fz_script.specs.declared.step.Step.{Step}
 use Rattle.fz_script.specs.declared.step.Step.TheVariants.{Open}
-use Rattle.fz_script.specs.Spelling.{Word, spelling, Fits}
+use Rattle.fz_script.specs.Spelling.{Token, spelling, Fits}
 use Rattle.fz_drive.specs.declared.run.Summary.{Summary}
 use Rattle.fz_text.specs.declared.fault.DriveFault.{DriveFault}
 use Rattle.std.specs.Io.KnownBytes.{Consumes, Appends, IsAtEnd, prepend_known}
@@ -106,14 +106,14 @@ IsRefusedOpening line refusal =
     (blocks : ℕ) × (frames : ℕ) × (workers : ℕ) × AsksFor line (Open blocks frames workers) × IsRefusedFor (opening_causes blocks frames workers) true refusal
 
 -- the words that the line with this number gets, after the course so far; a line past the last is malformed, whatever it asks for
-pub data IsDue (number : ℕ) (line : List ℕ) : Option Course → List Word → Type 0 where
+pub data IsDue (number : ℕ) (line : List ℕ) : Option Course → List Token → Type 0 where
   Opens : (blocks frames workers : ℕ) → number ≤ max_lines → AsksFor line (Open blocks frames workers) → first_cause (opening_causes blocks frames workers) ≡ None → IsDue number line None done
   OpensNot : (refusal : Refusal) → number ≤ max_lines → IsRefusedOpening line refusal → IsDue number line None (refused_words refusal)
   Replies : (course : Course) (step : Step) (m : Move) (new : Joint) → number ≤ max_lines → AsksFor line step → event_of step ≡ Some m.event → JointStep course.end m.event m.reply new → IsDue number line (Some course) (reply_words m.event m.reply)
   Malformed : (course : Option Course) → IsMalformed (is_some course) number line → IsDue number line course (malformed_words number)
 
 -- the words of a report's end, after the last line: an input without an opening is malformed there
-abbrev pub closing_words : ℕ → Option Course → List Word
+abbrev pub closing_words : ℕ → Option Course → List Token
 closing_words number None = malformed_words number
 closing_words number (Some course) = end_words (summary_of course)
 
@@ -132,7 +132,7 @@ Explains NoMemory number bytes unread left text =
 -- what this line gets, or what ends the report, wasn't written whole; all replies before it were
 Explains Output number bytes unread left text =
     (before : List ℕ) × (part : List ℕ) × (rest : List ℕ) × (text ≡ before ++ part) × (rest ≢ [])
-    × (((line : List ℕ) × (course : Option Course) × (words : List Word) × AtLine bytes (prepend_known unread left) number line before course × IsDue number line course words × (text_line words ≡ part ++ rest))
+    × (((line : List ℕ) × (course : Option Course) × (words : List Token) × AtLine bytes (prepend_known unread left) number line before course × IsDue number line course words × (text_line words ≡ part ++ rest))
     ⊎ ((course : Option Course) × AtEnd bytes number before course × IsAtEnd (prepend_known unread left) × (text_line (closing_words number course) ≡ part ++ rest)))
 -- the reader failed in this line; all whole lines before it were carried out, and their replies were written
 Explains Input number bytes unread left text =

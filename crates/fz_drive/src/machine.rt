@@ -13,7 +13,7 @@ mod calls;
 use crate::reply::Reply;
 use arrayvec::ArrayVec;
 use fz_line::PlainLine;
-use fz_model::{Entry, MAX_WORKERS, Refusal};
+use fz_model::{Entry, MAX_WORKERS, Refusal, Slot};
 use fz_script::Step;
 use fz_world::{Config, World};
 use std::alloc::Global;
@@ -79,13 +79,13 @@ impl Machine {
     }
 
     /// The object of the entry in the worker's hand goes into the slot.
-    fn hold(&mut self, worker: u64, frame: u64, slot: u64) -> Result<(), Refusal>
-        ensures { JointDoes self.old (HoldOwn worker frame slot) result self.new }
+    fn hold(&mut self, worker: u64, slot: Slot) -> Result<(), Refusal>
+        ensures { JointDoes self.old (HoldOwn worker slot.frame slot.slot) result self.new }
     {
         let Some(entry) = self.hand(worker)? else {
             return Err(Refusal::NotHeld);
         };
-        self.world.hold(frame, slot, &entry)
+        self.world.hold(slot.frame, slot.slot, &entry)
     }
 
     /// The worker has finished the entry in its hand. It keeps the entry where that is refused.
@@ -128,101 +128,33 @@ impl Machine {
         ensures { StepDoes self.old step result self.new }
     {
         match step {
-            Step::New {
-                frame,
-                slot,
-                size,
-                kind,
-            } => calls::alloc(&mut self.world, frame, slot, size, kind),
-            Step::Set { frame, slot, word } => calls::set(&mut self.world, frame, slot, word),
-            Step::Copy {
-                frame,
-                slot,
-                to_frame,
-                to_slot,
-            } => calls::copy(&mut self.world, frame, slot, to_frame, to_slot),
-            Step::Load {
-                frame,
-                slot,
-                offset,
-                to_frame,
-                to_slot,
-            } => calls::load(&mut self.world, frame, slot, offset, to_frame, to_slot),
-            Step::Store {
-                frame,
-                slot,
-                offset,
-                from_frame,
-                from_slot,
-            } => calls::store(&mut self.world, frame, slot, offset, from_frame, from_slot),
+            Step::New { slot, size, kind } => calls::alloc(&mut self.world, slot, size, kind),
+            Step::Set { slot, word } => calls::set(&mut self.world, slot, word),
+            Step::Copy { slot, to } => calls::copy(&mut self.world, slot, to),
+            Step::Load { place, to } => calls::load(&mut self.world, place, to),
+            Step::Store { place, from } => calls::store(&mut self.world, place, from),
             Step::Register {
-                frame,
                 slot,
                 kind,
                 procedure,
                 client_data,
                 rank,
-            } => calls::register(
-                &mut self.world,
-                frame,
-                slot,
-                kind,
-                procedure,
-                client_data,
-                rank,
-            ),
-            Step::Unregister { frame, slot } => calls::unregister(&mut self.world, frame, slot),
+            } => calls::register(&mut self.world, slot, kind, procedure, client_data, rank),
+            Step::Unregister { slot } => calls::unregister(&mut self.world, slot),
             Step::Link {
                 which,
-                frame,
-                slot,
-                offset,
-                target_frame,
-                target_slot,
-            } => calls::link(
-                &mut self.world,
-                which,
-                frame,
-                slot,
-                offset,
-                target_frame,
-                target_slot,
-            ),
-            Step::Unlink {
-                which,
-                frame,
-                slot,
-                offset,
-            } => calls::unlink(&mut self.world, which, frame, slot, offset),
-            Step::Move {
-                which,
-                frame,
-                slot,
-                offset,
-                to_frame,
-                to_slot,
-                to_offset,
-            } => calls::move_link(
-                &mut self.world,
-                which,
-                frame,
-                slot,
-                offset,
-                to_frame,
-                to_slot,
-                to_offset,
-            ),
+                place,
+                target,
+            } => calls::link(&mut self.world, which, place, target),
+            Step::Unlink { which, place } => calls::unlink(&mut self.world, which, place),
+            Step::Move { which, place, to } => calls::move_link(&mut self.world, which, place, to),
             Step::Begin => calls::begin(&mut self.world),
             Step::Mark { budget } => calls::mark(&mut self.world, budget),
             Step::Pause => calls::pause(&mut self.world),
             Step::Collect => calls::collect(&mut self.world),
             Step::Take { worker } => self.answer_take(worker),
-            Step::Hold {
-                worker,
-                frame,
-                slot,
-            } => {
-                self.hold(worker, frame, slot)?;
+            Step::Hold { worker, slot } => {
+                self.hold(worker, slot)?;
                 Ok(Reply::Done)
             }
             Step::Finish { worker } => {

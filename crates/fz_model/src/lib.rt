@@ -9,6 +9,7 @@ mod headline;
 mod kinds;
 mod laws;
 mod limits;
+mod places;
 mod refusal;
 
 pub use answers::{
@@ -22,6 +23,7 @@ pub use limits::{
     BLOCK_WORDS, COUNT_LIMIT, HEAP_START, MAX_BLOCKS, MAX_FRAMES, MAX_OBJECT_WORDS, MAX_WORKERS,
     SLOTS, TABLE_LIMIT,
 };
+pub use places::{Place, Slot};
 pub use refusal::Refusal;
 
 /// A word number of the heap.

@@ -7,7 +7,7 @@ use Rattle.fz_script.specs.declared.job.Job.TheVariants.{Settle, Mutator, Collec
 use Rattle.fz_script.specs.declared.job.Keyword.{Keyword}
 use Rattle.fz_script.specs.declared.job.Keyword.TheVariants.{Settle as ToSettle, Mutator as ToMutator, Collector as ToCollector, Churn as ToChurn}
 use Rattle.fz_script.specs.declared.step.Step.{Step}
-use Rattle.fz_script.specs.Spelling.{Word, Text, IsWord, text}
+use Rattle.fz_script.specs.Spelling.{Token, Text, IsToken, text}
 use Rattle.fz_script.specs.Spelling as steps
 use Rattle.fz_script.specs.Jobs.{words, spelling}
 use Rattle.fz_script.specs.Reading.{◌>>=◌, Values, values_at, words_of, end_at, step_in, named_at}
@@ -15,8 +15,8 @@ use Rattle.fz_script.specs.JobReading.{keyword, keywords, keyword_at, fields_of,
 use Rattle.fz_script.proofs.Laws.{bind_some, some_same, field_words, HasTaken, kind_takes, values_taken, MayFollow, values_again, lacks_space, fields_plain, split_joined, end_takes}
 use Rattle.fz_script.proofs.Laws as laws
 
-abbrev AreWords : List Word → Type 0
-AreWords ws = AllByRecursion IsWord ws
+abbrev AreTokens : List Token → Type 0
+AreTokens ws = AllByRecursion IsToken ws
 
 -- the reading of steps, from the contract of `step_of`
 pub step_read : (line : List ℕ) (r : Option Step) → IfSome r (λ s. steps.Fits s × (line ≡ steps.spelling s)) → ((s : Step) → steps.Fits s → line ≡ steps.spelling s → r ≡ Some s) → step_in (words_of line) ≡ r
@@ -43,7 +43,7 @@ spelled ToCollector = record { unspaced = refl; ends = tt; written_as = λ x. re
 spelled ToChurn = record { unspaced = refl; ends = search rules; written_as = λ x. refl; named = λ ws. refl; no_step = λ ws. refl }
 
 -- what is read
-own_takes : (ws : List (List ℕ)) (job : Job) → own_in ws ≡ Some job → (ws ≡ map text (words job)) × AreWords (words job)
+own_takes : (ws : List (List ℕ)) (job : Job) → own_in ws ≡ Some job → (ws ≡ map text (words job)) × AreTokens (words job)
 unfolding own_at own_in
 own_takes ws job h =
     let t = bind_some (own_at ws) (λ job. end_at job.1 >>= λ _. Some job.0) job h in
@@ -58,35 +58,35 @@ own_takes ws job h =
     taken.0 ∙ ap (λ l. map text (field_words (fields_of first.0.0) x.0.0) ++ l) rest ∙ append-nil (map text (field_words (fields_of first.0.0) x.0.0)) in
     let line : ws ≡ map text (words (made first.0.0 x.0.0)) =
     kind_takes keyword keywords ws first.0.1 first.0.0 first.1 ∙ ap (λ l. keyword first.0.0 ∷ l) fields ∙ ap (map text) (sym written) in
-    let fit : AreWords (words (made first.0.0 x.0.0)) = subst AreWords (sym written) (tt, taken.1) in
-    let P : Job → Type 0 = λ job. (ws ≡ map text (words job)) × AreWords (words job) in
+    let fit : AreTokens (words (made first.0.0 x.0.0)) = subst AreTokens (sym written) (tt, taken.1) in
+    let P : Job → Type 0 = λ job. (ws ≡ map text (words job)) × AreTokens (words job) in
     subst P (ap (λ p. p.0) same ∙ some_same t.0.0 job e.2) (line, fit)
 
-pub job_found : (line : List ℕ) (r : Option Job) → job_in (step_in (words_of line)) (words_of line) ≡ r → IfSome r (λ job. AreWords (words job) × (line ≡ spelling job))
+pub job_found : (line : List ℕ) (r : Option Job) → job_in (step_in (words_of line)) (words_of line) ≡ r → IfSome r (λ job. AreTokens (words job) × (line ≡ spelling job))
 job_found line r h = by_step (step_in (words_of line)) r refl h
   where
-    by_step : (s : Option Step) (r : Option Job) → step_in (words_of line) ≡ s → job_in s (words_of line) ≡ r → IfSome r (λ job. AreWords (words job) × (line ≡ spelling job))
+    by_step : (s : Option Step) (r : Option Job) → step_in (words_of line) ≡ s → job_in s (words_of line) ≡ r → IfSome r (λ job. AreTokens (words job) × (line ≡ spelling job))
     by_step s None is h = tt
-    by_step (Some s) (Some job) is h = subst (λ job. AreWords (words job) × (line ≡ spelling job)) (some_same (One s) job h) (laws.found line (Some s) is)
+    by_step (Some s) (Some job) is h = subst (λ job. AreTokens (words job) × (line ≡ spelling job)) (some_same (One s) job h) (laws.found line (Some s) is)
     by_step None (Some job) is h = let t = own_takes (words_of line) job h in (t.1, sym (join_with_byte-slice_split 32 line) ∙ ap (join_with_byte 32) t.0)
 
 -- what is written
-made_again : (first : Keyword) (x : Values (fields_of first)) → AreWords (words (made first x)) → job_in (step_in (words_of (spelling (made first x)))) (words_of (spelling (made first x))) ≡ Some (made first x)
+made_again : (first : Keyword) (x : Values (fields_of first)) → AreTokens (words (made first x)) → job_in (step_in (words_of (spelling (made first x)))) (words_of (spelling (made first x))) ≡ Some (made first x)
 unfolding own_at own_in
 made_again first x fits =
     let is = spelled first in
-    let fit : AreWords (field_words (fields_of first) x) = (subst AreWords (is.written_as x) fits).1 in
+    let fit : AreTokens (field_words (fields_of first) x) = (subst AreTokens (is.written_as x) fits).1 in
     let fields : List (List ℕ) = map text (field_words (fields_of first) x) in
     let split : words_of (spelling (made first x)) ≡ keyword first ∷ fields = ap (λ l. words_of (join_with_byte 32 (map text l))) (is.written_as x) ∙ split_joined (keyword first) fields is.unspaced (fields_plain (fields_of first) x fit) in
     let values : values_at (fields_of first) fields ≡ Some (x, []) = ap (values_at (fields_of first)) (sym (append-nil fields)) ∙ values_again (fields_of first) x [] is.ends fit in
     rw (split, is.no_step fields, is.named fields, values) refl
 
-job_again : (job : Job) → AreWords (words job) → job_in (step_in (words_of (spelling job))) (words_of (spelling job)) ≡ Some job
+job_again : (job : Job) → AreTokens (words job) → job_in (step_in (words_of (spelling job))) (words_of (spelling job)) ≡ Some job
 job_again (Settle collections) fits = made_again ToSettle collections fits
 job_again Mutator fits = made_again ToMutator tt fits
 job_again Collector fits = made_again ToCollector tt fits
-job_again (Churn count frame slot size kind finalizer_kind procedure) fits = made_again ToChurn ((count, frame, slot), (size, kind), (finalizer_kind, procedure)) fits
+job_again (Churn count slot size kind finalizer_kind procedure) fits = made_again ToChurn ((count, slot), (size, kind), (finalizer_kind, procedure)) fits
 job_again (One step) fits = rw (laws.only (steps.spelling step) step fits refl) refl
 
-pub job_only : (line : List ℕ) (job : Job) → AreWords (words job) → line ≡ spelling job → job_in (step_in (words_of line)) (words_of line) ≡ Some job
+pub job_only : (line : List ℕ) (job : Job) → AreTokens (words job) → line ≡ spelling job → job_in (step_in (words_of line)) (words_of line) ≡ Some job
 job_only line job fits e = ap (λ l. job_in (step_in (words_of l)) (words_of l)) e ∙ job_again job fits

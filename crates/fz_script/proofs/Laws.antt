@@ -15,10 +15,12 @@ use Rattle.fz_model.specs.declared.kinds.RegKind.{RegKind}
 use Rattle.fz_model.specs.declared.kinds.RegKind.TheVariants.{Normal, IgnoreSelf, NoOrder}
 use Rattle.fz_model.specs.declared.kinds.LinkKind.{LinkKind}
 use Rattle.fz_model.specs.declared.kinds.LinkKind.TheVariants.{Short, Long}
+use Rattle.fz_model.specs.declared.places.Slot.{Slot}
+use Rattle.fz_model.specs.declared.places.Place.{Place}
 use Rattle.fz_script.specs.declared.step.Step.{Step}
 use Rattle.fz_script.specs.declared.step.Step.TheVariants.{Open, New, Set, Copy, Load, Store, Register, Unregister, Link, Unlink, Move, Begin, Mark, Pause, Collect, Take, Hold, Finish, Forfeit, Close, Outstanding}
-use Rattle.fz_script.specs.Spelling.{Word, Number, Text, IsWord, obj_kind, reg_kind, link_kind, rank_words, words, text, spelling, Fits}
-use Rattle.fz_script.specs.Reading.{◌>>=◌, with_rest, number, find_text, kind_at, number_at, byte, byte_at, optional_at, obj_kind_at, reg_kind_at, link_kind_at, Fields, nothing, a_number, an_obj_kind, a_reg_kind, a_link_kind, a_rank, two, three, Values, values_at, Verb, verbs, verb_named, word_at, words_of, named_at, step_at, end_at, step_in}
+use Rattle.fz_script.specs.Spelling.{Token, Number, Text, IsToken, obj_kind, reg_kind, link_kind, slot_words, place_words, rank_words, words, text, spelling, Fits}
+use Rattle.fz_script.specs.Reading.{◌>>=◌, with_rest, number, find_text, kind_at, number_at, byte, byte_at, optional_at, two_at, slot_of, place_of, slot_at, place_at, obj_kind_at, reg_kind_at, link_kind_at, Fields, nothing, a_number, a_slot, a_place, an_obj_kind, a_reg_kind, a_link_kind, a_rank, two, three, Values, values_at, Verb, verbs, verb_named, word_at, words_of, named_at, step_at, end_at, step_in}
 use Rattle.fz_script.proofs.Numbers.{number_takes, number_again}
 
 -- the cases of a bind and of a test
@@ -38,9 +40,11 @@ with_rest_some None ws rest x h = cc
 with_rest_some (Some y) ws rest x h = let p = some_pair_parts y x ws rest h in (ap Some p.0, p.1)
 
 -- the words of fields
-abbrev pub field_words : (fields : Fields) → Values fields → List Word
+abbrev pub field_words : (fields : Fields) → Values fields → List Token
 field_words nothing x = []
 field_words a_number n = Number n ∷ []
+field_words a_slot slot = slot_words slot
+field_words a_place place = place_words place
 field_words an_obj_kind kind = Text (obj_kind kind) ∷ []
 field_words a_reg_kind kind = Text (reg_kind kind) ∷ []
 field_words a_link_kind which = Text (link_kind which) ∷ []
@@ -49,10 +53,10 @@ field_words (two first second) x = field_words first x.0 ++ field_words second x
 field_words (three first second third) x = field_words first x.0 ++ (field_words second x.1 ++ field_words third x.2)
 
 -- these words were the fields
-abbrev pub HasTaken : List Word → List (List ℕ) → List (List ℕ) → Type 0
-HasTaken taken ws rest = (ws ≡ map text taken ++ rest) × AllByRecursion IsWord taken
+abbrev pub HasTaken : List Token → List (List ℕ) → List (List ℕ) → Type 0
+HasTaken taken ws rest = (ws ≡ map text taken ++ rest) × AllByRecursion IsToken taken
 
-both_taken : (a b : List Word) (ws between rest : List (List ℕ)) → HasTaken a ws between → HasTaken b between rest → HasTaken (a ++ b) ws rest
+both_taken : (a b : List Token) (ws between rest : List (List ℕ)) → HasTaken a ws between → HasTaken b between rest → HasTaken (a ++ b) ws rest
 both_taken [] b ws between rest first second = (first.0 ∙ second.0, second.1)
 both_taken (w ∷ a) b [] between rest first second = let e = first.0 in cc
 both_taken (w ∷ a) b (v ∷ ws) between rest first second =
@@ -87,6 +91,32 @@ number_taken ws rest n h =
     let is = number_takes first.0.0 n t.0 in
     (word_takes ws first.0.1 first.0.0 first.1 ∙ ap (λ w. w ∷ first.0.1) is.0 ∙ ap (λ l. decimal n ∷ l) t.1, (is.1, tt))
 
+-- one reading after another
+two_taken : {A B : Type 0} (first : List (List ℕ) → Option (A × List (List ℕ))) (second : List (List ℕ) → Option (B × List (List ℕ))) (a_words : A → List Token) (b_words : B → List Token)
+    → ((ws rest : List (List ℕ)) (x : A) → first ws ≡ Some (x, rest) → HasTaken (a_words x) ws rest)
+    → ((ws rest : List (List ℕ)) (x : B) → second ws ≡ Some (x, rest) → HasTaken (b_words x) ws rest)
+    → (ws rest : List (List ℕ)) (x : A × B) → two_at first second ws ≡ Some (x, rest) → HasTaken (a_words x.0 ++ b_words x.1) ws rest
+two_taken {A} {B} first second a_words b_words f g ws rest x h =
+    let a = bind_some (first ws) (λ a. second a.1 >>= λ b. Some ((a.0, b.0), b.1)) (x, rest) h in
+    let b = bind_some (second a.0.1) (λ b. Some ((a.0.0, b.0), b.1)) (x, rest) a.2 in
+    let P : (A × B) × List (List ℕ) → Type 0 = λ p. HasTaken (a_words p.0.0 ++ b_words p.0.1) ws p.1 in
+    subst P (some_same ((a.0.0, b.0.0), b.0.1) (x, rest) b.2)
+    (both_taken (a_words a.0.0) (b_words b.0.0) ws a.0.1 b.0.1 (f ws a.0.1 a.0.0 a.1) (g a.0.1 b.0.1 b.0.0 b.1))
+
+slot_taken : (ws rest : List (List ℕ)) (slot : Slot) → slot_at ws ≡ Some (slot, rest) → HasTaken (slot_words slot) ws rest
+slot_taken ws rest slot h =
+    let x = bind_some (two_at number_at number_at ws) (λ x. Some (slot_of x.0, x.1)) (slot, rest) h in
+    let P : Slot × List (List ℕ) → Type 0 = λ p. HasTaken (slot_words p.0) ws p.1 in
+    subst P (some_same (slot_of x.0.0, x.0.1) (slot, rest) x.2)
+    (two_taken number_at number_at (λ n. Number n ∷ []) (λ n. Number n ∷ []) number_taken number_taken ws x.0.1 x.0.0 x.1)
+
+place_taken : (ws rest : List (List ℕ)) (place : Place) → place_at ws ≡ Some (place, rest) → HasTaken (place_words place) ws rest
+place_taken ws rest place h =
+    let x = bind_some (two_at slot_at number_at ws) (λ x. Some (place_of x.0, x.1)) (place, rest) h in
+    let P : Place × List (List ℕ) → Type 0 = λ p. HasTaken (place_words p.0) ws p.1 in
+    subst P (some_same (place_of x.0.0, x.0.1) (place, rest) x.2)
+    (two_taken slot_at number_at slot_words (λ n. Number n ∷ []) slot_taken number_taken ws x.0.1 x.0.0 x.1)
+
 byte_takes : (word : List ℕ) (n : ℕ) → byte word ≡ Some n → (word ≡ decimal n) × (n < 2 ^ 8)
 byte_takes word n h =
     let b = bind_some (number word) (λ n. cond (nat_lt n (2 ^ 8)) (Some n) None) n h in
@@ -108,6 +138,12 @@ byte_again n lt =
     let small : nat_lt n (2 ^ 8) ≡ true = lt-ltb n (2 ^ 8) lt in
     rw (number_again n (omega (arith, lt)), small) refl
 
+slot_again : (slot : Slot) (rest : List (List ℕ)) → AllByRecursion IsToken (slot_words slot) → slot_at (map text (slot_words slot) ++ rest) ≡ Some (slot, rest)
+slot_again slot rest h = rw (number_again slot.frame h.0, number_again slot.slot h.1.0) refl
+
+place_again : (place : Place) (rest : List (List ℕ)) → AllByRecursion IsToken (place_words place) → place_at (map text (place_words place) ++ rest) ≡ Some (place, rest)
+place_again place rest h = rw (number_again place.slot.frame h.0, number_again place.slot.slot h.1.0, number_again place.offset h.1.1.0) refl
+
 obj_kind_again : (x : ObjKind) (rest : List (List ℕ)) → obj_kind_at (obj_kind x ∷ rest) ≡ Some (x, rest)
 obj_kind_again Scanned rest = refl
 obj_kind_again Atomic rest = refl
@@ -125,16 +161,13 @@ link_kind_again Long rest = refl
 pub values_taken : (fields : Fields) (ws rest : List (List ℕ)) (x : Values fields) → values_at fields ws ≡ Some (x, rest) → HasTaken (field_words fields x) ws rest
 values_taken nothing ws rest x h = ((some_pair_parts tt x ws rest h).1, tt)
 values_taken a_number ws rest x h = number_taken ws rest x h
+values_taken a_slot ws rest x h = slot_taken ws rest x h
+values_taken a_place ws rest x h = place_taken ws rest x h
 values_taken an_obj_kind ws rest x h = (kind_takes obj_kind (Scanned ∷ Atomic ∷ []) ws rest x h, (tt, tt))
 values_taken a_reg_kind ws rest x h = (kind_takes reg_kind (Normal ∷ IgnoreSelf ∷ NoOrder ∷ []) ws rest x h, (tt, tt))
 values_taken a_link_kind ws rest x h = (kind_takes link_kind (Short ∷ Long ∷ []) ws rest x h, (tt, tt))
 values_taken a_rank ws rest x h = rank_taken ws rest x h
-values_taken (two f g) ws rest x h =
-    let a = bind_some (values_at f ws) (λ a. values_at g a.1 >>= λ b. Some ((a.0, b.0), b.1)) (x, rest) h in
-    let b = bind_some (values_at g a.0.1) (λ b. Some ((a.0.0, b.0), b.1)) (x, rest) a.2 in
-    let P : Values (two f g) × List (List ℕ) → Type 0 = λ p. HasTaken (field_words (two f g) p.0) ws p.1 in
-    subst P (some_same ((a.0.0, b.0.0), b.0.1) (x, rest) b.2)
-    (both_taken (field_words f a.0.0) (field_words g b.0.0) ws a.0.1 b.0.1 (values_taken f ws a.0.1 a.0.0 a.1) (values_taken g a.0.1 b.0.1 b.0.0 b.1))
+values_taken (two f g) ws rest x h = two_taken (values_at f) (values_at g) (field_words f) (field_words g) (values_taken f) (values_taken g) ws rest x h
 values_taken (three f g k) ws rest x h =
     let a = bind_some (values_at f ws) (λ a. values_at g a.1 >>= λ b. values_at k b.1 >>= λ c. Some ((a.0, b.0, c.0), c.1)) (x, rest) h in
     let b = bind_some (values_at g a.0.1) (λ b. values_at k b.1 >>= λ c. Some ((a.0.0, b.0, c.0), c.1)) (x, rest) a.2 in
@@ -145,11 +178,11 @@ values_taken (three f g k) ws rest x h =
     (both_taken (field_words g b.0.0) (field_words k c.0.0) a.0.1 b.0.1 c.0.1 (values_taken g a.0.1 b.0.1 b.0.0 b.1) (values_taken k b.0.1 c.0.1 c.0.0 c.1)))
 
 -- the words of lists of words
-two_fit : (a b : List Word) → AllByRecursion IsWord (a ++ b) → AllByRecursion IsWord a × AllByRecursion IsWord b
+two_fit : (a b : List Token) → AllByRecursion IsToken (a ++ b) → AllByRecursion IsToken a × AllByRecursion IsToken b
 two_fit [] b h = (tt, h)
 two_fit (w ∷ a) b h = let r = two_fit a b h.1 in ((h.0, r.0), r.1)
 
-texts_of_two : (a b : List Word) (rest : List (List ℕ)) → map text (a ++ b) ++ rest ≡ map text a ++ (map text b ++ rest)
+texts_of_two : (a b : List Token) (rest : List (List ℕ)) → map text (a ++ b) ++ rest ≡ map text a ++ (map text b ++ rest)
 texts_of_two [] b rest = refl
 texts_of_two (w ∷ a) b rest = ap (λ l. text w ∷ l) (texts_of_two a b rest)
 
@@ -160,14 +193,16 @@ MayFollow (two f g) rest = ((ws : List (List ℕ)) → MayFollow f ws) × MayFol
 MayFollow (three f g k) rest = ((ws : List (List ℕ)) → MayFollow f ws) × ((ws : List (List ℕ)) → MayFollow g ws) × MayFollow k rest
 MayFollow _ rest = Unit {0}
 
-rank_again : (rank : Option ℕ) → AllByRecursion IsWord (rank_words rank) → optional_at byte_at (map text (rank_words rank)) ≡ Some (rank, [])
+rank_again : (rank : Option ℕ) → AllByRecursion IsToken (rank_words rank) → optional_at byte_at (map text (rank_words rank)) ≡ Some (rank, [])
 rank_again None h = refl
 rank_again (Some n) h = rw (byte_again n h.0) refl
 
 -- what is written is read
-pub values_again : (fields : Fields) (x : Values fields) (rest : List (List ℕ)) → MayFollow fields rest → AllByRecursion IsWord (field_words fields x) → values_at fields (map text (field_words fields x) ++ rest) ≡ Some (x, rest)
+pub values_again : (fields : Fields) (x : Values fields) (rest : List (List ℕ)) → MayFollow fields rest → AllByRecursion IsToken (field_words fields x) → values_at fields (map text (field_words fields x) ++ rest) ≡ Some (x, rest)
 values_again nothing x rest may h = refl
 values_again a_number x rest may h = ap (λ o. with_rest o rest) (number_again x h.0)
+values_again a_slot x rest may h = slot_again x rest h
+values_again a_place x rest may h = place_again x rest h
 values_again an_obj_kind x rest may h = obj_kind_again x rest
 values_again a_reg_kind x rest may h = reg_kind_again x rest
 values_again a_link_kind x rest may h = link_kind_again x rest
@@ -255,22 +290,22 @@ made_by {s} {verb} name named values is = record { name = name; verb = verb; nam
 
 is_made : (s : Step) → IsMade s
 is_made (Open blocks frames workers) = made_by (codes "open") refl (blocks, frames, workers) refl
-is_made (New frame slot size kind) = made_by (codes "new") refl ((frame, slot), size, kind) refl
-is_made (Set frame slot word) = made_by (codes "set") refl (frame, slot, word) refl
-is_made (Copy frame slot to_frame to_slot) = made_by (codes "copy") refl ((frame, slot), (to_frame, to_slot)) refl
-is_made (Load frame slot offset to_frame to_slot) = made_by (codes "load") refl ((frame, slot, offset), (to_frame, to_slot)) refl
-is_made (Store frame slot offset from_frame from_slot) = made_by (codes "store") refl ((frame, slot, offset), (from_frame, from_slot)) refl
-is_made (Register frame slot kind procedure client_data rank) = made_by (codes "register") refl ((frame, slot), kind, (procedure, client_data, rank)) refl
-is_made (Unregister frame slot) = made_by (codes "unregister") refl (frame, slot) refl
-is_made (Link which frame slot offset target_frame target_slot) = made_by (codes "link") refl (which, (frame, slot, offset), (target_frame, target_slot)) refl
-is_made (Unlink which frame slot offset) = made_by (codes "unlink") refl (which, (frame, slot, offset)) refl
-is_made (Move which frame slot offset to_frame to_slot to_offset) = made_by (codes "move") refl (which, (frame, slot, offset), (to_frame, to_slot, to_offset)) refl
+is_made (New slot size kind) = made_by (codes "new") refl (slot, size, kind) refl
+is_made (Set slot word) = made_by (codes "set") refl (slot, word) refl
+is_made (Copy slot to) = made_by (codes "copy") refl (slot, to) refl
+is_made (Load place to) = made_by (codes "load") refl (place, to) refl
+is_made (Store place from) = made_by (codes "store") refl (place, from) refl
+is_made (Register slot kind procedure client_data rank) = made_by (codes "register") refl (slot, kind, (procedure, client_data, rank)) refl
+is_made (Unregister slot) = made_by (codes "unregister") refl slot refl
+is_made (Link which place target) = made_by (codes "link") refl (which, place, target) refl
+is_made (Unlink which place) = made_by (codes "unlink") refl (which, place) refl
+is_made (Move which place to) = made_by (codes "move") refl (which, place, to) refl
 is_made Begin = made_by (codes "begin") refl tt refl
 is_made (Mark budget) = made_by (codes "mark") refl budget refl
 is_made Pause = made_by (codes "pause") refl tt refl
 is_made Collect = made_by (codes "collect") refl tt refl
 is_made (Take worker) = made_by (codes "take") refl worker refl
-is_made (Hold worker frame slot) = made_by (codes "hold") refl (worker, frame, slot) refl
+is_made (Hold worker slot) = made_by (codes "hold") refl (worker, slot) refl
 is_made (Finish worker) = made_by (codes "finish") refl worker refl
 is_made (Forfeit worker) = made_by (codes "forfeit") refl worker refl
 is_made Close = made_by (codes "close") refl tt refl
@@ -324,20 +359,22 @@ lacks_space_link_kind Short = refl
 lacks_space_link_kind Long = refl
 
 -- fields have no spaces
-abbrev pub ArePlain : List Word → Type 0
+abbrev pub ArePlain : List Token → Type 0
 ArePlain ws = AllByRecursion (λ w. lacks_space w ≡ true) (map text ws)
 
-both_plain : (a b : List Word) → ArePlain a → ArePlain b → ArePlain (a ++ b)
+both_plain : (a b : List Token) → ArePlain a → ArePlain b → ArePlain (a ++ b)
 both_plain [] b h k = k
 both_plain (w ∷ a) b h k = (h.0, both_plain a b h.1 k)
 
-rank_plain : (rank : Option ℕ) → AllByRecursion IsWord (rank_words rank) → ArePlain (rank_words rank)
+rank_plain : (rank : Option ℕ) → AllByRecursion IsToken (rank_words rank) → ArePlain (rank_words rank)
 rank_plain None h = tt
 rank_plain (Some n) h = (lacks_space_decimal n (omega (arith, h.0)), tt)
 
-pub fields_plain : (fields : Fields) (x : Values fields) → AllByRecursion IsWord (field_words fields x) → ArePlain (field_words fields x)
+pub fields_plain : (fields : Fields) (x : Values fields) → AllByRecursion IsToken (field_words fields x) → ArePlain (field_words fields x)
 fields_plain nothing x h = tt
 fields_plain a_number x h = (lacks_space_decimal x h.0, tt)
+fields_plain a_slot x h = (lacks_space_decimal x.frame h.0, (lacks_space_decimal x.slot h.1.0, tt))
+fields_plain a_place x h = (lacks_space_decimal x.slot.frame h.0, (lacks_space_decimal x.slot.slot h.1.0, (lacks_space_decimal x.offset h.1.1.0, tt)))
 fields_plain an_obj_kind x h = (lacks_space_obj_kind x, tt)
 fields_plain a_reg_kind x h = (lacks_space_reg_kind x, tt)
 fields_plain a_link_kind x h = (lacks_space_link_kind x, tt)
@@ -353,7 +390,7 @@ verb_takes : (v : Verb) (ws rest : List (List ℕ)) (x : Values v.fields) → Is
 verb_takes v ws rest x spelled h =
     let taken = values_taken v.fields ws rest x h in
     let written = spelled.written_as x in
-    (ap (λ l. v.name ∷ l) taken.0 ∙ ap (λ l. map text l ++ rest) (sym written), subst (AllByRecursion IsWord) (sym written) (tt, taken.1))
+    (ap (λ l. v.name ∷ l) taken.0 ∙ ap (λ l. map text l ++ rest) (sym written), subst (AllByRecursion IsToken) (sym written) (tt, taken.1))
 
 pub end_takes : (ws : List (List ℕ)) → end_at ws ≡ Some tt → ws ≡ []
 end_takes [] h = refl
@@ -383,7 +420,7 @@ step_in_takes ws s h =
 made_again : (v : Verb) (x : Values v.fields) → IsSpelled v → verb_named v.name ≡ Some v → Fits (v.make x) → step_in (words_of (spelling (v.make x))) ≡ Some (v.make x)
 unfolding step_in named_at
 made_again v x spelled named fits =
-    let fit : AllByRecursion IsWord (field_words v.fields x) = (subst (AllByRecursion IsWord) (spelled.written_as x) fits).1 in
+    let fit : AllByRecursion IsToken (field_words v.fields x) = (subst (AllByRecursion IsToken) (spelled.written_as x) fits).1 in
     let fields : List (List ℕ) = map text (field_words v.fields x) in
     let split : words_of (spelling (v.make x)) ≡ v.name ∷ fields = ap (λ l. words_of (join_with_byte 32 (map text l))) (spelled.written_as x) ∙ split_joined v.name fields spelled.unspaced (fields_plain v.fields x fit) in
     let values : values_at v.fields fields ≡ Some (x, []) = ap (values_at v.fields) (sym (append-nil fields)) ∙ values_again v.fields x [] spelled.ends fit in

@@ -5,7 +5,7 @@ use Rattle.fz_script.specs.declared.job.Job.TheVariants.{Settle, Mutator, Collec
 use Rattle.fz_script.specs.declared.job.Keyword.{Keyword}
 use Rattle.fz_script.specs.declared.job.Keyword.TheVariants.{Settle as ToSettle, Mutator as ToMutator, Collector as ToCollector, Churn as ToChurn}
 use Rattle.fz_script.specs.declared.step.Step.{Step}
-use Rattle.fz_script.specs.Reading.{◌>>=◌, kind_at, Fields, nothing, a_number, an_obj_kind, a_reg_kind, two, three, Values, values_at, end_at}
+use Rattle.fz_script.specs.Reading.{◌>>=◌, kind_at, Fields, nothing, a_number, a_slot, an_obj_kind, a_reg_kind, two, three, Values, values_at, end_at}
 
 abbrev pub keyword : Keyword → List ℕ
 keyword ToSettle = codes "settle"
@@ -24,13 +24,13 @@ abbrev pub fields_of : Keyword → Fields
 fields_of ToSettle = a_number
 fields_of ToMutator = nothing
 fields_of ToCollector = nothing
-fields_of ToChurn = three (three a_number a_number a_number) (two a_number an_obj_kind) (two a_reg_kind a_number)
+fields_of ToChurn = three (two a_number a_slot) (two a_number an_obj_kind) (two a_reg_kind a_number)
 
 abbrev pub made : (first : Keyword) → Values (fields_of first) → Job
 made ToSettle x = Settle x
 made ToMutator x = Mutator
 made ToCollector x = Collector
-made ToChurn x = Churn x.0.0 x.0.1 x.0.2 x.1.0 x.1.1 x.2.0 x.2.1
+made ToChurn x = Churn x.0.0 x.0.1 x.1.0 x.1.1 x.2.0 x.2.1
 
 abbrev pub made_at : (first : Keyword) → List (List ℕ) → Option (Job × List (List ℕ))
 made_at first words = values_at (fields_of first) words >>= λ x. Some (made first x.0, x.1)

@@ -12,6 +12,8 @@ use Rattle.fz_model.specs.declared.kinds.RegKind.{RegKind}
 use Rattle.fz_model.specs.declared.kinds.RegKind.TheVariants.{Normal, IgnoreSelf, NoOrder}
 use Rattle.fz_model.specs.declared.kinds.LinkKind.{LinkKind}
 use Rattle.fz_model.specs.declared.kinds.LinkKind.TheVariants.{Short, Long}
+use Rattle.fz_model.specs.declared.places.Slot.{Slot}
+use Rattle.fz_model.specs.declared.places.Place.{Place}
 use Rattle.fz_script.specs.declared.step.Step.{Step}
 use Rattle.fz_script.specs.declared.step.Step.TheVariants.{Open, New, Set, Copy, Load, Store, Register, Unregister, Link, Unlink, Move, Begin, Mark, Pause, Collect, Take, Hold, Finish, Forfeit, Close, Outstanding}
 use denote.Bor.{Bor}
@@ -85,10 +87,25 @@ two_at first second words = first words >>= λ x. second x.1 >>= λ y. Some ((x.
 abbrev pub three_at : {A B C : Type 0} → (List (List ℕ) → Option (A × List (List ℕ))) → (List (List ℕ) → Option (B × List (List ℕ))) → (List (List ℕ) → Option (C × List (List ℕ))) → List (List ℕ) → Option ((A × B × C) × List (List ℕ))
 three_at first second third words = first words >>= λ x. second x.1 >>= λ y. third y.1 >>= λ z. Some ((x.0, y.0, z.0), z.1)
 
+-- a slot, and a place, of what was read of them
+abbrev pub slot_of : ℕ × ℕ → Slot
+slot_of x = record { frame = x.0; slot = x.1 }
+
+abbrev pub place_of : Slot × ℕ → Place
+place_of x = record { slot = x.0; offset = x.1 }
+
+abbrev pub slot_at : List (List ℕ) → Option (Slot × List (List ℕ))
+slot_at words = two_at number_at number_at words >>= λ x. Some (slot_of x.0, x.1)
+
+abbrev pub place_at : List (List ℕ) → Option (Place × List (List ℕ))
+place_at words = two_at slot_at number_at words >>= λ x. Some (place_of x.0, x.1)
+
 -- what fields a verb may have
 pub data Fields : Type 0 where
   nothing : Fields
   a_number : Fields
+  a_slot : Fields
+  a_place : Fields
   an_obj_kind : Fields
   a_reg_kind : Fields
   a_link_kind : Fields
@@ -99,6 +116,8 @@ pub data Fields : Type 0 where
 abbrev pub Values : Fields → Type 0
 Values nothing = Unit {0}
 Values a_number = ℕ
+Values a_slot = Slot
+Values a_place = Place
 Values an_obj_kind = ObjKind
 Values a_reg_kind = RegKind
 Values a_link_kind = LinkKind
@@ -109,18 +128,14 @@ Values (three first second third) = Values first × Values second × Values thir
 abbrev pub values_at : (fields : Fields) → List (List ℕ) → Option (Values fields × List (List ℕ))
 values_at nothing words = Some (tt, words)
 values_at a_number words = number_at words
+values_at a_slot words = slot_at words
+values_at a_place words = place_at words
 values_at an_obj_kind words = obj_kind_at words
 values_at a_reg_kind words = reg_kind_at words
 values_at a_link_kind words = link_kind_at words
 values_at a_rank words = optional_at byte_at words
 values_at (two first second) words = two_at (values_at first) (values_at second) words
 values_at (three first second third) words = three_at (values_at first) (values_at second) (values_at third) words
-
-abbrev pub a_slot : Fields
-a_slot = two a_number a_number
-
-abbrev pub a_place : Fields
-a_place = three a_number a_number a_number
 
 -- a verb: the first word of its line, the fields that follow, and the step that they make
 pub record Verb : Type 0 where
@@ -135,22 +150,22 @@ verb name fields make = record { name = name; fields = fields; make = make }
 abbrev pub verbs : List Verb
 verbs =
     verb (codes "open") (three a_number a_number a_number) (λ x. Open x.0 x.1 x.2)
-    ∷ verb (codes "new") (three a_slot a_number an_obj_kind) (λ x. New x.0.0 x.0.1 x.1 x.2)
-    ∷ verb (codes "set") (three a_number a_number a_number) (λ x. Set x.0 x.1 x.2)
-    ∷ verb (codes "copy") (two a_slot a_slot) (λ x. Copy x.0.0 x.0.1 x.1.0 x.1.1)
-    ∷ verb (codes "load") (two a_place a_slot) (λ x. Load x.0.0 x.0.1 x.0.2 x.1.0 x.1.1)
-    ∷ verb (codes "store") (two a_place a_slot) (λ x. Store x.0.0 x.0.1 x.0.2 x.1.0 x.1.1)
-    ∷ verb (codes "register") (three a_slot a_reg_kind (three a_number a_number a_rank)) (λ x. Register x.0.0 x.0.1 x.1 x.2.0 x.2.1 x.2.2)
-    ∷ verb (codes "unregister") a_slot (λ x. Unregister x.0 x.1)
-    ∷ verb (codes "link") (three a_link_kind a_place a_slot) (λ x. Link x.0 x.1.0 x.1.1 x.1.2 x.2.0 x.2.1)
-    ∷ verb (codes "unlink") (two a_link_kind a_place) (λ x. Unlink x.0 x.1.0 x.1.1 x.1.2)
-    ∷ verb (codes "move") (three a_link_kind a_place a_place) (λ x. Move x.0 x.1.0 x.1.1 x.1.2 x.2.0 x.2.1 x.2.2)
+    ∷ verb (codes "new") (three a_slot a_number an_obj_kind) (λ x. New x.0 x.1 x.2)
+    ∷ verb (codes "set") (two a_slot a_number) (λ x. Set x.0 x.1)
+    ∷ verb (codes "copy") (two a_slot a_slot) (λ x. Copy x.0 x.1)
+    ∷ verb (codes "load") (two a_place a_slot) (λ x. Load x.0 x.1)
+    ∷ verb (codes "store") (two a_place a_slot) (λ x. Store x.0 x.1)
+    ∷ verb (codes "register") (three a_slot a_reg_kind (three a_number a_number a_rank)) (λ x. Register x.0 x.1 x.2.0 x.2.1 x.2.2)
+    ∷ verb (codes "unregister") a_slot (λ x. Unregister x)
+    ∷ verb (codes "link") (three a_link_kind a_place a_slot) (λ x. Link x.0 x.1 x.2)
+    ∷ verb (codes "unlink") (two a_link_kind a_place) (λ x. Unlink x.0 x.1)
+    ∷ verb (codes "move") (three a_link_kind a_place a_place) (λ x. Move x.0 x.1 x.2)
     ∷ verb (codes "begin") nothing (λ x. Begin)
     ∷ verb (codes "mark") a_number (λ x. Mark x)
     ∷ verb (codes "pause") nothing (λ x. Pause)
     ∷ verb (codes "collect") nothing (λ x. Collect)
     ∷ verb (codes "take") a_number (λ x. Take x)
-    ∷ verb (codes "hold") (three a_number a_number a_number) (λ x. Hold x.0 x.1 x.2)
+    ∷ verb (codes "hold") (two a_number a_slot) (λ x. Hold x.0 x.1)
     ∷ verb (codes "finish") a_number (λ x. Finish x)
     ∷ verb (codes "forfeit") a_number (λ x. Forfeit x)
     ∷ verb (codes "close") nothing (λ x. Close)

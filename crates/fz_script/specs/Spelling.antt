@@ -1,5 +1,5 @@
 -- The spelling of a step: the one line of a script that asks for it, byte by byte.
-use Rattle.std.specs.Prelude.{ℕ, ◌^◌, ◌<◌, List, [], ◌∷◌, map, codes, decimal, Option, Some, None}
+use Rattle.std.specs.Prelude.{ℕ, ◌^◌, ◌<◌, List, [], ◌∷◌, ◌++◌, map, codes, decimal, Option, Some, None}
 use Rattle.std.specs.List.{join_with_byte, AllByRecursion}
 use Rattle.fz_model.specs.declared.kinds.ObjKind.{ObjKind}
 use Rattle.fz_model.specs.declared.kinds.ObjKind.TheVariants.{Scanned, Atomic}
@@ -7,14 +7,16 @@ use Rattle.fz_model.specs.declared.kinds.RegKind.{RegKind}
 use Rattle.fz_model.specs.declared.kinds.RegKind.TheVariants.{Normal, IgnoreSelf, NoOrder}
 use Rattle.fz_model.specs.declared.kinds.LinkKind.{LinkKind}
 use Rattle.fz_model.specs.declared.kinds.LinkKind.TheVariants.{Short, Long}
+use Rattle.fz_model.specs.declared.places.Slot.{Slot}
+use Rattle.fz_model.specs.declared.places.Place.{Place}
 use Rattle.fz_script.specs.declared.step.Step.{Step}
 use Rattle.fz_script.specs.declared.step.Step.TheVariants.{Open, New, Set, Copy, Load, Store, Register, Unregister, Link, Unlink, Move, Begin, Mark, Pause, Collect, Take, Hold, Finish, Forfeit, Close, Outstanding}
 
--- one word of a line (not of the heap): a number, a rank, or letters that stand for themselves
-pub data Word : Type 0 where
-  Number : (n : ℕ) → Word
-  Rank : (n : ℕ) → Word
-  Text : (letters : List ℕ) → Word
+-- one word of a line: a number, a rank, or letters that stand for themselves
+pub data Token : Type 0 where
+  Number : (n : ℕ) → Token
+  Rank : (n : ℕ) → Token
+  Text : (letters : List ℕ) → Token
 
 abbrev pub obj_kind : ObjKind → List ℕ
 obj_kind Scanned = codes "scanned"
@@ -29,48 +31,47 @@ abbrev pub link_kind : LinkKind → List ℕ
 link_kind Short = codes "short"
 link_kind Long = codes "long"
 
+-- the number of the frame, and then that of the slot
+abbrev pub slot_words : Slot → List Token
+slot_words slot = Number slot.frame ∷ Number slot.slot ∷ []
+
+abbrev pub place_words : Place → List Token
+place_words place = slot_words place.slot ++ Number place.offset ∷ []
+
 -- a rank may be left out
-abbrev pub rank_words : Option ℕ → List Word
+abbrev pub rank_words : Option ℕ → List Token
 rank_words None = []
 rank_words (Some rank) = Rank rank ∷ []
 
 -- The words of a step's line, in their order: the verb, then its fields.
 -- A further verb is one more clause here; all else that is said of a line follows from it.
-abbrev pub words : Step → List Word
+abbrev pub words : Step → List Token
 words (Open blocks frames workers) =
     Text (codes "open") ∷ Number blocks ∷ Number frames ∷ Number workers ∷ []
-words (New frame slot size kind) =
-    Text (codes "new") ∷ Number frame ∷ Number slot ∷ Number size ∷ Text (obj_kind kind) ∷ []
-words (Set frame slot word) = Text (codes "set") ∷ Number frame ∷ Number slot ∷ Number word ∷ []
-words (Copy frame slot to_frame to_slot) =
-    Text (codes "copy") ∷ Number frame ∷ Number slot ∷ Number to_frame ∷ Number to_slot ∷ []
-words (Load frame slot offset to_frame to_slot) =
-    Text (codes "load") ∷ Number frame ∷ Number slot ∷ Number offset ∷ Number to_frame ∷ Number to_slot ∷ []
-words (Store frame slot offset from_frame from_slot) =
-    Text (codes "store") ∷ Number frame ∷ Number slot ∷ Number offset ∷ Number from_frame ∷ Number from_slot ∷ []
-words (Register frame slot kind procedure client_data rank) =
-    Text (codes "register") ∷ Number frame ∷ Number slot ∷ Text (reg_kind kind) ∷ Number procedure ∷ Number client_data ∷ rank_words rank
-words (Unregister frame slot) = Text (codes "unregister") ∷ Number frame ∷ Number slot ∷ []
-words (Link which frame slot offset target_frame target_slot) =
-    Text (codes "link") ∷ Text (link_kind which) ∷ Number frame ∷ Number slot ∷ Number offset ∷ Number target_frame ∷ Number target_slot ∷ []
-words (Unlink which frame slot offset) =
-    Text (codes "unlink") ∷ Text (link_kind which) ∷ Number frame ∷ Number slot ∷ Number offset ∷ []
-words (Move which frame slot offset to_frame to_slot to_offset) =
-    Text (codes "move") ∷ Text (link_kind which) ∷ Number frame ∷ Number slot ∷ Number offset ∷ Number to_frame ∷ Number to_slot ∷ Number to_offset ∷ []
+words (New slot size kind) = Text (codes "new") ∷ slot_words slot ++ Number size ∷ Text (obj_kind kind) ∷ []
+words (Set slot word) = Text (codes "set") ∷ slot_words slot ++ Number word ∷ []
+words (Copy slot to) = Text (codes "copy") ∷ slot_words slot ++ slot_words to
+words (Load place to) = Text (codes "load") ∷ place_words place ++ slot_words to
+words (Store place from) = Text (codes "store") ∷ place_words place ++ slot_words from
+words (Register slot kind procedure client_data rank) =
+    Text (codes "register") ∷ slot_words slot ++ Text (reg_kind kind) ∷ Number procedure ∷ Number client_data ∷ rank_words rank
+words (Unregister slot) = Text (codes "unregister") ∷ slot_words slot
+words (Link which place target) = Text (codes "link") ∷ Text (link_kind which) ∷ place_words place ++ slot_words target
+words (Unlink which place) = Text (codes "unlink") ∷ Text (link_kind which) ∷ place_words place
+words (Move which place to) = Text (codes "move") ∷ Text (link_kind which) ∷ place_words place ++ place_words to
 words Begin = Text (codes "begin") ∷ []
 words (Mark budget) = Text (codes "mark") ∷ Number budget ∷ []
 words Pause = Text (codes "pause") ∷ []
 words Collect = Text (codes "collect") ∷ []
 words (Take worker) = Text (codes "take") ∷ Number worker ∷ []
-words (Hold worker frame slot) =
-    Text (codes "hold") ∷ Number worker ∷ Number frame ∷ Number slot ∷ []
+words (Hold worker slot) = Text (codes "hold") ∷ Number worker ∷ slot_words slot
 words (Finish worker) = Text (codes "finish") ∷ Number worker ∷ []
 words (Forfeit worker) = Text (codes "forfeit") ∷ Number worker ∷ []
 words Close = Text (codes "close") ∷ []
 words Outstanding = Text (codes "outstanding") ∷ []
 
 -- a number is in decimal: digits alone, and no zero before another digit
-abbrev pub text : Word → List ℕ
+abbrev pub text : Token → List ℕ
 text (Number n) = decimal n
 text (Rank n) = decimal n
 text (Text letters) = letters
@@ -80,10 +81,10 @@ abbrev pub spelling : Step → List ℕ
 spelling step = join_with_byte 32 (map text (words step))
 
 -- a number on a line is at most 2 ^ 64 - 1, and a rank at most 255
-abbrev pub IsWord : Word → Type 0
-IsWord (Number n) = n < 2 ^ 64
-IsWord (Rank n) = n < 2 ^ 8
-IsWord (Text letters) = Unit {0}
+abbrev pub IsToken : Token → Type 0
+IsToken (Number n) = n < 2 ^ 64
+IsToken (Rank n) = n < 2 ^ 8
+IsToken (Text letters) = Unit {0}
 
 abbrev pub Fits : Step → Type 0
-Fits step = AllByRecursion IsWord (words step)
+Fits step = AllByRecursion IsToken (words step)

@@ -2,10 +2,10 @@
 
 ghost use Rattle.std.specs.Prelude.{◌≡◌, ◌<◌, ◌+◌, length, get_or, List, ℕ, Option, IfSome, None};
 ghost use Rattle.std.specs.Int.{IsInRange};
-ghost use Rattle.fz_script.specs.Reading.{words_left, with_rest, number, number_at, byte, byte_at, optional_at, obj_kind_at, reg_kind_at, link_kind_at, two_at, three_at};
+ghost use Rattle.fz_script.specs.Reading.{words_left, with_rest, number, number_at, byte, byte_at, optional_at, slot_at, place_at, obj_kind_at, reg_kind_at, link_kind_at, two_at, three_at};
 
 use crate::words::Words;
-use fz_model::{LinkKind, ObjKind, RegKind};
+use fz_model::{LinkKind, ObjKind, Place, RegKind, Slot};
 
 /// What stands in one word of a line, or in several.
 pub(crate) trait Field: Sized {
@@ -29,6 +29,24 @@ impl Field for u8 {
 
     fn read(words: &mut Words<'_>) -> Option<u8> {
         byte_of(words.next()?)
+    }
+}
+
+impl Field for Slot {
+    ghost reads = { slot_at };
+
+    fn read(words: &mut Words<'_>) -> Option<Slot> {
+        let (frame, slot) = words.read()?;
+        Some(Slot { frame, slot })
+    }
+}
+
+impl Field for Place {
+    ghost reads = { place_at };
+
+    fn read(words: &mut Words<'_>) -> Option<Place> {
+        let (slot, offset) = words.read()?;
+        Some(Place { slot, offset })
     }
 }
 

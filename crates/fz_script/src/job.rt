@@ -11,12 +11,12 @@ use crate::fields::Field;
 use crate::reading::step_of;
 use crate::step::Step;
 use crate::words::Words;
-use fz_model::{ObjKind, RegKind};
+use fz_model::{ObjKind, RegKind, Slot};
 
 /// What one line of a threads file asks for, with the fields of the line in their order.
 ///
 /// A threads file opens a world, says how often it is collected at the end, and then has sections, each
-/// of which is the work of one thread. Frames, slots, sizes and steps are those of a script.
+/// of which is the work of one thread. Slots, sizes and steps are those of a script.
 #[derive(Clone, Copy, Debug, PartialEq, Eq)]
 pub enum Job {
     /// The second line of a file: how the run ends.
@@ -32,8 +32,7 @@ pub enum Job {
     Churn {
         /// How many objects: from 1 to 10,000.
         count: u64,
-        frame: u64,
-        slot: u64,
+        slot: Slot,
         size: u64,
         kind: ObjKind,
         /// The kind of each registration.
@@ -146,10 +145,9 @@ impl Keyword {
 fn read_churn(words: &mut Words<'_>) -> Option<Job>
     ensures { made_at ToChurn (words_left words.old) ≡ with_rest result (words_left words.new) }
 {
-    let ((count, frame, slot), (size, kind), (finalizer_kind, procedure)) = words.read()?;
+    let ((count, slot), (size, kind), (finalizer_kind, procedure)) = words.read()?;
     Some(Job::Churn {
         count,
-        frame,
         slot,
         size,
         kind,

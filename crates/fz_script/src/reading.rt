@@ -83,71 +83,48 @@ fn read_open(words: &mut Words<'_>) -> Option<Step>
 fn read_new(words: &mut Words<'_>) -> Option<Step>
     ensures { named_at (codes "new") (words_left words.old) ≡ with_rest result (words_left words.new) }
 {
-    let ((frame, slot), size, kind) = words.read()?;
-    Some(Step::New {
-        frame,
-        slot,
-        size,
-        kind,
-    })
+    let (slot, size, kind) = words.read()?;
+    Some(Step::New { slot, size, kind })
 }
 
 #[tactic(auto, unfolding(crate::specs::Reading::named_at))]
 fn read_set(words: &mut Words<'_>) -> Option<Step>
     ensures { named_at (codes "set") (words_left words.old) ≡ with_rest result (words_left words.new) }
 {
-    let (frame, slot, word) = words.read()?;
-    Some(Step::Set { frame, slot, word })
+    let (slot, word) = words.read()?;
+    Some(Step::Set { slot, word })
 }
 
 #[tactic(auto, unfolding(crate::specs::Reading::named_at))]
 fn read_copy(words: &mut Words<'_>) -> Option<Step>
     ensures { named_at (codes "copy") (words_left words.old) ≡ with_rest result (words_left words.new) }
 {
-    let ((frame, slot), (to_frame, to_slot)) = words.read()?;
-    Some(Step::Copy {
-        frame,
-        slot,
-        to_frame,
-        to_slot,
-    })
+    let (slot, to) = words.read()?;
+    Some(Step::Copy { slot, to })
 }
 
 #[tactic(auto, unfolding(crate::specs::Reading::named_at))]
 fn read_load(words: &mut Words<'_>) -> Option<Step>
     ensures { named_at (codes "load") (words_left words.old) ≡ with_rest result (words_left words.new) }
 {
-    let ((frame, slot, offset), (to_frame, to_slot)) = words.read()?;
-    Some(Step::Load {
-        frame,
-        slot,
-        offset,
-        to_frame,
-        to_slot,
-    })
+    let (place, to) = words.read()?;
+    Some(Step::Load { place, to })
 }
 
 #[tactic(auto, unfolding(crate::specs::Reading::named_at))]
 fn read_store(words: &mut Words<'_>) -> Option<Step>
     ensures { named_at (codes "store") (words_left words.old) ≡ with_rest result (words_left words.new) }
 {
-    let ((frame, slot, offset), (from_frame, from_slot)) = words.read()?;
-    Some(Step::Store {
-        frame,
-        slot,
-        offset,
-        from_frame,
-        from_slot,
-    })
+    let (place, from) = words.read()?;
+    Some(Step::Store { place, from })
 }
 
 #[tactic(auto, unfolding(crate::specs::Reading::named_at))]
 fn read_register(words: &mut Words<'_>) -> Option<Step>
     ensures { named_at (codes "register") (words_left words.old) ≡ with_rest result (words_left words.new) }
 {
-    let ((frame, slot), kind, (procedure, client_data, rank)) = words.read()?;
+    let (slot, kind, (procedure, client_data, rank)) = words.read()?;
     Some(Step::Register {
-        frame,
         slot,
         kind,
         procedure,
@@ -160,22 +137,20 @@ fn read_register(words: &mut Words<'_>) -> Option<Step>
 fn read_unregister(words: &mut Words<'_>) -> Option<Step>
     ensures { named_at (codes "unregister") (words_left words.old) ≡ with_rest result (words_left words.new) }
 {
-    let (frame, slot) = words.read()?;
-    Some(Step::Unregister { frame, slot })
+    Some(Step::Unregister {
+        slot: words.read()?,
+    })
 }
 
 #[tactic(auto, unfolding(crate::specs::Reading::named_at))]
 fn read_link(words: &mut Words<'_>) -> Option<Step>
     ensures { named_at (codes "link") (words_left words.old) ≡ with_rest result (words_left words.new) }
 {
-    let (which, (frame, slot, offset), (target_frame, target_slot)) = words.read()?;
+    let (which, place, target) = words.read()?;
     Some(Step::Link {
         which,
-        frame,
-        slot,
-        offset,
-        target_frame,
-        target_slot,
+        place,
+        target,
     })
 }
 
@@ -183,29 +158,16 @@ fn read_link(words: &mut Words<'_>) -> Option<Step>
 fn read_unlink(words: &mut Words<'_>) -> Option<Step>
     ensures { named_at (codes "unlink") (words_left words.old) ≡ with_rest result (words_left words.new) }
 {
-    let (which, (frame, slot, offset)) = words.read()?;
-    Some(Step::Unlink {
-        which,
-        frame,
-        slot,
-        offset,
-    })
+    let (which, place) = words.read()?;
+    Some(Step::Unlink { which, place })
 }
 
 #[tactic(auto, unfolding(crate::specs::Reading::named_at))]
 fn read_move(words: &mut Words<'_>) -> Option<Step>
     ensures { named_at (codes "move") (words_left words.old) ≡ with_rest result (words_left words.new) }
 {
-    let (which, (frame, slot, offset), (to_frame, to_slot, to_offset)) = words.read()?;
-    Some(Step::Move {
-        which,
-        frame,
-        slot,
-        offset,
-        to_frame,
-        to_slot,
-        to_offset,
-    })
+    let (which, place, to) = words.read()?;
+    Some(Step::Move { which, place, to })
 }
 
 #[tactic(auto, unfolding(crate::specs::Reading::named_at))]
@@ -230,12 +192,8 @@ fn read_take(words: &mut Words<'_>) -> Option<Step>
 fn read_hold(words: &mut Words<'_>) -> Option<Step>
     ensures { named_at (codes "hold") (words_left words.old) ≡ with_rest result (words_left words.new) }
 {
-    let (worker, frame, slot) = words.read()?;
-    Some(Step::Hold {
-        worker,
-        frame,
-        slot,
-    })
+    let (worker, slot) = words.read()?;
+    Some(Step::Hold { worker, slot })
 }
 
 #[tactic(auto, unfolding(crate::specs::Reading::named_at))]

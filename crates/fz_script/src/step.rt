@@ -1,13 +1,12 @@
 //! The steps of a script.
 
-use fz_model::{LinkKind, ObjKind, RegKind};
+use fz_model::{LinkKind, ObjKind, Place, RegKind, Slot};
 
 /// One step of a script, with the fields of its line in their order.
 ///
-/// Frames, the slots of each frame and workers are counted from 0. A slot holds one word; where a
-/// step speaks of the object of a slot, it means what that word points to. Sizes and offsets are
-/// in words, and an offset is added to the word in the slot. The fields are as they were read:
-/// whether a number names something that exists is for the step's call to answer.
+/// Workers are counted from 0, and sizes are in words. Where a step speaks of the object of a slot,
+/// it means what the slot's word points to. The fields are as they were read: whether a number names
+/// something that exists is for the step's call to answer.
 #[derive(Clone, Copy, Debug, PartialEq, Eq)]
 pub enum Step {
     /// Opens a world of blocks of 64 words and frames of 16 slots, as many as it names, for its
@@ -19,45 +18,34 @@ pub enum Step {
     },
     /// Allocates an object of `size` words and puts its address into the slot.
     New {
-        frame: u64,
-        slot: u64,
+        slot: Slot,
         size: u64,
         kind: ObjKind,
     },
     /// Puts a word into the slot. 0 lets go of what the slot pointed to.
     Set {
-        frame: u64,
-        slot: u64,
+        slot: Slot,
         word: u64,
     },
     /// Copies the word of a slot into another slot.
     Copy {
-        frame: u64,
-        slot: u64,
-        to_frame: u64,
-        to_slot: u64,
+        slot: Slot,
+        to: Slot,
     },
-    /// Reads a word of the object of a slot, and puts it into another slot.
+    /// Puts the word at a place into a slot.
     Load {
-        frame: u64,
-        slot: u64,
-        offset: u64,
-        to_frame: u64,
-        to_slot: u64,
+        place: Place,
+        to: Slot,
     },
-    /// Writes the word of the last-named slot into the object of the first.
+    /// Writes the word of a slot at a place.
     Store {
-        frame: u64,
-        slot: u64,
-        offset: u64,
-        from_frame: u64,
-        from_slot: u64,
+        place: Place,
+        from: Slot,
     },
     /// Registers the object that begins at the slot's word for finalization. An earlier
     /// registration of the object is replaced.
     Register {
-        frame: u64,
-        slot: u64,
+        slot: Slot,
         kind: RegKind,
         /// The number of the procedure that is to finalize the object.
         procedure: u64,
@@ -68,36 +56,25 @@ pub enum Step {
     },
     /// Takes back the registration of the object that begins at the slot's word.
     Unregister {
-        frame: u64,
-        slot: u64,
+        slot: Slot,
     },
-    /// Makes a word of the slot's object a disappearing link to the object that begins at the
-    /// target slot's word. A link that was there gets the new target.
+    /// Makes the word at the place a disappearing link to the object that begins at the target
+    /// slot's word. A link that was there gets the new target.
     Link {
         which: LinkKind,
-        frame: u64,
-        slot: u64,
-        offset: u64,
-        target_frame: u64,
-        target_slot: u64,
+        place: Place,
+        target: Slot,
     },
-    /// Makes a word of the slot's object a plain word again.
+    /// Makes the word at the place a plain word again.
     Unlink {
         which: LinkKind,
-        frame: u64,
-        slot: u64,
-        offset: u64,
+        place: Place,
     },
-    /// Moves a disappearing link, with its target, from a word of the first slot's object to a word
-    /// of the second's.
+    /// Moves a disappearing link, with its target, from one place to another.
     Move {
         which: LinkKind,
-        frame: u64,
-        slot: u64,
-        offset: u64,
-        to_frame: u64,
-        to_slot: u64,
-        to_offset: u64,
+        place: Place,
+        to: Place,
     },
     /// Opens a cycle of collection.
     Begin,
@@ -118,8 +95,7 @@ pub enum Step {
     /// Puts the object of the entry in the worker's hand into the slot.
     Hold {
         worker: u64,
-        frame: u64,
-        slot: u64,
+        slot: Slot,
     },
     /// The worker is done with the entry in its hand, which keeps its object no longer.
     Finish {

@@ -1,7 +1,7 @@
 //! Lines of each verb and each job, and lines that are none.
 
 use crate::{Job, Step, job_of, step_of};
-use fz_model::{LinkKind, ObjKind, RegKind};
+use fz_model::{LinkKind, ObjKind, Place, RegKind, Slot};
 use std::process::Abort;
 use std::str;
 
@@ -26,8 +26,7 @@ const EACH_VERB: [(&[u8], Step); 21] = [
     (
         b"new 0 1 2 atomic",
         Step::New {
-            frame: 0,
-            slot: 1,
+            slot: Slot { frame: 0, slot: 1 },
             size: 2,
             kind: ObjKind::Atomic,
         },
@@ -35,82 +34,86 @@ const EACH_VERB: [(&[u8], Step); 21] = [
     (
         b"set 0 1 18446744073709551615",
         Step::Set {
-            frame: 0,
-            slot: 1,
+            slot: Slot { frame: 0, slot: 1 },
             word: u64::MAX,
         },
     ),
     (
         b"copy 0 1 2 3",
         Step::Copy {
-            frame: 0,
-            slot: 1,
-            to_frame: 2,
-            to_slot: 3,
+            slot: Slot { frame: 0, slot: 1 },
+            to: Slot { frame: 2, slot: 3 },
         },
     ),
     (
         b"load 0 1 2 3 4",
         Step::Load {
-            frame: 0,
-            slot: 1,
-            offset: 2,
-            to_frame: 3,
-            to_slot: 4,
+            place: Place {
+                slot: Slot { frame: 0, slot: 1 },
+                offset: 2,
+            },
+            to: Slot { frame: 3, slot: 4 },
         },
     ),
     (
         b"store 0 1 2 3 4",
         Step::Store {
-            frame: 0,
-            slot: 1,
-            offset: 2,
-            from_frame: 3,
-            from_slot: 4,
+            place: Place {
+                slot: Slot { frame: 0, slot: 1 },
+                offset: 2,
+            },
+            from: Slot { frame: 3, slot: 4 },
         },
     ),
     (
         b"register 0 1 ignore_self 7 65536",
         Step::Register {
-            frame: 0,
-            slot: 1,
+            slot: Slot { frame: 0, slot: 1 },
             kind: RegKind::IgnoreSelf,
             procedure: 7,
             client_data: 65536,
             rank: None,
         },
     ),
-    (b"unregister 0 1", Step::Unregister { frame: 0, slot: 1 }),
+    (
+        b"unregister 0 1",
+        Step::Unregister {
+            slot: Slot { frame: 0, slot: 1 },
+        },
+    ),
     (
         b"link short 0 1 2 3 4",
         Step::Link {
             which: LinkKind::Short,
-            frame: 0,
-            slot: 1,
-            offset: 2,
-            target_frame: 3,
-            target_slot: 4,
+            place: Place {
+                slot: Slot { frame: 0, slot: 1 },
+                offset: 2,
+            },
+            target: Slot { frame: 3, slot: 4 },
         },
     ),
     (
         b"unlink long 0 1 2",
         Step::Unlink {
             which: LinkKind::Long,
-            frame: 0,
-            slot: 1,
-            offset: 2,
+            place: Place {
+                slot: Slot { frame: 0, slot: 1 },
+                offset: 2,
+            },
         },
     ),
     (
         b"move long 0 1 2 3 4 5",
         Step::Move {
             which: LinkKind::Long,
-            frame: 0,
-            slot: 1,
-            offset: 2,
-            to_frame: 3,
-            to_slot: 4,
-            to_offset: 5,
+            place: Place {
+                slot: Slot { frame: 0, slot: 1 },
+                offset: 2,
+            },
+            to: Place {
+                slot: Slot { frame: 3, slot: 4 },
+                offset: 5,
+            },
         },
     ),
     (b"begin", Step::Begin),
@@ -122,8 +125,7 @@ const EACH_VERB: [(&[u8], Step); 21] = [
         b"hold 0 1 2",
         Step::Hold {
             worker: 0,
-            frame: 1,
-            slot: 2,
+            slot: Slot { frame: 1, slot: 2 },
         },
     ),
     (b"finish 1", Step::Finish { worker: 1 }),
@@ -142,8 +144,7 @@ fn reads_each_verb(rt: HostRuntime) {
 #[test]
 fn reads_the_other_kinds(rt: HostRuntime) {
     let new = Step::New {
-        frame: 0,
-        slot: 0,
+        slot: Slot { frame: 0, slot: 0 },
         size: 64,
         kind: ObjKind::Scanned,
     };
@@ -153,8 +154,7 @@ fn reads_the_other_kinds(rt: HostRuntime) {
         (b"register 0 0 no_order 1 2", RegKind::NoOrder),
     ] {
         let register = Step::Register {
-            frame: 0,
-            slot: 0,
+            slot: Slot { frame: 0, slot: 0 },
             kind,
             procedure: 1,
             client_data: 2,
@@ -171,8 +171,7 @@ fn reads_ranks(rt: HostRuntime) {
         (b"register 0 0 normal 1 2 255", 255),
     ] {
         let register = Step::Register {
-            frame: 0,
-            slot: 0,
+            slot: Slot { frame: 0, slot: 0 },
             kind: RegKind::Normal,
             procedure: 1,
             client_data: 2,
@@ -231,8 +230,7 @@ fn reads_each_job(rt: HostRuntime) {
             b"churn 1 2 3 4 atomic no_order 5",
             Job::Churn {
                 count: 1,
-                frame: 2,
-                slot: 3,
+                slot: Slot { frame: 2, slot: 3 },
                 size: 4,
                 kind: ObjKind::Atomic,
                 finalizer_kind: RegKind::NoOrder,
@@ -243,8 +241,7 @@ fn reads_each_job(rt: HostRuntime) {
             b"churn 10000 0 0 1 scanned normal 0",
             Job::Churn {
                 count: 10_000,
-                frame: 0,
-                slot: 0,
+                slot: Slot { frame: 0, slot: 0 },
                 size: 1,
                 kind: ObjKind::Scanned,
                 finalizer_kind: RegKind::Normal,

@@ -4,7 +4,7 @@ use Rattle.fz_script.specs.Spelling as spelling
 use Rattle.fz_text.specs.declared.output.Word.{Word}
 use Rattle.fz_text.specs.declared.output.Word.TheVariants.{Text, Number}
 
-abbrev pub said : Word → spelling.Word
+abbrev pub said : Word → spelling.Token
 said (Text letters) = spelling.Text letters.now
 said (Number n) = spelling.Number n
 

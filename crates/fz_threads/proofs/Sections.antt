@@ -13,7 +13,7 @@ use Rattle.fz_threads.specs.Holds.{turns_of}
 use Rattle.fz_threads.specs.Jobs.{Asked, asked_jobs, IsThreadsFile}
 
 turns_few : (job : Job) → MayStand job → turns_of job ≤ 10000
-turns_few (Churn count frame slot size kind finalizer_kind procedure) h = h.1
+turns_few (Churn count slot size kind finalizer_kind procedure) h = h.1
 turns_few (Settle collections) h = omega arith
 turns_few Mutator h = omega arith
 turns_few Collector h = omega arith

@@ -33,16 +33,16 @@ is_refused hold = is_err hold.reply
 
 -- the call for which a step of a section asks; no other step has one here
 abbrev pub calls_of : Step → List Event
-calls_of (New frame slot size kind) = events.Alloc frame slot size kind ∷ []
-calls_of (Set frame slot word) = events.Set frame slot word ∷ []
-calls_of (Copy frame slot to_frame to_slot) = events.Copy frame slot to_frame to_slot ∷ []
-calls_of (Load frame slot offset to_frame to_slot) = events.Load frame slot offset to_frame to_slot ∷ []
-calls_of (Store frame slot offset from_frame from_slot) = events.Store frame slot offset from_frame from_slot ∷ []
-calls_of (Register frame slot kind procedure client_data rank) = events.Register frame slot kind procedure client_data (unwrap_or rank 0) ∷ []
-calls_of (Unregister frame slot) = events.Unregister frame slot ∷ []
-calls_of (Link which frame slot offset target_frame target_slot) = events.Link which frame slot offset target_frame target_slot ∷ []
-calls_of (Unlink which frame slot offset) = events.Unlink which frame slot offset ∷ []
-calls_of (Move which frame slot offset to_frame to_slot to_offset) = events.MoveLink which frame slot offset to_frame to_slot to_offset ∷ []
+calls_of (New slot size kind) = events.Alloc slot.frame slot.slot size kind ∷ []
+calls_of (Set slot word) = events.Set slot.frame slot.slot word ∷ []
+calls_of (Copy slot to) = events.Copy slot.frame slot.slot to.frame to.slot ∷ []
+calls_of (Load place to) = events.Load place.slot.frame place.slot.slot place.offset to.frame to.slot ∷ []
+calls_of (Store place from) = events.Store place.slot.frame place.slot.slot place.offset from.frame from.slot ∷ []
+calls_of (Register slot kind procedure client_data rank) = events.Register slot.frame slot.slot kind procedure client_data (unwrap_or rank 0) ∷ []
+calls_of (Unregister slot) = events.Unregister slot.frame slot.slot ∷ []
+calls_of (Link which place target) = events.Link which place.slot.frame place.slot.slot place.offset target.frame target.slot ∷ []
+calls_of (Unlink which place) = events.Unlink which place.slot.frame place.slot.slot place.offset ∷ []
+calls_of (Move which place to) = events.MoveLink which place.slot.frame place.slot.slot place.offset to.slot.frame to.slot.slot to.offset ∷ []
 calls_of Begin = events.Begin ∷ []
 calls_of (Mark budget) = events.Mark budget ∷ []
 calls_of Pause = events.Pause ∷ []
@@ -63,8 +63,8 @@ pub data AreTurns {origin : Origin} (new register drop : List Event) : ℕ → L
 -- the holds of one job
 abbrev pub Carries : {origin : Origin} → Job → List (Hold origin) → Type 0
 Carries (One step) holds = map event_in holds ≡ calls_of step
-Carries (Churn count frame slot size kind finalizer_kind procedure) holds =
-    AreTurns (events.Alloc frame slot size kind ∷ []) (events.Register frame slot finalizer_kind procedure 0 0 ∷ []) (events.Set frame slot 0 ∷ []) count holds
+Carries (Churn count slot size kind finalizer_kind procedure) holds =
+    AreTurns (events.Alloc slot.frame slot.slot size kind ∷ []) (events.Register slot.frame slot.slot finalizer_kind procedure 0 0 ∷ []) (events.Set slot.frame slot.slot 0 ∷ []) count holds
 Carries _ holds = holds ≡ []
 
 -- the holds of these jobs, one after another
@@ -74,7 +74,7 @@ pub data Works {origin : Origin} : List Job → List (Hold origin) → Type 0 wh
 
 -- how many turns a job has
 abbrev pub turns_of : Job → ℕ
-turns_of (Churn count frame slot size kind finalizer_kind procedure) = count
+turns_of (Churn count slot size kind finalizer_kind procedure) = count
 turns_of _ = 0
 
 abbrev pub begins_section : Job → Bool

@@ -30,16 +30,16 @@ is_settle _ = false
 
 -- the steps of a mutator
 abbrev pub is_mutators : Step → Bool
-is_mutators (New frame slot size kind) = true
-is_mutators (Set frame slot word) = true
-is_mutators (Copy frame slot to_frame to_slot) = true
-is_mutators (Load frame slot offset to_frame to_slot) = true
-is_mutators (Store frame slot offset from_frame from_slot) = true
-is_mutators (Register frame slot kind procedure client_data rank) = true
-is_mutators (Unregister frame slot) = true
-is_mutators (Link which frame slot offset target_frame target_slot) = true
-is_mutators (Unlink which frame slot offset) = true
-is_mutators (Move which frame slot offset to_frame to_slot to_offset) = true
+is_mutators (New slot size kind) = true
+is_mutators (Set slot word) = true
+is_mutators (Copy slot to) = true
+is_mutators (Load place to) = true
+is_mutators (Store place from) = true
+is_mutators (Register slot kind procedure client_data rank) = true
+is_mutators (Unregister slot) = true
+is_mutators (Link which place target) = true
+is_mutators (Unlink which place) = true
+is_mutators (Move which place to) = true
 is_mutators _ = false
 
 -- the steps of the collector
@@ -65,7 +65,7 @@ abbrev pub may_come : Stage → Job → Bool
 may_come stage (Settle collections) = false
 may_come stage Mutator = nat_lt stage.mutators 8
 may_come stage Collector = nat_lt stage.collectors 1
-may_come stage (Churn count frame slot size kind finalizer_kind procedure) = may_churn stage.actor
+may_come stage (Churn count slot size kind finalizer_kind procedure) = may_churn stage.actor
 may_come stage (One step) = is_step_of stage.actor step
 
 -- the stage after the job

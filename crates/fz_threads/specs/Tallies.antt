@@ -1,15 +1,15 @@
 -- The summary of a run of a threads file.
 use Rattle.std.specs.Prelude.{ℕ, List, [], ◌∷◌, flat_map, codes}
-use Rattle.fz_script.specs.Spelling.{Word, Text, Number}
+use Rattle.fz_script.specs.Spelling.{Token, Text, Number}
 use Rattle.fz_text.specs.Written.{text_line}
 use Rattle.fz_threads.specs.declared.tally.Tally.{Tally}
 
 -- a name and its number
-abbrev pub named : List ℕ → ℕ → List Word
+abbrev pub named : List ℕ → ℕ → List Token
 named name number = Text name ∷ Number number ∷ []
 
 -- the lines of a summary, in their order
-abbrev pub summary_lines : Tally → List (List Word)
+abbrev pub summary_lines : Tally → List (List Token)
 summary_lines tally =
     named (codes "enqueued") tally.enqueued ∷ named (codes "finished") tally.finished ∷ named (codes "forfeited") tally.forfeited
     ∷ named (codes "left") tally.left ∷ named (codes "passes") tally.passes ∷ named (codes "reclaimed") tally.reclaimed

@@ -12,72 +12,73 @@ fn carry_out<O: Opening>(locked: &mut Locked<O>, step: Step) -> bool
     ensures { Carried (calls_of step) locked.old.world result locked.new.world }
 {
     match step {
-        Step::New {
-            frame,
-            slot,
-            size,
-            kind,
-        } => locked.alloc(frame, slot, size, kind).is_err(),
-        Step::Set { frame, slot, word } => locked.set(frame, slot, word).is_err(),
-        Step::Copy {
-            frame,
-            slot,
-            to_frame,
-            to_slot,
-        } => locked.copy(frame, slot, to_frame, to_slot).is_err(),
-        Step::Load {
-            frame,
-            slot,
-            offset,
-            to_frame,
-            to_slot,
-        } => locked.load(frame, slot, offset, to_frame, to_slot).is_err(),
-        Step::Store {
-            frame,
-            slot,
-            offset,
-            from_frame,
-            from_slot,
-        } => locked
-            .store(frame, slot, offset, from_frame, from_slot)
+        Step::New { slot, size, kind } => locked.alloc(slot.frame, slot.slot, size, kind).is_err(),
+        Step::Set { slot, word } => locked.set(slot.frame, slot.slot, word).is_err(),
+        Step::Copy { slot, to } => locked
+            .copy(slot.frame, slot.slot, to.frame, to.slot)
+            .is_err(),
+        Step::Load { place, to } => locked
+            .load(
+                place.slot.frame,
+                place.slot.slot,
+                place.offset,
+                to.frame,
+                to.slot,
+            )
+            .is_err(),
+        Step::Store { place, from } => locked
+            .store(
+                place.slot.frame,
+                place.slot.slot,
+                place.offset,
+                from.frame,
+                from.slot,
+            )
             .is_err(),
         Step::Register {
-            frame,
             slot,
             kind,
             procedure,
             client_data,
             rank,
         } => locked
-            .register(frame, slot, kind, procedure, client_data, rank.unwrap_or(0))
+            .register(
+                slot.frame,
+                slot.slot,
+                kind,
+                procedure,
+                client_data,
+                rank.unwrap_or(0),
+            )
             .is_err(),
-        Step::Unregister { frame, slot } => locked.unregister(frame, slot).is_err(),
+        Step::Unregister { slot } => locked.unregister(slot.frame, slot.slot).is_err(),
         Step::Link {
             which,
-            frame,
-            slot,
-            offset,
-            target_frame,
-            target_slot,
+            place,
+            target,
         } => locked
-            .link(which, frame, slot, offset, target_frame, target_slot)
+            .link(
+                which,
+                place.slot.frame,
+                place.slot.slot,
+                place.offset,
+                target.frame,
+                target.slot,
+            )
             .is_err(),
-        Step::Unlink {
-            which,
-            frame,
-            slot,
-            offset,
-        } => locked.unlink(which, frame, slot, offset).is_err(),
-        Step::Move {
-            which,
-            frame,
-            slot,
-            offset,
-            to_frame,
-            to_slot,
-            to_offset,
-        } => locked
-            .move_link(which, frame, slot, offset, to_frame, to_slot, to_offset)
+        Step::Unlink { which, place } => locked
+            .unlink(which, place.slot.frame, place.slot.slot, place.offset)
+            .is_err(),
+        Step::Move { which, place, to } => locked
+            .move_link(
+                which,
+                place.slot.frame,
+                place.slot.slot,
+                place.offset,
+                to.slot.frame,
+                to.slot.slot,
+                to.offset,
+            )
             .is_err(),
         Step::Begin => locked.begin().is_err(),
         Step::Mark { budget } => locked.mark(budget).is_err(),

@@ -59,7 +59,6 @@ fn carry<O: Opening, R: Wait>(service: &Service<O>, job: Job, rt: &R) -> u64
         Job::One(step) => hold_for(service, step, rt) as u64,
         Job::Churn {
             count,
-            frame,
             slot,
             size,
             kind,
@@ -68,25 +67,15 @@ fn carry<O: Opening, R: Wait>(service: &Service<O>, job: Job, rt: &R) -> u64
         } => turns(
             service,
             count,
-            Step::New {
-                frame,
-                slot,
-                size,
-                kind,
-            },
+            Step::New { slot, size, kind },
             Step::Register {
-                frame,
                 slot,
                 kind: finalizer_kind,
                 procedure,
                 client_data: 0,
                 rank: None,
             },
-            Step::Set {
-                frame,
-                slot,
-                word: 0,
-            },
+            Step::Set { slot, word: 0 },
             rt,
         ),
         Job::Settle { .. } | Job::Mutator | Job::Collector => 0,

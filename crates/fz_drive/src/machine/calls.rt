@@ -5,72 +5,63 @@ ghost use Rattle.fz_model.specs.Events.{Alloc, Set, Copy, Load, Store, Register,
 ghost use Rattle.fz_drive.specs.Calls.{CallDoes};
 
 use crate::reply::Reply;
-use fz_model::{LinkKind, ObjKind, Refusal, RegKind};
+use fz_model::{LinkKind, ObjKind, Place, Refusal, RegKind, Slot};
 use fz_world::World;
 
 #[tactic(auto, using(crate::proofs::Calls::call_answers, crate::proofs::Calls::call_refuses))]
 #[inline(never)]
 pub(super) fn alloc(
     world: &mut World,
-    frame: u64,
-    slot: u64,
+    slot: Slot,
     size: u64,
     kind: ObjKind,
 ) -> Result<Reply, Refusal>
-    ensures { CallDoes world.old (Alloc frame slot size kind) result world.new }
+    ensures { CallDoes world.old (Alloc slot.frame slot.slot size kind) result world.new }
 {
-    let (address, birth) = world.alloc(frame, slot, size, kind)?;
+    let (address, birth) = world.alloc(slot.frame, slot.slot, size, kind)?;
     Ok(Reply::Allocated { address, birth })
 }
 
 #[tactic(auto, using(crate::proofs::Calls::call_answers, crate::proofs::Calls::call_refuses))]
-pub(super) fn set(world: &mut World, frame: u64, slot: u64, word: u64) -> Result<Reply, Refusal>
-    ensures { CallDoes world.old (Set frame slot word) result world.new }
+pub(super) fn set(world: &mut World, slot: Slot, word: u64) -> Result<Reply, Refusal>
+    ensures { CallDoes world.old (Set slot.frame slot.slot word) result world.new }
 {
-    world.set(frame, slot, word)?;
+    world.set(slot.frame, slot.slot, word)?;
     Ok(Reply::Done)
 }
 
 #[tactic(auto, using(crate::proofs::Calls::call_answers, crate::proofs::Calls::call_refuses))]
-pub(super) fn copy(
-    world: &mut World,
-    frame: u64,
-    slot: u64,
-    to_frame: u64,
-    to_slot: u64,
-) -> Result<Reply, Refusal>
-    ensures { CallDoes world.old (Copy frame slot to_frame to_slot) result world.new }
+pub(super) fn copy(world: &mut World, slot: Slot, to: Slot) -> Result<Reply, Refusal>
+    ensures { CallDoes world.old (Copy slot.frame slot.slot to.frame to.slot) result world.new }
 {
-    world.copy(frame, slot, to_frame, to_slot)?;
+    world.copy(slot.frame, slot.slot, to.frame, to.slot)?;
     Ok(Reply::Done)
 }
 
 #[tactic(auto, using(crate::proofs::Calls::call_answers, crate::proofs::Calls::call_refuses))]
-pub(super) fn load(
-    world: &mut World,
-    frame: u64,
-    slot: u64,
-    offset: u64,
-    to_frame: u64,
-    to_slot: u64,
-) -> Result<Reply, Refusal>
-    ensures { CallDoes world.old (Load frame slot offset to_frame to_slot) result world.new }
+pub(super) fn load(world: &mut World, place: Place, to: Slot) -> Result<Reply, Refusal>
+    ensures { CallDoes world.old (Load place.slot.frame place.slot.slot place.offset to.frame to.slot) result world.new }
 {
-    Ok(Reply::Word(world.load(frame, slot, offset, to_frame, to_slot)?))
+    Ok(Reply::Word(world.load(
+        place.slot.frame,
+        place.slot.slot,
+        place.offset,
+        to.frame,
+        to.slot,
+    )?))
 }
 
 #[tactic(auto, using(crate::proofs::Calls::call_answers, crate::proofs::Calls::call_refuses))]
-pub(super) fn store(
-    world: &mut World,
-    frame: u64,
-    slot: u64,
-    offset: u64,
-    from_frame: u64,
-    from_slot: u64,
-) -> Result<Reply, Refusal>
-    ensures { CallDoes world.old (Store frame slot offset from_frame from_slot) result world.new }
+pub(super) fn store(world: &mut World, place: Place, from: Slot) -> Result<Reply, Refusal>
+    ensures { CallDoes world.old (Store place.slot.frame place.slot.slot place.offset from.frame from.slot) result world.new }
 {
-    world.store(frame, slot, offset, from_frame, from_slot)?;
+    world.store(
+        place.slot.frame,
+        place.slot.slot,
+        place.offset,
+        from.frame,
+        from.slot,
+    )?;
     Ok(Reply::Done)
 }
 
@@ -78,18 +69,17 @@ pub(super) fn store(
 #[inline(never)]
 pub(super) fn register(
     world: &mut World,
-    frame: u64,
-    slot: u64,
+    slot: Slot,
     kind: RegKind,
     procedure: u64,
     client_data: u64,
     rank: Option<u8>,
 ) -> Result<Reply, Refusal>
-    ensures { CallDoes world.old (Register frame slot kind procedure client_data (unwrap_or rank 0)) result world.new }
+    ensures { CallDoes world.old (Register slot.frame slot.slot kind procedure client_data (unwrap_or rank 0)) result world.new }
 {
     Ok(Reply::Registered(world.register(
-        frame,
-        slot,
+        slot.frame,
+        slot.slot,
         kind,
         procedure,
         client_data,
@@ -99,10 +89,10 @@ pub(super) fn register(
 
 #[tactic(auto, using(crate::proofs::Calls::call_answers, crate::proofs::Calls::call_refuses))]
 #[inline(never)]
-pub(super) fn unregister(world: &mut World, frame: u64, slot: u64) -> Result<Reply, Refusal>
-    ensures { CallDoes world.old (Unregister frame slot) result world.new }
+pub(super) fn unregister(world: &mut World, slot: Slot) -> Result<Reply, Refusal>
+    ensures { CallDoes world.old (Unregister slot.frame slot.slot) result world.new }
 {
-    Ok(Reply::Unregistered(world.unregister(frame, slot)?))
+    Ok(Reply::Unregistered(world.unregister(slot.frame, slot.slot)?))
 }
 
 #[tactic(auto, using(crate::proofs::Calls::call_answers, crate::proofs::Calls::call_refuses))]
@@ -110,29 +100,27 @@ pub(super) fn unregister(world: &mut World, frame: u64, slot: u64) -> Result<Rep
 pub(super) fn link(
     world: &mut World,
     which: LinkKind,
-    frame: u64,
-    slot: u64,
-    offset: u64,
-    target_frame: u64,
-    target_slot: u64,
+    place: Place,
+    target: Slot,
 ) -> Result<Reply, Refusal>
-    ensures { CallDoes world.old (Link which frame slot offset target_frame target_slot) result world.new }
+    ensures { CallDoes world.old (Link which place.slot.frame place.slot.slot place.offset target.frame target.slot) result world.new }
 {
-    Ok(Reply::Linked(world.link(which, frame, slot, offset, target_frame, target_slot)?))
+    Ok(Reply::Linked(world.link(
+        which,
+        place.slot.frame,
+        place.slot.slot,
+        place.offset,
+        target.frame,
+        target.slot,
+    )?))
 }
 
 #[tactic(auto, using(crate::proofs::Calls::call_answers, crate::proofs::Calls::call_refuses))]
 #[inline(never)]
-pub(super) fn unlink(
-    world: &mut World,
-    which: LinkKind,
-    frame: u64,
-    slot: u64,
-    offset: u64,
-) -> Result<Reply, Refusal>
-    ensures { CallDoes world.old (Unlink which frame slot offset) result world.new }
+pub(super) fn unlink(world: &mut World, which: LinkKind, place: Place) -> Result<Reply, Refusal>
+    ensures { CallDoes world.old (Unlink which place.slot.frame place.slot.slot place.offset) result world.new }
 {
-    Ok(Reply::Unlinked(world.unlink(which, frame, slot, offset)?))
+    Ok(Reply::Unlinked(world.unlink(which, place.slot.frame, place.slot.slot, place.offset)?))
 }
 
 #[tactic(auto, using(crate::proofs::Calls::call_answers, crate::proofs::Calls::call_refuses))]
@@ -140,16 +128,20 @@ pub(super) fn unlink(
 pub(super) fn move_link(
     world: &mut World,
     which: LinkKind,
-    frame: u64,
-    slot: u64,
-    offset: u64,
-    to_frame: u64,
-    to_slot: u64,
-    to_offset: u64,
+    place: Place,
+    to: Place,
 ) -> Result<Reply, Refusal>
-    ensures { CallDoes world.old (MoveLink which frame slot offset to_frame to_slot to_offset) result world.new }
+    ensures { CallDoes world.old (MoveLink which place.slot.frame place.slot.slot place.offset to.slot.frame to.slot.slot to.offset) result world.new }
 {
-    Ok(Reply::Moved(world.move_link(which, frame, slot, offset, to_frame, to_slot, to_offset)?))
+    Ok(Reply::Moved(world.move_link(
+        which,
+        place.slot.frame,
+        place.slot.slot,
+        place.offset,
+        to.slot.frame,
+        to.slot.slot,
+        to.offset,
+    )?))
 }
 
 #[tactic(auto, using(crate::proofs::Calls::call_answers, crate::proofs::Calls::call_refuses))]

@@ -19,7 +19,7 @@ pub returns-in-Store : goal.returns-in-Store
 returns-in-Store g c = carried _ _ _ _ _ _ _ c.in-Store.is refl c.store.ensures.step c.is_err-in-Store.ensures.value
 
 pub returns-in-Register : goal.returns-in-Register
-returns-in-Register g c = carried _ _ _ _ _ _ _ c.in-Register.is (ap (λ rank. events.Register c.in-Register.frame c.in-Register.slot c.in-Register.kind c.in-Register.procedure c.in-Register.client_data rank ∷ []) (sym c.unwrap_or.ensures)) c.register.ensures.step c.is_err-in-Register.ensures.value
+returns-in-Register g c = carried _ _ _ _ _ _ _ c.in-Register.is (ap (λ rank. events.Register c.in-Register.slot.frame c.in-Register.slot.slot c.in-Register.kind c.in-Register.procedure c.in-Register.client_data rank ∷ []) (sym c.unwrap_or.ensures)) c.register.ensures.step c.is_err-in-Register.ensures.value
 
 pub returns-in-Unregister : goal.returns-in-Unregister
 returns-in-Unregister g c = carried _ _ _ _ _ _ _ c.in-Unregister.is refl c.unregister.ensures.step c.is_err-in-Unregister.ensures.value
