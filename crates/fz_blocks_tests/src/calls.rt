@@ -20,7 +20,7 @@ pub(crate) fn must_refuse(rt: &impl Abort, alloc: Global, counts: &[u64]) {
     }
 }
 
-/// The map has to have so many blocks.
+/// The map has to have this number of blocks.
 pub(crate) fn must_have_blocks(rt: &impl Abort, map: &BlockMap, want: u64) {
     must_equal(rt, &map.blocks(), &want, &"blocks");
 }
@@ -47,7 +47,7 @@ pub(crate) fn must_claim(
     }
 }
 
-/// Claims so many objects of one size and kind, which have to stand side by side from the heap's first word on.
+/// Claims `count` objects of one size and kind, which have to stand side by side from the heap's first word on.
 pub(crate) fn must_claim_row(
     rt: &impl Abort,
     map: &mut BlockMap,
@@ -83,7 +83,7 @@ pub(crate) fn must_condemn(rt: &impl Abort, map: &mut BlockMap, starts: &[Addr])
     }
 }
 
-/// Condemns so many objects, which have to start word by word from the heap's first on.
+/// Condemns `count` objects, which have to start word by word from the heap's first on.
 pub(crate) fn must_condemn_row(rt: &impl Abort, map: &mut BlockMap, count: u64) {
     let mut start = HEAP_START;
     for _ in 0..count {
@@ -162,7 +162,7 @@ fn condemn_in(map: &mut BlockMap, block: u64, places: u64) -> u64 {
     map.condemn_in(block, places)
 }
 
-/// Condemns by bits in a block; so many objects have to start there.
+/// Condemns by bits in a block, where this number of objects has to start.
 pub(crate) fn must_condemn_in(
     rt: &impl Abort,
     map: &mut BlockMap,

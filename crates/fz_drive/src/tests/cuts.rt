@@ -27,7 +27,7 @@ fn can_have_a_rank(line: &[u8]) -> bool {
     line.starts_with(b"register ") && line.iter().filter(|byte| **byte == b' ').count() == 5
 }
 
-/// Whether what is left of a line that was cut is nothing, or a step: nothing was cut off, or its rank, or digits of its last number.
+/// Whether a cut line is no fault: nothing is left of it, or nothing was cut off, or its rank was, or digits of its last number.
 fn is_no_fault(line: &[u8], cut_off: &[u8]) -> bool {
     match (line, cut_off) {
         ([], _) => true,

@@ -135,7 +135,7 @@ const ONE_PASS: [(&[u8], u64, u64); 12] = [
     (b"mutator\nmutator\nnew 1 0 1 scanned\n", 0, 0),
 ];
 
-/// Runs a threads file of one pass, which queues so many entries and reclaims so many objects. The place tells which file of a test it is.
+/// Runs a threads file of one pass, which queues this number of entries and reclaims that of objects. The place tells which file of a test it is.
 fn passes_once<R: AllocGlobal + Abort + Threads + Wait + Sync>(
     rt: &R,
     place: usize,
