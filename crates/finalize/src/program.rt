@@ -3,11 +3,12 @@
 ghost use Rattle.std.specs.Prelude.{◌≡◌, ◌≢◌, ◌≤◌, ◌⊎◌, ◌+◌, List, [], ◌∷◌, ℕ, Option, IfErr, IfOk, IfSome, IsNone, codes, length, map, option_map, slice_get, Err, Some};
 ghost use Rattle.clap.specs.Words.{app_of, kind_of};
 ghost use Rattle.finalize.specs.Words.{TakesFiles};
-ghost use Rattle.finalize.specs.Program.{want_line, memory_line, open_line, fault_line, name_of, IsFile, Names, Completes, Stops};
+ghost use Rattle.finalize.specs.Program.{want_line, open_line, memory_line, fault_line, name_of, IsFile, Names, Completes, Stops, IsUntouched, ReadFrom, RanOn, SaysWhyNot, AreForWorkers};
 ghost use Rattle.fz_text.specs.Devices.{Says};
 ghost use Rattle.fz_drive.specs.Report.{failures_of};
 ghost use Rattle.fz_text.specs.declared.fault.DriveFault.{DriveFault};
 
+use crate::shelf::Shelf;
 use crate::stream::Stream;
 use clap::error::ErrorKind;
 use clap::{Arg, Command, Error};
@@ -18,10 +19,8 @@ use fz_text::{DriveFault, Failures, Sink, write_all};
 use fz_threads::drive_threads;
 use std::alloc::{AllocError, Global};
 use std::convert::AsStr;
-use std::fs;
 use std::io::Read;
 use std::marker::Brand;
-use std::rt::Files;
 use std::sync::Wait;
 use std::sync::ledger::{Blank, Ledger};
 use std::thread::Threads;
@@ -106,13 +105,15 @@ pub(crate) fn out_of_memory<E: Sink>(err: &mut E) -> u8
 /// Carries out the words; returns the exit status: 0 where a script or a threads file was carried
 /// out to its end, 2 where the words are wrong, and 1 for every other fault. The worker at each
 /// place has the list of procedures at that place.
-pub(crate) fn execute<R: Files + AllocGlobal + Threads + Wait + Sync, S: AsStr, O: Sink, E: Sink>(
+pub(crate) fn execute<F: Shelf, R: AllocGlobal + Threads + Wait + Sync, S: AsStr, O: Sink, E: Sink>(
+    files: &F,
     rt: &R,
     words: &[S],
     out: &mut O,
     err: &mut E,
     procs: Vec<Vec<Box<dyn Proc + Send>>>,
 ) -> u8
+    requires procs { AreForWorkers procs.items }
     ensures known { result ≤ 2 }
     // Any words but two are wrong.
     ensures counted { length words.now ≢ 2 → result ≡ 2 }
@@ -121,26 +122,27 @@ pub(crate) fn execute<R: Files + AllocGlobal + Threads + Wait + Sync, S: AsStr, 
     // A program's name and a file are right.
     ensures taken { (program : Program) → (file : List ℕ) → map S.text words.now ≡ name_of program ∷ file ∷ [] → IsFile file → result ≢ 2 }
     // Of wrong words nothing is written but the line that says so.
-    ensures wrong { result ≡ 2 → (O.written out.new ≡ O.written out.old) × (O.failures out.new ≡ O.failures out.old) × Says (E.written err.old) (E.failures err.old) want_line (E.written err.new) (E.failures err.new) }
-    // Where it succeeds, the words name a program, and what was written is its whole report or summary. (What a file holds, no contract can tell.)
-    ensures reported { result ≡ 0 → ((program : Program) × Names program (map S.text words.now) × ((input : Option (List ℕ)) × Completes program input (O.written out.old) (O.written out.new))) × (O.failures out.new ≡ O.failures out.old) × (E.written err.new ≡ E.written err.old) }
+    ensures wrong { result ≡ 2 → IsUntouched (O.written out.old) (O.failures out.old) (O.written out.new) (O.failures out.new) × Says (E.written err.old) (E.failures err.old) want_line (E.written err.new) (E.failures err.new) }
+    // Where it succeeds, the words name a program, and what was written is its whole report or summary of the file that they name.
+    ensures reported { result ≡ 0 → RanOn (F.holds files.now) (map S.text words.now) (λ program input. Completes program input (O.written out.old) (O.written out.new)) × (O.failures out.new ≡ O.failures out.old) × (E.written err.new ≡ E.written err.old) }
     // Where it fails, either nothing could be run, or the program that the words name stopped, and what was written ends where its fault says.
     ensures failed { result ≡ 1 →
-        ((O.written out.new ≡ O.written out.old) × (O.failures out.new ≡ O.failures out.old) × ((line : List ℕ) × ((line ≡ memory_line) ⊎ (line ≡ open_line)) × Says (E.written err.old) (E.failures err.old) line (E.written err.new) (E.failures err.new)))
-        ⊎ ((program : Program) × Names program (map S.text words.now) × ((fault : DriveFault) × ((input : Option (List ℕ)) × Stops program input (O.written out.old) (O.written out.new) fault) × (O.failures out.new ≡ O.failures out.old + failures_of Refusal.Output (Err fault)) × Says (E.written err.old) (E.failures err.old) (fault_line fault.refusal) (E.written err.new) (E.failures err.new))) }
+        (IsUntouched (O.written out.old) (O.failures out.old) (O.written out.new) (O.failures out.new) × SaysWhyNot (E.written err.old) (E.failures err.old) (E.written err.new) (E.failures err.new))
+        ⊎ ((fault : DriveFault) × RanOn (F.holds files.now) (map S.text words.now) (λ program input. Stops program input (O.written out.old) (O.written out.new) fault) × (O.failures out.new ≡ O.failures out.old + failures_of Refusal.Output (Err fault)) × Says (E.written err.old) (E.failures err.old) (fault_line fault.refusal) (E.written err.new) (E.failures err.new)) }
 {
     let Some(program) = program_of(words) else {
         return wrong_words(err);
     };
     match file_of(rt.alloc(), words) {
-        Ok(Some(file)) => run_file(rt, program, file, out, err, procs),
+        Ok(Some(file)) => run_file(files, rt, program, file, out, err, procs),
         Err(error) if error.kind() == ErrorKind::OutOfMemory => out_of_memory(err),
         _ => wrong_words(err),
     }
 }
 
 /// Runs the program on this file.
-fn run_file<R: Files + AllocGlobal + Threads + Wait + Sync, O: Sink, E: Sink>(
+fn run_file<F: Shelf, R: AllocGlobal + Threads + Wait + Sync, O: Sink, E: Sink>(
+    files: &F,
     rt: &R,
     program: Program,
     file: &str,
@@ -148,13 +150,14 @@ fn run_file<R: Files + AllocGlobal + Threads + Wait + Sync, O: Sink, E: Sink>(
     err: &mut E,
     procs: Vec<Vec<Box<dyn Proc + Send>>>,
 ) -> u8
+    requires procs { AreForWorkers procs.items }
     ensures known { result ≤ 1 }
-    ensures reported { result ≡ 0 → ((input : Option (List ℕ)) × Completes program input (O.written out.old) (O.written out.new)) × (O.failures out.new ≡ O.failures out.old) × (E.written err.new ≡ E.written err.old) }
+    ensures reported { result ≡ 0 → ReadFrom (F.holds files.now) file.now (λ input. Completes program input (O.written out.old) (O.written out.new)) × (O.failures out.new ≡ O.failures out.old) × (E.written err.new ≡ E.written err.old) }
     ensures failed { result ≡ 1 →
-        ((O.written out.new ≡ O.written out.old) × (O.failures out.new ≡ O.failures out.old) × Says (E.written err.old) (E.failures err.old) open_line (E.written err.new) (E.failures err.new))
-        ⊎ ((fault : DriveFault) × ((input : Option (List ℕ)) × Stops program input (O.written out.old) (O.written out.new) fault) × (O.failures out.new ≡ O.failures out.old + failures_of Refusal.Output (Err fault)) × Says (E.written err.old) (E.failures err.old) (fault_line fault.refusal) (E.written err.new) (E.failures err.new)) }
+        (IsUntouched (O.written out.old) (O.failures out.old) (O.written out.new) (O.failures out.new) × Says (E.written err.old) (E.failures err.old) open_line (E.written err.new) (E.failures err.new))
+        ⊎ ((fault : DriveFault) × ReadFrom (F.holds files.now) file.now (λ input. Stops program input (O.written out.old) (O.written out.new) fault) × (O.failures out.new ≡ O.failures out.old + failures_of Refusal.Output (Err fault)) × Says (E.written err.old) (E.failures err.old) (fault_line fault.refusal) (E.written err.new) (E.failures err.new)) }
 {
-    let Ok(opened) = fs::open(rt, file) else {
+    let Some(opened) = files.open_named(file) else {
         return say(err, b"finalize: cannot open file\n", 1);
     };
     match program {
@@ -200,6 +203,7 @@ fn run_threads<I: Read + Drop, O: Sink, E: Sink, R: AllocGlobal + Threads + Wait
     procs: Vec<Vec<Box<dyn Proc + Send>>>,
     ledger: Blank,
 ) -> u8
+    requires procs { AreForWorkers procs.items }
     requires name { ledger.name ≡ L.name }
     requires parts { (ledger.parts ≡ L.parts) × (L.parts ≡ 1) }
     ensures known { result ≤ 1 }

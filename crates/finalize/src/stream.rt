@@ -1,10 +1,38 @@
 //! The standard library's readers and writers, with their failures counted.
 
-ghost use Rattle.std.specs.Prelude.{◌≡◌, None};
+ghost use Rattle.std.specs.Prelude.{◌≡◌, ℕ, ◌+◌, ◌<◌, ◌≤◌, List, Option, None, length, take, unwrap_or, ⊤};
+ghost use Rattle.std.specs.Io.KnownBytes.{Appends};
+ghost use Rattle.fz_text.specs.Devices.{write_failures};
+ghost use Rattle.finalize.specs.Streams.{taken_of};
 
 use fz_text::{Failures, Sink, Source};
 use std::io;
 use std::sync::ledger::Ledger;
+
+/// A writer, each of whose calls contracts can name.
+pub(crate) trait Outlet {
+    /// The bytes that it holds, if it can tell.
+    ghost contents: { Self → Option (List ℕ) };
+    /// Whether a call with these bytes can reply so, and leave it so.
+    ghost replies: { Self → List ℕ → Option ℕ → Self → Type 0 };
+
+    /// Writes some of the bytes from the front; returns how many. `None` says that the write failed.
+    fn put(&mut self, bytes: &[u8]) -> Option<usize>
+        ensures bound { (unwrap_or result 0) ≤ length bytes.now }
+        ensures bytes { Appends (contents self.old) (contents self.new) (take (unwrap_or result 0) bytes.now) }
+        ensures reply { replies self.old bytes.now result self.new };
+}
+
+// Of what a call of such a writer comes to nothing is known.
+impl<W: io::Write> Outlet for W {
+    ghost contents = { λ w. W.contents w };
+
+    ghost replies = { λ _ _ _ _. ⊤ };
+
+    fn put(&mut self, bytes: &[u8]) -> Option<usize> {
+        self.write(bytes).ok()
+    }
+}
 
 /// A stream, whose failed calls are counted.
 #[derive(Drop)]
@@ -37,21 +65,27 @@ impl<S: io::Read, L: Ledger> Source for Stream<S, L> {
     }
 }
 
-impl<S: io::Write, L: Ledger> Sink for Stream<S, L> {
+impl<S: Outlet, L: Ledger> Sink for Stream<S, L> {
     ghost written = { λ s. S.contents s.inner };
 
     ghost failures = { λ s. s.failures };
 
-    fn write(&mut self, bytes: &[u8]) -> Option<usize> {
+    fn write(&mut self, bytes: &[u8]) -> Option<usize>
+        ensures bound { (unwrap_or result 0) ≤ length bytes.now }
+        ensures bytes { Appends (S.contents self.old.inner) (S.contents self.new.inner) (take (unwrap_or result 0) bytes.now) }
+        ensures failures { self.new.failures ≡ self.old.failures + write_failures (length bytes.now) result }
+        // It fails only where the writer, asked to write these bytes, failed or took none of them.
+        ensures asked { 0 < length bytes.now → (reply : Option ℕ) × S.replies self.old.inner bytes.now reply self.new.inner × (result ≡ taken_of reply) }
+    {
         if bytes.is_empty() {
             return Some(0);
         }
-        match self.inner.write(bytes) {
-            Ok(0) | Err(_) => {
+        match self.inner.put(bytes) {
+            Some(0) | None => {
                 self.failures.count();
                 None
             }
-            Ok(count) => Some(count),
+            Some(count) => Some(count),
         }
     }
 }

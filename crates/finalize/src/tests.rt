@@ -48,6 +48,7 @@ fn say_counted<O: Ledger, E: Ledger, R: Files + AllocGlobal + Threads + Wait + S
     let mut err = ArrayVec::new();
     let status = with_procedures(
         rt,
+        rt,
         words,
         &mut Stream::new(&mut out, Failures::<O>::none(output)),
         &mut Stream::new(&mut err, Failures::<E>::none(error)),
@@ -79,6 +80,7 @@ fn say_within_counted<O: Ledger, E: Ledger, R: Files + AllocGlobal + Threads + W
     let mut out = MemorySink::new(Pieces::Single, writes as u64, Failures::<O>::none(output));
     let mut err = ArrayVec::new();
     let status = with_procedures(
+        rt,
         rt,
         words,
         &mut out,

@@ -3,7 +3,8 @@ use Rattle.std.proofs.Common.{◌≡◌, ◌≢◌, ℕ, suc, ◌+◌, ◌-◌, 
 use Rattle.std.proofs.Math.Nat.{div-add-mod, mul_comm, div-lt_iff_lt-mul, le-div_iff_mul-le}
 use Rattle.std.proofs.lemmas.Bool.{and_from, cases_eq, cases_lt, cases_Bool, eq-eqb, ne_eqb, eqb-true, and_parts, both_ways, true≢false, leb-true}
 use Rattle.std.proofs.lemmas.Nat.{leading_top, and_le_l, and_mask, pow_pos}
-use Rattle.std.proofs.lemmas.Nat.Bits.{bit_at_and, bit_at_or, bit_at-trailing_zeros, bit_at_set_same, bit_at_set_other, bit_at_clear_same, bit_at_clear_other, bit_at_above, bit_at_ones, bit_at_ones_above, ones_shr, same_from_bits, bit_at-lt}
+use Rattle.std.proofs.lemmas.Nat.Bits.{bit_at_and, bit_at_or, bit_at-trailing_zeros, bit_at_set_same, bit_at_set_other, bit_at_above, bit_at_ones, bit_at_ones_above, ones_shr, same_from_bits, bit_at-lt}
+use Rattle.std.specs.Int.Bits.{or_zero_l}
 use Rattle.std.specs.Int.{bit_at, bit_not, trailing_zeros}
 use Rattle.std.specs.Int.Count.{count_leading_zeros}
 use Rattle.fz_model.specs.Bits.{has_bit}
@@ -82,19 +83,8 @@ set_bit n k i lt =
     (λ (ne : i ≢ k). ap (λ n. nat_eq n 1) (bit_at_set_other w64 n k lt i ne) ∙ sym (ap (λ t. t || has_bit n i) (ne_eqb i k ne)))
     (cases_eq i k)
 
-pub clear_bit : (n k i : ℕ) → n < 2 ^ 64 → k < 64 → has_bit (bit_and n (bit_not w64 (1 * 2 ^ k % 2 ^ 64))) i ≡ (not (i == k) && has_bit n i)
-clear_bit n k i fits lt =
-    ⊎_elim
-    (λ (is : i ≡ k). ap (λ n. nat_eq n 1) (ap (bit_at (bit_and n (bit_not w64 (1 * 2 ^ k % 2 ^ 64)))) is ∙ bit_at_clear_same w64 n k lt) ∙ sym (ap (λ t. not t && has_bit n i) (eq-eqb i k is)))
-    (λ (ne : i ≢ k). ap (λ n. nat_eq n 1) (other ne) ∙ sym (ap (λ t. not t && has_bit n i) (ne_eqb i k ne)))
-    (cases_eq i k)
-  where
-    other : i ≢ k → bit_at (bit_and n (bit_not w64 (1 * 2 ^ k % 2 ^ 64))) i ≡ bit_at n i
-    other ne =
-        ⊎_elim
-        (λ (in_word : i < 64). bit_at_clear_other w64 n k lt i in_word ne)
-        (λ (past : 64 ≤ i). let both = bit_at_and n (bit_not w64 (1 * 2 ^ k % 2 ^ 64)) i in let zero = bit_at_above n 64 i fits past in omega (arith, both, zero))
-        (cases_lt i 64)
+pub one_bit : (k i : ℕ) → k < 64 → has_bit (1 * 2 ^ k % 2 ^ 64) i ≡ (i == k)
+one_bit k i lt = ap (λ n. has_bit n i) (sym (or_zero_l (1 * 2 ^ k % 2 ^ 64))) ∙ set_bit 0 k i lt ∙ ap (λ t. (i == k) || t) (no_bits i) ∙ elim (i == k) as (λ t. (t || false) ≡ t) [ true ↦ refl | false ↦ refl ]
 
 -- ---- the lowest and the highest bit
 

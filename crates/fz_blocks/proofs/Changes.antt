@@ -1,91 +1,107 @@
 -- What one changed block does to the extents and to the runs.
-use Rattle.std.proofs.Common.{◌≡◌, ◌≢◌, ℕ, ◌+◌, ◌-◌, ◌*◌, ◌/◌, ◌%◌, ◌<◌, ◌≤◌, Bool, true, false, cond, not, ◌||◌, ◌&&◌, ◌==◌, List, length, set, Option, Some, None, option_and_then, slice_get, nat_lt, nat_eq, nat_cmp, refl, sym, ap, ◌∙◌, subst, ⊎_elim, arith}
-use Rattle.std.proofs.lemmas.Bool.{cond-true, cond-false, cases_eq, cases_lt, eq-eqb, ne_eqb, lt-ltb, le-ltb}
+use Rattle.std.proofs.Common.{◌≡◌, ◌≢◌, ℕ, ◌+◌, ◌-◌, ◌*◌, ◌/◌, ◌%◌, ◌<◌, ◌≤◌, Bool, true, false, cond, not, ◌||◌, ◌&&◌, ◌==◌, List, length, set, Option, Some, None, option_and_then, slice_get, refl, sym, ap, ◌∙◌, subst, ⊎_elim, arith}
+use Rattle.std.proofs.lemmas.Bool.{cond-true, cases_eq, eq-eqb, ne_eqb}
 use Rattle.std.proofs.lemmas.Option.{same_Some, slice_get_within}
-use Rattle.std.specs.Cmp.{nat_cmp_total, unsigned_tied}
-use Rattle.std.specs.Ordering.{eq_by_cmp}
-use Rattle.std.specs.FinMap.{insert, remove, same_map, get-insert, get-remove, nat_cmp-IsAntisymmetric}
+use Rattle.std.specs.FinMap.{get, insert, retain_keys}
 use Rattle.fz_model.specs.declared.extent.Extent.{Extent}
 use Rattle.fz_model.specs.Allocation.{block_start}
+use Rattle.fz_model.specs.Bits.{has_bit}
+use Rattle.fz_model.specs.State.{Map}
+use Rattle.fz_model.proofs.Maps.{get-insert_same, get-insert_other, get-retain}
 use Rattle.fz_blocks.specs.declared.block.Block.{Block}
-use Rattle.fz_blocks.specs.Blocks.{starts_at, extent_of, extent_in, IsAlike, Claims, Condemns}
-use Rattle.fz_blocks.specs.Layout.{extent_at, extents_in, IsLater, AreRuns}
+use Rattle.fz_blocks.specs.Blocks.{starts_at, extent_of, extent_in, IsAlike, Claims, CondemnsAll}
+use Rattle.fz_blocks.specs.Claimed.{stands_at}
+use Rattle.fz_blocks.specs.Layout.{extents_in, IsLater, AreRuns}
 use Rattle.fz_blocks.proofs.Bits.{cell_fits}
-use Rattle.fz_blocks.proofs.Extents.{get-extents_in}
-use Rattle.fz_blocks.proofs.Tables.{slice_get-set}
+use Rattle.fz_blocks.proofs.Extents.{low_extent, get-place, extents_are}
+use Rattle.fz_blocks.proofs.Listed.{slice_get-set_same, slice_get-set_other}
+
+-- whether an address is one of some places of a block
+pub stands_place : (b c places p : ℕ) → p < 64 → stands_at b places (block_start c + p) ≡ ((c == b) && has_bit places p)
+stands_place b c places p small =
+    let block_is : (block_start c + p - 65536) / 64 ≡ c = omega (arith, small) in
+    let place_is : (block_start c + p - 65536) % 64 ≡ p = omega (arith, small) in
+    ap (λ n. (n == b) && has_bit places ((block_start c + p - 65536) % 64)) block_is ∙ ap (λ q. (c == b) && has_bit places q) place_is
 
 module _ (blocks : List Block) (b : ℕ) (old new : Block) (here : slice_get blocks b ≡ Some old) where
   in_list : b < length blocks
   in_list = slice_get_within blocks b old here
 
-  -- an extent comes or goes at one place of the block
-  at-set : (place : ℕ) (v : Option Extent) → place < 64 → ((p : ℕ) → p < 64 → extent_in p new ≡ cond (nat_eq p place) v (extent_in p old)) → (a : ℕ) → extent_at (set blocks b new) a ≡ cond (nat_eq a (block_start b + place)) v (extent_at blocks a)
-  at-set place v small one a =
+  -- the map after the change: in other blocks as it was, in this one by what the block is
+  changed_extents : (m : Map Extent) → ((a : ℕ) → a < 65536 → get m a ≡ None) → ((c p : ℕ) → c ≢ b → p < 64 → get m (block_start c + p) ≡ get (extents_in blocks) (block_start c + p)) → ((p : ℕ) → p < 64 → get m (block_start b + p) ≡ extent_in p new) → extents_in (set blocks b new) ≡ m
+  changed_extents m low others own =
+      extents_are (set blocks b new) m low (λ c p small.
       ⊎_elim
-      (λ (low : a < 65536).
-      cond-true (nat_lt a 65536) None (option_and_then (extent_in ((a - 65536) % 64)) (slice_get (set blocks b new) ((a - 65536) / 64))) (lt-ltb a 65536 low)
-      ∙ sym (cond-true (nat_lt a 65536) None (option_and_then (extent_in ((a - 65536) % 64)) (slice_get blocks ((a - 65536) / 64))) (lt-ltb a 65536 low))
-      ∙ sym (cond-false (nat_eq a (block_start b + place)) v (extent_at blocks a) (ne_eqb a (block_start b + place) (λ e. omega (arith, e, low)))))
-      (λ (high : 65536 ≤ a). opened high (set blocks b new) ∙ ap (option_and_then (extent_in ((a - 65536) % 64))) (slice_get-set blocks b new in_list ((a - 65536) / 64)) ∙ ⊎_elim (own high) (elsewhere high) (cases_eq ((a - 65536) / 64) b))
-      (cases_lt a 65536)
-    where
-      opened : 65536 ≤ a → (bs : List Block) → extent_at bs a ≡ option_and_then (extent_in ((a - 65536) % 64)) (slice_get bs ((a - 65536) / 64))
-      opened high bs = cond-false (nat_lt a 65536) None (option_and_then (extent_in ((a - 65536) % 64)) (slice_get bs ((a - 65536) / 64))) (le-ltb a 65536 high)
+      (λ (is : c ≡ b). ap (λ c. get m (block_start c + p)) is ∙ own p small ∙ sym (ap (option_and_then (extent_in p)) (ap (slice_get (set blocks b new)) is ∙ slice_get-set_same blocks b new in_list)))
+      (λ (ne : c ≢ b). others c p ne small ∙ get-place blocks c p small ∙ sym (ap (option_and_then (extent_in p)) (slice_get-set_other blocks b c new ne)))
+      (cases_eq c b))
 
-      elsewhere : 65536 ≤ a → (a - 65536) / 64 ≢ b → option_and_then (extent_in ((a - 65536) % 64)) (cond (nat_eq ((a - 65536) / 64) b) (Some new) (slice_get blocks ((a - 65536) / 64))) ≡ cond (nat_eq a (block_start b + place)) v (extent_at blocks a)
-      elsewhere high ne =
-          ap (option_and_then (extent_in ((a - 65536) % 64))) (cond-false (nat_eq ((a - 65536) / 64) b) (Some new) (slice_get blocks ((a - 65536) / 64)) (ne_eqb ((a - 65536) / 64) b ne))
-          ∙ sym (opened high blocks)
-          ∙ sym (cond-false (nat_eq a (block_start b + place)) v (extent_at blocks a) (ne_eqb a (block_start b + place) (λ e. ne (omega (arith, e, small)))))
+  was_inside : (p : ℕ) → p < 64 → get (extents_in blocks) (block_start b + p) ≡ extent_in p old
+  was_inside p small = get-place blocks b p small ∙ ap (option_and_then (extent_in p)) here
 
-      own : 65536 ≤ a → (a - 65536) / 64 ≡ b → option_and_then (extent_in ((a - 65536) % 64)) (cond (nat_eq ((a - 65536) / 64) b) (Some new) (slice_get blocks ((a - 65536) / 64))) ≡ cond (nat_eq a (block_start b + place)) v (extent_at blocks a)
-      own high same =
-          ap (option_and_then (extent_in ((a - 65536) % 64))) (cond-true (nat_eq ((a - 65536) / 64) b) (Some new) (slice_get blocks ((a - 65536) / 64)) (eq-eqb ((a - 65536) / 64) b same))
-          ∙ one ((a - 65536) % 64) (omega arith)
-          ∙ ap (cond (nat_eq ((a - 65536) % 64) place) v) (sym (opened high blocks ∙ ap (option_and_then (extent_in ((a - 65536) % 64))) (ap (slice_get blocks) same ∙ here)))
-          ∙ ap (λ t. cond t v (extent_at blocks a)) (⊎_elim
-          (λ (is : (a - 65536) % 64 ≡ place). eq-eqb ((a - 65536) % 64) place is ∙ sym (eq-eqb a (block_start b + place) (omega (arith, is, same, high))))
-          (λ (ne : (a - 65536) % 64 ≢ place). ne_eqb ((a - 65536) % 64) place ne ∙ sym (ne_eqb a (block_start b + place) (λ e. ne (omega (arith, e, same, high, small)))))
-          (cases_eq ((a - 65536) % 64) place))
+  -- an extent comes or goes at one place of the block
+  one_extent : (m : Map Extent) (place : ℕ) → place < 64 → get m (block_start b + place) ≡ extent_in place new → ((a : ℕ) → a ≢ block_start b + place → get m a ≡ get (extents_in blocks) a) → ((p : ℕ) → p ≢ place → extent_in p old ≡ extent_in p new) → extents_in (set blocks b new) ≡ m
+  one_extent m place small own others rest =
+      changed_extents m (λ a lt. others a (λ e. omega (arith, e, lt)) ∙ low_extent blocks a lt) (λ c p ne lt. others (block_start c + p) (λ e. ne (omega (arith, e, small, lt)))) (λ p lt.
+      ⊎_elim
+      (λ (is : p ≡ place). subst (λ p. get m (block_start b + p) ≡ extent_in p new) (sym is) own)
+      (λ (ne : p ≢ place). others (block_start b + p) (λ e. ne (omega (arith, e))) ∙ was_inside p lt ∙ rest p ne)
+      (cases_eq p place))
 
-  same_extent : IsAlike old new → extent_of new ≡ extent_of old
-  same_extent alike = ap (λ n. record { size = n; kind = new.kind }) alike.size ∙ ap (λ k. record { size = old.size; kind = k }) alike.kind
+  module _ (alike : IsAlike old new) where
+    same_extent : extent_of new ≡ extent_of old
+    same_extent = ap (λ n. record { size = n; kind = new.kind }) alike.size ∙ ap (λ k. record { size = old.size; kind = k }) alike.kind
+
+    same_inside : (p : ℕ) → starts_at new p ≡ starts_at old p → extent_in p old ≡ extent_in p new
+    same_inside p same = sym (ap (λ t. cond t (Some (extent_of new)) None) same ∙ ap (λ x. cond (starts_at old p) (Some x) None) same_extent)
+
+    pub swept_extents : new.objects ≡ old.objects → extents_in (set blocks b new) ≡ extents_in blocks
+    swept_extents objects = changed_extents (extents_in blocks) (low_extent blocks) (λ c p ne lt. refl) (λ p lt. was_inside p lt ∙ same_inside p (ap (λ n. has_bit n p) objects))
 
   pub claim_extents : (start : ℕ) → Claims old new start → extents_in (set blocks b new) ≡ insert (extents_in blocks) (block_start b + start) (extent_of old)
   claim_extents start claims =
-      same_map nat_cmp_total nat_cmp-IsAntisymmetric _ _ (λ a.
-      get-extents_in (set blocks b new) a
-      ∙ at-set start (Some (extent_of old)) (cell_fits old.size start old.sized claims.cell) (λ p lt. ap (λ t. cond t (Some (extent_of new)) None) (claims.claimed p) ∙ ap (λ x. cond (p == start || starts_at old p) (Some x) None) (same_extent claims.alike) ∙ split (p == start) (starts_at old p)) a
-      ∙ ap (λ t. cond t (Some (extent_of old)) (extent_at blocks a)) (sym (unsigned_tied a (block_start b + start)))
-      ∙ ap (cond (eq_by_cmp nat_cmp a (block_start b + start)) (Some (extent_of old))) (sym (get-extents_in blocks a))
-      ∙ sym (get-insert nat_cmp_total (extents_in blocks) (block_start b + start) (extent_of old) a))
-    where
-      split : (t u : Bool) → cond (t || u) (Some (extent_of old)) None ≡ cond t (Some (extent_of old)) (cond u (Some (extent_of old)) None)
-      split true u = refl
-      split false u = refl
+      one_extent (insert (extents_in blocks) (block_start b + start) (extent_of old)) start (cell_fits old.size start old.sized claims.cell)
+      (get-insert_same (extents_in blocks) (block_start b + start) (extent_of old) ∙ sym (cond-true (starts_at new start) (Some (extent_of new)) None (claims.claimed start ∙ ap (λ t. t || starts_at old start) (eq-eqb start start refl)) ∙ ap Some (same_extent claims.alike)))
+      (get-insert_other (extents_in blocks) (block_start b + start) (extent_of old))
+      (λ p ne. same_inside claims.alike p (claims.claimed p ∙ ap (λ t. t || starts_at old p) (ne_eqb p start ne)))
 
-  pub condemn_extents : (start : ℕ) → start < 64 → Condemns old new start → extents_in (set blocks b new) ≡ remove (extents_in blocks) (block_start b + start)
-  condemn_extents start small condemns =
-      same_map nat_cmp_total nat_cmp-IsAntisymmetric _ _ (λ a.
-      get-extents_in (set blocks b new) a
-      ∙ at-set start None small (λ p lt. ap (λ t. cond t (Some (extent_of new)) None) (condemns.gone p) ∙ ap (λ x. cond (not (p == start) && starts_at old p) (Some x) None) (same_extent condemns.alike) ∙ split (p == start) (starts_at old p)) a
-      ∙ ap (λ t. cond t None (extent_at blocks a)) (sym (unsigned_tied a (block_start b + start)))
-      ∙ ap (cond (eq_by_cmp nat_cmp a (block_start b + start)) None) (sym (get-extents_in blocks a))
-      ∙ sym (get-remove nat_cmp_total (extents_in blocks) (block_start b + start) a))
-    where
-      split : (t u : Bool) → cond (not t && u) (Some (extent_of old)) None ≡ cond t None (cond u (Some (extent_of old)) None)
-      split true u = refl
-      split false u = refl
+  -- the objects at chosen places of the block are condemned
+  module _ (places : ℕ) (all : CondemnsAll old new places) where
+    pub chosen_extents : extents_in (set blocks b new) ≡ retain_keys (extents_in blocks) (λ a. not (stands_at b places a))
+    chosen_extents = changed_extents (retain_keys (extents_in blocks) (λ a. not (stands_at b places a))) low others own
+      where
+        table : (s t : Bool) (x : Extent) → cond (not t) (cond s (Some x) None) None ≡ cond (not t && s) (Some x) None
+        table true true x = refl
+        table true false x = refl
+        table false true x = refl
+        table false false x = refl
+
+        got : (a : ℕ) → get (retain_keys (extents_in blocks) (λ a. not (stands_at b places a))) a ≡ cond (not (stands_at b places a)) (get (extents_in blocks) a) None
+        got = get-retain (extents_in blocks) (λ a. not (stands_at b places a))
+
+        low : (a : ℕ) → a < 65536 → get (retain_keys (extents_in blocks) (λ a. not (stands_at b places a))) a ≡ None
+        low a lt = got a ∙ ap (λ o. cond (not (stands_at b places a)) o None) (low_extent blocks a lt) ∙ elim (not (stands_at b places a)) as (λ t. ◌≡◌ {A = Option Extent} (cond t None None) None) [ true ↦ refl | false ↦ refl ]
+
+        others : (c p : ℕ) → c ≢ b → p < 64 → get (retain_keys (extents_in blocks) (λ a. not (stands_at b places a))) (block_start c + p) ≡ get (extents_in blocks) (block_start c + p)
+        others c p ne lt = got (block_start c + p) ∙ ap (λ t. cond (not t) (get (extents_in blocks) (block_start c + p)) None) (stands_place b c places p lt ∙ ap (λ t. t && has_bit places p) (ne_eqb c b ne))
+
+        own : (p : ℕ) → p < 64 → get (retain_keys (extents_in blocks) (λ a. not (stands_at b places a))) (block_start b + p) ≡ extent_in p new
+        own p lt =
+            got (block_start b + p)
+            ∙ ap (λ t. cond (not t) (get (extents_in blocks) (block_start b + p)) None) (stands_place b b places p lt ∙ ap (λ t. t && has_bit places p) (eq-eqb b b refl))
+            ∙ ap (λ o. cond (not (has_bit places p)) o None) (was_inside p lt)
+            ∙ table (starts_at old p) (has_bit places p) (extent_of old)
+            ∙ sym (ap (λ t. cond t (Some (extent_of new)) None) (all.gone p) ∙ ap (λ x. cond (not (has_bit places p) && starts_at old p) (Some x) None) (same_extent all.alike))
 
   -- a block that is part of no run changes, and is part of none
   pub same_runs : AreRuns blocks → old.back ≡ 0 → (starts_at old 0 ≡ true → old.size ≤ 64) → new.back ≡ 0 → (starts_at new 0 ≡ true → new.size ≤ 64) → AreRuns (set blocks b new)
   same_runs runs old_own old_short new_own new_short = record { ahead = ahead; behind = behind }
     where
       kept : (c : ℕ) → c ≢ b → slice_get (set blocks b new) c ≡ slice_get blocks c
-      kept c ne = slice_get-set blocks b new in_list c ∙ cond-false (nat_eq c b) (Some new) (slice_get blocks c) (ne_eqb c b ne)
+      kept c ne = slice_get-set_other blocks b c new ne
 
       put : (c : ℕ) → c ≡ b → slice_get (set blocks b new) c ≡ Some new
-      put c is = slice_get-set blocks b new in_list c ∙ cond-true (nat_eq c b) (Some new) (slice_get blocks c) (eq-eqb c b is)
+      put c is = ap (slice_get (set blocks b new)) is ∙ slice_get-set_same blocks b new in_list
 
       ahead : (c k : ℕ) (first : Block) → slice_get (set blocks b new) c ≡ Some first → starts_at first 0 ≡ true → 0 < k → 64 * k < first.size → (later : Block) × (slice_get (set blocks b new) (c + k) ≡ Some later) × (later.back ≡ k)
       ahead c k first at on low reach =

@@ -10,19 +10,10 @@ use Rattle.fz_blocks.specs.Cells.{AreAmong, AreSeparate}
 use Rattle.fz_blocks.specs.Blocks.{starts_at}
 use Rattle.fz_blocks.proofs.Bits.{same_test, and_is, and_bits, or_is, without_is, lowest}
 use Rattle.fz_model.proofs.Bits.{no_bits}
-use Rattle.fz_blocks.proofs.Blocks.{objects_fit, same_bits}
+use Rattle.fz_blocks.proofs.Objects.{objects_fit, same_bits}
 use Rattle.fz_blocks.proofs.Condemned.{condemned_fit, ones-or}
 
 module _ (block : Block) (places : ℕ) where
-  abbrev pub chosen : ℕ
-  chosen = bit_and block.objects places
-
-  abbrev kept : ℕ
-  kept = bit_and block.objects (bit_not w64 (bit_and block.objects places))
-
-  abbrev added : ℕ
-  added = bit_or block.condemned (bit_and block.objects places)
-
   chosen_fits : bit_and block.objects places < 2 ^ 64
   chosen_fits = let le = and_le_l block.objects places in let fits = objects_fit block in omega (arith, le, fits)
 

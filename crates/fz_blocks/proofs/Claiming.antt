@@ -1,7 +1,7 @@
 -- A claim in a block with room, and in a run of bare ones.
-use Rattle.std.proofs.Common.{suc, zero, Bool, ◌≢◌, ◌-◌, ◌≡◌, ℕ, ◌+◌, ◌%◌, ◌<◌, ◌≤◌, true, false, not, ◌||◌, ◌&&◌, ◌==◌, nat_le, nat_eq, List, length, set, Some, None, slice_get, refl, sym, ap, ◌∙◌, subst, ⊎_elim, arith, length-set}
+use Rattle.std.proofs.Common.{suc, zero, Bool, ◌≢◌, ◌-◌, ◌≡◌, ℕ, ◌+◌, ◌%◌, ◌<◌, ◌≤◌, true, false, not, ◌||◌, ◌&&◌, ◌==◌, nat_le, List, length, set, Some, None, slice_get, refl, sym, ap, ◌∙◌, subst, ⊎_elim, arith, length-set}
 use Rattle.std.proofs.Math.Nat.{zero-mod}
-use Rattle.std.proofs.lemmas.Bool.{cases_eq, cond-true, cond-false, cases_Bool, cases_lt, and_parts, and_from, eq-eqb, ne_eqb, eqb-true, eqb-false, leb-true, le-leb, both_ways, not-true}
+use Rattle.std.proofs.lemmas.Bool.{cases_eq, cases_Bool, cases_lt, and_parts, and_from, eq-eqb, eqb-true, eqb-false, leb-true, le-leb, both_ways, not-true}
 use Rattle.std.proofs.lemmas.Option.{same_Some, slice_get_within}
 use Rattle.std.specs.FinMap.{insert}
 use Rattle.std.specs.List.{list_all, range_with_len}
@@ -16,14 +16,14 @@ use Rattle.fz_blocks.specs.Blocks.{starts_at, is_full, extent_of, Claims}
 use Rattle.fz_blocks.specs.Layout.{extents_in, condemned_in, has_room, AreRuns}
 use Rattle.fz_blocks.specs.Claimed.{swept}
 use Rattle.fz_blocks.specs.Runs.{IsRun, IsFirstRun, TakesRun, WritesRun}
-use Rattle.fz_blocks.specs.Tables.{IsFirst}
+use Rattle.fz_blocks.specs.Listed.{IsFirst}
 use Rattle.fz_blocks.specs.Claims.{IsClaimed}
 use Rattle.fz_blocks.proofs.Bits.{cell_fits}
 use Rattle.fz_model.proofs.Bits.{no_bits}
 use Rattle.fz_blocks.proofs.Condemned.{swept_is}
 use Rattle.fz_blocks.proofs.Places.{one_class, no_place, place_in_room, place_in_run, no_room, no_cells, is_bare-block, item_at, IsNowhere}
 use Rattle.fz_blocks.proofs.Runs.{run_runs, run_extents}
-use Rattle.fz_blocks.proofs.Tables.{slice_get-set}
+use Rattle.fz_blocks.proofs.Listed.{slice_get-set_same, slice_get-set_other}
 use Rattle.fz_blocks.proofs.Changes.{claim_extents, same_runs}
 
 module _ (blocks now : List Block) (runs : AreRuns blocks) (size : ℕ) (kind : ObjKind) (sized : 1 ≤ size) (small : size ≤ 64) (at place : ℕ) (old new : Block) (claims : Claims old new place) (is : now ≡ set blocks at new) where
@@ -37,10 +37,10 @@ module _ (blocks now : List Block) (runs : AreRuns blocks) (size : ℕ) (kind : 
         let fits = cell_fits old.size place old.sized claims.cell in
         let block_is : block_of (block_start at + place) ≡ at = omega (arith, fits) in
         let one_block : blocks_for size ≡ 1 = omega (arith, sized, small) in
-        swept_is blocks now at 1 (λ c out. ap (λ bs. slice_get bs c) is ∙ slice_get-set blocks at new lt c ∙ cond-false (nat_eq c at) (Some new) (slice_get blocks c) (ne_eqb c at (λ same. ⊎_elim (λ less. omega (arith, same, less)) (λ past. omega (arith, same, past)) out)))
+        swept_is blocks now at 1 (λ c out. ap (λ bs. slice_get bs c) is ∙ slice_get-set_other blocks at c new (λ same. ⊎_elim (λ less. omega (arith, same, less)) (λ past. omega (arith, same, past)) out))
         (λ c block low high there.
         let c_is : c ≡ at = omega (arith, low, high) in
-        ap (λ (k : Block). k.condemned) (same_Some block new (sym there ∙ ap (λ bs. slice_get bs c) is ∙ slice_get-set blocks at new lt c ∙ cond-true (nat_eq c at) (Some new) (slice_get blocks c) (eq-eqb c at c_is))) ∙ claims.swept)
+        ap (λ (k : Block). k.condemned) (same_Some block new (sym there ∙ ap (λ bs. slice_get bs c) is ∙ ap (slice_get (set blocks at new)) c_is ∙ slice_get-set_same blocks at new lt)) ∙ claims.swept)
         ∙ ap (λ n. swept (condemned_in blocks) at n) (sym one_block) ∙ ap (λ b. swept (condemned_in blocks) b (blocks_for size)) (sym block_is);
   }
     where

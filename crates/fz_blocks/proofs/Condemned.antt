@@ -1,10 +1,9 @@
 -- Where condemned cells start, and how many there are.
 use Rattle.std.proofs.Common.{◌≡◌, ◌≢◌, ℕ, zero, suc, ◌+◌, ◌-◌, ◌*◌, ◌/◌, ◌%◌, ◌^◌, ◌<◌, ◌≤◌, ◌⊎◌, inl, inr, Bool, true, false, cond, not, ◌&&◌, ◌||◌, nat_le, nat_lt, nat_eq, nat_cmp, List, [], ◌∷◌, ◌++◌, map, length, set, take, get_or, Option, Some, None, slice_get, refl, sym, ap, ◌∙◌, ⊎_elim, arith, count_by, bit_or}
-use Rattle.std.proofs.lemmas.Bool.{cond-true, cond-false, cases_eq, cases_lt, cases_Bool, eq-eqb, ne_eqb, lt-ltb, le-ltb, le-leb, leb-true, ltb-true, and_left, and_right, and_parts, both_ways}
-use Rattle.std.proofs.lemmas.Option.{same_Some, slice_get_past, slice_get_within}
+use Rattle.std.proofs.lemmas.Bool.{cond-true, cond-false, cases_eq, cases_lt, eq-eqb, ne_eqb, lt-ltb, le-ltb, leb-true, leb-false, ltb-true, ltb-false, and_left, and_right, and_parts, both_ways}
+use Rattle.std.proofs.lemmas.Option.{slice_get_past, get_or_from_slice_get}
 use Rattle.std.proofs.lemmas.List.{take_all}
 use Rattle.std.proofs.lemmas.List.Sums.{sum_by-append, sum_by_more, sum_by-cons, sum_by-set, sum_by-le, count_by-le-length}
-use Rattle.std.proofs.lemmas.Nat.{ones_le_self}
 use Rattle.std.proofs.lemmas.Nat.Bits.{same_from_bits}
 use Rattle.std.proofs.lemmas.Simd.{bit_mask_l, ones-mask_l}
 use Rattle.std.specs.Simd.Lanes.{mask_l}
@@ -14,21 +13,20 @@ use Rattle.std.specs.List.{range_with_len, sum_by}
 use Rattle.std.specs.Cmp.{nat_cmp_total, ranked}
 use Rattle.std.specs.Option.{option_map_or}
 use Rattle.std.specs.declared.cmp.Ordering.TheVariants.{Equal}
-use Rattle.std.specs.FinSet.{contains, insert, len, contains-empty, contains-retain, len-empty, len-insert, same_set, nat_cmp-IsAntisymmetric}
+use Rattle.std.specs.FinSet.{contains, insert, len, contains-empty, contains-retain, len-empty, len-insert}
 use Rattle.fz_model.specs.Allocation.{block_start, block_of}
 use Rattle.fz_model.specs.Extents.{IsInHeap, heap_end}
 use Rattle.fz_model.specs.declared.limits.TheConstants.{HEAP_START}
 use Rattle.fz_blocks.specs.declared.block.Block.{Block}
 use Rattle.fz_model.specs.Bits.{has_bit}
-use Rattle.fz_blocks.specs.Blocks.{starts_at, Condemns}
 use Rattle.fz_blocks.specs.Tabulated.{Addresses, gathered}
 use Rattle.fz_blocks.specs.Claimed.{swept}
 use Rattle.fz_blocks.specs.Layout.{is_condemned, condemned_in, waiting_in}
 use Rattle.fz_blocks.specs.Runs.{FreesLater}
 use Rattle.fz_blocks.proofs.Bits.{none_past, fits_word, cell_fits, or_is}
 use Rattle.fz_model.proofs.Bits.{no_bits, bit_on, bit_off}
-use Rattle.fz_blocks.proofs.Tables.{slice_get-set}
-use Rattle.fz_model.proofs.Sets.{contains-inserted}
+use Rattle.fz_blocks.proofs.Extents.{by_place}
+use Rattle.fz_model.proofs.Sets.{contains-inserted, same_members}
 use Rattle.fz_blocks.proofs.Places.{item_at}
 
 -- ---- the set that a test gathers
@@ -161,11 +159,6 @@ ones-or a b fits small both apart =
     ones-word (bit_or a b) both ∙ count_apart (has_bit a) (has_bit b) (has_bit (bit_or a b)) 0 64 (or_is a b) apart
     ∙ ap (λ n. n + count_by (has_bit b) (range_with_len 0 64)) (sym (ones-word a fits)) ∙ ap (λ n. ones a + n) (sym (ones-word b small))
 
-get_or_here : (blocks : List Block) (i : ℕ) (block : Block) → slice_get blocks i ≡ Some block → get_or blocks i block ≡ block
-get_or_here [] i block here = refl
-get_or_here (x ∷ blocks) zero block here = same_Some x block here
-get_or_here (x ∷ blocks) (suc i) block here = get_or_here blocks i block here
-
 pub condemned_fit : (block : Block) → block.condemned < 2 ^ 64
 condemned_fit block = fits_word block.condemned (λ place on. cell_fits block.size place block.sized (sym (block.cells_are place) ∙ block.condemned_are place on))
 
@@ -175,36 +168,44 @@ few_condemned block = let few = count_by-le-length (has_bit block.condemned) (ra
 -- ---- the condemned starts of blocks
 
 module _ (blocks : List Block) where
-  pub low_condemned : (a : ℕ) → a < 65536 → is_condemned blocks a ≡ false
-  low_condemned a low = cond-true (nat_lt a 65536) false _ (lt-ltb a 65536 low)
-
-  pub high_condemned : (a : ℕ) → 65536 ≤ a → is_condemned blocks a ≡ option_map_or (λ (block : Block). has_bit block.condemned ((a - 65536) % 64)) (slice_get blocks ((a - 65536) / 64)) false
-  high_condemned a high = cond-false (nat_lt a 65536) false _ (le-ltb a 65536 high)
-
-  pub contains-condemned_in : (a : ℕ) → contains (condemned_in blocks) a ≡ is_condemned blocks a
+  contains-condemned_in : (a : ℕ) → contains (condemned_in blocks) a ≡ is_condemned blocks a
   contains-condemned_in a =
       contains-gathered (is_condemned blocks) (65536 + 64 * length blocks) a
       ∙ ⊎_elim
       (λ (lt : a < 65536 + 64 * length blocks). ap (λ t. t && is_condemned blocks a) (lt-ltb a (65536 + 64 * length blocks) lt))
       (λ (past : 65536 + 64 * length blocks ≤ a).
       and_left (nat_lt a (65536 + 64 * length blocks)) (is_condemned blocks a) (le-ltb a (65536 + 64 * length blocks) past)
-      ∙ sym (high_condemned a (omega (arith, past)) ∙ ap (λ o. option_map_or (λ (block : Block). has_bit block.condemned ((a - 65536) % 64)) o false) (slice_get_past blocks ((a - 65536) / 64) (omega (arith, past)))))
+      ∙ sym (cond-false (nat_lt a 65536) false _ (le-ltb a 65536 (omega (arith, past))) ∙ ap (λ o. option_map_or (λ (block : Block). has_bit block.condemned ((a - 65536) % 64)) o false) (slice_get_past blocks ((a - 65536) / 64) (omega (arith, past)))))
       (cases_lt a (65536 + 64 * length blocks))
+
+  none_low : (a : ℕ) → a < 65536 → is_condemned blocks a ≡ false
+  none_low a low = cond-true (nat_lt a 65536) false _ (lt-ltb a 65536 low)
+
+  inside : (b p : ℕ) → p < 64 → is_condemned blocks (block_start b + p) ≡ option_map_or (λ (block : Block). has_bit block.condemned p) (slice_get blocks b) false
+  inside b p small =
+      let block_is : (block_start b + p - 65536) / 64 ≡ b = omega (arith, small) in
+      let place_is : (block_start b + p - 65536) % 64 ≡ p = omega (arith, small) in
+      cond-false (nat_lt (block_start b + p) 65536) false _ (le-ltb (block_start b + p) 65536 (omega arith))
+      ∙ ap (λ q. option_map_or (λ (block : Block). has_bit block.condemned q) (slice_get blocks ((block_start b + p - 65536) / 64)) false) place_is
+      ∙ ap (λ c. option_map_or (λ (block : Block). has_bit block.condemned p) (slice_get blocks c) false) block_is
+
+  pub low_condemned : (a : ℕ) → a < 65536 → contains (condemned_in blocks) a ≡ false
+  low_condemned a low = contains-condemned_in a ∙ none_low a low
+
+  pub condemned-place : (b p : ℕ) → p < 64 → contains (condemned_in blocks) (block_start b + p) ≡ option_map_or (λ (block : Block). has_bit block.condemned p) (slice_get blocks b) false
+  condemned-place b p small = contains-condemned_in (block_start b + p) ∙ inside b p small
+
+  -- a set that has just the condemned cells of the blocks
+  pub condemned_are : (s : Addresses) → ((a : ℕ) → a < 65536 → contains s a ≡ false) → ((b p : ℕ) → p < 64 → contains s (block_start b + p) ≡ option_map_or (λ (block : Block). has_bit block.condemned p) (slice_get blocks b) false) → condemned_in blocks ≡ s
+  condemned_are s low high =
+      same_members _ _ (by_place (λ a. contains (condemned_in blocks) a ≡ contains s a) (λ a lt. low_condemned a lt ∙ sym (low a lt)) (λ b p small. condemned-place b p small ∙ sym (high b p small)))
 
   -- how many there are
   pub len-condemned_in : len (condemned_in blocks) ≡ waiting_in blocks
   len-condemned_in = up_to (length blocks) (omega arith) ∙ ap (λ bs. sum_by (λ (block : Block). ones block.condemned) bs) (take_all (length blocks) blocks (omega arith))
     where
-      inside : (k : ℕ) (block : Block) → slice_get blocks k ≡ Some block → (i : ℕ) → i < 64 → is_condemned blocks (65536 + 64 * k + i) ≡ has_bit block.condemned i
-      inside k block here i lt =
-          let b_is : (65536 + 64 * k + i - 65536) / 64 ≡ k = omega (arith, lt) in
-          let p_is : (65536 + 64 * k + i - 65536) % 64 ≡ i = omega (arith, lt) in
-          high_condemned (65536 + 64 * k + i) (omega arith)
-          ∙ ap (λ o. option_map_or (λ (block : Block). has_bit block.condemned ((65536 + 64 * k + i - 65536) % 64)) o false) (ap (slice_get blocks) b_is ∙ here)
-          ∙ ap (has_bit block.condemned) p_is
-
       up_to : (k : ℕ) → k ≤ length blocks → len (gathered (is_condemned blocks) (65536 + 64 * k)) ≡ sum_by (λ (block : Block). ones block.condemned) (take k blocks)
-      up_to zero le = none_gathered (is_condemned blocks) 65536 low_condemned
+      up_to zero le = none_gathered (is_condemned blocks) 65536 none_low
       up_to (suc k) le =
           let found = item_at blocks k (omega (arith, le)) in
           let next : 65536 + 64 * suc k ≡ 65536 + 64 * k + 64 = omega arith in
@@ -212,7 +213,7 @@ module _ (blocks : List Block) where
           ap (λ n. len (gathered (is_condemned blocks) n)) next
           ∙ more_gathered (is_condemned blocks) (65536 + 64 * k) 64
           ∙ ap (λ n. n + count_by (λ i. is_condemned blocks (65536 + 64 * k + i)) (range_with_len 0 64)) (up_to k (omega (arith, le)))
-          ∙ ap (λ n. sum_by (λ (block : Block). ones block.condemned) (take k blocks) + n) (count_range (λ i. is_condemned blocks (65536 + 64 * k + i)) (has_bit found.0.condemned) 0 64 (λ i low lt. inside k found.0 found.1 i (omega (arith, lt))) ∙ sym (ones-word found.0.condemned (condemned_fit found.0)) ∙ ap (λ (block : Block). ones block.condemned) (sym (get_or_here blocks k found.0 found.1)))
+          ∙ ap (λ n. sum_by (λ (block : Block). ones block.condemned) (take k blocks) + n) (count_range (λ i. is_condemned blocks (65536 + 64 * k + i)) (has_bit found.0.condemned) 0 64 (λ i low lt. inside k i (omega (arith, lt)) ∙ ap (λ o. option_map_or (λ (block : Block). has_bit block.condemned i) o false) found.1) ∙ sym (ones-word found.0.condemned (condemned_fit found.0)) ∙ ap (λ (block : Block). ones block.condemned) (sym (get_or_from_slice_get blocks k found.0 found.0 found.1)))
           ∙ sym (ap (λ n. sum_by (λ (block : Block). ones block.condemned) (take n blocks)) more ∙ sum_by_more (λ (block : Block). ones block.condemned) blocks k found.0 (omega (arith, le)))
 
   -- they lie in the heap
@@ -220,152 +221,65 @@ module _ (blocks : List Block) where
   condemned_within a on = (low, high)
     where
       low : HEAP_START ≤ a
-      low = ⊎_elim (λ lt. absurd (both_ways _ (low_condemned a lt) (sym (contains-condemned_in a) ∙ on))) (λ ge. ge) (cases_lt a HEAP_START)
+      low = ⊎_elim (λ lt. absurd (both_ways _ (low_condemned a lt) on)) (λ ge. ge) (cases_lt a HEAP_START)
 
       high : a < heap_end (length blocks)
       high = ltb-true a (heap_end (length blocks)) (and_parts _ (is_condemned blocks a) (sym (contains-gathered (is_condemned blocks) (heap_end (length blocks)) a) ∙ on)).0
 
 -- ---- what changes
 
-past-leb : (x y : ℕ) → y < x → nat_le x y ≡ false
-past-leb x y lt = ⊎_elim (λ on. let le = leb-true x y on in absurd (omega (arith, le, lt))) (λ off. off) (cases_Bool (nat_le x y))
-
 contains-swept : (s : Addresses) (b count a : ℕ) → contains (swept s b count) a ≡ (contains s a && not (nat_le b (block_of a) && nat_lt (block_of a) (b + count)))
 contains-swept s b count a = contains-retain s (λ a. not (nat_le b (block_of a) && nat_lt (block_of a) (b + count))) a (λ x e. ap (λ a. not (nat_le b (block_of a) && nat_lt (block_of a) (b + count))) (sym (ranked a x Equal (sym e))))
 
 pub swept_is : (old new : List Block) (b count : ℕ) → ((c : ℕ) → (c < b) ⊎ (b + count ≤ c) → slice_get new c ≡ slice_get old c) → ((c : ℕ) (block : Block) → b ≤ c → c < b + count → slice_get new c ≡ Some block → block.condemned ≡ 0) → condemned_in new ≡ swept (condemned_in old) b count
 swept_is old new b count others clean =
-    same_set nat_cmp_total nat_cmp-IsAntisymmetric _ _ (λ a. contains-condemned_in new a ∙ ⊎_elim (low a) (high a) (cases_lt a 65536) ∙ sym (contains-swept (condemned_in old) b count a ∙ ap (λ t. t && not (nat_le b (block_of a) && nat_lt (block_of a) (b + count))) (contains-condemned_in old a)))
+    condemned_are new (swept (condemned_in old) b count) (λ a lt. contains-swept (condemned_in old) b count a ∙ and_left (contains (condemned_in old) a) _ (low_condemned old a lt)) (λ c p small.
+    let block_is : (block_start c + p - 65536) / 64 ≡ c = omega (arith, small) in
+    contains-swept (condemned_in old) b count (block_start c + p)
+    ∙ ap (λ n. contains (condemned_in old) (block_start c + p) && not (nat_le b n && nat_lt n (b + count))) block_is
+    ∙ ap (λ t. t && not (nat_le b c && nat_lt c (b + count))) (condemned-place old c p small)
+    ∙ at c p (nat_le b c) (nat_lt c (b + count)) refl refl)
   where
-    low : (a : ℕ) → a < 65536 → is_condemned new a ≡ (is_condemned old a && not (nat_le b (block_of a) && nat_lt (block_of a) (b + count)))
-    low a lt = low_condemned new a lt ∙ sym (and_left (is_condemned old a) _ (low_condemned old a lt))
-
-    keep : (x y : Bool) → y ≡ false → x ≡ (x && not y)
-    keep true y off = sym (ap not off)
-    keep false y off = refl
-
-    none : (o : Option Block) (p : ℕ) → ((block : Block) → o ≡ Some block → block.condemned ≡ 0) → option_map_or (λ (block : Block). has_bit block.condemned p) o false ≡ false
+    none : (o : Option Block) (p : ℕ) → ((block : Block) → o ≡ Some block → block.condemned ≡ 0) → false ≡ option_map_or (λ (block : Block). has_bit block.condemned p) o false
     none None p are = refl
-    none (Some block) p are = ap (λ n. has_bit n p) (are block refl) ∙ no_bits p
+    none (Some block) p are = sym (ap (λ n. has_bit n p) (are block refl) ∙ no_bits p)
 
-    high : (a : ℕ) → 65536 ≤ a → is_condemned new a ≡ (is_condemned old a && not (nat_le b (block_of a) && nat_lt (block_of a) (b + count)))
-    high a ge =
-        ⊎_elim
-        (λ (before : (a - 65536) / 64 < b). same (inl before) ∙ keep (is_condemned old a) _ (and_left (nat_le b (block_of a)) _ (past-leb b (block_of a) before)))
-        (λ (from : b ≤ (a - 65536) / 64).
-        ⊎_elim
-        (λ (within : (a - 65536) / 64 < b + count).
-        high_condemned new a ge ∙ none (slice_get new ((a - 65536) / 64)) ((a - 65536) % 64) (λ block here. clean ((a - 65536) / 64) block from within here)
-        ∙ sym (and_right (is_condemned old a) _ (ap (λ t. not (t && nat_lt (block_of a) (b + count))) (le-leb b (block_of a) from) ∙ ap not (lt-ltb (block_of a) (b + count) within))))
-        (λ (past : b + count ≤ (a - 65536) / 64). same (inr past) ∙ keep (is_condemned old a) _ (and_right (nat_le b (block_of a)) _ (le-ltb (block_of a) (b + count) past)))
-        (cases_lt ((a - 65536) / 64) (b + count)))
-        (cases_lt ((a - 65536) / 64) b)
+    kept : (c p : ℕ) → (c < b) ⊎ (b + count ≤ c) → (option_map_or (λ (block : Block). has_bit block.condemned p) (slice_get old c) false && true) ≡ option_map_or (λ (block : Block). has_bit block.condemned p) (slice_get new c) false
+    kept c p out = and_true _ ∙ ap (λ o. option_map_or (λ (block : Block). has_bit block.condemned p) o false) (sym (others c out))
       where
-        same : ((a - 65536) / 64 < b) ⊎ (b + count ≤ (a - 65536) / 64) → is_condemned new a ≡ is_condemned old a
-        same out = high_condemned new a ge ∙ ap (λ o. option_map_or (λ (block : Block). has_bit block.condemned ((a - 65536) % 64)) o false) (others ((a - 65536) / 64) out) ∙ sym (high_condemned old a ge)
+        and_true : (t : Bool) → (t && true) ≡ t
+        and_true true = refl
+        and_true false = refl
 
--- a cell more is condemned
-pub condemned_set : (blocks : List Block) (b place : ℕ) (old new : Block) → place < 64 → slice_get blocks b ≡ Some old → Condemns old new place → condemned_in (set blocks b new) ≡ insert (condemned_in blocks) (block_start b + place)
-condemned_set blocks b place old new small here condemns =
-    same_set nat_cmp_total nat_cmp-IsAntisymmetric _ _ (λ a.
-    contains-condemned_in (set blocks b new) a
-    ∙ ⊎_elim (low a) (high a) (cases_lt a 65536)
-    ∙ ap (cond (nat_eq a (block_start b + place)) true) (sym (contains-condemned_in blocks a))
-    ∙ sym (contains-inserted (condemned_in blocks) (block_start b + place) a))
-  where
-    in_list : b < length blocks
-    in_list = slice_get_within blocks b old here
-
-    elsewhere : (a : ℕ) → a ≢ block_start b + place → is_condemned blocks a ≡ cond (nat_eq a (block_start b + place)) true (is_condemned blocks a)
-    elsewhere a ne = sym (cond-false (nat_eq a (block_start b + place)) true (is_condemned blocks a) (ne_eqb a (block_start b + place) ne))
-
-    low : (a : ℕ) → a < 65536 → is_condemned (set blocks b new) a ≡ cond (nat_eq a (block_start b + place)) true (is_condemned blocks a)
-    low a lt = low_condemned (set blocks b new) a lt ∙ sym (low_condemned blocks a lt) ∙ elsewhere a (λ is. omega (arith, is, lt))
-
-    high : (a : ℕ) → 65536 ≤ a → is_condemned (set blocks b new) a ≡ cond (nat_eq a (block_start b + place)) true (is_condemned blocks a)
-    high a ge = high_condemned (set blocks b new) a ge ∙ ap (λ o. option_map_or (λ (block : Block). has_bit block.condemned ((a - 65536) % 64)) o false) (slice_get-set blocks b new in_list ((a - 65536) / 64)) ∙ ⊎_elim own other (cases_eq ((a - 65536) / 64) b)
-      where
-        own : (a - 65536) / 64 ≡ b → option_map_or (λ (block : Block). has_bit block.condemned ((a - 65536) % 64)) (cond (nat_eq ((a - 65536) / 64) b) (Some new) (slice_get blocks ((a - 65536) / 64))) false ≡ cond (nat_eq a (block_start b + place)) true (is_condemned blocks a)
-        own is =
-            ap (λ o. option_map_or (λ (block : Block). has_bit block.condemned ((a - 65536) % 64)) o false) (cond-true (nat_eq ((a - 65536) / 64) b) (Some new) _ (eq-eqb _ b is))
-            ∙ condemns.condemned ((a - 65536) % 64)
-            ∙ ⊎_elim
-            (λ (same : (a - 65536) % 64 ≡ place). ap (λ t. t || has_bit old.condemned ((a - 65536) % 64)) (eq-eqb _ place same) ∙ sym (cond-true (nat_eq a (block_start b + place)) true (is_condemned blocks a) (eq-eqb a (block_start b + place) (omega (arith, ge, is, same)))))
-            (λ (ne : (a - 65536) % 64 ≢ place).
-            ap (λ t. t || has_bit old.condemned ((a - 65536) % 64)) (ne_eqb _ place ne)
-            ∙ sym (high_condemned blocks a ge ∙ ap (λ o. option_map_or (λ (block : Block). has_bit block.condemned ((a - 65536) % 64)) o false) (ap (slice_get blocks) is ∙ here))
-            ∙ elsewhere a (λ e. ne (omega (arith, e, small, ge))))
-            (cases_eq ((a - 65536) % 64) place)
-
-        other : (a - 65536) / 64 ≢ b → option_map_or (λ (block : Block). has_bit block.condemned ((a - 65536) % 64)) (cond (nat_eq ((a - 65536) / 64) b) (Some new) (slice_get blocks ((a - 65536) / 64))) false ≡ cond (nat_eq a (block_start b + place)) true (is_condemned blocks a)
-        other ne =
-            ap (λ o. option_map_or (λ (block : Block). has_bit block.condemned ((a - 65536) % 64)) o false) (cond-false (nat_eq ((a - 65536) / 64) b) (Some new) _ (ne_eqb _ b ne))
-            ∙ sym (high_condemned blocks a ge)
-            ∙ elsewhere a (λ e. ne (omega (arith, e, small, ge)))
+    at : (c p : ℕ) (from to : Bool) → nat_le b c ≡ from → nat_lt c (b + count) ≡ to → (option_map_or (λ (block : Block). has_bit block.condemned p) (slice_get old c) false && not (from && to)) ≡ option_map_or (λ (block : Block). has_bit block.condemned p) (slice_get new c) false
+    at c p true true from to = and_right (option_map_or (λ (block : Block). has_bit block.condemned p) (slice_get old c) false) false refl ∙ none (slice_get new c) p (λ block. clean c block (leb-true b c from) (ltb-true c (b + count) to))
+    at c p true false from to = kept c p (inr (ltb-false c (b + count) to))
+    at c p false to from _ = kept c p (inl (leb-false b c from))
 
 -- where the later blocks of a run become bare, all stays condemned that was
 pub condemned_later : (old new : List Block) (b count : ℕ) → FreesLater old new b count → condemned_in new ≡ condemned_in old
-condemned_later old new b count frees =
-    same_set nat_cmp_total nat_cmp-IsAntisymmetric _ _ (λ a. contains-condemned_in new a ∙ ⊎_elim (low a) (high a) (cases_lt a 65536) ∙ sym (contains-condemned_in old a))
+condemned_later old new b count frees = condemned_are new (condemned_in old) (low_condemned old) (λ c p small. condemned-place old c p small ∙ at c p)
   where
-    low : (a : ℕ) → a < 65536 → is_condemned new a ≡ is_condemned old a
-    low a lt = low_condemned new a lt ∙ sym (low_condemned old a lt)
-
-    at : (c p : ℕ) → option_map_or (λ (block : Block). has_bit block.condemned p) (slice_get new c) false ≡ option_map_or (λ (block : Block). has_bit block.condemned p) (slice_get old c) false
+    at : (c p : ℕ) → option_map_or (λ (block : Block). has_bit block.condemned p) (slice_get old c) false ≡ option_map_or (λ (block : Block). has_bit block.condemned p) (slice_get new c) false
     at c p =
         ⊎_elim
-        (λ (before : c < b + 1). ap (λ o. option_map_or (λ (block : Block). has_bit block.condemned p) o false) (frees.others c (inl (omega (arith, before)))))
+        (λ (before : c < b + 1). ap (λ o. option_map_or (λ (block : Block). has_bit block.condemned p) o false) (sym (frees.others c (inl (omega (arith, before))))))
         (λ (after : b + 1 ≤ c).
         ⊎_elim
         (λ (within : c < b + count).
         let is = frees.later (c - b) (omega (arith, after)) (omega (arith, after, within)) in
         let at : b + (c - b) ≡ c = omega (arith, after) in
-        ap (λ o. option_map_or (λ (block : Block). has_bit block.condemned p) o false) (ap (slice_get new) (sym at) ∙ is.3)
-        ∙ ap (λ n. has_bit n p) is.4.condemned
-        ∙ ap (λ o. option_map_or (λ (block : Block). has_bit block.condemned p) o false) (sym (ap (slice_get old) (sym at) ∙ is.2)))
-        (λ (past : b + count ≤ c). ap (λ o. option_map_or (λ (block : Block). has_bit block.condemned p) o false) (frees.others c (inr past)))
+        ap (λ o. option_map_or (λ (block : Block). has_bit block.condemned p) o false) (ap (slice_get old) (sym at) ∙ is.2)
+        ∙ ap (λ n. has_bit n p) (sym is.4.condemned)
+        ∙ ap (λ o. option_map_or (λ (block : Block). has_bit block.condemned p) o false) (sym (ap (slice_get new) (sym at) ∙ is.3)))
+        (λ (past : b + count ≤ c). ap (λ o. option_map_or (λ (block : Block). has_bit block.condemned p) o false) (sym (frees.others c (inr past))))
         (cases_lt c (b + count)))
         (cases_lt c (b + 1))
-
-    high : (a : ℕ) → 65536 ≤ a → is_condemned new a ≡ is_condemned old a
-    high a ge = high_condemned new a ge ∙ at ((a - 65536) / 64) ((a - 65536) % 64) ∙ sym (high_condemned old a ge)
 
 -- ---- how many there are, as one block changes
 
 pub waiting_set : (blocks : List Block) (at : ℕ) (old new : Block) → at < length blocks → slice_get blocks at ≡ Some old → waiting_in (set blocks at new) + ones old.condemned ≡ waiting_in blocks + ones new.condemned
-waiting_set blocks at old new lt here = ap (λ (block : Block). waiting_in (set blocks at new) + ones block.condemned) (sym (get_or_here blocks at old here)) ∙ sum_by-set (λ (block : Block). ones block.condemned) blocks at new old lt
+waiting_set blocks at old new lt here = ap (λ (block : Block). waiting_in (set blocks at new) + ones block.condemned) (sym (get_or_from_slice_get blocks at old old here)) ∙ sum_by-set (λ (block : Block). ones block.condemned) blocks at new old lt
 
 pub few_waiting : (blocks : List Block) → waiting_in blocks ≤ length blocks * 64
 few_waiting blocks = sum_by-le (λ (block : Block). ones block.condemned) 64 blocks (λ i d lt. few_condemned (get_or blocks i d))
-
--- a block is swept, and loses all its condemned cells
-pub waiting_less : (blocks : List Block) (at : ℕ) (old new : Block) → slice_get blocks at ≡ Some old → new.condemned ≡ 0 → waiting_in (set blocks at new) + ones old.condemned ≡ waiting_in blocks
-waiting_less blocks at old new here clean =
-    let sum = waiting_set blocks at old new (slice_get_within blocks at old here) here in
-    let few = ones_le_self new.condemned in
-    omega (arith, sum, few, clean)
-
--- a cell more is condemned
-pub waiting_more : (blocks : List Block) (at place : ℕ) (old new : Block) → place < 64 → slice_get blocks at ≡ Some old → starts_at old place ≡ true → Condemns old new place → waiting_in (set blocks at new) ≡ waiting_in blocks + 1
-waiting_more blocks at place old new small here starts condemns =
-    sym (len-condemned_in (set blocks at new))
-    ∙ ap len (condemned_set blocks at place old new small here condemns)
-    ∙ len-insert nat_cmp_total (condemned_in blocks) (block_start at + place)
-    ∙ cond-false (contains (condemned_in blocks) (block_start at + place)) (len (condemned_in blocks)) (len (condemned_in blocks) + 1) absent
-    ∙ ap (λ n. n + 1) (len-condemned_in blocks)
-  where
-    absent : contains (condemned_in blocks) (block_start at + place) ≡ false
-    absent =
-        let b_is : (block_start at + place - 65536) / 64 ≡ at = omega (arith, small) in
-        let p_is : (block_start at + place - 65536) % 64 ≡ place = omega (arith, small) in
-        contains-condemned_in blocks (block_start at + place)
-        ∙ high_condemned blocks (block_start at + place) (omega arith)
-        ∙ ap (λ o. option_map_or (λ (block : Block). has_bit block.condemned ((block_start at + place - 65536) % 64)) o false) (ap (slice_get blocks) b_is ∙ here)
-        ∙ ap (has_bit old.condemned) p_is
-        ∙ old.separate place starts
-
--- no block has more condemned cells than all have
-pub waiting_has : (blocks : List Block) (at : ℕ) (block : Block) → slice_get blocks at ≡ Some block → ones block.condemned ≤ waiting_in blocks
-waiting_has [] at block here = absurd (omega (arith, slice_get_within [] at block here))
-waiting_has (x ∷ blocks) zero block here = let same = ap (λ (k : Block). ones k.condemned) (same_Some x block here) in let sum = sum_by-cons (λ (k : Block). ones k.condemned) x blocks in omega (arith, same, sum)
-waiting_has (x ∷ blocks) (suc at) block here = let rest = waiting_has blocks at block here in let sum = sum_by-cons (λ (k : Block). ones k.condemned) x blocks in omega (arith, rest, sum)

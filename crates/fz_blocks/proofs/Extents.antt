@@ -2,17 +2,26 @@
 use Rattle.std.proofs.Common.{◌≡◌, ◌≢◌, ℕ, ◌+◌, ◌-◌, ◌*◌, ◌/◌, ◌%◌, ◌<◌, ◌≤◌, Bool, true, false, cond, List, length, Option, Some, None, option_and_then, slice_get, nat_lt, refl, sym, ap, ◌∙◌, subst, ⊎_elim, arith}
 use Rattle.std.proofs.lemmas.Bool.{cond-true, cond-false, cases_eq, cases_lt, lt-ltb, le-ltb, ltb-false, both_ways}
 use Rattle.std.proofs.lemmas.Option.{same_Some, none-some, slice_get_past, slice_get_within, cond_some}
-use Rattle.std.specs.FinMap.{get}
+use Rattle.std.specs.Cmp.{nat_cmp_total}
+use Rattle.std.specs.FinMap.{get, same_map, nat_cmp-IsAntisymmetric}
 use Rattle.fz_model.specs.declared.extent.Extent.{Extent}
 use Rattle.fz_model.specs.Extents.{covers, points_in, AreApart, AreWithin}
 use Rattle.fz_model.specs.Allocation.{block_start}
+use Rattle.fz_model.specs.State.{Map}
 use Rattle.fz_model.proofs.Objects.{from_covers, to_covers, points_at, points_nowhere}
 use Rattle.fz_blocks.specs.declared.block.Block.{Block}
 use Rattle.fz_blocks.specs.Blocks.{starts_at, extent_of, extent_in, IsCellOf}
 use Rattle.fz_blocks.specs.Layout.{extent_at, extents_in, IsLater, AreRuns}
 use Rattle.fz_blocks.proofs.Tabulating.{get-tabulated}
 use Rattle.fz_blocks.proofs.Bits.{cell_parts}
-use Rattle.fz_blocks.proofs.Blocks.{object_cell, start_within, one_start, none_in_later}
+use Rattle.fz_blocks.proofs.Objects.{object_cell, long_first, start_within, one_start, none_in_later}
+
+-- what holds below the heap, and at each place of each block, holds at each address
+pub by_place : (P : ℕ → Type 0) → ((a : ℕ) → a < 65536 → P a) → ((b p : ℕ) → p < 64 → P (block_start b + p)) → (a : ℕ) → P a
+by_place P low high a =
+    ⊎_elim (low a)
+    (λ (ge : 65536 ≤ a). let at : block_start ((a - 65536) / 64) + (a - 65536) % 64 ≡ a = omega (arith, ge) in subst P at (high ((a - 65536) / 64) ((a - 65536) % 64) (omega arith)))
+    (cases_lt a 65536)
 
 module _ (blocks : List Block) where
   -- an address by its block and its place there
@@ -34,6 +43,18 @@ module _ (blocks : List Block) where
       ∙ sym (cond-false (nat_lt a 65536) None (option_and_then (extent_in ((a - 65536) % 64)) (slice_get blocks ((a - 65536) / 64))) (le-ltb a 65536 (omega arith))
       ∙ ap (option_and_then (extent_in ((a - 65536) % 64))) (slice_get_past blocks ((a - 65536) / 64) (omega arith))))
       (cases_lt a (65536 + 64 * length blocks))
+
+  pub low_extent : (a : ℕ) → a < 65536 → get (extents_in blocks) a ≡ None
+  low_extent a low = get-extents_in a ∙ cond-true (nat_lt a 65536) None _ (lt-ltb a 65536 low)
+
+  pub get-place : (b p : ℕ) → p < 64 → get (extents_in blocks) (block_start b + p) ≡ option_and_then (extent_in p) (slice_get blocks b)
+  get-place b p small = get-extents_in (block_start b + p) ∙ opened b p small
+
+  -- a map that has just the objects of the blocks
+  pub extents_are : (m : Map Extent) → ((a : ℕ) → a < 65536 → get m a ≡ None) → ((b p : ℕ) → p < 64 → get m (block_start b + p) ≡ option_and_then (extent_in p) (slice_get blocks b)) → extents_in blocks ≡ m
+  extents_are m low high =
+      same_map nat_cmp_total nat_cmp-IsAntisymmetric _ _
+      (by_place (λ a. get (extents_in blocks) a ≡ get m a) (λ a lt. low_extent a lt ∙ sym (low a lt)) (λ b p small. get-place b p small ∙ sym (high b p small)))
 
   -- an extent, by its block and its place there
   pub record IsAt (a : ℕ) (x : Extent) : Type 0 where
@@ -61,7 +82,7 @@ module _ (blocks : List Block) where
 
   pub extent_here : (b p : ℕ) (block : Block) → slice_get blocks b ≡ Some block → starts_at block p ≡ true → get (extents_in blocks) (block_start b + p) ≡ Some (extent_of block)
   extent_here b p block here on =
-      get-extents_in (block_start b + p) ∙ opened b p (start_within block p on) ∙ ap (option_and_then (extent_in p)) here ∙ cond-true (starts_at block p) (Some (extent_of block)) None on
+      get-place b p (start_within block p on) ∙ ap (option_and_then (extent_in p)) here ∙ cond-true (starts_at block p) (Some (extent_of block)) None on
 
   -- where an extent that has the word starts, by the word alone: in the word's block, or as far back as that block says
   pub data IsFound (w a : ℕ) : Type 0 where
@@ -94,18 +115,12 @@ module _ (blocks : List Block) where
         ⊎_elim
         (λ (same : (w - 65536) / 64 ≡ at.block). (omega (arith, start, low), Here at.inside (ap (slice_get blocks) same ∙ at.here) at.place (record { starts = at.starts; first = omega (arith, start, low, same, small); inside = omega (arith, start, low, high, size, same, small) }) (omega (arith, start, low, same))))
         (λ (ne : (w - 65536) / 64 ≢ at.block).
-        let first : at.place ≡ 0 = at_first at (omega (arith, start, low, high, size, small, ne)) in
+        let first = long_first at.inside at.place at.starts (omega (arith, start, low, high, size, small, ne)) in
         let k : (w - 65536) / 64 ≡ at.block + ((w - 65536) / 64 - at.block) = omega (arith, start, low, ne, small) in
         let later = runs.ahead at.block ((w - 65536) / 64 - at.block) at.inside at.here (subst (λ p. starts_at at.inside p ≡ true) first at.starts) (omega (arith, start, low, ne, small)) (omega (arith, start, low, high, size, first, ne)) in
         let back = later.2 in
         (omega (arith, start, low), Back later.0 (ap (slice_get blocks) k ∙ later.1) (omega (arith, back, start, low, ne, small)) (omega (arith, back, start, low, first, k))))
         (cases_eq ((w - 65536) / 64) at.block)
-      where
-        at_first : (at : IsAt a x) → 64 < at.place + at.inside.size → at.place ≡ 0
-        at_first at long =
-            ⊎_elim (λ (is : at.place ≡ 0). is)
-            (λ (ne : at.place ≢ 0). let fits = (cell_parts at.inside.size at.place (object_cell at.inside at.place at.starts)).1 ne in absurd (omega (arith, fits, long)))
-            (cases_eq at.place 0)
 
     pub apart : AreApart (extents_in blocks)
     apart a b w x y here there has also = found_once w a b (covered a w x here has).1 (covered b w y there also).1
@@ -145,9 +160,6 @@ module _ (blocks : List Block) where
 
     -- by the word's offset in the heap, as the code has it
     module _ (w o : ℕ) (high : 65536 ≤ w) (is : o ≡ w - 65536) where
-      found_at : (a : ℕ) → IsFound w a → (P : ℕ → ℕ → Type 0) → P ((w - 65536) / 64) ((w - 65536) % 64) → P (o / 64) (o % 64)
-      found_at a found P p = subst (λ o. P (o / 64) (o % 64)) (sym is) p
-
       pub points_past : slice_get blocks (o / 64) ≡ None → points_in (extents_in blocks) w ≡ None
       points_past past = points_nowhere (extents_in blocks) w (λ a x here has. nothing a (covered a w x here has).1)
         where
@@ -191,9 +203,6 @@ module _ (blocks : List Block) where
           module _ (later : block.back ≢ 0) (first : Block) (there : slice_get blocks (o / 64 - block.back) ≡ Some first) where
             run : IsLater blocks (o / 64) block.back
             run = runs.behind (o / 64) block here (omega (arith, later))
-
-            pub back_within : block.back ≤ o / 64
-            back_within = run.within
 
             starts : starts_at first 0 ≡ true
             starts = subst (λ k. starts_at k 0 ≡ true) (same_Some run.first first (sym run.here ∙ there)) run.starts

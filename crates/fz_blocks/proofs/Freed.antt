@@ -1,20 +1,17 @@
 -- What is left where an object is condemned, in its first block and in the later ones of its run.
-use Rattle.std.proofs.Common.{◌≡◌, ◌≢◌, ℕ, ◌+◌, ◌-◌, ◌*◌, ◌/◌, ◌%◌, ◌<◌, ◌≤◌, ◌⊎◌, inl, inr, true, false, cond, List, length, set, Some, None, option_and_then, slice_get, nat_eq, refl, sym, ap, ◌∙◌, subst, ⊎_elim, arith}
-use Rattle.std.proofs.lemmas.Bool.{cond-true, cond-false, cases_eq, cases_lt, eq-eqb, ne_eqb, both_ways}
+use Rattle.std.proofs.Common.{◌≡◌, ◌≢◌, ℕ, ◌+◌, ◌-◌, ◌*◌, ◌/◌, ◌<◌, ◌≤◌, ◌⊎◌, inl, inr, true, false, cond, List, length, set, Some, None, option_and_then, slice_get, sym, ap, ◌∙◌, subst, ⊎_elim, arith}
+use Rattle.std.proofs.lemmas.Bool.{cases_lt, both_ways}
 use Rattle.std.proofs.lemmas.Option.{same_Some, slice_get_within}
-use Rattle.std.specs.Cmp.{nat_cmp_total}
-use Rattle.std.specs.FinMap.{same_map, nat_cmp-IsAntisymmetric}
 use Rattle.fz_model.specs.Allocation.{blocks_for}
 use Rattle.fz_blocks.specs.declared.block.Block.{Block}
 use Rattle.fz_model.specs.Bits.{has_bit}
 use Rattle.fz_blocks.specs.Blocks.{starts_at, extent_of, extent_in, IsAlike, Detaches}
-use Rattle.fz_blocks.specs.Layout.{extent_at, extents_in, IsLater, AreRuns}
+use Rattle.fz_blocks.specs.Layout.{extents_in, IsLater, AreRuns}
 use Rattle.fz_blocks.specs.Runs.{FreesLater}
-use Rattle.fz_blocks.proofs.Bits.{cell_parts}
-use Rattle.fz_blocks.proofs.Blocks.{object_cell, none_in_later}
-use Rattle.fz_blocks.proofs.Extents.{get-extents_in}
-use Rattle.fz_blocks.proofs.Tables.{slice_get-set}
-use Rattle.fz_blocks.proofs.Runs.{at_low, at_high}
+use Rattle.fz_blocks.proofs.Objects.{long_first, start_own, none_in_later}
+use Rattle.fz_blocks.proofs.Runs.{outside_or}
+use Rattle.fz_blocks.proofs.Extents.{low_extent, get-place, extents_are}
+use Rattle.fz_blocks.proofs.Listed.{slice_get-set_same, slice_get-set_other}
 
 -- a block that leaves its run has the extents that it had
 detached_extent : (was now : Block) (p : ℕ) → Detaches was now → extent_in p now ≡ extent_in p was
@@ -38,28 +35,19 @@ module _ (old new : List Block) (b count : ℕ) (frees : FreesLater old new b co
       (cases_lt c (b + 1))
 
   pub later_extents : extents_in new ≡ extents_in old
-  later_extents = same_map nat_cmp_total nat_cmp-IsAntisymmetric _ _ (λ a. get-extents_in new a ∙ ⊎_elim (low a) (high a) (cases_lt a 65536) ∙ sym (get-extents_in old a))
-    where
-      low : (a : ℕ) → a < 65536 → extent_at new a ≡ extent_at old a
-      low a lt = at_low new a lt ∙ sym (at_low old a lt)
-
-      high : (a : ℕ) → 65536 ≤ a → extent_at new a ≡ extent_at old a
-      high a ge = at_high new a ge ∙ same_extents_at ((a - 65536) / 64) ((a - 65536) % 64) ∙ sym (at_high old a ge)
+  later_extents = extents_are new (extents_in old) (low_extent old) (λ c p small. get-place old c p small ∙ sym (same_extents_at c p))
 
 -- ---- a whole object
 
 module _ (old new : List Block) (runs : AreRuns old) (b place : ℕ) (was now : Block) (here : slice_get old b ≡ Some was) (starts : starts_at was place ≡ true) (alike : IsAlike was now) (gone : 64 < was.size → starts_at now 0 ≡ false) (frees : FreesLater (set old b now) new b (blocks_for was.size)) where
-  in_list : b < length old
-  in_list = slice_get_within old b was here
-
   count : ℕ
   count = blocks_for was.size
 
   kept : (c : ℕ) → c ≢ b → slice_get (set old b now) c ≡ slice_get old c
-  kept c ne = slice_get-set old b now in_list c ∙ cond-false (nat_eq c b) (Some now) (slice_get old c) (ne_eqb c b ne)
+  kept c ne = slice_get-set_other old b c now ne
 
   new_first : slice_get new b ≡ Some now
-  new_first = frees.others b (inl (omega arith)) ∙ slice_get-set old b now in_list b ∙ cond-true (nat_eq b b) (Some now) (slice_get old b) (eq-eqb b b refl)
+  new_first = frees.others b (inl (omega arith)) ∙ slice_get-set_same old b now (slice_get_within old b was here)
 
   new_other : (c : ℕ) → (c < b) ⊎ (b + blocks_for was.size ≤ c) → slice_get new c ≡ slice_get old c
   new_other c out =
@@ -67,18 +55,11 @@ module _ (old new : List Block) (runs : AreRuns old) (b place : ℕ) (was now : 
       ∙ kept c (λ is. ⊎_elim (λ (lt : c < b). omega (arith, is, lt)) (λ (past : b + blocks_for was.size ≤ c). omega (arith, is, past)) out)
 
   own : was.back ≡ 0
-  own = ⊎_elim (λ (later : 0 < was.back). absurd (both_ways _ (none_in_later was later place) starts)) (λ (none : was.back ≤ 0). omega (arith, none)) (cases_lt 0 was.back)
-
-  -- an object of more than one block starts at the first word of its block
-  at_first : 64 < was.size → place ≡ 0
-  at_first long =
-      ⊎_elim (λ (is : place ≡ 0). is)
-      (λ (ne : place ≢ 0). let fits = (cell_parts was.size place (object_cell was place starts)).1 ne in absurd (omega (arith, fits, long)))
-      (cases_eq place 0)
+  own = start_own was place starts
 
   -- a later block of the object, as it was
   was_later : (k : ℕ) → 0 < k → k < blocks_for was.size → (later : Block) × (slice_get old (b + k) ≡ Some later) × (later.back ≡ k)
-  was_later k low high = let long : 64 < was.size = omega (arith, low, high) in runs.ahead b k was here (subst (λ p. starts_at was p ≡ true) (at_first long) starts) low (omega (arith, low, high))
+  was_later k low high = let long : 64 < was.size = omega (arith, low, high) in runs.ahead b k was here (subst (λ p. starts_at was p ≡ true) (long_first was place starts (omega (arith, long))) starts) low (omega (arith, low, high))
 
   -- and as it is
   no_later : (c : ℕ) (block : Block) → b < c → c < b + blocks_for was.size → slice_get new c ≡ Some block → (block.back ≡ 0) × ((p : ℕ) → starts_at block p ≡ false)
@@ -94,19 +75,11 @@ module _ (old new : List Block) (runs : AreRuns old) (b place : ℕ) (was now : 
             ap (λ (k : Block). starts_at k p) (sym same) ∙ ap (λ n. has_bit n p) is.4.objects ∙ ap (λ (k : Block). starts_at k p) first ∙ none_in_later before.0 (omega (arith, back, low)) p,
       )
 
-  outside_or : (c : ℕ) → ((c < b) ⊎ (b + blocks_for was.size ≤ c)) ⊎ ((c ≡ b) ⊎ ((b < c) × (c < b + blocks_for was.size)))
-  outside_or c =
-      ⊎_elim (λ (lt : c < b). inl (inl lt))
-      (λ (ge : b ≤ c). ⊎_elim (λ (is : c ≡ b). inr (inl is))
-      (λ (ne : c ≢ b). ⊎_elim (λ (lt : c < b + blocks_for was.size). inr (inr (omega (arith, ge, ne), lt))) (λ (past : b + blocks_for was.size ≤ c). inl (inr past)) (cases_lt c (b + blocks_for was.size)))
-      (cases_eq c b))
-      (cases_lt c b)
-
   pub freed_runs : AreRuns new
   freed_runs = record { ahead = ahead; behind = behind }
     where
       ahead : (c k : ℕ) (first : Block) → slice_get new c ≡ Some first → starts_at first 0 ≡ true → 0 < k → 64 * k < first.size → (later : Block) × (slice_get new (c + k) ≡ Some later) × (later.back ≡ k)
-      ahead c k first at on low reach = ⊎_elim outside (⊎_elim itself between) (outside_or c)
+      ahead c k first at on low reach = ⊎_elim outside (⊎_elim itself between) (outside_or b (blocks_for was.size) c)
         where
           outside : (c < b) ⊎ (b + blocks_for was.size ≤ c) → (later : Block) × (slice_get new (c + k) ≡ Some later) × (later.back ≡ k)
           outside out =
@@ -126,7 +99,7 @@ module _ (old new : List Block) (runs : AreRuns old) (b place : ℕ) (was now : 
               let c_b : c ≡ b = omega (arith, same, back, also, from) in
               absurd (⊎_elim (λ (lt : c < b). omega (arith, lt, c_b)) (λ (past : b + blocks_for was.size ≤ c). omega (arith, past, c_b, from, to)) out))
               within)
-              (outside_or (c + k))
+              (outside_or b (blocks_for was.size) (c + k))
 
           itself : c ≡ b → (later : Block) × (slice_get new (c + k) ≡ Some later) × (later.back ≡ k)
           itself is =
@@ -139,7 +112,7 @@ module _ (old new : List Block) (runs : AreRuns old) (b place : ℕ) (was now : 
           between range = absurd (both_ways _ ((no_later c first range.0 range.1 at).1 0) on)
 
       behind : (c : ℕ) (later : Block) → slice_get new c ≡ Some later → 0 < later.back → IsLater new c later.back
-      behind c later at low = ⊎_elim outside (⊎_elim itself between) (outside_or c)
+      behind c later at low = ⊎_elim outside (⊎_elim itself between) (outside_or b (blocks_for was.size) c)
         where
           outside : (c < b) ⊎ (b + blocks_for was.size ≤ c) → IsLater new c later.back
           outside out =
@@ -161,7 +134,7 @@ module _ (old new : List Block) (runs : AreRuns old) (b place : ℕ) (was now : 
               let back = other.2 in
               absurd (both_ways _ (none_in_later other.0 (omega (arith, back, from)) 0) (subst (λ x. starts_at x 0 ≡ true) (sym same) before.starts)))
               within)
-              (outside_or (c - later.back))
+              (outside_or b (blocks_for was.size) (c - later.back))
 
           itself : c ≡ b → IsLater new c later.back
           itself is =
@@ -175,8 +148,7 @@ module _ (old new : List Block) (runs : AreRuns old) (b place : ℕ) (was now : 
 -- an object of more than one block is gone from its block's first word
 pub gone_first : (was now : Block) (place : ℕ) → starts_at was place ≡ true → starts_at now place ≡ false → 64 < was.size → starts_at now 0 ≡ false
 gone_first was now place starts gone long =
-    let first : place ≡ 0 = ⊎_elim (λ (is : place ≡ 0). is) (λ (ne : place ≢ 0). let fits = (cell_parts was.size place (object_cell was place starts)).1 ne in absurd (omega (arith, fits, long))) (cases_eq place 0) in
-    subst (λ p. starts_at now p ≡ false) first gone
+    subst (λ p. starts_at now p ≡ false) (long_first was place starts (omega (arith, long))) gone
 
 -- the later blocks of an object lie in the list
 pub span_within : (blocks : List Block) (runs : AreRuns blocks) (b place : ℕ) (was : Block) → slice_get blocks b ≡ Some was → starts_at was place ≡ true → b + blocks_for was.size ≤ length blocks
@@ -186,7 +158,7 @@ span_within blocks runs b place was here starts =
     ⊎_elim
     (λ (short : was.size < 65). omega (arith, short, lt, sized))
     (λ (long : 65 ≤ was.size).
-    let first : place ≡ 0 = ⊎_elim (λ (is : place ≡ 0). is) (λ (ne : place ≢ 0). let fits = (cell_parts was.size place (object_cell was place starts)).1 ne in absurd (omega (arith, fits, long))) (cases_eq place 0) in
+    let first = long_first was place starts (omega (arith, long)) in
     let last = runs.ahead b ((was.size - 1) / 64) was here (subst (λ p. starts_at was p ≡ true) first starts) (omega (arith, long)) (omega (arith, long)) in
     let last_in = slice_get_within blocks (b + (was.size - 1) / 64) last.0 last.1 in
     omega (arith, last_in))

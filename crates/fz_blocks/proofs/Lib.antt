@@ -2,14 +2,14 @@ pub mod Sets
 pub mod Tabulating
 pub mod Ranges
 pub mod Bits
-pub mod Blocks
+pub mod Objects
 pub mod Extents
 pub mod Reading
 pub mod Places
 pub mod Runs
 pub mod Shifts
-pub mod Tables
-pub mod InPlace
+pub mod Listed
+pub mod Alike
 pub mod Changes
 pub mod Claiming
 pub mod Writing

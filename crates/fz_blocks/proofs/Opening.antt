@@ -1,14 +1,14 @@
 -- Blocks that no object meets.
-use Rattle.std.proofs.Common.{All, ◌≡◌, ◌≢◌, ℕ, zero, suc, ◌+◌, ◌-◌, ◌*◌, ◌/◌, ◌%◌, ◌<◌, ◌≤◌, Bool, true, false, cond, not, ◌==◌, List, length, replicate, Option, Some, None, option_and_then, slice_get, nat_lt, nat_eq, nat_cmp, refl, sym, ap, ◌∙◌, subst, ⊎_elim, arith}
+use Rattle.std.proofs.Common.{All, ◌≡◌, ◌≢◌, ℕ, zero, suc, ◌+◌, ◌*◌, ◌<◌, ◌≤◌, true, false, cond, not, ◌==◌, List, length, replicate, Option, Some, None, option_and_then, slice_get, nat_lt, nat_eq, nat_cmp, refl, sym, ap, ◌∙◌, subst, ⊎_elim, arith}
 use Rattle.std.proofs.lemmas.Bool.{cond-true, cond-false, cases_eq, cases_lt, and_left, and_parts, eq-eqb, ne_eqb, eqb-true, lt-ltb, le-ltb, not_from_true, both_ways}
 use Rattle.std.proofs.lemmas.Option.{same_Some, none-some, slice_get_past}
 use Rattle.std.proofs.lemmas.List.{length-replicate}
-use Rattle.std.specs.Cmp.{nat_cmp_total}
 use Rattle.std.specs.Option.{option_map_or}
 use Rattle.std.specs.FinMap as maps
-use Rattle.std.specs.FinMap.{same_map, nat_cmp-IsAntisymmetric, get-empty}
+use Rattle.std.specs.FinMap.{get-empty}
 use Rattle.std.specs.FinSet as sets
-use Rattle.std.specs.FinSet.{contains, contains-empty, same_set}
+use Rattle.std.specs.FinSet.{contains, contains-empty}
+use Rattle.fz_model.specs.Allocation.{block_start}
 use Rattle.fz_blocks.specs.declared.block.Block.{Block}
 use Rattle.fz_blocks.specs.BlockSets.{Roomed, no_room}
 use Rattle.fz_model.specs.Bits.{has_bit}
@@ -17,11 +17,11 @@ use Rattle.std.proofs.lemmas.Nat.{ones_le_self}
 use Rattle.std.proofs.lemmas.List.Folds.{sum_by-replicate}
 use Rattle.fz_blocks.specs.Blocks.{is_bare, starts_at, extent_of, extent_in}
 use Rattle.fz_blocks.specs.Layout.{extents_in, condemned_in, waiting_in, has_room, IsMap}
-use Rattle.fz_blocks.specs.Tables.{AreListed, AreNew}
-use Rattle.fz_blocks.proofs.Blocks.{none_bare}
+use Rattle.fz_blocks.specs.Listed.{AreListed, AreNew}
+use Rattle.fz_blocks.proofs.Objects.{none_bare}
 use Rattle.fz_model.proofs.Bits.{no_bits}
-use Rattle.fz_blocks.proofs.Condemned.{contains-condemned_in}
-use Rattle.fz_blocks.proofs.Extents.{get-extents_in}
+use Rattle.fz_blocks.proofs.Condemned.{condemned_are}
+use Rattle.fz_blocks.proofs.Extents.{extents_are}
 
 of_replicate : {X : Type 0} (n : ℕ) (x : X) (i : ℕ) → i < n → slice_get (replicate n x) i ≡ Some x
 of_replicate zero x i lt = absurd (omega (arith, lt))
@@ -72,26 +72,18 @@ none_waiting n block none =
 
 module _ (blocks : List Block) (n : ℕ) (new : AreNew blocks n) where
   pub none_new : extents_in blocks ≡ maps.empty
-  none_new = same_map nat_cmp_total nat_cmp-IsAntisymmetric _ _ (λ a. get-extents_in blocks a ∙ nothing a (nat_lt a 65536) ∙ sym (get-empty nat_cmp a))
+  none_new = extents_are blocks maps.empty (λ a lt. get-empty nat_cmp a) (λ b p small. get-empty nat_cmp (block_start b + p) ∙ sym (inside p (slice_get blocks b) (new.bare b)))
     where
       inside : (p : ℕ) (o : Option Block) → ((k : Block) → o ≡ Some k → is_bare k ≡ true) → option_and_then (extent_in p) o ≡ None
       inside p None bare = refl
       inside p (Some k) bare = cond-false (starts_at k p) (Some (extent_of k)) None (none_bare k (bare k refl) p)
 
-      nothing : (a : ℕ) (t : Bool) → cond t None (option_and_then (extent_in ((a - 65536) % 64)) (slice_get blocks ((a - 65536) / 64))) ≡ None
-      nothing a true = refl
-      nothing a false = inside ((a - 65536) % 64) (slice_get blocks ((a - 65536) / 64)) (new.bare ((a - 65536) / 64))
-
   pub clean_new : condemned_in blocks ≡ sets.empty
-  clean_new = same_set nat_cmp_total sets.nat_cmp-IsAntisymmetric _ _ (λ a. contains-condemned_in blocks a ∙ nothing a (nat_lt a 65536) ∙ sym (contains-empty nat_cmp a))
+  clean_new = condemned_are blocks sets.empty (λ a lt. contains-empty nat_cmp a) (λ b p small. contains-empty nat_cmp (block_start b + p) ∙ sym (inside p (slice_get blocks b) (new.clean b)))
     where
       inside : (p : ℕ) (o : Option Block) → ((k : Block) → o ≡ Some k → k.condemned ≡ 0) → option_map_or (λ (block : Block). has_bit block.condemned p) o false ≡ false
       inside p None clean = refl
       inside p (Some k) clean = ap (λ n. has_bit n p) (clean k refl) ∙ no_bits p
-
-      nothing : (a : ℕ) (t : Bool) → cond t false (option_map_or (λ (block : Block). has_bit block.condemned ((a - 65536) % 64)) (slice_get blocks ((a - 65536) / 64)) false) ≡ false
-      nothing a true = refl
-      nothing a false = inside ((a - 65536) % 64) (slice_get blocks ((a - 65536) / 64)) (new.clean ((a - 65536) / 64))
 
   own_new : (b : ℕ) (k : Block) → slice_get blocks b ≡ Some k → k.back ≡ 0
   own_new b k here = eqb-true k.back 0 (and_parts (k.objects == 0) (k.back == 0) (new.bare b k here)).1

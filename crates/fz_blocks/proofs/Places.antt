@@ -25,9 +25,9 @@ use Rattle.fz_blocks.specs.Layout.{extents_in, has_room, AreRuns}
 use Rattle.fz_blocks.proofs.Bits.{same_test, cell_parts}
 use Rattle.fz_model.proofs.Bits.{no_bits}
 use Rattle.fz_model.specs.Bits.{has_bit}
-use Rattle.fz_blocks.proofs.Blocks.{none_bare, some_start, start_within, full_cells}
+use Rattle.fz_blocks.proofs.Objects.{none_bare, some_start, start_within, full_cells}
 use Rattle.fz_blocks.proofs.Ranges.{find_first, find_nowhere, find_mapped, search_first, search_nowhere}
-use Rattle.fz_blocks.proofs.Extents.{get-extents_in, opened, extent_is_at, extent_here, covered, Here, Back, IsFound}
+use Rattle.fz_blocks.proofs.Extents.{get-place, extent_is_at, extent_here, covered, Here, Back, IsFound}
 
 pub item_at : {X : Type 0} (xs : List X) (i : ℕ) → i < length xs → (x : X) × (slice_get xs i ≡ Some x)
 item_at [] i lt = absurd (omega (arith, lt))
@@ -68,7 +68,7 @@ module _ (blocks : List Block) (runs : AreRuns blocks) where
 
   is_free-cell : (b p : ℕ) (block : Block) → slice_get blocks b ≡ Some block → p < 64 → is_free extents (block_start b + p) ≡ not (starts_at block p)
   is_free-cell b p block here small =
-      ap is_none (get-extents_in blocks (block_start b + p) ∙ opened blocks b p small ∙ ap (option_and_then (extent_in p)) here)
+      ap is_none (get-place blocks b p small ∙ ap (option_and_then (extent_in p)) here)
       ∙ elim (starts_at block p) as (λ t. is_none (cond t (Some (extent_of block)) None) ≡ not t) [ true ↦ refl | false ↦ refl ]
 
   -- an extent that starts in the block is one of its objects

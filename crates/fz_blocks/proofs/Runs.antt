@@ -1,37 +1,30 @@
 -- What the claim of a run leaves.
-use Rattle.std.proofs.Common.{◌≡◌, ◌≢◌, ℕ, ◌+◌, ◌-◌, ◌*◌, ◌/◌, ◌%◌, ◌<◌, ◌≤◌, ◌⊎◌, inl, inr, true, false, cond, ◌==◌, List, Some, None, option_and_then, slice_get, nat_lt, nat_eq, nat_cmp, sym, ap, ◌∙◌, subst, ⊎_elim, arith}
-use Rattle.std.proofs.lemmas.Bool.{cond-true, cond-false, cases_eq, cases_lt, eq-eqb, ne_eqb, eqb-true, lt-ltb, le-ltb, and_parts, both_ways}
+use Rattle.std.proofs.Common.{◌≡◌, ◌≢◌, ℕ, ◌+◌, ◌-◌, ◌*◌, ◌<◌, ◌≤◌, ◌⊎◌, inl, inr, true, false, cond, ◌==◌, List, Some, None, option_and_then, slice_get, sym, ap, ◌∙◌, subst, ⊎_elim, arith}
+use Rattle.std.proofs.lemmas.Bool.{cond-true, cond-false, cases_eq, cases_lt, eq-eqb, ne_eqb, eqb-true, and_parts, both_ways}
 use Rattle.std.proofs.lemmas.Option.{same_Some}
-use Rattle.std.specs.Cmp.{nat_cmp_total, unsigned_tied}
-use Rattle.std.specs.Ordering.{eq_by_cmp}
-use Rattle.std.specs.FinMap.{insert, same_map, get-insert, nat_cmp-IsAntisymmetric}
+use Rattle.std.specs.FinMap.{get, insert}
 use Rattle.fz_model.specs.Allocation.{block_start}
+use Rattle.fz_model.proofs.Maps.{get-insert_same, get-insert_other}
 use Rattle.fz_blocks.specs.declared.block.Block.{Block}
 use Rattle.fz_blocks.specs.Blocks.{starts_at, is_bare, extent_of, extent_in}
-use Rattle.fz_blocks.specs.Layout.{extent_at, extents_in, IsLater, AreRuns}
+use Rattle.fz_blocks.specs.Layout.{extents_in, IsLater, AreRuns}
 use Rattle.fz_blocks.specs.Runs.{TakesRun}
-use Rattle.fz_blocks.proofs.Blocks.{none_bare, none_in_later}
-use Rattle.fz_blocks.proofs.Extents.{get-extents_in}
+use Rattle.fz_blocks.proofs.Objects.{none_bare, none_in_later}
+use Rattle.fz_blocks.proofs.Extents.{low_extent, get-place, extents_are}
 
 pub no_extent : (block : Block) (p : ℕ) → starts_at block p ≡ false → extent_in p block ≡ None
 no_extent block p off = cond-false (starts_at block p) (Some (extent_of block)) None off
 
-pub at_low : (blocks : List Block) (a : ℕ) → a < 65536 → extent_at blocks a ≡ None
-at_low blocks a low = cond-true (nat_lt a 65536) None (option_and_then (extent_in ((a - 65536) % 64)) (slice_get blocks ((a - 65536) / 64))) (lt-ltb a 65536 low)
-
-pub at_high : (blocks : List Block) (a : ℕ) → 65536 ≤ a → extent_at blocks a ≡ option_and_then (extent_in ((a - 65536) % 64)) (slice_get blocks ((a - 65536) / 64))
-at_high blocks a high = cond-false (nat_lt a 65536) None (option_and_then (extent_in ((a - 65536) % 64)) (slice_get blocks ((a - 65536) / 64))) (le-ltb a 65536 high)
+-- a block before the run, its first, a later one, or one past it
+pub outside_or : (b count c : ℕ) → ((c < b) ⊎ (b + count ≤ c)) ⊎ ((c ≡ b) ⊎ ((b < c) × (c < b + count)))
+outside_or b count c =
+    ⊎_elim (λ (lt : c < b). inl (inl lt))
+    (λ (ge : b ≤ c). ⊎_elim (λ (is : c ≡ b). inr (inl is))
+    (λ (ne : c ≢ b). ⊎_elim (λ (lt : c < b + count). inr (inr (omega (arith, ge, ne), lt))) (λ (past : b + count ≤ c). inl (inr past)) (cases_lt c (b + count)))
+    (cases_eq c b))
+    (cases_lt c b)
 
 module _ (old new : List Block) (b count : ℕ) (first : Block) (takes : TakesRun old new b count first) where
-  -- a block before the run, its first, a later one, or one past it
-  outside_or : (c : ℕ) → ((c < b) ⊎ (b + count ≤ c)) ⊎ ((c ≡ b) ⊎ ((b < c) × (c < b + count)))
-  outside_or c =
-      ⊎_elim (λ (lt : c < b). inl (inl lt))
-      (λ (ge : b ≤ c). ⊎_elim (λ (is : c ≡ b). inr (inl is))
-      (λ (ne : c ≢ b). ⊎_elim (λ (lt : c < b + count). inr (inr (omega (arith, ge, ne), lt))) (λ (past : b + count ≤ c). inl (inr past)) (cases_lt c (b + count)))
-      (cases_eq c b))
-      (cases_lt c b)
-
   some : 0 < count
   some = let enough = takes.enough in let sized = first.sized in omega (arith, enough, sized)
 
@@ -51,7 +44,7 @@ module _ (old new : List Block) (b count : ℕ) (first : Block) (takes : TakesRu
   run_runs runs = record { ahead = ahead; behind = behind }
     where
       ahead : (c k : ℕ) (start : Block) → slice_get new c ≡ Some start → starts_at start 0 ≡ true → 0 < k → 64 * k < start.size → (later : Block) × (slice_get new (c + k) ≡ Some later) × (later.back ≡ k)
-      ahead c k start here on low reach = ⊎_elim outside (⊎_elim own between) (outside_or c)
+      ahead c k start here on low reach = ⊎_elim outside (⊎_elim own between) (outside_or b count c)
         where
           outside : (c < b) ⊎ (b + count ≤ c) → (later : Block) × (slice_get new (c + k) ≡ Some later) × (later.back ≡ k)
           outside out =
@@ -62,7 +55,7 @@ module _ (old new : List Block) (b count : ℕ) (first : Block) (takes : TakesRu
               (λ within. let range = in_range within in
               let none = eqb-true was.0.back 0 (and_parts (was.0.objects == 0) (was.0.back == 0) (was_bare (c + k) was.0 range.0 range.1 was.1)).1 in
               absurd (omega (arith, none, back, low)))
-              (outside_or (c + k))
+              (outside_or b count (c + k))
             where
               in_range : ((c + k ≡ b) ⊎ ((b < c + k) × (c + k < b + count))) → (b ≤ c + k) × (c + k < b + count)
               in_range within = ⊎_elim (λ (is : c + k ≡ b). (omega (arith, is), omega (arith, is, some))) (λ p. (omega (arith, p.0), p.1)) within
@@ -78,7 +71,7 @@ module _ (old new : List Block) (b count : ℕ) (first : Block) (takes : TakesRu
           between range = let back = is_later c start range.0 range.1 here in let past = range.0 in absurd (both_ways _ (none_in_later start (omega (arith, back, past)) 0) on)
 
       behind : (c : ℕ) (later : Block) → slice_get new c ≡ Some later → 0 < later.back → IsLater new c later.back
-      behind c later here low = ⊎_elim outside (⊎_elim own between) (outside_or c)
+      behind c later here low = ⊎_elim outside (⊎_elim own between) (outside_or b count c)
         where
           outside : (c < b) ⊎ (b + count ≤ c) → IsLater new c later.back
           outside out =
@@ -86,7 +79,7 @@ module _ (old new : List Block) (b count : ℕ) (first : Block) (takes : TakesRu
               ⊎_elim
               (λ apart. record { within = was.within; first = was.first; here = takes.others (c - later.back) apart ∙ was.here; starts = was.starts; reaches = was.reaches })
               (λ within. let range = in_range within in absurd (both_ways _ (none_bare was.first (was_bare (c - later.back) was.first range.0 range.1 was.here) 0) was.starts))
-              (outside_or (c - later.back))
+              (outside_or b count (c - later.back))
             where
               in_range : ((c - later.back ≡ b) ⊎ ((b < c - later.back) × (c - later.back < b + count))) → (b ≤ c - later.back) × (c - later.back < b + count)
               in_range within = ⊎_elim (λ (is : c - later.back ≡ b). (omega (arith, is), omega (arith, is, some))) (λ p. (omega (arith, p.0), p.1)) within
@@ -107,53 +100,42 @@ module _ (old new : List Block) (b count : ℕ) (first : Block) (takes : TakesRu
               record { within = omega (arith, back, past); first = first; here = ap (slice_get new) at ∙ takes.here; starts = takes.one 0; reaches = omega (arith, back, past, high, few) }
 
   pub run_extents : extents_in new ≡ insert (extents_in old) (block_start b) (extent_of first)
-  run_extents =
-      same_map nat_cmp_total nat_cmp-IsAntisymmetric _ _ (λ a.
-      get-extents_in new a
-      ∙ ⊎_elim (low a) (high a) (cases_lt a 65536)
-      ∙ ap (λ t. cond t (Some (extent_of first)) (extent_at old a)) (sym (unsigned_tied a (block_start b)))
-      ∙ ap (cond (eq_by_cmp nat_cmp a (block_start b)) (Some (extent_of first))) (sym (get-extents_in old a))
-      ∙ sym (get-insert nat_cmp_total (extents_in old) (block_start b) (extent_of first) a))
+  run_extents = extents_are new (insert (extents_in old) (block_start b) (extent_of first)) (λ a lt. elsewhere a (λ is. omega (arith, is, lt)) ∙ low_extent old a lt) (λ c p small. ⊎_elim (outside c p small) (⊎_elim (own c p small) (between c p small)) (outside_or b count c))
     where
-      elsewhere : (a : ℕ) → a ≢ block_start b → extent_at old a ≡ cond (nat_eq a (block_start b)) (Some (extent_of first)) (extent_at old a)
-      elsewhere a ne = sym (cond-false (nat_eq a (block_start b)) (Some (extent_of first)) (extent_at old a) (ne_eqb a (block_start b) ne))
+      elsewhere : (a : ℕ) → a ≢ block_start b → get (insert (extents_in old) (block_start b) (extent_of first)) a ≡ get (extents_in old) a
+      elsewhere = get-insert_other (extents_in old) (block_start b) (extent_of first)
 
-      low : (a : ℕ) → a < 65536 → extent_at new a ≡ cond (nat_eq a (block_start b)) (Some (extent_of first)) (extent_at old a)
-      low a lt = at_low new a lt ∙ sym (at_low old a lt) ∙ elsewhere a (λ is. omega (arith, is, lt))
+      -- no extent starts in a block that was bare
+      old_none : (c p : ℕ) → p < 64 → b ≤ c → c < b + count → get (extents_in old) (block_start c + p) ≡ None
+      old_none c p small from to =
+          let was = takes.bare (c - b) (omega (arith, from, to)) in
+          let at : b + (c - b) ≡ c = omega (arith, from) in
+          get-place old c p small ∙ ap (option_and_then (extent_in p)) (ap (slice_get old) (sym at) ∙ was.1) ∙ no_extent was.0 p (none_bare was.0 was.2 p)
 
-      high : (a : ℕ) → 65536 ≤ a → extent_at new a ≡ cond (nat_eq a (block_start b)) (Some (extent_of first)) (extent_at old a)
-      high a ge = ⊎_elim outside within (outside_or ((a - 65536) / 64))
+      outside : (c p : ℕ) → p < 64 → (c < b) ⊎ (b + count ≤ c) → get (insert (extents_in old) (block_start b) (extent_of first)) (block_start c + p) ≡ option_and_then (extent_in p) (slice_get new c)
+      outside c p small out =
+          elsewhere (block_start c + p) (λ is. ⊎_elim (λ lt. omega (arith, is, lt, small)) (λ past. omega (arith, is, past, some)) out)
+          ∙ get-place old c p small
+          ∙ ap (option_and_then (extent_in p)) (sym (takes.others c out))
+
+      own : (c p : ℕ) → p < 64 → c ≡ b → get (insert (extents_in old) (block_start b) (extent_of first)) (block_start c + p) ≡ option_and_then (extent_in p) (slice_get new c)
+      own c p small is =
+          ⊎_elim
+          (λ (start : p ≡ 0). let at : block_start c + p ≡ block_start b = omega (arith, is, start) in
+          ap (get (insert (extents_in old) (block_start b) (extent_of first))) at ∙ get-insert_same (extents_in old) (block_start b) (extent_of first) ∙ sym (now ∙ cond-true (p == 0) (Some (extent_of first)) None (eq-eqb p 0 start)))
+          (λ (ne : p ≢ 0). elsewhere (block_start c + p) (λ same. ne (omega (arith, same, is))) ∙ old_none c p small (omega (arith, is)) (omega (arith, is, some)) ∙ sym (now ∙ cond-false (p == 0) (Some (extent_of first)) None (ne_eqb p 0 ne)))
+          (cases_eq p 0)
         where
-          p : ℕ
-          p = (a - 65536) % 64
+          now : option_and_then (extent_in p) (slice_get new c) ≡ cond (p == 0) (Some (extent_of first)) None
+          now = ap (option_and_then (extent_in p)) (ap (slice_get new) is ∙ takes.here) ∙ ap (λ t. cond t (Some (extent_of first)) None) (takes.one p)
 
-          -- no extent starts in a block that was bare
-          old_none : b ≤ (a - 65536) / 64 → (a - 65536) / 64 < b + count → extent_at old a ≡ None
-          old_none from to =
-              let was = takes.bare ((a - 65536) / 64 - b) (omega (arith, from, to)) in
-              let at : b + ((a - 65536) / 64 - b) ≡ (a - 65536) / 64 = omega (arith, from) in
-              at_high old a ge ∙ ap (option_and_then (extent_in ((a - 65536) % 64))) (ap (slice_get old) (sym at) ∙ was.1) ∙ no_extent was.0 ((a - 65536) % 64) (none_bare was.0 was.2 ((a - 65536) % 64))
-
-          outside : ((a - 65536) / 64 < b) ⊎ (b + count ≤ (a - 65536) / 64) → extent_at new a ≡ cond (nat_eq a (block_start b)) (Some (extent_of first)) (extent_at old a)
-          outside out = at_high new a ge ∙ ap (option_and_then (extent_in ((a - 65536) % 64))) (takes.others ((a - 65536) / 64) out) ∙ sym (at_high old a ge) ∙ elsewhere a (λ is. ⊎_elim (λ lt. omega (arith, is, lt)) (λ past. omega (arith, is, past, some)) out)
-
-          own : (a - 65536) / 64 ≡ b → extent_at new a ≡ cond (nat_eq a (block_start b)) (Some (extent_of first)) (extent_at old a)
-          own is =
-              at_high new a ge ∙ ap (option_and_then (extent_in ((a - 65536) % 64))) (ap (slice_get new) is ∙ takes.here) ∙ ap (λ t. cond t (Some (extent_of first)) None) (takes.one ((a - 65536) % 64))
-              ∙ ⊎_elim
-              (λ (start : (a - 65536) % 64 ≡ 0). cond-true ((a - 65536) % 64 == 0) (Some (extent_of first)) None (eq-eqb _ 0 start) ∙ sym (cond-true (nat_eq a (block_start b)) (Some (extent_of first)) (extent_at old a) (eq-eqb a (block_start b) (omega (arith, ge, is, start)))))
-              (λ (ne : (a - 65536) % 64 ≢ 0). cond-false ((a - 65536) % 64 == 0) (Some (extent_of first)) None (ne_eqb _ 0 ne) ∙ sym (old_none (omega (arith, is)) (omega (arith, is, some))) ∙ elsewhere a (λ same. ne (omega (arith, same))))
-              (cases_eq ((a - 65536) % 64) 0)
-
-          between : (b < (a - 65536) / 64) × ((a - 65536) / 64 < b + count) → extent_at new a ≡ cond (nat_eq a (block_start b)) (Some (extent_of first)) (extent_at old a)
-          between range =
-              let past = range.0 in
-              let to = range.1 in
-              let is = takes.later ((a - 65536) / 64 - b) (omega (arith, past)) (omega (arith, past, to)) in
-              let at : b + ((a - 65536) / 64 - b) ≡ (a - 65536) / 64 = omega (arith, past) in
-              let back = is.2 in
-              at_high new a ge ∙ ap (option_and_then (extent_in ((a - 65536) % 64))) (ap (slice_get new) (sym at) ∙ is.1) ∙ no_extent is.0 ((a - 65536) % 64) (none_in_later is.0 (omega (arith, back, past)) ((a - 65536) % 64))
-              ∙ sym (old_none (omega (arith, past)) to) ∙ elsewhere a (λ same. omega (arith, same, past))
-
-          within : ((a - 65536) / 64 ≡ b) ⊎ ((b < (a - 65536) / 64) × ((a - 65536) / 64 < b + count)) → extent_at new a ≡ cond (nat_eq a (block_start b)) (Some (extent_of first)) (extent_at old a)
-          within = ⊎_elim own between
+      between : (c p : ℕ) → p < 64 → (b < c) × (c < b + count) → get (insert (extents_in old) (block_start b) (extent_of first)) (block_start c + p) ≡ option_and_then (extent_in p) (slice_get new c)
+      between c p small range =
+          let past = range.0 in
+          let to = range.1 in
+          let is = takes.later (c - b) (omega (arith, past)) (omega (arith, past, to)) in
+          let at : b + (c - b) ≡ c = omega (arith, past) in
+          let back = is.2 in
+          elsewhere (block_start c + p) (λ same. omega (arith, same, past))
+          ∙ old_none c p small (omega (arith, past)) to
+          ∙ sym (ap (option_and_then (extent_in p)) (ap (slice_get new) (sym at) ∙ is.1) ∙ no_extent is.0 p (none_in_later is.0 (omega (arith, back, past)) p))

@@ -8,7 +8,7 @@ use Rattle.std.specs.Int.{trailing_zeros}
 use Rattle.std.specs.FinSet.{contains, contains-empty}
 use Rattle.fz_blocks.specs.declared.block.Block.{Block}
 use Rattle.fz_blocks.specs.Blocks.{is_bare}
-use Rattle.fz_blocks.specs.BlockSets.{Blocks, has_pair_bit, blocks_of, AreRunsOf, HasRun, IsLeastRun, IsSummary}
+use Rattle.fz_blocks.specs.BlockSets.{BlockNumbers, has_pair_bit, blocks_of, AreRunsOf, HasRun, IsLeastRun, IsSummary}
 use Rattle.fz_model.specs.Bits.{has_bit, has_flag}
 use Rattle.fz_blocks.specs.Runs.{IsRun, IsFirstRun}
 use Rattle.fz_blocks.proofs.Bits.{lowest}
@@ -95,7 +95,7 @@ none_before words summary row count is fits row_is some b lt run =
 
 -- ---- among blocks
 
-module _ (blocks : List Block) (bare : Blocks) (are : (b : ℕ) → contains bare b ≡ option_map_or is_bare (slice_get blocks b) false) where
+module _ (blocks : List Block) (bare : BlockNumbers) (are : (b : ℕ) → contains bare b ≡ option_map_or is_bare (slice_get blocks b) false) where
   to_run : (count b : ℕ) → HasRun bare count b → IsRun blocks count b
   to_run count b has k lt = member (slice_get blocks (b + k)) refl (sym (are (b + k)) ∙ has k lt)
     where

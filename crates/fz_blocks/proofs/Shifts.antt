@@ -43,15 +43,6 @@ pair_bit word next s p fits some few lt =
     ap (λ n. nat_eq n 1) is ∙ sym (cond-false (nat_lt (p + s) 64) (has_bit word (p + s)) (has_bit next (p + s - 64)) (le-ltb (p + s) 64 high)))
     (cases_lt (p + s) 64)
 
-pub first_runs : (word next : ℕ) → AreRunsOf word word next 1
-first_runs word next = record {
-  all = λ place k small on lt. let at : place + k ≡ place = omega (arith, lt) in ap (has_pair_bit word next) at ∙ here place small ∙ on;
-  each = λ place small on. let at : place + 0 ≡ place = omega arith in sym (here place small) ∙ ap (has_pair_bit word next) (sym at) ∙ on 0 (omega arith);
-}
-  where
-    here : (place : ℕ) → place < 64 → has_pair_bit word next place ≡ has_bit word place
-    here place small = cond-true (nat_lt place 64) (has_bit word place) (has_bit next (place - 64)) (lt-ltb place 64 small)
-
 pub more_runs : (runs word next s : ℕ) → word < 2 ^ 64 → 1 ≤ s → s < 64 → AreRunsOf runs word next s → AreRunsOf (bit_and runs (bit_or (word / 2 ^ s) (next * 2 ^ (64 - s) % 2 ^ 64))) word next (s + 1)
 more_runs runs word next s fits some few are = record {
   all = λ place k small on lt.

@@ -23,7 +23,7 @@ use Rattle.fz_blocks.specs.Layout.{extent_at, extents_in}
 use Rattle.fz_blocks.specs.Starts.{IsFirstStart, starts_from}
 use Rattle.fz_blocks.proofs.Bits.{lowest}
 use Rattle.fz_model.proofs.Bits.{no_bits}
-use Rattle.fz_blocks.proofs.Blocks.{objects_fit, start_within}
+use Rattle.fz_blocks.proofs.Objects.{objects_fit, start_within}
 use Rattle.fz_blocks.proofs.Tabulating.{get-tabulated}
 
 -- ---- within a block
@@ -114,9 +114,6 @@ module _ (blocks : List Block) where
         skip_to next a (omega (arith, high, after)) (omega (arith, high, within, in_list))
         (λ x low lt. same_block x low (omega (arith, lt, after, within)) ∙ is.before ((x - 65536) % 64) (omega (arith, low, lt, high, after, within)) (omega (arith, low, lt, high, after, within)))
         ∙ one_start a (omega (arith, high, within, in_list)) (same_block a (omega (arith, high, after)) (omega (arith, high, within, after)) ∙ ap (starts_at block) place ∙ is.start)
-
-    pub step_within : (start : ℕ) → IsFirstStart block ((next - 65536) % 64) start → next - (next - 65536) % 64 + start + 1 ≤ 65536 + 64 * length blocks
-    step_within start is = let within = is.within in omega (arith, high, within, in_list)
 
 -- ---- the keys
 

@@ -7,34 +7,34 @@ use Rattle.std.specs.FinSet.{FinSet, code, empty, contains, from_list, retain}
 use Rattle.std.specs.Coded.{Coded, code_by, coded×, coded_ℕ}
 use Rattle.fz_model.specs.Bits.{has_bit, has_flag}
 
-abbrev pub Blocks : Type 0
-Blocks = FinSet nat_cmp
+abbrev pub BlockNumbers : Type 0
+BlockNumbers = FinSet nat_cmp
 
 -- a set, and for how many words of block numbers it has room
 pub record Roomed : Type 0 where
   pub room : ℕ
-  pub members : Blocks
+  pub members : BlockNumbers
 
 abbrev pub roomed_code : Coded Roomed
-roomed_code = code_by (ℕ × Blocks) (coded× coded_ℕ (code coded_ℕ)) (λ s. (s.room, s.members)) (λ p. record { room = p.0; members = p.1 }) (λ _. refl)
+roomed_code = code_by (ℕ × BlockNumbers) (coded× coded_ℕ (code coded_ℕ)) (λ s. (s.room, s.members)) (λ p. record { room = p.0; members = p.1 }) (λ _. refl)
 
 abbrev pub no_room : Roomed
 no_room = record { room = 0; members = empty }
 
 -- the set of a class, and its room
-abbrev pub members_at : List Roomed → ℕ → Blocks
+abbrev pub members_at : List Roomed → ℕ → BlockNumbers
 members_at sets class = (slice_index_or sets class no_room).members
 
 abbrev pub room_at : List Roomed → ℕ → ℕ
 room_at sets class = (slice_index_or sets class no_room).room
 
 -- the least member
-pub record IsLeast (blocks : Blocks) (least : ℕ) : Type 0 where
+pub record IsLeast (blocks : BlockNumbers) (least : ℕ) : Type 0 where
   pub member : IsTrue (contains blocks least)
   pub before : (b : ℕ) → b < least → IsFalse (contains blocks b)
 
 -- the blocks whose bits are set
-abbrev pub blocks_of : List ℕ → Blocks
+abbrev pub blocks_of : List ℕ → BlockNumbers
 blocks_of words = retain (from_list (range_with_len 0 (64 * length words))) (has_flag words)
 
 -- a bit for each of the words that isn't zero
@@ -52,9 +52,9 @@ pub record AreRunsOf (runs word next count : ℕ) : Type 0 where
   pub each : (place : ℕ) → place < 64 → ((k : ℕ) → k < count → IsTrue (has_pair_bit word next (place + k))) → IsTrue (has_bit runs place)
 
 -- a set has `count` numbers from one on; and the least number from which on it has them
-abbrev pub HasRun : Blocks → ℕ → ℕ → Type 0
+abbrev pub HasRun : BlockNumbers → ℕ → ℕ → Type 0
 HasRun blocks count b = (k : ℕ) → k < count → IsTrue (contains blocks (b + k))
 
-pub record IsLeastRun (blocks : Blocks) (count least : ℕ) : Type 0 where
+pub record IsLeastRun (blocks : BlockNumbers) (count least : ℕ) : Type 0 where
   pub run : HasRun blocks count least
   pub before : (b : ℕ) → b < least → HasRun blocks count b → ⊥

@@ -58,12 +58,6 @@ pub record Claims (old new : Block) (start : ℕ) : Type 0 where
   pub least : (place : ℕ) → place < start → IsTrue (is_cell old.size place) → IsTrue (starts_at old place)
   pub claimed : (place : ℕ) → starts_at new place ≡ (place == start || starts_at old place)
 
--- the cell is condemned, and no other changes
-pub record Condemns (old new : Block) (start : ℕ) : Type 0 where
-  pub alike : IsAlike old new
-  pub gone : (place : ℕ) → starts_at new place ≡ (not (place == start) && starts_at old place)
-  pub condemned : (place : ℕ) → has_bit new.condemned place ≡ (place == start || has_bit old.condemned place)
-
 -- the cells at these places at which objects start are condemned, and no other changes
 pub record CondemnsAll (old new : Block) (places : ℕ) : Type 0 where
   pub alike : IsAlike old new

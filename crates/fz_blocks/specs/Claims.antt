@@ -1,10 +1,12 @@
--- What a claim leaves in the blocks.
-use Rattle.std.specs.Prelude.{◌≡◌, ℕ, List, length, Some}
-use Rattle.std.specs.FinMap.{insert}
+-- What a claim leaves in the blocks, and what is left where objects are condemned.
+use Rattle.std.specs.Prelude.{◌≡◌, ℕ, ◌+◌, ◌&&◌, ◌||◌, not, List, length, Some}
+use Rattle.std.specs.FinMap as maps
+use Rattle.std.specs.FinMap.{insert, retain_keys, contains_key}
+use Rattle.std.specs.FinSet.{contains, len}
 use Rattle.fz_model.specs.declared.kinds.ObjKind.{ObjKind}
 use Rattle.fz_model.specs.Allocation.{place_in, block_of, blocks_for}
 use Rattle.fz_blocks.specs.declared.block.Block.{Block}
-use Rattle.fz_blocks.specs.Claimed.{swept}
+use Rattle.fz_blocks.specs.Claimed.{stands_at, swept}
 use Rattle.fz_blocks.specs.Layout.{extents_in, condemned_in, AreRuns}
 
 pub record IsClaimed (old new : List Block) (size : ℕ) (kind : ObjKind) (start : ℕ) : Type 0 where
@@ -13,3 +15,11 @@ pub record IsClaimed (old new : List Block) (size : ℕ) (kind : ObjKind) (start
   pub place : place_in (extents_in old) (length old) size kind ≡ Some start
   pub extents : extents_in new ≡ insert (extents_in old) start (record { size = size; kind = kind })
   pub swept : condemned_in new ≡ swept (condemned_in old) (block_of start) (blocks_for size)
+
+-- the objects that start in a block at some of these places are condemned, and no other changes
+pub record IsCondemned (old new : List Block) (b places many : ℕ) : Type 0 where
+  pub long : length new ≡ length old
+  pub extents : extents_in new ≡ retain_keys (extents_in old) (λ a. not (stands_at b places a))
+  pub condemned : (a : ℕ) → contains (condemned_in new) a ≡ (contains_key (extents_in old) a && stands_at b places a || contains (condemned_in old) a)
+  pub count : len (condemned_in new) ≡ len (condemned_in old) + many
+  pub fewer : maps.len (extents_in new) + many ≡ maps.len (extents_in old)

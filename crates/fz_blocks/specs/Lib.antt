@@ -6,6 +6,6 @@ pub mod Layout
 pub mod Classes
 pub mod Claimed
 pub mod Runs
-pub mod Tables
+pub mod Listed
 pub mod Claims
 pub mod Starts

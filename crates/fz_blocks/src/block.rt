@@ -30,7 +30,7 @@ pub(crate) struct Block {
 
 impl Block {
     ghost use Rattle.fz_blocks.specs.Starts.{IsFirstStart};
-    ghost use Rattle.fz_blocks.specs.Blocks.{starts_at, is_bare, is_full, has_free_cell, has_same_room, extent_of, IsCellOf, IsAlike, Claims, Condemns, CondemnsAll, Detaches};
+    ghost use Rattle.fz_blocks.specs.Blocks.{starts_at, is_bare, is_full, has_free_cell, has_same_room, extent_of, IsCellOf, IsAlike, Claims, CondemnsAll, Detaches};
     ghost use Rattle.fz_model.specs.Allocation.{blocks_for};
     ghost use Rattle.std.specs.Int.Count.{ones};
 
@@ -128,17 +128,8 @@ impl Block {
         u64::from(place)
     }
 
-    /// Condemns the cell that starts at this place.
-    pub(crate) fn condemn(&mut self, place: u64)
-        requires { IsTrue (starts_at self.old place) }
-        ensures { Condemns self.old self.new place }
-    {
-        self.objects &= !(1 << place);
-        self.condemned |= 1 << place;
-    }
-
     /// Condemns the cells at these places at which objects start; returns their number.
-    pub(crate) fn condemn_all(&mut self, places: u64) -> u64
+    pub(crate) fn condemn(&mut self, places: u64) -> u64
         ensures condemns { CondemnsAll self.old self.new places }
         ensures count { ones self.new.condemned ≡ ones self.old.condemned + result }
         ensures none { result ≡ 0 → self.new.objects ≡ self.old.objects }

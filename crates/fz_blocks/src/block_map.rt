@@ -1,8 +1,8 @@
 //! The map of a heap's blocks.
 
-use crate::claims::{claim_place, free_later};
+use crate::blocks::Blocks;
+use crate::claims::{claim_place, condemn_at};
 use crate::starts::Starts;
-use crate::table::Table;
 use fz_model::{
     Addr, BLOCK_WORDS, Extent, HEAP_START, MAX_BLOCKS, MAX_OBJECT_WORDS, ObjKind, Refusal, Word,
 };
@@ -16,13 +16,13 @@ use std::marker::Model;
 ///
 /// An object that is condemned is out of the map; its cell stays condemned until it is swept, or claimed again.
 pub struct BlockMap {
-    table: Table,
+    blocks: Blocks,
 }
 
 // Written out: who owns a map then drops it by one call that is proved here, not field by field at each way out of a function.
 impl Drop for BlockMap {
     fn drop(self) {
-        let BlockMap { table: _ } = self;
+        let BlockMap { blocks: _ } = self;
     }
 }
 
@@ -36,9 +36,9 @@ impl Model for BlockMap {
 
     ghost use Rattle.fz_blocks.specs.Layout.{extents_in, condemned_in, IsMap};
 
-    ghost view = { λ m. record { blocks = length m.table; extents = extents_in m.table; condemned = condemned_in m.table } };
+    ghost view = { λ m. record { blocks = length m.blocks; extents = extents_in m.blocks; condemned = condemned_in m.blocks } };
 
-    ghost invariant = { λ m. IsMap m.table };
+    ghost invariant = { λ m. IsMap m.blocks };
 }
 
 impl BlockMap {
@@ -62,8 +62,8 @@ impl BlockMap {
         if blocks == 0 || blocks > MAX_BLOCKS {
             return Err(Refusal::BadCount);
         }
-        let table = Table::new(alloc, blocks)?;
-        Ok(BlockMap { table })
+        let blocks = Blocks::new(alloc, blocks)?;
+        Ok(BlockMap { blocks })
     }
 
     /// The number of blocks.
@@ -73,7 +73,7 @@ impl BlockMap {
         ensures apart { AreApart self.now.extents }
         ensures within { AreWithin self.now.blocks self.now.extents }
     {
-        self.table.as_slice().len() as u64
+        self.blocks.as_slice().len() as u64
     }
 
     /// Claims the least free cell of the blocks of this size (1 to 1,024 words) and kind, or else the least run of blocks that no
@@ -91,7 +91,7 @@ impl BlockMap {
         if size == 0 || size > MAX_OBJECT_WORDS {
             return Err(Refusal::BadSize);
         }
-        claim_place(&mut self.table, size, kind).ok_or(Refusal::NoSpace)
+        claim_place(&mut self.blocks, size, kind).ok_or(Refusal::NoSpace)
     }
 
     /// Takes an object out of the map; its cell, or its whole run, waits to be swept. Asked only of a start.
@@ -99,12 +99,9 @@ impl BlockMap {
         requires { IsTrue (contains_key self.old.extents start) }
         ensures { self.new ≡ record self.old { extents = remove self.old.extents start; condemned = sets.insert self.old.condemned start } }
     {
-        let table = &mut self.table;
+        let blocks = &mut self.blocks;
         let offset = start - HEAP_START;
-        let at = offset / BLOCK_WORDS;
-        table.condemn_in(at, offset % BLOCK_WORDS);
-        let span = table.get(at).span();
-        free_later(table, at, span);
+        condemn_at(blocks, offset / BLOCK_WORDS, 1 << (offset % BLOCK_WORDS));
     }
 
     /// Condemns each object that starts in a block at one of these places, a bit each, the first place's lowest; returns their
@@ -117,15 +114,7 @@ impl BlockMap {
         ensures count { sets.len self.new.condemned ≡ sets.len self.old.condemned + result }
         ensures fewer { len self.new.extents + result ≡ len self.old.extents }
     {
-        let table = &mut self.table;
-        let mut left = table.get(block);
-        let count = left.condemn_all(places);
-        if count == 0 {
-            return 0;
-        }
-        table.put(block, left);
-        free_later(table, block, left.span());
-        count
+        condemn_at(&mut self.blocks, block, places)
     }
 
     /// Frees the condemned cells of a block, or the condemned run that starts there. Asked only of a block of the heap.
@@ -133,7 +122,9 @@ impl BlockMap {
         requires { block < self.old.blocks }
         ensures { self.new ≡ record self.old { condemned = swept self.old.condemned block 1 } }
     {
-        self.table.sweep_in(block);
+        let mut clean = self.blocks.get(block);
+        clean.sweep();
+        self.blocks.put_alike(block, clean);
     }
 
     /// The number of condemned cells, a run counted once.
@@ -142,14 +133,14 @@ impl BlockMap {
         ensures gone { AreGone self.now }
         ensures within { (a : ℕ) → IsTrue (sets.contains self.now.condemned a) → IsInHeap self.now.blocks a }
     {
-        self.table.condemned()
+        self.blocks.condemned()
     }
 
     /// The start and the extent of the object in which the word lies, interior words included, if it lies in one.
     pub fn cell_of(&self, word: Word) -> Option<(Addr, Extent)>
         ensures { MatchOption result (points_in self.now.extents word ≡ None) (λ found. (points_in self.now.extents word ≡ Some found.0) × (get self.now.extents found.0 ≡ Some found.1)) }
     {
-        let all = self.table.as_slice();
+        let all = self.blocks.as_slice();
         let offset = word.checked_sub(HEAP_START)?;
         let index = offset / BLOCK_WORDS;
         let block = all.get(index as usize)?;
@@ -173,7 +164,7 @@ impl BlockMap {
     pub fn extent_at(&self, start: Word) -> Option<Extent>
         ensures { result ≡ get self.now.extents start }
     {
-        let all = self.table.as_slice();
+        let all = self.blocks.as_slice();
         let offset = start.checked_sub(HEAP_START)?;
         let block = all.get((offset / BLOCK_WORDS) as usize)?;
         if !block.starts_at(offset % BLOCK_WORDS) {
@@ -187,13 +178,13 @@ impl BlockMap {
         requires { block < self.now.blocks }
         ensures { (place : ℕ) → place < BLOCK_WORDS → has_bit result place ≡ contains_key self.now.extents (block_start block + place) }
     {
-        self.table.get(block).objects
+        self.blocks.get(block).objects
     }
 
     /// The starts of all objects, by rising address.
     pub fn starts(&self) -> Starts<'_>
         ensures { result ≡ keys self.now.extents }
     {
-        Starts::of(self.table.as_slice())
+        Starts::of(self.blocks.as_slice())
     }
 }

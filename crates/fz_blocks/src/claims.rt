@@ -4,88 +4,108 @@ ghost use Rattle.std.specs.Prelude.{◌≡◌, ◌≤◌, ◌<◌, ◌+◌, ℕ,
 ghost use Rattle.fz_model.specs.declared.limits.TheConstants.{BLOCK_WORDS, MAX_BLOCKS, MAX_OBJECT_WORDS};
 ghost use Rattle.fz_model.specs.Allocation.{place_in, blocks_for};
 ghost use Rattle.fz_blocks.specs.declared.block.Block.{Block};
-ghost use Rattle.fz_blocks.specs.Blocks.{is_bare};
 ghost use Rattle.fz_blocks.specs.Classes.{class_of};
-ghost use Rattle.fz_blocks.specs.Layout.{extents_in, has_room, AreRuns};
-ghost use Rattle.fz_blocks.specs.Tables.{IsFirst};
-ghost use Rattle.fz_blocks.specs.Claims.{IsClaimed};
+ghost use Rattle.fz_blocks.specs.Layout.{extents_in, has_room, AreRuns, IsMap};
+ghost use Rattle.fz_blocks.specs.Listed.{IsFirst};
+ghost use Rattle.fz_blocks.specs.Claims.{IsClaimed, IsCondemned};
 ghost use Rattle.fz_blocks.specs.Runs.{IsRun, IsFirstRun, WritesRun, FreesLater};
 
 use crate::block::Block;
-use crate::table::Table;
+use crate::blocks::Blocks;
 use fz_model::{Addr, BLOCK_WORDS, HEAP_START, ObjKind};
 
 /// Claims the least free cell of the least block with room.
-fn claim_in_room(table: &mut Table, at: u64, size: u64, kind: ObjKind) -> Addr
-    requires runs { AreRuns table.old }
-    requires few { length table.old ≤ MAX_BLOCKS }
+fn claim_in_room(blocks: &mut Blocks, at: u64, size: u64, kind: ObjKind) -> Addr
+    requires runs { AreRuns blocks.old }
+    requires few { length blocks.old ≤ MAX_BLOCKS }
     requires sized { 1 ≤ size }
     requires small { size ≤ BLOCK_WORDS }
-    requires first { IsFirst (has_room (class_of size kind)) table.old at }
-    ensures { IsClaimed table.old table.new size kind result }
+    requires first { IsFirst (has_room (class_of size kind)) blocks.old at }
+    ensures { IsClaimed blocks.old blocks.new size kind result }
 {
-    let place = table.claim_in(at);
+    let mut block = blocks.get(at);
+    let place = block.claim_least();
+    blocks.change(at, block, block.is_full());
     HEAP_START + BLOCK_WORDS * at + place
 }
 
 /// Writes a run: its first block, and the later ones that lead back to it.
-fn write_run(table: &mut Table, at: u64, count: u64, first: Block)
+fn write_run(blocks: &mut Blocks, at: u64, count: u64, first: Block)
     requires some { 1 ≤ count }
     requires few { count ≤ 16 }
-    requires low { length table.old ≤ MAX_BLOCKS }
-    requires bare { IsRun table.old count at }
-    requires met { IsFalse (is_bare first) }
-    ensures { WritesRun table.old table.new at count first }
+    requires low { length blocks.old ≤ MAX_BLOCKS }
+    requires within { at + count ≤ length blocks.old }
+    ensures { WritesRun blocks.old blocks.new at count first }
 {
-    table.occupy(at, first);
+    blocks.put(at, first);
     let mut back = 1u64;
     while back < count {
-        table.occupy(at + back, Block::later(back));
+        blocks.put(at + back, Block::later(back));
         back += 1;
     }
 }
 
 /// Claims the least run of blocks that no object meets, from its start on.
-fn claim_run(table: &mut Table, at: u64, size: u64, kind: ObjKind) -> Addr
-    requires runs { AreRuns table.old }
-    requires few { length table.old ≤ MAX_BLOCKS }
+fn claim_run(blocks: &mut Blocks, at: u64, size: u64, kind: ObjKind) -> Addr
+    requires runs { AreRuns blocks.old }
+    requires few { length blocks.old ≤ MAX_BLOCKS }
     requires sized { 1 ≤ size }
     requires small { size ≤ MAX_OBJECT_WORDS }
-    requires no_room { size ≤ BLOCK_WORDS → (b : ℕ) (block : Block) → slice_get table.old b ≡ Some block → IsFalse (has_room (class_of size kind) block) }
-    requires first { IsFirstRun table.old (blocks_for size) at }
-    ensures { IsClaimed table.old table.new size kind result }
+    requires no_room { size ≤ BLOCK_WORDS → (b : ℕ) (block : Block) → slice_get blocks.old b ≡ Some block → IsFalse (has_room (class_of size kind) block) }
+    requires first { IsFirstRun blocks.old (blocks_for size) at }
+    ensures { IsClaimed blocks.old blocks.new size kind result }
 {
     let mut first = Block::of(size, kind);
     let _ = first.claim_least();
-    write_run(table, at, first.span(), first);
+    write_run(blocks, at, first.span(), first);
     HEAP_START + BLOCK_WORDS * at
 }
 
 /// Claims the place for a new object.
-pub(crate) fn claim_place(table: &mut Table, size: u64, kind: ObjKind) -> Option<Addr>
-    requires runs { AreRuns table.old }
-    requires few { length table.old ≤ MAX_BLOCKS }
+pub(crate) fn claim_place(blocks: &mut Blocks, size: u64, kind: ObjKind) -> Option<Addr>
+    requires runs { AreRuns blocks.old }
+    requires few { length blocks.old ≤ MAX_BLOCKS }
     requires sized { 1 ≤ size }
     requires small { size ≤ MAX_OBJECT_WORDS }
-    ensures { MatchOption result ((place_in (extents_in table.old) (length table.old) size kind ≡ None) × (table.new ≡ table.old)) (λ start. IsClaimed table.old table.new size kind start) }
+    ensures { MatchOption result ((place_in (extents_in blocks.old) (length blocks.old) size kind ≡ None) × (blocks.new ≡ blocks.old)) (λ start. IsClaimed blocks.old blocks.new size kind start) }
 {
-    if let Some(at) = table.first_room(size, kind) {
-        return Some(claim_in_room(table, at, size, kind));
+    if let Some(at) = blocks.first_room(size, kind) {
+        return Some(claim_in_room(blocks, at, size, kind));
     }
-    let at = table.first_run((size - 1) / BLOCK_WORDS + 1)?;
-    Some(claim_run(table, at, size, kind))
+    let at = blocks.first_run((size - 1) / BLOCK_WORDS + 1)?;
+    Some(claim_run(blocks, at, size, kind))
 }
 
 /// Takes the later ones of `count` blocks out of their run.
-pub(crate) fn free_later(table: &mut Table, at: u64, count: u64)
+fn free_later(blocks: &mut Blocks, at: u64, count: u64)
     requires some { 1 ≤ count }
-    requires low { length table.old ≤ MAX_BLOCKS }
-    requires within { at + count ≤ length table.old }
-    ensures { FreesLater table.old table.new at count }
+    requires low { length blocks.old ≤ MAX_BLOCKS }
+    requires within { at + count ≤ length blocks.old }
+    ensures { FreesLater blocks.old blocks.new at count }
 {
     let mut back = 1u64;
     while back < count {
-        table.detach_in(at + back);
+        let mut block = blocks.get(at + back);
+        block.detach();
+        blocks.put(at + back, block);
         back += 1;
     }
+}
+
+/// Condemns each object that starts in a block at one of these places; returns their number.
+pub(crate) fn condemn_at(blocks: &mut Blocks, at: u64, places: u64) -> u64
+    requires map { IsMap blocks.old }
+    requires within { at < length blocks.old }
+    ensures map { IsMap blocks.new }
+    ensures condemned { IsCondemned blocks.old blocks.new at places result }
+{
+    let mut left = blocks.get(at);
+    let was_full = left.is_full();
+    let count = left.condemn(places);
+    if count == 0 {
+        return 0;
+    }
+    blocks.change(at, left, was_full | left.is_bare());
+    free_later(blocks, at, left.span());
+    count
 }

@@ -4,10 +4,10 @@
 mod block;
 mod block_map;
 mod block_set;
+mod blocks;
 mod claims;
 mod class;
 mod starts;
-mod table;
 
 pub use block_map::BlockMap;
 pub use starts::Starts;

@@ -50,6 +50,7 @@ impl<const FIRST: u64> Flags<FIRST> {
     pub fn extend_to(&mut self, words: u64) -> Result<(), Refusal>
         requires fits { FIRST + 64 * words ≤ 2 ^ 64 }
         ensures refused { IfErr result (λ r. r ≡ Refusal.NoMemory) }
+        ensures wanting { OnErr result (self.old.size + 64 ≤ 64 * words) }
         ensures unchanged { OnErr result (self.new ≡ self.old) }
         ensures members { self.new.members ≡ self.old.members }
         ensures room { OnOk result (64 * words ≤ self.new.size) }

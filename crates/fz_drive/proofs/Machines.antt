@@ -13,10 +13,9 @@ use Rattle.fz_model.specs.Causes.{first_cause}
 use Rattle.fz_model.specs.Events.{Event, Hold, Finish, Answer}
 use Rattle.fz_model.specs.Joint.{Worker, Joint, idle, JointEvent, Call, Take, HoldOwn, FinishOwn, Forfeit, JointAnswer, is_finish, worker_at, taken_by, own_causes, Acts, JointStep}
 use Rattle.fz_world.specs.Does.{StandsFor, Does}
-use Rattle.fz_world.specs.declared.world.World.{World}
 use Rattle.fz_script.specs.declared.step.Step.{Step}
 use Rattle.fz_drive.specs.declared.machine.Machine.{Machine}
-use Rattle.fz_drive.specs.declared.reply.Reply.{Reply}
+use Rattle.fz_drive.specs.declared.reply.StepReply.{StepReply}
 use Rattle.fz_drive.specs.Script.{event_of}
 use Rattle.fz_drive.specs.Replies.{answer_words}
 use Rattle.fz_drive.specs.Report.{finishes, forfeits}
@@ -211,18 +210,11 @@ refused old new step e r asked does = record { event = e; reply = Err r; asked =
     no_forfeit (FinishOwn w) = refl
     no_forfeit (Forfeit w) = refl
 
-pub accepted : (old new : Machine) (step : Step) (e : JointEvent) (answer : JointAnswer e) (reply : Reply) → event_of step ≡ Some e → JointDoes old e (Ok answer) new
+pub accepted : (old new : Machine) (step : Step) (e : JointEvent) (answer : JointAnswer e) (reply : StepReply) → event_of step ≡ Some e → JointDoes old e (Ok answer) new
     → words_of reply ≡ answer_words e answer → machines.is_finish (Ok reply) ≡ finishes e (Ok answer) → is_forfeit (Ok reply) ≡ forfeits e (Ok answer) → CarriesOut old step (Ok (Some reply)) new
 accepted old new step e answer reply asked does words finish forfeit =
     record { event = e; reply = Ok answer; asked = asked; does = does; tells = record { words = words; refused = refl; finish = finish; forfeit = forfeit } }
 
 -- the error that a call gives back is the step's
-pub refuses : (old new : Machine) (step : Step) (e : JointEvent) (r : Refusal) (result : Result Reply Refusal) → event_of step ≡ Some e → JointDoes old e (Err r) new → IsErrAnd result (λ x. x ≡ r) → StepDoes old step result new
-refuses old new step e r result asked does error = subst (λ x. StepDoes old step x new) (sym (the_error result r error)) (refused old new step e r asked does)
-
--- ---- a step that is a call of the world alone
-
-pub world_accepts : (m : Machine) (w : World) (step : Step) (e : Event) (answer : Answer e) (reply : Reply) → event_of step ≡ Some (Call e) → IsFalse (is_finish e) → Does m.world e (Ok answer) w
-    → words_of reply ≡ answer_words (Call e) answer → machines.is_finish (Ok reply) ≡ false → is_forfeit (Ok reply) ≡ false → CarriesOut m step (Ok (Some reply)) (record m { world = w })
-world_accepts m w step e answer reply asked call does words finish forfeit =
-    accepted m (record m { world = w }) step (Call e) answer reply asked (called m (record m { world = w }) e (Ok answer) call does refl refl) words finish forfeit
+pub refuses : (old new : Machine) (step : Step) (e : JointEvent) (r : Refusal) (result : Result (Option StepReply) Refusal) → event_of step ≡ Some e → JointDoes old e (Err r) new → IsErrAnd result (λ x. x ≡ r) → CarriesOut old step result new
+refuses old new step e r result asked does error = subst (λ x. CarriesOut old step x new) (sym (the_error result r error)) (refused old new step e r asked does)

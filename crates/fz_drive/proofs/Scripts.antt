@@ -12,7 +12,7 @@ use Rattle.fz_script.specs.declared.step.Step.{Step}
 use Rattle.fz_script.specs.declared.step.Step.TheVariants.{Open}
 use Rattle.fz_script.specs.Spelling.{spelling, Fits}
 use Rattle.fz_drive.specs.declared.machine.Machine.{Machine}
-use Rattle.fz_drive.specs.declared.reply.Reply.{Reply}
+use Rattle.fz_drive.specs.declared.reply.StepReply.{StepReply}
 use Rattle.fz_drive.specs.declared.answer.Answer.{Answer}
 use Rattle.fz_drive.specs.declared.answer.Answer.TheVariants.{Skipped, Opened, Replied, Ended, Malformed}
 use Rattle.fz_drive.specs.declared.run.Counts.{Counts}
@@ -106,7 +106,7 @@ count_one p xs x b e = ap (λ t. count_by p xs + bit t) e ∙ ap (λ n. count_by
     one true = refl
     one false = refl
 
-counts_more : (course : Course) (m : Move) (new : Joint) (result : Result Reply Refusal) → is_err result ≡ is_err m.reply → is_finish result ≡ finishes m.event m.reply → is_forfeit result ≡ forfeits m.event m.reply
+counts_more : (course : Course) (m : Move) (new : Joint) (result : Result StepReply Refusal) → is_err result ≡ is_err m.reply → is_finish result ≡ finishes m.event m.reply → is_forfeit result ≡ forfeits m.event m.reply
     → counts_after (counts_of (Some course)) (Replied result) ≡ counts_of (Some (with_move course m new))
 counts_more course m new result refused finish forfeit =
     let steps = length course.moves + 1 in

@@ -2,4 +2,3 @@ pub mod Replies
 pub mod Script
 pub mod Report
 pub mod Machines
-pub mod Calls

@@ -9,8 +9,10 @@ use Rattle.fz_script.specs.declared.step.Step.{Step}
 use Rattle.fz_script.specs.declared.step.Step.TheVariants.{Open}
 use Rattle.fz_script.specs.Spelling.{Token, Number, Text, spelling, Fits}
 use Rattle.fz_drive.specs.declared.machine.Machine.{Machine}
-use Rattle.fz_drive.specs.declared.reply.Reply.{Reply}
-use Rattle.fz_drive.specs.declared.reply.Reply.TheVariants as replies
+use Rattle.fz_model.specs.declared.call.Reply.{Reply}
+use Rattle.fz_model.specs.declared.call.Reply.TheVariants as replies
+use Rattle.fz_drive.specs.declared.reply.StepReply.{StepReply}
+use Rattle.fz_drive.specs.declared.reply.StepReply.TheVariants.{Called, Taken, Held, Finished, Forfeited}
 use Rattle.fz_drive.specs.declared.answer.Answer.{Answer}
 use Rattle.fz_drive.specs.declared.answer.Answer.TheVariants.{Skipped, Opened, Replied, Ended, Malformed}
 use Rattle.fz_text.specs.declared.input.Ending.{Ending}
@@ -36,43 +38,47 @@ pub record StandsForJoint (machine : Machine) (j : Joint) : Type 0 where
 abbrev pub JointDoes : Machine → (e : JointEvent) → Result (JointAnswer e) Refusal → Machine → Type 0
 JointDoes old e reply new = (j : Joint) → StandsForJoint old j → (t : Joint) × JointStep j e reply t × StandsForJoint new t
 
-abbrev pub words_of : Reply → List Token
-words_of replies.Done = done
-words_of (replies.Allocated address birth) = Text (codes "new") ∷ Number address ∷ Number birth ∷ []
-words_of (replies.Word word) = Text (codes "word") ∷ Number word ∷ []
-words_of (replies.Registered answer) = registered_words answer
-words_of (replies.Unregistered old) = unregistered_words old
-words_of (replies.Linked answer) = linked_words answer
-words_of (replies.Unlinked there) = unlinked_words there
-words_of (replies.Moved answer) = moved_words answer
-words_of (replies.Marked progress) = marked_words progress
-words_of (replies.Passed passed) = passed_words passed
-words_of (replies.Taken entry) = taken_words entry
-words_of replies.Finished = done
-words_of replies.Forfeited = done
-words_of (replies.Outstanding count) = Text (codes "outstanding") ∷ Number count ∷ []
+abbrev pub called_words : Reply → List Token
+called_words replies.Done = done
+called_words (replies.Allocated address birth) = Text (codes "new") ∷ Number address ∷ Number birth ∷ []
+called_words (replies.Word word) = Text (codes "word") ∷ Number word ∷ []
+called_words (replies.Registered answer) = registered_words answer
+called_words (replies.Unregistered old) = unregistered_words old
+called_words (replies.Linked answer) = linked_words answer
+called_words (replies.Unlinked there) = unlinked_words there
+called_words (replies.Moved answer) = moved_words answer
+called_words (replies.Marked progress) = marked_words progress
+called_words (replies.Passed passed) = passed_words passed
+called_words (replies.Outstanding count) = Text (codes "outstanding") ∷ Number count ∷ []
 
-abbrev pub result_words : Result Reply Refusal → List Token
+abbrev pub words_of : StepReply → List Token
+words_of (Called reply) = called_words reply
+words_of (Taken entry) = taken_words entry
+words_of Held = done
+words_of Finished = done
+words_of Forfeited = done
+
+abbrev pub result_words : Result StepReply Refusal → List Token
 result_words (Ok reply) = words_of reply
 result_words (Err refusal) = refused_words refusal
 
-abbrev pub is_finish : Result Reply Refusal → Bool
-is_finish (Ok replies.Finished) = true
+abbrev pub is_finish : Result StepReply Refusal → Bool
+is_finish (Ok Finished) = true
 is_finish _ = false
 
-abbrev pub is_forfeit : Result Reply Refusal → Bool
-is_forfeit (Ok replies.Forfeited) = true
+abbrev pub is_forfeit : Result StepReply Refusal → Bool
+is_forfeit (Ok Forfeited) = true
 is_forfeit _ = false
 
 -- the result tells all of the reply that a report needs
-pub record Tells (e : JointEvent) (reply : Result (JointAnswer e) Refusal) (result : Result Reply Refusal) : Type 0 where
+pub record Tells (e : JointEvent) (reply : Result (JointAnswer e) Refusal) (result : Result StepReply Refusal) : Type 0 where
   pub words : result_words result ≡ reply_words e reply
   pub refused : is_err result ≡ is_err reply
   pub finish : is_finish result ≡ finishes e reply
   pub forfeit : is_forfeit result ≡ forfeits e reply
 
 -- the step's event, as in `JointDoes`
-pub record StepDoes (old : Machine) (step : Step) (result : Result Reply Refusal) (new : Machine) : Type 0 where
+pub record StepDoes (old : Machine) (step : Step) (result : Result StepReply Refusal) (new : Machine) : Type 0 where
   pub event : JointEvent
   pub reply : Result (JointAnswer event) Refusal
   pub asked : event_of step ≡ Some event
@@ -80,7 +86,7 @@ pub record StepDoes (old : Machine) (step : Step) (result : Result Reply Refusal
   pub tells : Tells event reply result
 
 -- a step that may come does what it asks for; an opening, which may not, changes nothing
-abbrev pub CarriesOut : Machine → Step → Result (Option Reply) Refusal → Machine → Type 0
+abbrev pub CarriesOut : Machine → Step → Result (Option StepReply) Refusal → Machine → Type 0
 CarriesOut old step (Ok (Some reply)) new = StepDoes old step (Ok reply) new
 CarriesOut old step (Ok None) new = IsFalse (may_come true step) × (new ≡ old)
 CarriesOut old step (Err refusal) new = StepDoes old step (Err refusal) new

@@ -5,7 +5,7 @@ ghost use Rattle.fz_text.specs.Lines.{is_kept};
 ghost use Rattle.fz_drive.specs.Machines.{Gives, Given};
 
 use crate::machine::Machine;
-use crate::reply::Reply;
+use crate::reply::StepReply;
 use fz_model::Refusal;
 use fz_script::{Step, step_of};
 use fz_text::{Ending, is_kept};
@@ -22,7 +22,7 @@ pub(crate) enum Answer {
     /// The world is open.
     Opened,
     /// A step was carried out or refused.
-    Replied(Result<Reply, Refusal>),
+    Replied(Result<StepReply, Refusal>),
     /// The world could not be opened.
     Ended(Refusal),
     /// The line breaks the rules.

@@ -1,16 +1,13 @@
 //! A world with its workers: what a script's steps are carried out by.
 
 ghost use Rattle.std.specs.Prelude.{◌≡◌, ◌-◌, true, false, None, Some, IfOk, IfErr, OnOk, ◌<◌, slice_get, is_some, count_by, length, replicate, ◌≤◌};
+ghost use Rattle.fz_model.specs.declared.limits.TheConstants.{MAX_WORKERS};
 ghost use Rattle.fz_model.specs.Causes.{first_cause, IsRefusedFor};
 ghost use Rattle.fz_model.specs.Joint.{Take, HoldOwn, FinishOwn, Forfeit, joint_opening};
 ghost use Rattle.fz_drive.specs.Report.{opening_causes};
-ghost use Rattle.fz_drive.specs.Machines.{StandsForJoint, JointDoes, StepDoes, CarriesOut};
-ghost use Rattle.fz_drive.specs.Script.{is_open};
-ghost use Rattle.fz_script.specs.declared.step.Step.TheVariants as steps;
+ghost use Rattle.fz_drive.specs.Machines.{StandsForJoint, JointDoes, CarriesOut};
 
-mod calls;
-
-use crate::reply::Reply;
+use crate::reply::StepReply;
 use arrayvec::ArrayVec;
 use fz_line::PlainLine;
 use fz_model::{Entry, MAX_WORKERS, Refusal, Slot};
@@ -112,71 +109,26 @@ impl Machine {
     }
 
     /// Carries out a step of an open world. `None`: it is an opening, which may not come again.
-    pub(crate) fn carry_out(&mut self, step: Step) -> Result<Option<Reply>, Refusal>
+    pub(crate) fn carry_out(&mut self, step: Step) -> Result<Option<StepReply>, Refusal>
         ensures { CarriesOut self.old step result self.new }
     {
-        if let Step::Open { .. } = step {
-            return Ok(None);
-        }
-        Ok(Some(self.answer(step)?))
-    }
-
-    // Each call of the world hands its result on as it is, so that no step pays for the results of others.
-    /// What a step answers that is no opening.
-    fn answer(&mut self, step: Step) -> Result<Reply, Refusal>
-        requires { is_open step ≡ false }
-        ensures { StepDoes self.old step result self.new }
-    {
         match step {
-            Step::New { slot, size, kind } => calls::alloc(&mut self.world, slot, size, kind),
-            Step::Set { slot, word } => calls::set(&mut self.world, slot, word),
-            Step::Copy { slot, to } => calls::copy(&mut self.world, slot, to),
-            Step::Load { place, to } => calls::load(&mut self.world, place, to),
-            Step::Store { place, from } => calls::store(&mut self.world, place, from),
-            Step::Register {
-                slot,
-                kind,
-                procedure,
-                client_data,
-                rank,
-            } => calls::register(&mut self.world, slot, kind, procedure, client_data, rank),
-            Step::Unregister { slot } => calls::unregister(&mut self.world, slot),
-            Step::Link {
-                which,
-                place,
-                target,
-            } => calls::link(&mut self.world, which, place, target),
-            Step::Unlink { which, place } => calls::unlink(&mut self.world, which, place),
-            Step::Move { which, place, to } => calls::move_link(&mut self.world, which, place, to),
-            Step::Begin => calls::begin(&mut self.world),
-            Step::Mark { budget } => calls::mark(&mut self.world, budget),
-            Step::Pause => calls::pause(&mut self.world),
-            Step::Collect => calls::collect(&mut self.world),
-            Step::Take { worker } => self.answer_take(worker),
+            Step::Open { .. } => Ok(None),
+            Step::Call(call) => Ok(Some(StepReply::Called(self.world.carry_out(call)?))),
+            Step::Take { worker } => Ok(Some(StepReply::Taken(self.take(worker)?))),
             Step::Hold { worker, slot } => {
                 self.hold(worker, slot)?;
-                Ok(Reply::Done)
+                Ok(Some(StepReply::Held))
             }
             Step::Finish { worker } => {
                 self.finish(worker)?;
-                Ok(Reply::Finished)
+                Ok(Some(StepReply::Finished))
             }
             Step::Forfeit { worker } => {
                 self.forfeit(worker)?;
-                Ok(Reply::Forfeited)
+                Ok(Some(StepReply::Forfeited))
             }
-            Step::Close => calls::close(&mut self.world),
-            Step::Outstanding => Ok(Reply::Outstanding(self.world.outstanding())),
-            Step::Open { .. } => unreachable!(),
         }
-    }
-
-    /// What the step answers by which the worker takes an entry.
-    #[inline(never)]
-    fn answer_take(&mut self, worker: u64) -> Result<Reply, Refusal>
-        ensures { StepDoes self.old (steps.Take worker) result self.new }
-    {
-        Ok(Reply::Taken(self.take(worker)?))
     }
 
     /// The number of entries in the queue.
@@ -202,7 +154,7 @@ impl Machine {
 }
 
 fn empty_hands(workers: usize) -> ArrayVec<Option<Entry>, HANDS>
-    requires { workers ≤ 8 }
+    requires { workers ≤ MAX_WORKERS }
     ensures { result.items ≡ replicate workers None }
 {
     let mut hands = ArrayVec::new();

@@ -4,32 +4,28 @@ ghost use Rattle.std.specs.Prelude.{◌≡◌};
 ghost use Rattle.fz_text.specs.Devices.{Emits};
 ghost use Rattle.fz_drive.specs.Replies.{registered_words, unregistered_words, linked_words, unlinked_words, moved_words, marked_words, passed_words, taken_words, end_words};
 ghost use Rattle.fz_text.specs.Written.{text_line, done, refused_words, malformed_words};
-ghost use Rattle.fz_drive.specs.declared.reply.Reply.TheVariants as replies;
-ghost use Rattle.fz_drive.specs.Machines.{words_of, result_words};
+ghost use Rattle.fz_model.specs.declared.call.Reply.TheVariants as replies;
+ghost use Rattle.fz_drive.specs.Machines.{called_words, words_of, result_words};
 
 use crate::run::Summary;
-use fz_model::{Addr, Entry, LinkAnswer, MoveAnswer, Old, Passed, Progress, Refusal, RegAnswer};
+use fz_model::{
+    Addr, Entry, LinkAnswer, MoveAnswer, Old, Passed, Progress, Refusal, RegAnswer, Reply,
+};
 use fz_text::{Sink, Word, WriteFailed, write_all, write_line, write_refused};
 
 /// What an accepted step answers.
 #[derive(Clone, Copy, Debug, PartialEq, Eq)]
-pub(crate) enum Reply {
-    Done,
-    Allocated { address: Addr, birth: u64 },
-    Word(u64),
-    Registered(RegAnswer),
-    Unregistered(Option<Old>),
-    Linked(LinkAnswer),
-    /// Whether there was a link.
-    Unlinked(bool),
-    Moved(MoveAnswer),
-    Marked(Progress),
-    Passed(Passed),
+pub(crate) enum StepReply {
+    /// What the call of the world answers.
+    Called(Reply),
+    /// The entry that the worker took, if there was one.
     Taken(Option<Entry>),
+    /// The object of the worker's entry stands in the slot.
+    Held,
+    /// The worker has finished its entry.
     Finished,
+    /// The worker has given up its entry.
     Forfeited,
-    /// The number of held entries.
-    Outstanding(u64),
 }
 
 fn write_registered<W: Sink>(writer: &mut W, answer: RegAnswer) -> Result<(), WriteFailed>
@@ -172,7 +168,7 @@ pub(crate) fn write_end<W: Sink>(writer: &mut W, summary: Summary) -> Result<(),
 }
 
 fn write_allocated<W: Sink>(writer: &mut W, address: Addr, birth: u64) -> Result<(), WriteFailed>
-    ensures { Emits (W.written writer.old) (W.failures writer.old) (text_line (words_of (replies.Allocated address birth))) result (W.written writer.new) (W.failures writer.new) }
+    ensures { Emits (W.written writer.old) (W.failures writer.old) (text_line (called_words (replies.Allocated address birth))) result (W.written writer.new) (W.failures writer.new) }
 {
     write_line(
         writer,
@@ -185,19 +181,19 @@ fn write_allocated<W: Sink>(writer: &mut W, address: Addr, birth: u64) -> Result
 }
 
 fn write_word<W: Sink>(writer: &mut W, word: u64) -> Result<(), WriteFailed>
-    ensures { Emits (W.written writer.old) (W.failures writer.old) (text_line (words_of (replies.Word word))) result (W.written writer.new) (W.failures writer.new) }
+    ensures { Emits (W.written writer.old) (W.failures writer.old) (text_line (called_words (replies.Word word))) result (W.written writer.new) (W.failures writer.new) }
 {
     write_line(writer, &[Word::Text("word"), Word::Number(word)])
 }
 
 fn write_outstanding<W: Sink>(writer: &mut W, count: u64) -> Result<(), WriteFailed>
-    ensures { Emits (W.written writer.old) (W.failures writer.old) (text_line (words_of (replies.Outstanding count))) result (W.written writer.new) (W.failures writer.new) }
+    ensures { Emits (W.written writer.old) (W.failures writer.old) (text_line (called_words (replies.Outstanding count))) result (W.written writer.new) (W.failures writer.new) }
 {
     write_line(writer, &[Word::Text("outstanding"), Word::Number(count)])
 }
 
-fn write_accepted<W: Sink>(writer: &mut W, reply: Reply) -> Result<(), WriteFailed>
-    ensures { Emits (W.written writer.old) (W.failures writer.old) (text_line (words_of reply)) result (W.written writer.new) (W.failures writer.new) }
+fn write_called<W: Sink>(writer: &mut W, reply: Reply) -> Result<(), WriteFailed>
+    ensures { Emits (W.written writer.old) (W.failures writer.old) (text_line (called_words reply)) result (W.written writer.new) (W.failures writer.new) }
 {
     match reply {
         Reply::Done => write_done(writer),
@@ -210,16 +206,23 @@ fn write_accepted<W: Sink>(writer: &mut W, reply: Reply) -> Result<(), WriteFail
         Reply::Moved(answer) => write_moved(writer, answer),
         Reply::Marked(progress) => write_marked(writer, progress),
         Reply::Passed(passed) => write_passed(writer, passed),
-        Reply::Taken(entry) => write_taken(writer, entry),
-        Reply::Finished => write_done(writer),
-        Reply::Forfeited => write_done(writer),
         Reply::Outstanding(count) => write_outstanding(writer, count),
+    }
+}
+
+fn write_accepted<W: Sink>(writer: &mut W, reply: StepReply) -> Result<(), WriteFailed>
+    ensures { Emits (W.written writer.old) (W.failures writer.old) (text_line (words_of reply)) result (W.written writer.new) (W.failures writer.new) }
+{
+    match reply {
+        StepReply::Called(reply) => write_called(writer, reply),
+        StepReply::Taken(entry) => write_taken(writer, entry),
+        StepReply::Held | StepReply::Finished | StepReply::Forfeited => write_done(writer),
     }
 }
 
 pub(crate) fn write_reply<W: Sink>(
     writer: &mut W,
-    reply: Result<Reply, Refusal>,
+    reply: Result<StepReply, Refusal>,
 ) -> Result<(), WriteFailed>
     ensures { Emits (W.written writer.old) (W.failures writer.old) (text_line (result_words reply)) result (W.written writer.new) (W.failures writer.new) }
 {

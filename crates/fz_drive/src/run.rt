@@ -6,7 +6,7 @@ ghost use Rattle.fz_drive.specs.Machines.{counts_after, summary_at, TellsAnswer,
 
 use crate::answer::{Answer, answer_at};
 use crate::machine::Machine;
-use crate::reply::{Reply, write_done, write_end, write_reply};
+use crate::reply::{StepReply, write_done, write_end, write_reply};
 use arrayvec::ArrayVec;
 use fz_model::Refusal;
 use fz_text::{Chunk, DriveFault, Ending, Sink, Source, next_line, write_malformed, write_refused};
@@ -59,11 +59,11 @@ impl Counts {
         let mut counts = self;
         match answer {
             Answer::Opened => counts.steps += 1,
-            Answer::Replied(Ok(Reply::Finished)) => {
+            Answer::Replied(Ok(StepReply::Finished)) => {
                 counts.steps += 1;
                 counts.finished += 1;
             }
-            Answer::Replied(Ok(Reply::Forfeited)) => {
+            Answer::Replied(Ok(StepReply::Forfeited)) => {
                 counts.steps += 1;
                 counts.forfeited += 1;
             }

@@ -86,12 +86,6 @@ module _ (test : ℕ → ℕ → Bool) where
       there : get_or changed i e ≡ e
       there = sym (get_or-take n changed i e lt) ∙ get_or_from_slice_get (take n changed) i e e here
 
-  pub sifted_first : (old : Map ℕ) (es : List (ℕ × ℕ)) → from_entries es ≡ old → IsSifted test old (length es) es
-  sifted_first old es is = record {
-    stay = λ i e past here. let lt = slice_get_within es i e here in absurd (omega (arith, lt, past));
-    same = ap (without test) is;
-  }
-
   pub sifted_kept : (old : Map ℕ) (es : List (ℕ × ℕ)) (place link target : ℕ) → IsSifted test old (place + 1) es → slice_get es place ≡ Some (link, target) → test link target ≡ false → IsSifted test old place es
   sifted_kept old es place link target are here keeps = record {
     stay = λ i e from at.

@@ -1,6 +1,6 @@
 //! The links of one kind.
 
-ghost use Rattle.std.specs.Prelude.{◌≡◌, ◌≢◌, ◌<◌, ◌≤◌, ◌↔◌, ℕ, Bool, [], ◌∷◌, nat_eq, if◌then◌else◌, length, IsTrue, IsSome, Some, None, IfOk, IfErr, IfSome, OnOk, OnErr};
+ghost use Rattle.std.specs.Prelude.{◌≡◌, ◌≤◌, ◌+◌, ◌↔◌, ℕ, Bool, [], ◌∷◌, nat_eq, if◌then◌else◌, length, IsTrue, IsSome, None, IfOk, IfErr, OnOk, OnErr};
 ghost use Rattle.std.specs.FinMap.{get, insert, remove, len, empty, contains_key, from_entries};
 ghost use Rattle.std.specs.List.{IsDistinct};
 ghost use Rattle.std.specs.Map.{keys_of};
@@ -8,8 +8,8 @@ ghost use Rattle.fz_model.specs.Causes.{IsJudgedOrLacks, full};
 ghost use Rattle.fz_model.specs.Steps.{move_answer, moved_to};
 ghost use Rattle.fz_links.specs.Dropped.{ComputesTest, without};
 
-use crate::iter::LinkEntries;
 use fz_model::{Addr, LinkAnswer, MoveAnswer, Refusal, TABLE_LIMIT};
+use fz_pairs::Pairs;
 use indexmap::IndexMap;
 use indexmap::map::Entry;
 use std::alloc::Global;
@@ -30,17 +30,18 @@ impl Drop for Links {
 }
 
 impl Model for Links {
-    ghost use Rattle.std.specs.Prelude.{ℕ, ◌≤◌};
-    ghost use Rattle.std.specs.Coded.{coded_ℕ};
+    ghost use Rattle.std.specs.Prelude.{◌≤◌};
     ghost use Rattle.std.specs.Ordering.{nat_cmp};
-    ghost use Rattle.std.specs.FinMap.{FinMap, code, len, from_entries};
+    ghost use Rattle.std.specs.FinMap.{len, from_entries};
+    ghost use Rattle.indexmap.specs.IndexMap.{spare};
     ghost use Rattle.fz_model.specs.declared.limits.TheConstants.{TABLE_LIMIT};
+    ghost use Rattle.fz_links.specs.Linked.{Linked, linked_code};
 
-    ghost Value = { FinMap nat_cmp ℕ };
+    ghost Value = { Linked };
 
-    ghost coded = { code coded_ℕ coded_ℕ };
+    ghost coded = { linked_code };
 
-    ghost view = { λ l. from_entries l.entries.entries };
+    ghost view = { λ l. record { links = from_entries l.entries.entries; room = spare l.entries } };
 
     ghost invariant = { λ l. len (from_entries {R = nat_cmp} l.entries.entries) ≤ TABLE_LIMIT };
 }
@@ -48,7 +49,7 @@ impl Model for Links {
 impl Links {
     /// No links.
     pub fn new(alloc: Global) -> Links
-        ensures { result ≡ empty }
+        ensures { result.links ≡ empty }
     {
         Links {
             entries: IndexMap::new(alloc),
@@ -57,13 +58,15 @@ impl Links {
 
     /// Registers a link, or gives a registered one a new target.
     ///
-    /// Refuses a new link alone: with `TableFull` when 65,536 others are registered, then with `NoMemory` when room for it can't be had.
+    /// Refuses a new link alone: with `TableFull` when 65,536 others are registered, then with `NoMemory` when there is no room left and none can be had.
     pub fn register(&mut self, link: Addr, target: Addr) -> Result<LinkAnswer, Refusal>
-        ensures judged { IsJudgedOrLacks (full self.old link ∷ []) result }
-        ensures fresh { OnErr result (get self.old link ≡ None) }
-        ensures unchanged { OnErr result (self.new ≡ self.old) }
-        ensures answer { IfOk result (λ answer. answer ≡ (if contains_key self.old link then LinkAnswer.Duplicate else LinkAnswer.Success)) }
-        ensures registered { OnOk result (self.new ≡ insert self.old link target) }
+        ensures judged { IsJudgedOrLacks (full self.old.links link ∷ []) result }
+        ensures fresh { OnErr result (get self.old.links link ≡ None) }
+        ensures wanting { IfErr result (λ r. r ≡ Refusal.NoMemory → self.old.room ≡ 0) }
+        ensures unchanged { OnErr result (self.new.links ≡ self.old.links) }
+        ensures answer { IfOk result (λ answer. answer ≡ (if contains_key self.old.links link then LinkAnswer.Duplicate else LinkAnswer.Success)) }
+        ensures registered { OnOk result (self.new.links ≡ insert self.old.links link target) }
+        ensures room { self.old.room ≤ self.new.room + 1 }
     {
         if self.is_full_for(link) {
             return Err(Refusal::TableFull);
@@ -74,21 +77,24 @@ impl Links {
 
     /// Removes a link, and returns whether it was registered.
     pub fn unregister(&mut self, link: Addr) -> bool
-        ensures answer { result ≡ contains_key self.old link }
-        ensures removed { self.new ≡ remove self.old link }
+        ensures answer { result ≡ contains_key self.old.links link }
+        ensures removed { self.new.links ≡ remove self.old.links link }
+        ensures room { self.old.room ≤ self.new.room }
     {
         self.entries.swap_remove(&link).is_some()
     }
 
-    /// Moves a link with its target to another word. `NoMemory` when room for the new word can't be had.
+    /// Moves a link with its target to another word. `NoMemory` when there is no room left for the new word and none can be had.
     ///
     /// The answers are tested in this order: `NotFound`, `Success` where the words are one, `Duplicate`, and `Success` once it is moved.
     pub fn move_link(&mut self, link: Addr, new: Addr) -> Result<MoveAnswer, Refusal>
         ensures refused { IfErr result (λ r. r ≡ Refusal.NoMemory) }
-        ensures fresh { OnErr result (IsSome (get self.old link) × (get self.old new ≡ None)) }
-        ensures unchanged { OnErr result (self.new ≡ self.old) }
-        ensures answer { IfOk result (λ answer. answer ≡ move_answer self.old link new) }
-        ensures moved { OnOk result (self.new ≡ moved_to self.old link new (get self.old link)) }
+        ensures fresh { OnErr result (IsSome (get self.old.links link) × (get self.old.links new ≡ None)) }
+        ensures wanting { OnErr result (self.old.room ≡ 0) }
+        ensures unchanged { OnErr result (self.new.links ≡ self.old.links) }
+        ensures answer { IfOk result (λ answer. answer ≡ move_answer self.old.links link new) }
+        ensures moved { OnOk result (self.new.links ≡ moved_to self.old.links link new (get self.old.links link)) }
+        ensures room { self.old.room ≤ self.new.room + 1 }
     {
         let Some((old_place, _, target)) = self.entries.get_full(&link) else {
             return Ok(MoveAnswer::NotFound);
@@ -108,23 +114,14 @@ impl Links {
 
     /// The target of a link.
     pub fn get(&self, link: Addr) -> Option<Addr>
-        ensures { result ≡ get self.now link }
+        ensures { result ≡ get self.now.links link }
     {
         self.entries.get(&link).copied()
     }
 
-    /// The link at a place, with its target. Places count from 0, each has one link, and they hold until the table changes.
-    pub fn at(&self, place: usize) -> Option<(Addr, Addr)>
-        ensures found { IsSome result ↔ (place < len self.now) }
-        ensures entry { IfSome result (λ entry. get self.now entry.0 ≡ Some entry.1) }
-    {
-        let (link, target) = self.entries.as_slice().get_index(place)?;
-        Some((*link, *target))
-    }
-
     /// How many links are registered.
     pub fn len(&self) -> usize
-        ensures count { result ≡ len self.now }
+        ensures count { result ≡ len self.now.links }
         ensures limit { result ≤ TABLE_LIMIT }
     {
         self.entries.len()
@@ -132,27 +129,26 @@ impl Links {
 
     /// Whether no link is registered.
     pub fn is_empty(&self) -> bool
-        ensures { IsTrue result ↔ (self.now ≡ empty) }
+        ensures { IsTrue result ↔ (self.now.links ≡ empty) }
     {
         self.entries.is_empty()
     }
 
     /// All links with their targets, each once, in no order that callers may count on.
-    pub fn iter(&self) -> LinkEntries<'_>
-        ensures all { from_entries result ≡ self.now }
+    pub fn iter(&self) -> Pairs<'_, Addr, Addr>
+        ensures all { from_entries result ≡ self.now.links }
         ensures once { IsDistinct nat_eq (keys_of result) }
-        ensures count { length result ≡ len self.now }
+        ensures count { length result ≡ len self.now.links }
         ensures limit { length result ≤ TABLE_LIMIT }
     {
-        LinkEntries {
-            entries: self.entries.iter(),
-        }
+        Pairs::of(self.entries.iter())
     }
 
     /// Removes the links for which the test of link and target holds. It is asked once of each link.
     pub fn drop_where<F: Fn(Addr, Addr) -> bool>(&mut self, f: F)
         requires { F.IsAlwaysCallable f }
-        ensures { (test : ℕ → ℕ → Bool) → ComputesTest (F.post f) test → self.new ≡ without test self.old }
+        ensures dropped { (test : ℕ → ℕ → Bool) → ComputesTest (F.post f) test → self.new.links ≡ without test self.old.links }
+        ensures room { self.old.room ≤ self.new.room }
     {
         // From the back, since the last link takes the place of one that goes.
         let mut place = self.entries.len();
@@ -168,7 +164,7 @@ impl Links {
 
     /// Whether there is no room for the link: the table is full, and the link isn't registered.
     fn is_full_for(&self, link: Addr) -> bool
-        ensures { result ≡ (full self.now link).0 }
+        ensures { result ≡ (full self.now.links link).0 }
     {
         self.len() as u64 >= TABLE_LIMIT && self.get(link).is_none()
     }

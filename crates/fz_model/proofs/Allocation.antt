@@ -1,5 +1,5 @@
 -- Objects of a reached state lie apart, in the heap.
-use Rattle.std.proofs.Common.{◌≡◌, ℕ, ◌+◌, ◌-◌, ◌*◌, ◌/◌, ◌<◌, ◌≤◌, ◌==◌, ◌&&◌, ◌⊎◌, inl, inr, ⊎_elim, Bool, true, false, if◌then◌else◌, List, [], ◌∷◌, length, Option, Some, None, option_map, Ok, Err, refl, sym, ap, ◌∙◌, subst, arith, zero, suc, slice_get, flat_map, filter, nat_le, replicate}
+use Rattle.std.proofs.Common.{◌≡◌, ℕ, ◌+◌, ◌-◌, ◌*◌, ◌/◌, ◌<◌, ◌≤◌, ◌==◌, ◌&&◌, ◌⊎◌, inl, inr, ⊎_elim, Bool, true, List, [], ◌∷◌, length, Option, Some, None, option_map, refl, sym, ap, ◌∙◌, subst, arith, zero, suc, slice_get, flat_map, filter, nat_le, replicate}
 use Rattle.std.proofs.lemmas.Bool.{cases_lt, cases_eq, and_parts, eqb-true, eq-eqb, leb-true, or_left, or_right, not-true, both_ways}
 use Rattle.std.proofs.lemmas.Option.{same_Some, none-some, get_or_from_slice_get, slice_get_within, slice_get-get_or}
 use Rattle.std.proofs.lemmas.List.{length-replicate}
@@ -8,29 +8,25 @@ use Rattle.std.proofs.lemmas.Map.Keys.{any_passes_from_place}
 use Rattle.std.proofs.Math.Nat.{div-mul-le_self, mul-le-mul_right}
 use Rattle.std.specs.List.{find, list_all, range_with_len}
 use Rattle.std.specs.Option.{option_or}
-use Rattle.std.specs.FinMap.{get, insert, remove, entries, get-empty}
+use Rattle.std.specs.FinMap.{get, insert, entries, get-empty}
 use Rattle.std.specs.Ordering.{nat_cmp}
 use Rattle.fz_model.specs.declared.extent.Extent.{Extent}
 use Rattle.fz_model.specs.declared.kinds.ObjKind.{ObjKind}
-use Rattle.fz_model.specs.declared.kinds.LinkKind.{LinkKind}
-use Rattle.fz_model.specs.declared.kinds.LinkKind.TheVariants.{Short, Long}
 use Rattle.fz_model.specs.declared.limits.TheConstants.{HEAP_START}
 use Rattle.fz_model.specs.State.{Map, Object, Core, State, opening}
 use Rattle.fz_model.specs.Extents.{covers, heap_end, extents, extent_of, AreApart, AreWithin}
 use Rattle.fz_model.specs.Allocation.{block_start, block_of, has_class, is_free, meets, is_bare, cells, blocks_for, has_run, place_in, same_kind}
 use Rattle.fz_model.specs.declared.answers.Passed.{Passed}
-use Rattle.fz_model.specs.Allocation.{place_for}
-use Rattle.fz_model.specs.Memory.{new_object, written, slot_word}
+use Rattle.fz_model.specs.Memory.{new_object, written}
 use Rattle.fz_model.specs.Pass.{Passes}
-use Rattle.fz_model.specs.Causes.{first_cause, is_off_heap}
-use Rattle.fz_model.specs.Events.{Event, Alloc, Load, Store, Set, Copy, Register, Unregister, Link, Unlink, MoveLink, Begin, Mark, Pause, Collect, Hold, Finish, Close, Outstanding, Queue, Answer, causes}
-use Rattle.fz_model.specs.Steps.{Accepts, StepsTo, NoStep, OneMore, any_call, IsReached, with_links}
+use Rattle.fz_model.specs.Events.{Event}
+use Rattle.fz_model.specs.Steps.{IsReached}
 use Rattle.fz_model.proofs.Lists.{find_place, any_at, map_at, filter_at}
 use Rattle.fz_model.proofs.MapEntries.{get_at, place_of_key}
 use Rattle.fz_model.proofs.Maps.{get-insert_same, get-insert_other, extents-insert, extents-filled}
 use Rattle.fz_model.proofs.Objects.{from_covers, to_covers}
 use Rattle.fz_model.proofs.Standing.{flat_at, extent_back, get_extent, left, left_before, passed_size}
-use Rattle.fz_model.proofs.Stepwise.{alloc_sized}
+use Rattle.fz_model.proofs.Effects.{some_words, IsAllowed, Effect, Made, Wrote, Ended, reached_keeps}
 
 -- ---- where extents start, block by block
 
@@ -256,14 +252,6 @@ place_fits blocks m size p kind some h e = cases _ refl e
 abbrev pub Laid : Core → Type 0
 Laid c = AreLaid c.blocks (extents c.objects)
 
-either_laid : (c t new : Core) (b : Bool) → new ≡ (if b then c else t) → Laid t → Laid c → Laid new
-either_laid c t new true is ht h = subst Laid (sym is) h
-either_laid c t new false is ht h = subst Laid (sym is) ht
-
-links_laid : (c new : Core) (which : LinkKind) (links : Map ℕ) → new ≡ with_links c which links → Laid c → Laid new
-links_laid c new Short links is h = subst Laid (sym is) h
-links_laid c new Long links is h = subst Laid (sym is) h
-
 -- an object that a pass leaves has the extent that it had
 left_extent : (c : Core) (found kept : ℕ → Bool) (a : ℕ) (x : Extent) → get (extents (left c found kept)) a ≡ Some x → get (extents c.objects) a ≡ Some x
 left_extent c found kept a x e =
@@ -278,41 +266,17 @@ pass_laid : (c : Core) (found : ℕ → Bool) (passed : Passed) (new : Core) →
 pass_laid c found passed new h p =
     subst Laid (sym p.is) (fewer_laid c.blocks (extents c.objects) (extents (left c found p.kept)) (left_extent c found p.kept) h)
 
-alloc_laid : (s : State) (frame slot size : ℕ) (kind : ObjKind) (a : ℕ) → Laid s.core → first_cause (causes s.core (Alloc frame slot size kind)) ≡ None → place_for s.objects s.blocks size kind ≡ Some a → AreLaid s.blocks (extents (insert s.objects a (new_object kind s.next_birth size)))
-alloc_laid s frame slot size kind a h none place =
-    let v : Object = new_object kind s.next_birth size in
-    let n : length {A = ℕ} (replicate size 0) ≡ size = length-replicate {A = ℕ} size 0 in
-    let some = alloc_sized s.core frame slot size kind none in
-    let fits = place_fits s.blocks (extents s.objects) size a kind (omega (arith, some, n)) h place in
-    subst (AreLaid s.blocks) (sym (extents-insert s.objects a v))
-    (more_laid s.blocks (extents s.objects) a (extent_of v) some (subst (Fits s.blocks (extents s.objects) a) (sym n) fits) h)
-
-accepted_laid : (s : State) (e : Event) (answer : Answer e) (new : Core) → Laid s.core → first_cause (causes s.core e) ≡ None → Accepts s e answer new → Laid new
+effect_laid : (c : Core) (e : Event) (new : Core) → IsAllowed c e → Laid c → Effect c e new → Laid new
 unfolding written
-accepted_laid s (Alloc frame slot size kind) answer new h none a = subst Laid (sym a.3) (alloc_laid s frame slot size kind a.0 h none a.1)
-accepted_laid s (Load frame slot offset to_frame to_slot) answer new h none a = subst Laid (sym a.1) h
-accepted_laid s (Store frame slot offset from_frame from_slot) answer new h none a =
-    subst Laid (sym a) (subst (AreLaid s.blocks) (sym (extents-filled (λ x. x == slot_word s.frames frame slot + offset) (slot_word s.frames from_frame from_slot) s.objects)) h)
-accepted_laid s (Set frame slot word) answer new h none a = subst Laid (sym a) h
-accepted_laid s (Copy frame slot to_frame to_slot) answer new h none a = subst Laid (sym a) h
-accepted_laid s (Register frame slot kind proc cd rank) answer new h none a =
-    let w = slot_word s.frames frame slot in
-    either_laid s.core (record s.core { registrations = insert s.registrations w (record { number = s.next_number; kind = kind; proc = proc; cd = cd; rank = rank }); next_number = s.next_number + 1 }) new (is_off_heap s.blocks w) a.1 h h
-accepted_laid s (Unregister frame slot) answer new h none a =
-    let w = slot_word s.frames frame slot in
-    either_laid s.core (record s.core { registrations = remove s.registrations w }) new (is_off_heap s.blocks w) a.1 h h
-accepted_laid s (Link which frame slot offset to_frame to_slot) answer new h none a = links_laid s.core new which _ a.1 h
-accepted_laid s (Unlink which frame slot offset) answer new h none a = links_laid s.core new which _ a.1 h
-accepted_laid s (MoveLink which frame slot offset to_frame to_slot to_offset) answer new h none a = links_laid s.core new which _ a.1 h
-accepted_laid s Begin answer new h none a = subst Laid (sym a) h
-accepted_laid s (Mark budget) answer new h none a = subst Laid (sym a.1) h
-accepted_laid s Pause answer new h none a = pass_laid s.core a.0 answer new h a.2
-accepted_laid s Collect answer new h none a = pass_laid s.core a.0 answer new h a.2
-accepted_laid s (Hold frame slot entry) answer new h none a = subst Laid (sym a) h
-accepted_laid s (Finish entry) answer new h none a = subst Laid (sym a) h
-accepted_laid s Close answer new h none a = subst Laid (sym a) h
-accepted_laid s Outstanding answer new h none a = subst Laid (sym a.1) h
-accepted_laid s Queue answer new h none a = subst Laid (sym a.1) h
+effect_laid c e new allowed h (Made frame slot size a kind here none place) =
+    let v = new_object kind c.next_birth size in
+    let n : length {A = ℕ} (replicate size 0) ≡ size = length-replicate {A = ℕ} size 0 in
+    let some = some_words size (none allowed).0 in
+    let fits = place_fits c.blocks (extents c.objects) size a kind (omega (arith, some, n)) h place in
+    subst (AreLaid c.blocks) (sym (extents-insert c.objects a v)) (more_laid c.blocks (extents c.objects) a (extent_of v) some (subst (Fits c.blocks (extents c.objects) a) (sym n) fits) h)
+effect_laid c e new allowed h (Wrote place word here) = subst (AreLaid c.blocks) (sym (extents-filled (λ x. x == place) word c.objects)) h
+effect_laid c e new allowed h (Ended here p) = pass_laid c p.found p.passed new h p.passes
+effect_laid c e new allowed h _ = h
 
 -- ---- reached states
 
@@ -323,10 +287,5 @@ opening_laid blocks frames =
     nothing : (a : ℕ) (x : Extent) → get (extents (opening blocks frames).objects) a ≡ Some x → ⊥
     nothing a x e = let o = extent_back (opening blocks frames).objects a x e in none-some o.0 (sym (get-empty nat_cmp a) ∙ o.1)
 
-steps_laid : (may : Event → Bool) (s t : State) → Laid s.core → StepsTo may s t → Laid t.core
-steps_laid may s t h NoStep = h
-steps_laid may s t h (OneMore {mid = mid} e (Err r) ok before step) = subst (λ (x : State). Laid x.core) (sym step.1) (steps_laid may s mid h before)
-steps_laid may s t h (OneMore {mid = mid} e (Ok answer) ok before step) = accepted_laid mid e answer t.core (steps_laid may s mid h before) step.0 step.1
-
 pub reached_laid : (s : State) → IsReached s → Laid s.core
-reached_laid s r = steps_laid any_call (opening r.0 r.1) s (opening_laid r.0 r.1) r.2
+reached_laid = reached_keeps Laid effect_laid opening_laid

@@ -1,5 +1,5 @@
 -- Links that are made and moved, and entries that are held on to.
-use Rattle.std.proofs.Common.{◌≡◌, ◌≢◌, ℕ, ◌+◌, ◌-◌, ◌≤◌, ◌==◌, ◌&&◌, Bool, true, false, cond, if◌then◌else◌, List, [], ◌∷◌, length, Option, Some, None, is_some, refl, sym, ap, ◌∙◌, subst, inl, inr, ⊎_elim, arith, get_or, set, All, nat_lt, true≢false, get_or-set_same, Contains}
+use Rattle.std.proofs.Common.{◌≡◌, ◌≢◌, ℕ, ◌+◌, ◌-◌, ◌≤◌, ◌==◌, ◌&&◌, Bool, true, false, cond, if◌then◌else◌, List, [], length, Option, Some, None, is_some, refl, sym, ap, ◌∙◌, subst, inl, inr, ⊎_elim, arith, get_or, set, All, nat_lt, true≢false, get_or-set_same, Contains}
 use Rattle.std.proofs.lemmas.Bool.{not-false, and_parts, eqb-true, eq-eqb, ltb-true}
 use Rattle.std.proofs.lemmas.Option.{slice_get_within, none-some}
 use Rattle.std.specs.List.{list_any}
@@ -12,16 +12,15 @@ use Rattle.fz_model.specs.declared.answers.MoveAnswer.{MoveAnswer}
 use Rattle.fz_model.specs.declared.answers.MoveAnswer.TheVariants as moving
 use Rattle.fz_model.specs.State.{Map, Core, State}
 use Rattle.fz_model.specs.Memory.{slot_word, with_slot, lacks_slot}
-use Rattle.fz_model.specs.Events.{same_entry, not_held}
-use Rattle.fz_model.specs.Causes.{slot_causes}
+use Rattle.fz_model.specs.Events.{Hold, same_entry, causes}
 use Rattle.fz_model.specs.Steps.{IsReached, move_answer, moved_to}
 use Rattle.fz_model.specs.CallLaws.{HasLink, IsLinked, LinksAreMade, IsUnlinked, LinksAreUnlinked, IsAnswered, IsMoved, LinksAreMoved, HoldGivesTheObject}
 use Rattle.fz_model.proofs.Lists.{contains_at, any_at}
 use Rattle.fz_model.proofs.Events.{one_entry}
 use Rattle.fz_model.proofs.MapEntries.{place_of_key}
 use Rattle.fz_model.proofs.Maps.{get-insert_same, get-insert_other, get-remove_same, get-remove_other}
-use Rattle.fz_model.proofs.Sound.{first_none}
-use Rattle.fz_model.proofs.Standing.{none_left, none_right, reached_standing}
+use Rattle.fz_model.proofs.Effects.{none_stands}
+use Rattle.fz_model.proofs.Standing.{reached_standing}
 use Rattle.fz_model.proofs.Runs.{reached_sound}
 
 -- ---- a link is made
@@ -216,11 +215,10 @@ slot_gets frames frame slot word whole good =
 
 pub hold_gives_the_object : (s : State) → IsReached s → HoldGivesTheObject s
 hold_gives_the_object s r frame slot e answer new step =
-    let good = (first_none _ [] (none_left (slot_causes s.frames frame slot) (not_held s.held e ∷ []) step.0)).0 in
-    let known = not-false _ (first_none (not_held s.held e) [] (none_right (slot_causes s.frames frame slot) (not_held s.held e ∷ []) step.0)).0 in
-    let held = held_one s.held e known in
+    let none = none_stands (causes s.core (Hold frame slot e)) step.0 in
+    let held = held_one s.held e (not-false _ none.1.0) in
     let stands = (reached_sound s r).held_object e held in (
       held,
-      ap (λ (c : Core). slot_word c.frames frame slot) step.1 ∙ slot_gets s.frames frame slot e.obj (reached_standing s r).whole good,
+      ap (λ (c : Core). slot_word c.frames frame slot) step.1 ∙ slot_gets s.frames frame slot e.obj (reached_standing s r).whole none.0,
       (stands.0, ap (λ (c : Core). get c.objects e.obj) step.1 ∙ stands.1, stands.2),
     )

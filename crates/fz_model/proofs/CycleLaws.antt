@@ -1,54 +1,15 @@
 -- What was seen was reachable in a state of this cycle.
-use Rattle.std.proofs.Common.{◌≡◌, ℕ, ◌+◌, Bool, true, false, if◌then◌else◌, List, [], ◌∷◌, Ok, Err, refl, sym, ap, ◌∙◌, subst, ⊎_elim, ◌⊎◌, inl, inr, IsTrue, IsFalse, Any, true≢false}
+use Rattle.std.proofs.Common.{◌≡◌, ℕ, true, false, List, [], ◌∷◌, Ok, Err, refl, sym, ap, ◌∙◌, subst, ⊎_elim, ◌⊎◌, inl, inr, IsTrue, IsFalse, Any}
 use Rattle.std.proofs.lemmas.Bool.{cond-true, cond-false, cases_Bool, both_ways, not-true, not_from_false}
-use Rattle.std.specs.FinMap.{insert, remove}
-use Rattle.fz_model.specs.declared.kinds.LinkKind.{LinkKind}
-use Rattle.fz_model.specs.declared.kinds.LinkKind.TheVariants.{Short, Long}
-use Rattle.fz_model.specs.State.{Map, Core, State, opening}
-use Rattle.fz_model.specs.Memory.{slot_word}
+use Rattle.fz_model.specs.State.{Core, State, opening}
 use Rattle.fz_model.specs.Reachability.{IsReachable, WasSeen}
-use Rattle.fz_model.specs.Causes.{is_off_heap}
-use Rattle.fz_model.specs.Events.{Event, Alloc, Load, Store, Set, Copy, Register, Unregister, Link, Unlink, MoveLink, Begin, Mark, Pause, Collect, Hold, Finish, Close, Outstanding, Queue, Answer}
-use Rattle.fz_model.specs.Steps.{Accepts, StepsTo, NoStep, OneMore, any_call, IsReached, with_links}
+use Rattle.fz_model.specs.Events.{Event, Answer}
+use Rattle.fz_model.specs.Steps.{Accepts, StepsTo, NoStep, OneMore, any_call, IsReached}
 use Rattle.fz_model.specs.Headline.{is_pass}
 use Rattle.fz_model.specs.CycleLaws.{is_no_pass, SeenInThisCycle}
 use Rattle.fz_model.proofs.SeenKept.{nothing_seen, seen_cases, now_seen, still_seen}
-use Rattle.fz_model.proofs.Stepwise.{accepted_pass}
-
--- ---- a cycle stays open until its pass
-
-either_cycle : (c t new : Core) (b : Bool) → new ≡ (if b then c else t) → t.cycle ≡ c.cycle → new.cycle ≡ c.cycle
-either_cycle c t new true is same = ap (λ (x : Core). x.cycle) is
-either_cycle c t new false is same = ap (λ (x : Core). x.cycle) is ∙ same
-
-links_cycle : (c new : Core) (which : LinkKind) (links : Map ℕ) → new ≡ with_links c which links → new.cycle ≡ c.cycle
-links_cycle c new Short links is = ap (λ (x : Core). x.cycle) is
-links_cycle c new Long links is = ap (λ (x : Core). x.cycle) is
-
-stays_open : (s : State) (e : Event) (answer : Answer e) (new : Core) → IsFalse (is_pass e) → IsTrue s.cycle → Accepts s e answer new → IsTrue new.cycle
-stays_open s (Alloc frame slot size kind) answer new other on a = ap (λ (x : Core). x.cycle) a.3 ∙ on
-stays_open s (Load frame slot offset to_frame to_slot) answer new other on a = ap (λ (x : Core). x.cycle) a.1 ∙ on
-stays_open s (Store frame slot offset from_frame from_slot) answer new other on a = ap (λ (x : Core). x.cycle) a ∙ on
-stays_open s (Set frame slot word) answer new other on a = ap (λ (x : Core). x.cycle) a ∙ on
-stays_open s (Copy frame slot to_frame to_slot) answer new other on a = ap (λ (x : Core). x.cycle) a ∙ on
-stays_open s (Register frame slot kind proc cd rank) answer new other on a =
-    let w = slot_word s.frames frame slot in
-    either_cycle s.core (record s.core { registrations = insert s.registrations w (record { number = s.next_number; kind = kind; proc = proc; cd = cd; rank = rank }); next_number = s.next_number + 1 }) new (is_off_heap s.blocks w) a.1 refl ∙ on
-stays_open s (Unregister frame slot) answer new other on a =
-    let w = slot_word s.frames frame slot in
-    either_cycle s.core (record s.core { registrations = remove s.registrations w }) new (is_off_heap s.blocks w) a.1 refl ∙ on
-stays_open s (Link which frame slot offset to_frame to_slot) answer new other on a = links_cycle s.core new which _ a.1 ∙ on
-stays_open s (Unlink which frame slot offset) answer new other on a = links_cycle s.core new which _ a.1 ∙ on
-stays_open s (MoveLink which frame slot offset to_frame to_slot to_offset) answer new other on a = links_cycle s.core new which _ a.1 ∙ on
-stays_open s Begin answer new other on a = ap (λ (x : Core). x.cycle) a
-stays_open s (Mark budget) answer new other on a = ap (λ (x : Core). x.cycle) a.1 ∙ on
-stays_open s Pause answer new other on a = absurd (true≢false other)
-stays_open s Collect answer new other on a = absurd (true≢false other)
-stays_open s (Hold frame slot entry) answer new other on a = ap (λ (x : Core). x.cycle) a ∙ on
-stays_open s (Finish entry) answer new other on a = ap (λ (x : Core). x.cycle) a ∙ on
-stays_open s Close answer new other on a = ap (λ (x : Core). x.cycle) a ∙ on
-stays_open s Outstanding answer new other on a = ap (λ (x : Core). x.cycle) a.1 ∙ on
-stays_open s Queue answer new other on a = ap (λ (x : Core). x.cycle) a.1 ∙ on
+use Rattle.fz_model.proofs.Effects.{accepted_pass}
+use Rattle.fz_model.proofs.Stepwise.{accepted_keeps}
 
 -- a call that leaves a cycle open is no pass
 no_pass : (s : State) (e : Event) (answer : Answer e) (new : Core) → IsTrue new.cycle → Accepts s e answer new → IsTrue (is_no_pass e)
@@ -94,7 +55,7 @@ seen_since a moment s reached on r (OneMore {mid = mid} e (Err refusal) ok befor
     subst (λ (t : State). IsTrue t.cycle × WasSeen t a) (sym step.1) (seen_since a moment mid reached on r before)
 seen_since a moment s reached on r (OneMore {mid = mid} e (Ok answer) ok before step) =
     let earlier = seen_since a moment mid reached on r before in
-    let still = stays_open mid e answer s.core (not-true (is_pass e) ok) earlier.0 step.1 in
+    let still = (accepted_keeps mid e answer s.core (not-true (is_pass e) ok) step.1).cycle earlier.0 in
     (still, subst (λ ms. Any (λ c. IsReachable c a) ms) (sym (step.2 ∙ cond-true s.cycle (s.core ∷ mid.moments) [] still)) (still_seen s.core mid.moments a earlier.1))
 
 pub seen_in_this_cycle : (s : State) → IsReached s → SeenInThisCycle s

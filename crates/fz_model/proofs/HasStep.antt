@@ -10,18 +10,18 @@ use Rattle.fz_model.specs.declared.answers.Progress.TheVariants.{More, Done}
 use Rattle.fz_model.specs.declared.refusal.Refusal.{Refusal}
 use Rattle.fz_model.specs.declared.refusal.Refusal.TheVariants.{NoCycle, NotHeld}
 use Rattle.fz_model.specs.State.{Core, State, opening}
-use Rattle.fz_model.specs.Extents.{extents}
 use Rattle.fz_model.specs.Reachability.{Child, OneMore, IsReachable}
 use Rattle.fz_model.specs.Allocation.{place_for}
 use Rattle.fz_model.specs.Pass.{IsFinding, remaining_objects, links_within, without_picks, entries_of, Decision, Passes}
-use Rattle.fz_model.specs.Causes.{first_cause, slot_causes, alloc_causes, bad_size, exhausted, no_space}
-use Rattle.fz_model.specs.Events.{Event, Alloc, Load, Store, Set, Copy, Register, Unregister, Link, Unlink, MoveLink, Begin, Mark, Pause, Collect, Hold, Finish, Close, Outstanding, Queue, Answer, causes}
+use Rattle.fz_model.specs.Causes.{first_cause}
+use Rattle.fz_model.specs.Events.{Event, Alloc, Load, Register, Unregister, Link, Unlink, MoveLink, Mark, Pause, Collect, Hold, Finish, Outstanding, Queue, Answer, causes}
 use Rattle.fz_model.specs.Steps.{Accepts, Step, StepsTo, IsReached, moments_after}
 use Rattle.fz_model.specs.Joint.{Joint, JointEvent, Call, Take, HoldOwn, FinishOwn, Forfeit, JointAnswer, worker_at, taken_by, no_worker, own_causes, Acts, JointStep, Move, MovesTo, IsRun, joint_opening}
 use Rattle.fz_model.specs.CallLaws.{EachCallHasStep, EachJointEventHasStep, is_free_finish}
 use Rattle.fz_model.proofs.SeenKept.{now_seen}
 use Rattle.fz_model.proofs.Sound.{first_none, is_some_of}
-use Rattle.fz_model.proofs.Standing.{none_right, reached_standing}
+use Rattle.fz_model.proofs.Effects.{none_stands}
+use Rattle.fz_model.proofs.Standing.{reached_standing}
 use Rattle.fz_model.proofs.CycleLaws.{newest}
 use Rattle.fz_model.proofs.Runs.{acts_or_not}
 use Rattle.fz_model.proofs.Traced.{reachable, reachable_is, decides}
@@ -63,24 +63,16 @@ abbrev CanAccept : State → Event → Type 0
 CanAccept s e = (answer : Answer e) × (new : Core) × Accepts s e answer new
 
 place_there : (s : State) (frame slot size : ℕ) (kind : ObjKind) → first_cause (causes s.core (Alloc frame slot size kind)) ≡ None → (a : ℕ) × (place_for s.objects s.blocks size kind ≡ Some a)
-place_there s frame slot size kind none =
-    let own = none_right (slot_causes s.frames frame slot) (alloc_causes s.objects s.blocks s.next_birth size kind) none in
-    let last = no_space (extents s.objects) s.blocks size kind in
-    let second = (first_none (bad_size size) (exhausted s.next_birth ∷ last ∷ []) own).1 in
-    is_some_of (place_for s.objects s.blocks size kind) (first_none last [] (first_none (exhausted s.next_birth) (last ∷ []) second).1).0
+place_there s frame slot size kind none = is_some_of (place_for s.objects s.blocks size kind) (none_stands (causes s.core (Alloc frame slot size kind)) none).1.1.1.0
 
 can_accept : (s : State) → IsReached s → (e : Event) → first_cause (causes s.core e) ≡ None → CanAccept s e
 can_accept s r (Alloc frame slot size kind) none = let at = place_there s frame slot size kind none in ((at.0, s.next_birth), _, (at.0, at.1, refl, refl))
 can_accept s r (Load frame slot offset to_frame to_slot) none = (_, _, (refl, refl))
-can_accept s r (Store frame slot offset from_frame from_slot) none = (tt, _, refl)
-can_accept s r (Set frame slot word) none = (tt, _, refl)
-can_accept s r (Copy frame slot to_frame to_slot) none = (tt, _, refl)
 can_accept s r (Register frame slot kind proc cd rank) none = (_, _, (refl, refl))
 can_accept s r (Unregister frame slot) none = (_, _, (refl, refl))
 can_accept s r (Link which frame slot offset to_frame to_slot) none = (_, _, (refl, refl))
 can_accept s r (Unlink which frame slot offset) none = (_, _, (refl, refl))
 can_accept s r (MoveLink which frame slot offset to_frame to_slot to_offset) none = (_, _, (refl, refl))
-can_accept s r Begin none = (tt, _, refl)
 can_accept s r (Mark budget) none = (Done, s.core, (λ more. absurd (true≢false (sym (ap is_more more))), refl))
   where
     is_more : Progress → Bool
@@ -94,11 +86,9 @@ can_accept s r Pause none =
 can_accept s r Collect none =
     let p = passing s.core (reachable s.core) (decides s.core (reachable s.core) (reached_standing s r) (reachable_closed s.core)) in
     (p.0, p.1, (reachable s.core, reachable_is s.core, p.2))
-can_accept s r (Hold frame slot entry) none = (tt, _, refl)
-can_accept s r (Finish entry) none = (tt, _, refl)
-can_accept s r Close none = (tt, _, refl)
 can_accept s r Outstanding none = (_, _, (refl, refl))
 can_accept s r Queue none = (_, _, (refl, refl))
+can_accept s r e none = (tt, _, refl)
 
 pub each_call_has_step : (s : State) → IsReached s → EachCallHasStep s
 each_call_has_step s r = record {

@@ -1,6 +1,6 @@
 -- What is told where a call could be refused for two causes.
-use Rattle.std.proofs.Common.{◌≡◌, ℕ, ◌+◌, ◌<◌, ◌≤◌, ◌&&◌, ◌||◌, ◌⊎◌, Bool, true, false, not, if◌then◌else◌, List, [], ◌∷◌, ◌++◌, length, Option, Some, None, is_none, option_map, Result, Ok, Err, refl, sym, ap, ◌∙◌, ⊎_elim, nat_lt, nat_le, arith}
-use Rattle.std.proofs.lemmas.Bool.{and_parts, and_from, and_left, and_right, ltb-true, lt-ltb, le-ltb, le-leb, lt-leb}
+use Rattle.std.proofs.Common.{◌≡◌, ℕ, ◌+◌, ◌<◌, ◌≤◌, ◌&&◌, ◌||◌, ◌⊎◌, Bool, true, false, not, if◌then◌else◌, List, [], ◌∷◌, ◌++◌, length, Option, Some, None, is_none, option_map, Ok, Err, refl, sym, ap, ◌∙◌, ⊎_elim, nat_lt, nat_le, arith, subst, MatchOption}
+use Rattle.std.proofs.lemmas.Bool.{and_parts, and_from, and_right, ltb-true, lt-ltb, le-ltb, le-leb, lt-leb}
 use Rattle.std.proofs.lemmas.Option.{same_Some, none-some}
 use Rattle.std.specs.Option.{option_map_or}
 use Rattle.std.specs.FinMap.{get}
@@ -8,16 +8,18 @@ use Rattle.fz_model.specs.declared.extent.Extent.{Extent}
 use Rattle.fz_model.specs.declared.kinds.ObjKind.{ObjKind}
 use Rattle.fz_model.specs.declared.kinds.RegKind.{RegKind}
 use Rattle.fz_model.specs.declared.refusal.Refusal.{Refusal}
-use Rattle.fz_model.specs.declared.refusal.Refusal.TheVariants.{BadSlot, NotPointer, OutsideObject, BadSize, BadCount, CycleOpen, NotStart, Exhausted}
+use Rattle.fz_model.specs.declared.refusal.Refusal.TheVariants.{BadSlot, NotPointer, OutsideObject, BadSize, BadCount, CycleOpen, NotStart, Exhausted, SeatsMissing}
 use Rattle.fz_model.specs.declared.limits.TheConstants.{MAX_OBJECT_WORDS, COUNT_LIMIT, HEAP_START}
 use Rattle.fz_model.specs.State.{Map, Object, State}
-use Rattle.fz_model.specs.Extents.{covers, extents, extent_of, points_in, heap_end}
+use Rattle.fz_model.specs.Extents.{covers, extents, extent_of, heap_end}
 use Rattle.fz_model.specs.Memory.{points, slot_word, lacks_slot}
-use Rattle.fz_model.specs.Causes.{Causes, first_cause, slot_causes, place_causes, no_object, other_extent, no_start, start_causes, register_causes, exhausted, full, bad_size, no_space, is_off_heap}
-use Rattle.fz_model.specs.Events.{Event, Alloc, Load, Store, Set, Copy, Register, Unregister, Link, Unlink, MoveLink, Begin, Mark, Collect, Hold, Answer, causes}
-use Rattle.fz_model.specs.Steps.{Step}
-use Rattle.fz_model.specs.OrderLaws.{AlwaysRefuses, HasSlot, LacksSlot, PointsNowhere, EndsBefore, SlotsComeFirst, PlacesComeFirst, SizesComeFirst, ObjectsComeFirst, CyclesComeFirst, FirstIsTold}
+use Rattle.fz_model.specs.Causes.{Causes, first_cause, slot_causes, no_object, other_extent, no_start, start_causes, register_causes, exhausted, bad_size, no_space, is_off_heap}
+use Rattle.fz_model.specs.Events.{Event, Alloc, Load, Store, Set, Copy, Register, Unregister, Link, Unlink, MoveLink, Begin, Mark, Collect, Hold, causes}
+use Rattle.fz_model.specs.OrderLaws.{AlwaysRefuses, HasSlot, LacksSlot, PointsNowhere, EndsBefore, HasPlace, SlotsComeFirst, PlacesComeFirst, SizesComeFirst, ObjectsComeFirst, CyclesComeFirst, FirstIsTold, AlwaysRefusesEvent, WorkersComeFirst}
+use Rattle.fz_model.specs.Joint.{Joint, JointEvent, Take, HoldOwn, FinishOwn, Forfeit, no_worker, own_causes, Acts}
 use Rattle.fz_model.proofs.Maps.{get-extents}
+use Rattle.fz_model.proofs.Objects.{from_covers, to_covers}
+use Rattle.fz_model.proofs.Standing.{pointed_at}
 
 -- ---- the first cause that stands is told
 
@@ -52,56 +54,109 @@ second_lacks true second later on = refl
 second_lacks false second later on = stands (second, BadSlot) later on
 
 slots_come_first : (s : State) (frame slot : ℕ) (lacks : LacksSlot s frame slot) → SlotsComeFirst s frame slot lacks
-slots_come_first s frame slot lacks =
-    let on = lacking s.frames frame slot lacks in
-    record {
-      alloc = λ size kind. told s (Alloc frame slot size kind) BadSlot (stands (lacks_slot s.frames frame slot, BadSlot) _ on);
-      load = λ offset to_frame to_slot. told s (Load frame slot offset to_frame to_slot) BadSlot (stands (lacks_slot s.frames frame slot, BadSlot) _ on);
-      load_to = λ first_frame first_slot offset. told s (Load first_frame first_slot offset frame slot) BadSlot (second_lacks (lacks_slot s.frames first_frame first_slot) (lacks_slot s.frames frame slot) _ on);
-      store = λ offset from_frame from_slot. told s (Store frame slot offset from_frame from_slot) BadSlot (stands (lacks_slot s.frames frame slot, BadSlot) _ on);
-      store_from = λ first_frame first_slot offset. told s (Store first_frame first_slot offset frame slot) BadSlot (second_lacks (lacks_slot s.frames first_frame first_slot) (lacks_slot s.frames frame slot) _ on);
-      register = λ kind proc cd rank. told s (Register frame slot kind proc cd rank) BadSlot (stands (lacks_slot s.frames frame slot, BadSlot) _ on);
-      unregister = told s (Unregister frame slot) BadSlot (stands (lacks_slot s.frames frame slot, BadSlot) _ on);
-      link = λ which offset to_frame to_slot. told s (Link which frame slot offset to_frame to_slot) BadSlot (stands (lacks_slot s.frames frame slot, BadSlot) _ on);
-      link_to = λ which first_frame first_slot offset. told s (Link which first_frame first_slot offset frame slot) BadSlot (second_lacks (lacks_slot s.frames first_frame first_slot) (lacks_slot s.frames frame slot) _ on);
-      unlink = λ which offset. told s (Unlink which frame slot offset) BadSlot (stands (lacks_slot s.frames frame slot, BadSlot) _ on);
-      move = λ which offset to_frame to_slot to_offset. told s (MoveLink which frame slot offset to_frame to_slot to_offset) BadSlot (stands (lacks_slot s.frames frame slot, BadSlot) _ on);
-      move_to = λ which first_frame first_slot offset to_offset. told s (MoveLink which first_frame first_slot offset frame slot to_offset) BadSlot (second_lacks (lacks_slot s.frames first_frame first_slot) (lacks_slot s.frames frame slot) _ on);
-      hold = λ entry. told s (Hold frame slot entry) BadSlot (stands (lacks_slot s.frames frame slot, BadSlot) _ on);
-    }
+slots_come_first s frame slot lacks = record {
+  alloc = λ size kind. told s (Alloc frame slot size kind) BadSlot (first _);
+  load = λ offset to_frame to_slot. told s (Load frame slot offset to_frame to_slot) BadSlot (first _);
+  load_to = λ first_frame first_slot offset. told s (Load first_frame first_slot offset frame slot) BadSlot (second first_frame first_slot _);
+  store = λ offset from_frame from_slot. told s (Store frame slot offset from_frame from_slot) BadSlot (first _);
+  store_from = λ first_frame first_slot offset. told s (Store first_frame first_slot offset frame slot) BadSlot (second first_frame first_slot _);
+  set = λ word. told s (Set frame slot word) BadSlot (first _);
+  copy = λ to_frame to_slot. told s (Copy frame slot to_frame to_slot) BadSlot (first _);
+  copy_to = λ first_frame first_slot. told s (Copy first_frame first_slot frame slot) BadSlot (second first_frame first_slot _);
+  register = λ kind proc cd rank. told s (Register frame slot kind proc cd rank) BadSlot (first _);
+  unregister = told s (Unregister frame slot) BadSlot (first _);
+  link = λ which offset to_frame to_slot. told s (Link which frame slot offset to_frame to_slot) BadSlot (first _);
+  link_to = λ which first_frame first_slot offset. told s (Link which first_frame first_slot offset frame slot) BadSlot (second first_frame first_slot _);
+  unlink = λ which offset. told s (Unlink which frame slot offset) BadSlot (first _);
+  move = λ which offset to_frame to_slot to_offset. told s (MoveLink which frame slot offset to_frame to_slot to_offset) BadSlot (first _);
+  move_to = λ which first_frame first_slot offset to_offset. told s (MoveLink which first_frame first_slot offset frame slot to_offset) BadSlot (second first_frame first_slot _);
+  hold = λ entry. told s (Hold frame slot entry) BadSlot (first _);
+}
+  where
+    lacks_it : lacks_slot s.frames frame slot ≡ true
+    lacks_it = lacking s.frames frame slot lacks
+
+    first : (later : Option Refusal) → (if lacks_slot s.frames frame slot then Some BadSlot else later) ≡ Some BadSlot
+    first later = stands (lacks_slot s.frames frame slot, BadSlot) later lacks_it
+
+    second : (first_frame first_slot : ℕ) (later : Option Refusal) → (if lacks_slot s.frames first_frame first_slot then Some BadSlot else (if lacks_slot s.frames frame slot then Some BadSlot else later)) ≡ Some BadSlot
+    second first_frame first_slot later = second_lacks (lacks_slot s.frames first_frame first_slot) (lacks_slot s.frames frame slot) later lacks_it
 
 -- ---- places
 
--- two slots that are there are passed over
-both_there : (s : State) (frame slot to_frame to_slot : ℕ) (later : Option Refusal) → HasSlot s frame slot → HasSlot s to_frame to_slot → (if lacks_slot s.frames frame slot then Some BadSlot else (if lacks_slot s.frames to_frame to_slot then Some BadSlot else later)) ≡ later
-both_there s frame slot to_frame to_slot later here there =
-    passes (lacks_slot s.frames frame slot, BadSlot) _ (having s.frames frame slot here) ∙ passes (lacks_slot s.frames to_frame to_slot, BadSlot) later (having s.frames to_frame to_slot there)
+-- the causes of a place, before those that come later
+abbrev placing : Map Object → ℕ → ℕ → Option Refusal → Option Refusal
+placing objects word offset later =
+    if (no_object objects word).0 then Some NotPointer else (if (other_extent (extents objects) word (word + offset)).0 then Some OutsideObject else later)
 
-place_nowhere : (objects : Map Object) (word : ℕ) (later : Option Refusal) → points objects word ≡ None → (if (no_object objects word).0 then Some NotPointer else later) ≡ Some NotPointer
-place_nowhere objects word later none = stands (no_object objects word) later (ap is_none none)
+-- and those of a target
+abbrev starting : Map Object → ℕ → Option Refusal → Option Refusal
+starting objects word later = if (no_object objects word).0 then Some NotPointer else (if (no_start objects word).0 then Some NotStart else later)
 
-place_outside : (objects : Map Object) (word offset : ℕ) (later : Option Refusal) (start : ℕ) (o : Object) → points objects word ≡ Some start → get objects start ≡ Some o → start + length o.words ≤ word + offset → (if (no_object objects word).0 then Some NotPointer else (if (other_extent (extents objects) word (word + offset)).0 then Some OutsideObject else later)) ≡ Some OutsideObject
-place_outside objects word offset later start o points_there stands_there beyond =
-    passes (no_object objects word) _ (ap is_none points_there) ∙ stands (other_extent (extents objects) word (word + offset)) later outside
-  where
-    covered : Extent → Bool
-    covered x = covers (start, x) (word + offset)
+nowhere : (objects : Map Object) (word : ℕ) (later : Option Refusal) → points objects word ≡ None → (if (no_object objects word).0 then Some NotPointer else later) ≡ Some NotPointer
+nowhere objects word later none = stands (no_object objects word) later (ap is_none none)
 
-    not_covered : covered (extent_of o) ≡ false
-    not_covered = and_right _ _ (le-ltb _ _ beyond)
+inside : (objects : Map Object) (word : ℕ) (later : Option Refusal) (start : ℕ) → points objects word ≡ Some start → get objects word ≡ None → starting objects word later ≡ Some NotStart
+inside objects word later start points_there none = passes (no_object objects word) _ (ap is_none points_there) ∙ stands (no_start objects word) later (ap is_none none)
 
-    outside : not (option_map_or (λ a. option_map_or (λ (x : Extent). covers (a, x) (word + offset)) (get (extents objects) a) false) (points_in (extents objects) word) false) ≡ true
-    outside =
-        ap (λ p. not (option_map_or (λ a. option_map_or (λ (x : Extent). covers (a, x) (word + offset)) (get (extents objects) a) false) p false)) points_there
-        ∙ ap (λ g. not (option_map_or covered g false)) (get-extents objects start ∙ ap (λ g. option_map extent_of g) stands_there) ∙ ap not not_covered
+module _ (objects : Map Object) (word offset : ℕ) (later : Option Refusal) (start : ℕ) (o : Object) (points_there : points objects word ≡ Some start) (stands_there : get objects start ≡ Some o) where
+  abbrev covered : Extent → Bool
+  covered x = covers (start, x) (word + offset)
+
+  is_outside : (other_extent (extents objects) word (word + offset)).0 ≡ not (covered (extent_of o))
+  is_outside =
+      ap (λ p. not (option_map_or (λ a. option_map_or (λ (x : Extent). covers (a, x) (word + offset)) (get (extents objects) a) false) p false)) points_there
+      ∙ ap (λ g. not (option_map_or covered g false)) (get-extents objects start ∙ ap (λ g. option_map extent_of g) stands_there)
+
+  outside : start + length o.words ≤ word + offset → placing objects word offset later ≡ Some OutsideObject
+  outside beyond = passes (no_object objects word) _ (ap is_none points_there) ∙ stands (other_extent (extents objects) word (word + offset)) later (is_outside ∙ ap not (and_right _ _ (le-ltb _ _ beyond)))
+
+  placed : word + offset < start + length o.words → placing objects word offset later ≡ later
+  placed within =
+      let own = pointed_at objects word start points_there in
+      let low = (from_covers start word (extent_of own.0) own.2).0 in
+      passes (no_object objects word) _ (ap is_none points_there)
+      ∙ passes (other_extent (extents objects) word (word + offset)) later (is_outside ∙ ap not (to_covers start (word + offset) (extent_of o) (omega (arith, low)) within))
 
 places_come_first : (s : State) (frame slot to_frame to_slot : ℕ) (here : HasSlot s frame slot) (there : HasSlot s to_frame to_slot) → PlacesComeFirst s frame slot to_frame to_slot here there
 places_come_first s frame slot to_frame to_slot here there = record {
-  link_nowhere = λ which offset none. told s (Link which frame slot offset to_frame to_slot) NotPointer (both_there s frame slot to_frame to_slot _ here there ∙ place_nowhere s.objects (slot_word s.frames frame slot) _ none);
-  link_outside = λ which offset ends. told s (Link which frame slot offset to_frame to_slot) OutsideObject (both_there s frame slot to_frame to_slot _ here there ∙ place_outside s.objects (slot_word s.frames frame slot) offset _ ends.0 ends.1 ends.2 ends.3 ends.4);
-  move_nowhere = λ which offset to_offset none. told s (MoveLink which frame slot offset to_frame to_slot to_offset) NotPointer (both_there s frame slot to_frame to_slot _ here there ∙ place_nowhere s.objects (slot_word s.frames frame slot) _ none);
-  move_outside = λ which offset to_offset ends. told s (MoveLink which frame slot offset to_frame to_slot to_offset) OutsideObject (both_there s frame slot to_frame to_slot _ here there ∙ place_outside s.objects (slot_word s.frames frame slot) offset _ ends.0 ends.1 ends.2 ends.3 ends.4);
+  load_nowhere = λ offset none. told s (Load frame slot offset to_frame to_slot) NotPointer (both _ ∙ no_place offset none _);
+  load_outside = λ offset ends. told s (Load frame slot offset to_frame to_slot) OutsideObject (both _ ∙ past offset ends _);
+  store_nowhere = λ offset none. told s (Store frame slot offset to_frame to_slot) NotPointer (both _ ∙ no_place offset none _);
+  store_outside = λ offset ends. told s (Store frame slot offset to_frame to_slot) OutsideObject (both _ ∙ past offset ends _);
+  unlink_nowhere = λ which offset none. told s (Unlink which frame slot offset) NotPointer (one _ ∙ no_place offset none _);
+  unlink_outside = λ which offset ends. told s (Unlink which frame slot offset) OutsideObject (one _ ∙ past offset ends _);
+  link_nowhere = λ which offset none. told s (Link which frame slot offset to_frame to_slot) NotPointer (both _ ∙ no_place offset none _);
+  link_outside = λ which offset ends. told s (Link which frame slot offset to_frame to_slot) OutsideObject (both _ ∙ past offset ends _);
+  link_to_nowhere = λ which offset has none. told s (Link which frame slot offset to_frame to_slot) NotPointer (both _ ∙ there_is offset has _ ∙ nowhere s.objects target _ none);
+  link_to_inside = λ which offset has within. told s (Link which frame slot offset to_frame to_slot) NotStart (both _ ∙ there_is offset has _ ∙ inside s.objects target _ within.0 within.1 within.2);
+  move_nowhere = λ which offset to_offset none. told s (MoveLink which frame slot offset to_frame to_slot to_offset) NotPointer (both _ ∙ no_place offset none _);
+  move_outside = λ which offset to_offset ends. told s (MoveLink which frame slot offset to_frame to_slot to_offset) OutsideObject (both _ ∙ past offset ends _);
+  move_to_nowhere = λ which offset to_offset has none. told s (MoveLink which frame slot offset to_frame to_slot to_offset) NotPointer (both _ ∙ there_is offset has _ ∙ nowhere s.objects target _ none);
+  move_to_outside = λ which offset to_offset has ends. told s (MoveLink which frame slot offset to_frame to_slot to_offset) OutsideObject (both _ ∙ there_is offset has _ ∙ outside s.objects target to_offset _ ends.0 ends.1 ends.2 ends.3 ends.4);
 }
+  where
+    word : ℕ
+    word = slot_word s.frames frame slot
+
+    target : ℕ
+    target = slot_word s.frames to_frame to_slot
+
+    -- slots that are there are passed over
+    one : (later : Option Refusal) → (if lacks_slot s.frames frame slot then Some BadSlot else later) ≡ later
+    one later = passes (lacks_slot s.frames frame slot, BadSlot) later (having s.frames frame slot here)
+
+    both : (later : Option Refusal) → (if lacks_slot s.frames frame slot then Some BadSlot else (if lacks_slot s.frames to_frame to_slot then Some BadSlot else later)) ≡ later
+    both later = one _ ∙ passes (lacks_slot s.frames to_frame to_slot, BadSlot) later (having s.frames to_frame to_slot there)
+
+    no_place : (offset : ℕ) → PointsNowhere s frame slot → (later : Option Refusal) → placing s.objects word offset later ≡ Some NotPointer
+    no_place offset none later = nowhere s.objects word _ none
+
+    past : (offset : ℕ) → EndsBefore s frame slot offset → (later : Option Refusal) → placing s.objects word offset later ≡ Some OutsideObject
+    past offset ends later = outside s.objects word offset later ends.0 ends.1 ends.2 ends.3 ends.4
+
+    there_is : (offset : ℕ) → HasPlace s frame slot offset → (later : Option Refusal) → placing s.objects word offset later ≡ later
+    there_is offset has later = placed s.objects word offset later has.0 has.1 has.2 has.3 has.4
 
 -- ---- sizes and births
 
@@ -125,9 +180,11 @@ sizes_come_first s frame slot size kind here = record {
 
 objects_come_first : (s : State) (frame slot : ℕ) (kind : RegKind) (proc cd rank : ℕ) (here : HasSlot s frame slot) (low : HEAP_START ≤ slot_word s.frames frame slot) (high : slot_word s.frames frame slot < heap_end s.blocks) → ObjectsComeFirst s frame slot kind proc cd rank here low high
 objects_come_first s frame slot kind proc cd rank here low high = record {
-  nowhere = λ none. told s event NotPointer (there ∙ stands (no_object s.objects word) _ (ap is_none none));
-  inside = λ start points_there none. told s event NotStart (there ∙ passes (no_object s.objects word) _ (ap is_none points_there) ∙ stands (no_start s.objects word) _ (ap is_none none));
-  numbers = λ start o points_there here used. told s event Exhausted (there ∙ passes (no_object s.objects word) _ (ap is_none points_there) ∙ passes (no_start s.objects word) _ (ap is_none here) ∙ stands (exhausted s.next_number) _ (le-leb COUNT_LIMIT s.next_number used));
+  nowhere = λ none. told s event NotPointer (there (others ++ more) ∙ nowhere s.objects word _ none);
+  inside = λ within. told s event NotStart (there (others ++ more) ∙ inside s.objects word _ within.0 within.1 within.2);
+  numbers = λ start o points_there here used. told s event Exhausted (there (others ++ more) ∙ passes (no_object s.objects word) _ (ap is_none points_there) ∙ passes (no_start s.objects word) _ (ap is_none here) ∙ stands (exhausted s.next_number) _ (le-leb COUNT_LIMIT s.next_number used));
+  unregister_nowhere = λ none. told s (Unregister frame slot) NotPointer (there others ∙ nowhere s.objects word _ none);
+  unregister_inside = λ within. told s (Unregister frame slot) NotStart (there others ∙ inside s.objects word _ within.0 within.1 within.2);
 }
   where
     word : ℕ
@@ -137,15 +194,18 @@ objects_come_first s frame slot kind proc cd rank here low high = record {
     event = Register frame slot kind proc cd rank
 
     others : Causes
-    others = start_causes s.objects word ++ register_causes s.registrations s.next_number word
+    others = start_causes s.objects word
+
+    more : Causes
+    more = register_causes s.registrations s.next_number word
 
     on_heap : is_off_heap s.blocks word ≡ false
     on_heap = ap (λ b. b || nat_le (heap_end s.blocks) word) (le-ltb _ _ low) ∙ lt-leb _ _ high
 
-    there : first_cause (causes s.core event) ≡ first_cause others
-    there =
-        passes (lacks_slot s.frames frame slot, BadSlot) (first_cause (if is_off_heap s.blocks word then [] else others)) (having s.frames frame slot here)
-        ∙ ap (λ b. first_cause (if b then [] else others)) on_heap
+    there : (all : Causes) → first_cause (slot_causes s.frames frame slot ++ (if is_off_heap s.blocks word then [] else all)) ≡ first_cause all
+    there all =
+        passes (lacks_slot s.frames frame slot, BadSlot) (first_cause (if is_off_heap s.blocks word then [] else all)) (having s.frames frame slot here)
+        ∙ ap (λ b. first_cause (if b then [] else all)) on_heap
 
 -- ---- cycles
 
@@ -164,3 +224,19 @@ first_is_told s = record {
   objects = objects_come_first s;
   cycles = cycles_come_first s;
 }
+
+-- ---- workers
+
+event_told : (j : Joint) (e : JointEvent) (r : Refusal) → first_cause (own_causes j e) ≡ Some r → AlwaysRefusesEvent j e r
+event_told j e r first reply new step = (subst (λ o. MatchOption o (Acts j e reply new) (λ r. (reply ≡ Err r) × (new ≡ j))) first step).0
+
+pub workers_come_first : (j : Joint) (w : ℕ) (missing : length j.workers ≤ w) → WorkersComeFirst j w missing
+workers_come_first j w missing = record {
+  take = event_told j (Take w) SeatsMissing (none _);
+  hold = λ frame slot. event_told j (HoldOwn w frame slot) SeatsMissing (none _);
+  finish = event_told j (FinishOwn w) SeatsMissing (none _);
+  forfeit = event_told j (Forfeit w) SeatsMissing (none _);
+}
+  where
+    none : (later : Option Refusal) → (if (no_worker j w).0 then Some SeatsMissing else later) ≡ Some SeatsMissing
+    none later = stands (no_worker j w) later (ap not (le-ltb w (length j.workers) missing))

@@ -1,46 +1,29 @@
 -- Each change of a world's parts keeps them sound.
-use Rattle.std.proofs.Common.{◌≡◌, ◌<◌, ◌≤◌, ◌+◌, ℕ, Bool, false, not, ◌&&◌, nat_le, List, [], ◌∷◌, length, replicate, filter, Some, None, refl, arith, IsTrue}
-use Rattle.std.proofs.lemmas.List.{length-replicate}
-use Rattle.std.proofs.lemmas.Bool.{not-false, leb-true, and_parts}
+use Rattle.std.proofs.Common.{◌≡◌, ◌+◌, ℕ, Bool, List, [], filter, Some, None, refl, IsTrue}
 use Rattle.std.specs.FinMap.{get, insert, remove, empty}
 use Rattle.fz_model.specs.declared.kinds.ObjKind.{ObjKind}
 use Rattle.fz_model.specs.declared.kinds.RegKind.{RegKind}
 use Rattle.fz_model.specs.declared.answers.Entry.{Entry}
 use Rattle.fz_model.specs.declared.answers.Registration.{Registration}
-use Rattle.fz_model.specs.declared.limits.TheConstants.{MAX_OBJECT_WORDS}
-use Rattle.fz_model.specs.State.{Map, Object, Core, State}
+use Rattle.fz_model.specs.State.{Map, Object, Core}
 use Rattle.fz_model.specs.Memory.{written, new_object}
 use Rattle.fz_model.specs.Allocation.{place_for}
-use Rattle.fz_model.specs.Causes.{Causes, first_cause, alloc_causes, start_causes}
-use Rattle.fz_model.specs.Events.{Event, Answer, causes}
-use Rattle.fz_model.specs.Steps.{Accepts}
+use Rattle.fz_model.specs.Causes.{first_cause, alloc_causes, start_causes}
 use Rattle.fz_model.specs.Parts.{AreSound}
 use Rattle.fz_model.proofs.Maps.{free_place}
 use Rattle.fz_model.proofs.Runs.{opening_sound}
 use Rattle.fz_model.proofs.Sound as sound
 use Rattle.fz_model.proofs.Sound.{first_none, is_some_of, new_sized, register_sound, other_objects, written_sized, written_object, fewer_regs, removed_back, finish_sound}
-use Rattle.fz_model.proofs.Stepwise.{accepted_sound, pass_keeps}
+pub use Rattle.fz_model.proofs.Effects.{NoneStands, none_stands}
+use Rattle.fz_model.proofs.Effects.{some_words}
+use Rattle.fz_model.proofs.Stepwise.{pass_keeps}
 use Rattle.fz_model.specs.declared.answers.Passed.{Passed}
 use Rattle.fz_model.specs.Reachability.{IsReachable}
 use Rattle.fz_model.specs.Pass.{Passes}
 
--- of accepted causes none stands
-abbrev pub NoneStands : Causes → Type 0
-NoneStands [] = Unit {0}
-NoneStands (cause ∷ causes) = (cause.0 ≡ false) × NoneStands causes
-
-pub none_stands : (causes : Causes) → first_cause causes ≡ None → NoneStands causes
-none_stands [] none = tt
-none_stands (cause ∷ causes) none = let parts = first_none cause causes none in (parts.0, none_stands causes parts.1)
-
 pub sound_opening : AreSound empty empty 0 [] []
 unfolding AreSound
 sound_opening = opening_sound 1 1
-
--- an accepted call of the model
-pub sound_accepted : (s : State) (e : Event) (answer : Answer e) (new : Core) → AreSound s.objects s.registrations s.next_number s.queue s.held → first_cause (causes s.core e) ≡ None → Accepts s e answer new → AreSound new.objects new.registrations new.next_number new.queue new.held
-unfolding AreSound
-sound_accepted s e answer new h none a = accepted_sound s e answer new h none a
 
 -- a pass whose found objects are at least the reachable ones
 pub sound_passed : (c : Core) (found : ℕ → Bool) (passed : Passed) (new : Core) → ((a : ℕ) → IsReachable c a → IsTrue (found a)) → Passes c found passed new → AreSound c.objects c.registrations c.next_number c.queue c.held → AreSound new.objects new.registrations new.next_number new.queue new.held
@@ -60,16 +43,10 @@ module _ (objects : Map Object) (registrations : Map Registration) (next_number 
   unfolding AreSound written
   sound_written address value h = other_objects _ _ _ _ _ _ h (written_sized _ value objects h.sized) (written_object _ value objects)
 
-  sized : (size : ℕ) → not (nat_le 1 size && nat_le size MAX_OBJECT_WORDS) ≡ false → 0 < length {A = ℕ} (replicate size 0)
-  sized size good =
-      let least : 1 ≤ size = leb-true 1 size (and_parts (nat_le 1 size) (nat_le size MAX_OBJECT_WORDS) (not-false (nat_le 1 size && nat_le size MAX_OBJECT_WORDS) good)).0 in
-      let n : length {A = ℕ} (replicate size 0) ≡ size = length-replicate {A = ℕ} size 0 in
-      omega (arith, least, n)
-
   pub sound_made : (blocks next_birth birth size : ℕ) (kind : ObjKind) (a : ℕ) → first_cause (alloc_causes objects blocks next_birth size kind) ≡ None → place_for objects blocks size kind ≡ Some a → AreSound objects registrations next_number queue held → AreSound (insert objects a (new_object kind birth size)) registrations next_number queue held
   unfolding AreSound
   sound_made blocks next_birth birth size kind a none place h =
-      other_objects _ _ _ _ _ _ h (new_sized objects a (new_object kind birth size) (sized size (none_stands (alloc_causes objects blocks next_birth size kind) none).0) h.sized) (sound.new_object objects a (new_object kind birth size) (free_place objects blocks size a kind place))
+      other_objects _ _ _ _ _ _ h (new_sized objects a (new_object kind birth size) (some_words size (none_stands (alloc_causes objects blocks next_birth size kind) none).0) h.sized) (sound.new_object objects a (new_object kind birth size) (free_place objects blocks size a kind place))
 
   pub sound_registered : (word : ℕ) (kind : RegKind) (proc cd rank : ℕ) → first_cause (start_causes objects word) ≡ None → AreSound objects registrations next_number queue held → AreSound objects (insert registrations word (record { number = next_number; kind = kind; proc = proc; cd = cd; rank = rank })) (next_number + 1) queue held
   unfolding AreSound

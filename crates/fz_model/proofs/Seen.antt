@@ -12,7 +12,7 @@ use Rattle.fz_model.specs.Events.{Event, Alloc, Store, Answer, causes}
 use Rattle.fz_model.specs.Steps.{Accepts, StepsTo, NoStep, OneMore, any_call, IsReached}
 use Rattle.fz_model.proofs.Maps.{get-insert_same}
 use Rattle.fz_model.proofs.Objects.{points_at, to_covers}
-use Rattle.fz_model.proofs.Stepwise.{alloc_sized}
+use Rattle.fz_model.proofs.Effects.{none_stands, some_words}
 use Rattle.fz_model.proofs.SeenAfter.{IsShown, accepted_seen}
 use Rattle.fz_model.proofs.Standing.{Standing, get_extent, reached_standing}
 use Rattle.fz_model.proofs.Allocation.{Laid, laid_apart, reached_laid}
@@ -22,7 +22,7 @@ new_points : (s t : State) (frame slot size : ℕ) (kind : ObjKind) (a : ℕ) �
 new_points s t frame slot size kind a h none is =
     let v : Object = new_object kind s.next_birth size in
     let here : get t.objects a ≡ Some v = ap (λ m. get m a) is ∙ get-insert_same s.objects a v in
-    let some = alloc_sized s.core frame slot size kind none in
+    let some = some_words size (none_stands (causes s.core (Alloc frame slot size kind)) none).1.0 in
     points_at (extents t.objects) (laid_apart t.blocks (extents t.objects) h) a a (extent_of v) (get_extent t.objects a v here) (to_covers a a (extent_of v) (omega arith) (omega (arith, some)))
 
 -- what an accepted call asks of the frames and of the new object

@@ -1,6 +1,6 @@
 -- What every step of a world keeps of its heap, its links and its frames: objects lie in the heap, each link leads to an object and lies in one, and
 -- each frame has its slots.
-use Rattle.std.proofs.Common.{suc, ◌≡◌, ◌≢◌, ℕ, ◌+◌, ◌*◌, ◌<◌, ◌≤◌, ◌==◌, ◌&&◌, Bool, true, false, if◌then◌else◌, List, [], ◌∷◌, ◌++◌, length, Option, Some, None, option_map, Result, Ok, Err, refl, sym, ap, ◌∙◌, subst, ⊎_elim, arith, slice_get, get_or, set, length-set, All, flat_map, filter, nat_le, nat_lt, replicate, true≢false}
+use Rattle.std.proofs.Common.{suc, ◌≡◌, ◌≢◌, ℕ, ◌+◌, ◌*◌, ◌<◌, ◌≤◌, ◌==◌, ◌&&◌, Bool, true, false, if◌then◌else◌, List, [], ◌∷◌, length, Option, Some, None, option_map, refl, sym, ap, ◌∙◌, subst, ⊎_elim, arith, slice_get, get_or, set, length-set, All, flat_map, filter, nat_le, nat_lt, replicate, true≢false}
 use Rattle.std.proofs.lemmas.Bool.{cases_eq, not-false, cond-true, and_parts, and_from}
 use Rattle.std.proofs.lemmas.Option.{same_Some, none-some}
 use Rattle.std.proofs.lemmas.List.{get_or-set_same, get_or-set_other}
@@ -11,38 +11,23 @@ use Rattle.std.specs.FinMap.{get, insert, remove, contains_key, get-empty}
 use Rattle.std.specs.Ordering.{nat_cmp}
 use Rattle.fz_model.specs.declared.extent.Extent.{Extent}
 use Rattle.fz_model.specs.declared.kinds.ObjKind.{ObjKind}
-use Rattle.fz_model.specs.declared.kinds.LinkKind.{LinkKind}
-use Rattle.fz_model.specs.declared.kinds.LinkKind.TheVariants.{Short, Long}
 use Rattle.fz_model.specs.declared.answers.Passed.{Passed}
-use Rattle.fz_model.specs.declared.refusal.Refusal.{Refusal}
 use Rattle.fz_model.specs.declared.limits.TheConstants.{HEAP_START}
 use Rattle.fz_model.specs.State.{Map, Object, Core, State, opening}
 use Rattle.fz_model.specs.Extents.{covers, extents, extent_of, points_in}
-use Rattle.fz_model.specs.Memory.{points, fill, filled, written, with_slot, slot_word}
+use Rattle.fz_model.specs.Memory.{new_object, points, fill, filled, written, with_slot}
 use Rattle.fz_model.specs.Allocation.{place_in, is_free, cells, has_class, has_run, blocks_for, block_start}
 use Rattle.fz_model.specs.Pass.{is_dead, cleared, links_within, remaining_objects, FoundItself, Passes}
-use Rattle.fz_model.specs.Causes.{Causes, first_cause, slot_causes, place_causes, start_causes, full, no_extent, other_extent, no_start, no_object, is_off_heap}
-use Rattle.fz_model.specs.Events.{Event, Alloc, Load, Store, Set, Copy, Register, Unregister, Link, Unlink, MoveLink, Begin, Mark, Pause, Collect, Hold, Finish, Close, Outstanding, Queue, Answer, causes, links_of}
-use Rattle.fz_model.specs.Steps.{Accepts, Step, StepsTo, NoStep, OneMore, any_call, IsReached, with_links, moved_to}
+use Rattle.fz_model.specs.Causes.{other_extent}
+use Rattle.fz_model.specs.Events.{Event}
+use Rattle.fz_model.specs.Steps.{IsReached, moved_to}
 use Rattle.fz_model.specs.CallLaws.{Stands, LinksStand}
 use Rattle.fz_model.proofs.Lists.{slice_get-cases, find_place, found_some, map_at}
 use Rattle.fz_model.proofs.MapEntries.{place_of_key}
 use Rattle.fz_model.proofs.Maps.{get-insert_same, get-insert_other, get-retain, retained_back, filled_here, filled_back, length-fill, get-extents, free_place}
 use Rattle.fz_model.proofs.Objects.{points_target, from_covers}
-use Rattle.fz_model.proofs.Judged.{judged_more, judged_err}
-use Rattle.fz_model.proofs.Sound.{first_none, is_some_of, removed_back}
-
--- ---- causes that don't stand
-
-pub none_left : (causes more : Causes) → first_cause (causes ++ more) ≡ None → first_cause causes ≡ None
-none_left causes more none = at (first_cause causes) refl
-  where
-    at : (o : Option Refusal) → first_cause causes ≡ o → first_cause causes ≡ None
-    at None is = is
-    at (Some r) is = absurd (none-some r (sym none ∙ judged_err causes more r is))
-
-pub none_right : (causes more : Causes) → first_cause (causes ++ more) ≡ None → first_cause more ≡ None
-none_right causes more none = sym (judged_more causes more (none_left causes more none)) ∙ none
+use Rattle.fz_model.proofs.Sound.{is_some_of, removed_back}
+use Rattle.fz_model.proofs.Effects.{IsAllowed, Relinks, More, Fewer, Moved, Effect, Made, Wrote, Slot, Shorts, Longs, Ended, reached_keeps}
 
 -- ---- what lies where
 
@@ -127,10 +112,8 @@ link_moved objects links old place h lies = at (get links old) refl
         ]
 
 -- the place of an accepted call lies in an object
-pub place_lies : (objects : Map Object) (word offset : ℕ) → first_cause (place_causes objects word offset) ≡ None → Lies objects (word + offset)
-place_lies objects word offset none =
-    let second = (first_none (no_extent (extents objects) word) (other_extent (extents objects) word (word + offset) ∷ []) none).1 in
-    start (points_in (extents objects) word) (not-false _ (first_none (other_extent (extents objects) word (word + offset)) [] second).0)
+place_lies : (objects : Map Object) (word offset : ℕ) → (other_extent (extents objects) word (word + offset)).0 ≡ false → Lies objects (word + offset)
+place_lies objects word offset none = start (points_in (extents objects) word) (not-false _ none)
   where
     within : (a : ℕ) (x : Option Extent) → get (extents objects) a ≡ x → option_map_or (λ (x : Extent). covers (a, x) (word + offset)) x false ≡ true → Lies objects (word + offset)
     within a None is e = absurd (true≢false (sym e))
@@ -139,11 +122,6 @@ place_lies objects word offset none =
     start : (p : Option ℕ) → option_map_or (λ a. option_map_or (λ (x : Extent). covers (a, x) (word + offset)) (get (extents objects) a) false) p false ≡ true → Lies objects (word + offset)
     start None e = absurd (true≢false (sym e))
     start (Some a) e = within a (get (extents objects) a) refl e
-
--- a word that has to be a start is one
-pub start_stands : (objects : Map Object) (word : ℕ) (more : Causes) → first_cause (start_causes objects word ++ more) ≡ None → Stands objects word
-start_stands objects word more none =
-    is_some_of (get objects word) (first_none (no_start objects word) more (first_none (no_object objects word) (no_start objects word ∷ more) none).1).0
 
 -- ---- frames
 
@@ -270,93 +248,38 @@ pass_standing c found passed new h p =
 
 -- ---- each call
 
-same_parts : (c new : Core) → new.objects ≡ c.objects → new.short ≡ c.short → new.long ≡ c.long → new.frames ≡ c.frames → Standing c → Standing new
-same_parts c new objects short long frames h = record {
-  low = λ a o e. h.low a o (ap (λ m. get m a) (sym objects) ∙ e);
-  short = subst (λ m. LinksLie m new.short) (sym objects) (subst (LinksLie c.objects) (sym short) h.short);
-  long = subst (λ m. LinksLie m new.long) (sym objects) (subst (LinksLie c.objects) (sym long) h.long);
-  whole = subst (All (λ (f : List ℕ). length f ≡ 16)) (sym frames) h.whole;
-}
+relinked_lie : (c : Core) (e : Event) (old links : Map ℕ) → IsAllowed c e → LinksLie c.objects old → Relinks c e old links → LinksLie c.objects links
+relinked_lie c e old links allowed h (More word offset target none) =
+    let parts = none allowed in
+    link_more c.objects old (word + offset) target h (is_some_of (get c.objects target) parts.1.1.1.0) (place_lies c.objects word offset parts.1.0)
+relinked_lie c e old links allowed h (Fewer place) = link_fewer c.objects old place h
+relinked_lie c e old links allowed h (Moved from word offset none) = link_moved c.objects old from (word + offset) h (place_lies c.objects word offset (none allowed).1.0)
 
-either_parts : (c t new : Core) (b : Bool) → new ≡ (if b then c else t) → t.objects ≡ c.objects → t.short ≡ c.short → t.long ≡ c.long → t.frames ≡ c.frames → Standing c → Standing new
-either_parts c t new true is objects short long frames h = subst Standing (sym is) h
-either_parts c t new false is objects short long frames h = subst Standing (sym is) (same_parts c t objects short long frames h)
-
-with_frames : (c new : Core) (frames : List (List ℕ)) → All (λ (f : List ℕ). length f ≡ 16) frames → new ≡ record c { frames = frames } → Standing c → Standing new
-with_frames c new frames whole is h = subst Standing (sym is) (record { low = h.low; short = h.short; long = h.long; whole = whole })
-
-with_table : (c new : Core) (which : LinkKind) (links : Map ℕ) → new ≡ with_links c which links → LinksLie c.objects links → Standing c → Standing new
-with_table c new Short links is l h = subst Standing (sym is) (record { low = h.low; short = l; long = h.long; whole = h.whole })
-with_table c new Long links is l h = subst Standing (sym is) (record { low = h.low; short = h.short; long = l; whole = h.whole })
-
-table_lies : (c : Core) (which : LinkKind) → Standing c → LinksLie c.objects (links_of c which)
-table_lies c Short h = h.short
-table_lies c Long h = h.long
-
-pub accepted_standing : (s : State) (e : Event) (answer : Answer e) (new : Core) → Standing s.core → first_cause (causes s.core e) ≡ None → Accepts s e answer new → Standing new
+effect_standing : (c : Core) (e : Event) (new : Core) → IsAllowed c e → Standing c → Effect c e new → Standing new
 unfolding written
-accepted_standing s (Alloc frame slot size kind) answer new h none a =
-    let free = free_place s.objects s.blocks size a.0 kind a.1 in
-    let v : Object = record { kind = kind; birth = s.next_birth; words = replicate size 0 } in
-    let keeps = inserted_keeps s.objects a.0 v free in
-    subst Standing (sym a.3)
-    (record {
-      low = inserted_low s.objects a.0 v (place_low (extents s.objects) s.blocks size a.0 kind a.1) h.low;
-      short = links_kept s.objects _ s.short keeps h.short;
-      long = links_kept s.objects _ s.long keeps h.long;
-      whole = whole_with s.frames frame slot a.0 h.whole;
-    })
-accepted_standing s (Load frame slot offset to_frame to_slot) answer new h none a = with_frames s.core new _ (whole_with s.frames to_frame to_slot answer h.whole) a.1 h
-accepted_standing s (Store frame slot offset from_frame from_slot) answer new h none a =
-    let test = λ (x : ℕ). x == slot_word s.frames frame slot + offset in
-    let value = slot_word s.frames from_frame from_slot in
-    let keeps = filled_keeps test value s.objects in
-    subst Standing (sym a)
-    (record {
-      low = λ x o e. let b = filled_back test value s.objects x o e in h.low x b.0 b.1;
-      short = links_kept s.objects _ s.short keeps h.short;
-      long = links_kept s.objects _ s.long keeps h.long;
+effect_standing c e new allowed h (Made frame slot size a kind here none place) =
+    let v = new_object kind c.next_birth size in
+    let keeps = inserted_keeps c.objects a v (free_place c.objects c.blocks size a kind place) in
+    record {
+      low = inserted_low c.objects a v (place_low (extents c.objects) c.blocks size a kind place) h.low;
+      short = links_kept c.objects _ c.short keeps h.short;
+      long = links_kept c.objects _ c.long keeps h.long;
+      whole = whole_with c.frames frame slot a h.whole;
+    }
+effect_standing c e new allowed h (Wrote place word here) =
+    let test = λ (x : ℕ). x == place in
+    let keeps = filled_keeps test word c.objects in
+    record {
+      low = λ x o at. let b = filled_back test word c.objects x o at in h.low x b.0 b.1;
+      short = links_kept c.objects _ c.short keeps h.short;
+      long = links_kept c.objects _ c.long keeps h.long;
       whole = h.whole;
-    })
-accepted_standing s (Set frame slot word) answer new h none a = with_frames s.core new _ (whole_with s.frames frame slot word h.whole) a h
-accepted_standing s (Copy frame slot to_frame to_slot) answer new h none a = with_frames s.core new _ (whole_with s.frames to_frame to_slot _ h.whole) a h
-accepted_standing s (Register frame slot kind proc cd rank) answer new h none a =
-    let w = slot_word s.frames frame slot in
-    either_parts s.core (record s.core { registrations = insert s.registrations w (record { number = s.next_number; kind = kind; proc = proc; cd = cd; rank = rank }); next_number = s.next_number + 1 }) new (is_off_heap s.blocks w) a.1 refl refl refl refl h
-accepted_standing s (Unregister frame slot) answer new h none a =
-    let w = slot_word s.frames frame slot in
-    either_parts s.core (record s.core { registrations = remove s.registrations w }) new (is_off_heap s.blocks w) a.1 refl refl refl refl h
-accepted_standing s (Link which frame slot offset to_frame to_slot) answer new h none a =
-    let word = slot_word s.frames frame slot in
-    let target = slot_word s.frames to_frame to_slot in
-    let rest = start_causes s.objects target ++ full (links_of s.core which) (word + offset) ∷ [] in
-    let after = place_causes s.objects word offset ++ rest in
-    let places = none_right (slot_causes s.frames to_frame to_slot) after (none_right (slot_causes s.frames frame slot) (slot_causes s.frames to_frame to_slot ++ after) none) in
-    let lies = place_lies s.objects word offset (none_left (place_causes s.objects word offset) rest places) in
-    let stands = start_stands s.objects target (full (links_of s.core which) (word + offset) ∷ []) (none_right (place_causes s.objects word offset) rest places) in
-    with_table s.core new which _ a.1 (link_more s.objects (links_of s.core which) (word + offset) target (table_lies s.core which h) stands lies) h
-accepted_standing s (Unlink which frame slot offset) answer new h none a =
-    with_table s.core new which _ a.1 (link_fewer s.objects (links_of s.core which) (slot_word s.frames frame slot + offset) (table_lies s.core which h)) h
-accepted_standing s (MoveLink which frame slot offset to_frame to_slot to_offset) answer new h none a =
-    let from = slot_word s.frames frame slot in
-    let to = slot_word s.frames to_frame to_slot in
-    let after = place_causes s.objects from offset ++ place_causes s.objects to to_offset in
-    let places = none_right (slot_causes s.frames to_frame to_slot) after (none_right (slot_causes s.frames frame slot) (slot_causes s.frames to_frame to_slot ++ after) none) in
-    let lies = place_lies s.objects to to_offset (none_right (place_causes s.objects from offset) (place_causes s.objects to to_offset) places) in
-    with_table s.core new which _ a.1 (link_moved s.objects (links_of s.core which) (from + offset) (to + to_offset) (table_lies s.core which h) lies) h
-accepted_standing s Begin answer new h none a = subst Standing (sym a) (same_parts s.core _ refl refl refl refl h)
-accepted_standing s (Mark budget) answer new h none a = subst Standing (sym a.1) h
-accepted_standing s Pause answer new h none a = pass_standing s.core a.0 answer new h a.2
-accepted_standing s Collect answer new h none a = pass_standing s.core a.0 answer new h a.2
-accepted_standing s (Hold frame slot entry) answer new h none a = with_frames s.core new _ (whole_with s.frames frame slot entry.obj h.whole) a h
-accepted_standing s (Finish entry) answer new h none a = subst Standing (sym a) (same_parts s.core _ refl refl refl refl h)
-accepted_standing s Close answer new h none a = subst Standing (sym a) (same_parts s.core _ refl refl refl refl h)
-accepted_standing s Outstanding answer new h none a = subst Standing (sym a.1) h
-accepted_standing s Queue answer new h none a = subst Standing (sym a.1) h
-
-pub step_standing : (s : State) (e : Event) (reply : Result (Answer e) Refusal) (new : State) → Standing s.core → Step s e reply new → Standing new.core
-step_standing s e (Err r) new h step = subst (λ (t : State). Standing t.core) (sym step.1) h
-step_standing s e (Ok answer) new h step = accepted_standing s e answer new.core h step.0 step.1
+    }
+effect_standing c e new allowed h (Slot frame slot word) = record { low = h.low; short = h.short; long = h.long; whole = whole_with c.frames frame slot word h.whole }
+effect_standing c e new allowed h (Shorts {links = links} r) = record { low = h.low; short = relinked_lie c e c.short links allowed h.short r; long = h.long; whole = h.whole }
+effect_standing c e new allowed h (Longs {links = links} r) = record { low = h.low; short = h.short; long = relinked_lie c e c.long links allowed h.long r; whole = h.whole }
+effect_standing c e new allowed h (Ended here p) = pass_standing c p.found p.passed new h p.passes
+effect_standing c e new allowed h _ = record { low = h.low; short = h.short; long = h.long; whole = h.whole }
 
 opening_standing : (blocks frames : ℕ) → Standing (opening blocks frames).core
 opening_standing blocks frames = record {
@@ -366,12 +289,8 @@ opening_standing blocks frames = record {
   whole = All-replicate (λ (f : List ℕ). length f ≡ 16) frames (replicate 16 0) refl;
 }
 
-steps_standing : (may : Event → Bool) (s t : State) → Standing s.core → StepsTo may s t → Standing t.core
-steps_standing may s t h NoStep = h
-steps_standing may s t h (OneMore {mid = mid} e reply ok before step) = step_standing mid e reply t (steps_standing may s mid h before) step
-
 pub reached_standing : (s : State) → IsReached s → Standing s.core
-reached_standing s r = steps_standing any_call (opening r.0 r.1) s (opening_standing r.0 r.1) r.2
+reached_standing = reached_keeps Standing effect_standing opening_standing
 
 -- ---- what follows
 

@@ -9,6 +9,7 @@ pub mod Bits
 pub mod Condemned
 pub mod Causes
 pub mod Events
+pub mod Calls
 pub mod Steps
 pub mod Joint
 pub mod Refusals

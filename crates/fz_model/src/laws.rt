@@ -1,6 +1,6 @@
 //! Laws that test the definitions.
 
-ghost use Rattle.std.specs.Prelude.{ℕ, List};
+ghost use Rattle.std.specs.Prelude.{ℕ, ◌≤◌, List, length};
 ghost use Rattle.fz_model.specs.State.{State};
 ghost use Rattle.fz_model.specs.Extents.{extents, AreApart, AreWithin};
 ghost use Rattle.fz_model.specs.Seen.{SeenIsClosed};
@@ -9,7 +9,7 @@ ghost use Rattle.fz_model.specs.Joint.{Joint, Move, IsRun};
 ghost use Rattle.fz_model.specs.CallLaws.{EachCallHasStep, EachJointEventHasStep, LinksStand, LinksAreMade, LinksAreUnlinked, LinksAreMoved, TablesAreWithin, HoldGivesTheObject, EmptyHandIsRefused, ClosesOnce};
 ghost use Rattle.fz_model.specs.PassLaws.{EachPassIsLawful};
 ghost use Rattle.fz_model.specs.CycleLaws.{SeenInThisCycle};
-ghost use Rattle.fz_model.specs.OrderLaws.{FirstIsTold};
+ghost use Rattle.fz_model.specs.OrderLaws.{FirstIsTold, WorkersComeFirst};
 
 /// Does nothing. Its contract says of every reached state what is expected of each call and of each pass, in words of their own: so it tests the
 /// definitions by which all other contracts speak.
@@ -23,8 +23,9 @@ pub fn every_call()
     // Each link's target starts an object, and its word lies in one.
     ensures short_links_stand { (s : State) → IsReached s → LinksStand s.objects s.short }
     ensures long_links_stand { (s : State) → IsReached s → LinksStand s.objects s.long }
-    // Where a call could be refused for two causes, the first is told.
+    // Where a call or a worker could be refused for two causes, the first is told.
     ensures first_is_told { (s : State) → IsReached s → FirstIsTold s }
+    ensures workers_come_first { (moves : List Move) (end : Joint) → IsRun moves end → (w : ℕ) (missing : length end.workers ≤ w) → WorkersComeFirst end w missing }
     // No table is larger than its limit.
     ensures tables_are_within { (s : State) → IsReached s → TablesAreWithin s }
     // A link has the target that was named last; one that is removed is gone; a move keeps the target, and the number of links.

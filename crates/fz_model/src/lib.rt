@@ -4,6 +4,7 @@
 #![tactic(auto)]
 
 mod answers;
+mod call;
 mod extent;
 mod headline;
 mod kinds;
@@ -15,6 +16,7 @@ mod refusal;
 pub use answers::{
     Entry, LinkAnswer, MoveAnswer, Old, Passed, Pick, Progress, RegAnswer, Registration,
 };
+pub use call::{Call, Reply};
 pub use extent::Extent;
 pub use headline::every_run;
 pub use kinds::{LinkKind, ObjKind, RegKind};

@@ -10,6 +10,7 @@ use Rattle.fz_model.specs.Memory.{points}
 use Rattle.fz_model.specs.Pass.{is_outside, cleared, is_dead, links_within}
 use Rattle.fz_heap.specs.Contents.{Contents}
 use Rattle.fz_table.specs.Registered.{Registered}
+use Rattle.fz_links.specs.Linked.{Linked}
 use Rattle.fz_dirty.specs.Flags.{Set}
 use Rattle.fz_marker.specs.Marking.{Marking, IsClosed}
 use Rattle.fz_pass.specs.Leading.{Traces, AreLeading, AreReaching, is_unreachable}
@@ -27,31 +28,31 @@ use Rattle.fz_pass.proofs.Decided.{are_picks, computes_kept, child_before}
 pub within_same : (a b : Map Object) (links : Map ℕ) (targets containers : ℕ → Bool) → ((w : ℕ) → points a w ≡ points b w) → links_within a links targets containers ≡ links_within b links targets containers
 within_same a b links targets containers same = λ i. retain_keys links (λ link. option_map_or targets (get links link) false && option_map_or containers (same link i) false)
 
-module _ (heap0 heap1 heap2 heap3 : Contents) (m0 m1 m2 m3 : Marking) (table0 table1 : Registered) (short long new_short new_long : Map ℕ) (L : Set) (out out1 : List Pick) (cleared_short : heap1 ≡ record heap0 { objects = cleared short (contains m0.marked) heap0.objects }) (begun : m1.traced ≡ m0.marked) (listed : (a : ℕ) → contains L a ≡ is_unreachable heap1.objects table0.registrations (contains m0.marked) a) (traced : Traces heap1.objects m1 m2 (AreLeading heap1.objects table0.registrations (contains L))) (p : Picks heap1.objects (is_free L m2.traced) table0 table1 out out1) (reached : Traces heap1.objects m2 m3 (AreReaching heap1.objects (contains L))) (cleared_long : heap2 ≡ record heap1 { objects = cleared long (contains m3.traced) heap1.objects }) (short_is : new_short ≡ links_within heap2.objects short (contains m0.marked) (contains m3.traced)) (long_is : new_long ≡ links_within heap2.objects long (contains m3.traced) (contains m3.traced)) (left : heap3.objects ≡ retain_keys heap2.objects (contains m3.traced)) where
-  after : heap1.objects ≡ cleared short (contains m0.marked) heap0.objects
+module _ (heap0 heap1 heap2 heap3 : Contents) (m0 m1 m2 m3 : Marking) (table0 table1 : Registered) (short long new_short new_long : Linked) (L : Set) (out out1 : List Pick) (cleared_short : heap1 ≡ record heap0 { objects = cleared short.links (contains m0.marked) heap0.objects }) (begun : m1.traced ≡ m0.marked) (listed : (a : ℕ) → contains L a ≡ is_unreachable heap1.objects table0.registrations (contains m0.marked) a) (traced : Traces heap1.objects m1 m2 (AreLeading heap1.objects table0.registrations (contains L))) (p : Picks heap1.objects (is_free L m2.traced) table0 table1 out out1) (reached : Traces heap1.objects m2 m3 (AreReaching heap1.objects (contains L))) (cleared_long : heap2 ≡ record heap1 { objects = cleared long.links (contains m3.traced) heap1.objects }) (short_is : new_short.links ≡ links_within heap2.objects short.links (contains m0.marked) (contains m3.traced)) (long_is : new_long.links ≡ links_within heap2.objects long.links (contains m3.traced) (contains m3.traced)) (left : heap3.objects ≡ retain_keys heap2.objects (contains m3.traced)) where
+  after : heap1.objects ≡ cleared short.links (contains m0.marked) heap0.objects
   after = ap (λ (h : Contents). h.objects) cleared_short
 
-  listed_is : (a : ℕ) → contains L a ≡ is_unreachable (cleared short (contains m0.marked) heap0.objects) table0.registrations (contains m0.marked) a
+  listed_is : (a : ℕ) → contains L a ≡ is_unreachable (cleared short.links (contains m0.marked) heap0.objects) table0.registrations (contains m0.marked) a
   listed_is a = subst (λ (os : Map Object). contains L a ≡ is_unreachable os table0.registrations (contains m0.marked) a) after (listed a)
 
-  led_is : (x : ℕ) → IsTrue (contains m2.traced x) ↔ (IsTrue (contains m0.marked x) ⊎ AreLeading (cleared short (contains m0.marked) heap0.objects) table0.registrations (contains L) x)
+  led_is : (x : ℕ) → IsTrue (contains m2.traced x) ↔ (IsTrue (contains m0.marked x) ⊎ AreLeading (cleared short.links (contains m0.marked) heap0.objects) table0.registrations (contains L) x)
   led_is x =
       subst (λ (os : Map Object). IsTrue (contains m2.traced x) ↔ (IsTrue (contains m0.marked x) ⊎ AreLeading os table0.registrations (contains L) x)) after
       (subst (λ (s : Set). IsTrue (contains m2.traced x) ↔ (IsTrue (contains s x) ⊎ AreLeading heap1.objects table0.registrations (contains L) x)) begun (traced.members x))
 
-  kept_is : (x : ℕ) → IsTrue (contains m3.traced x) ↔ (IsTrue (contains m2.traced x) ⊎ AreReaching (cleared short (contains m0.marked) heap0.objects) (contains L) x)
+  kept_is : (x : ℕ) → IsTrue (contains m3.traced x) ↔ (IsTrue (contains m2.traced x) ⊎ AreReaching (cleared short.links (contains m0.marked) heap0.objects) (contains L) x)
   kept_is x = subst (λ (os : Map Object). IsTrue (contains m3.traced x) ↔ (IsTrue (contains m2.traced x) ⊎ AreReaching os (contains L) x)) after (reached.members x)
 
-  ready : AreReady (cleared short (contains m0.marked) heap0.objects) table0.registrations (is_free L m2.traced) p.picks
+  ready : AreReady (cleared short.links (contains m0.marked) heap0.objects) table0.registrations (is_free L m2.traced) p.picks
   ready = subst (λ (os : Map Object). AreReady os table0.registrations (is_free L m2.traced) p.picks) after p.picked
 
-  objects_are : heap2.objects ≡ cleared long (contains m3.traced) (cleared short (contains m0.marked) heap0.objects)
-  objects_are = ap (λ (h : Contents). h.objects) cleared_long ∙ ap (cleared long (contains m3.traced)) after
+  objects_are : heap2.objects ≡ cleared long.links (contains m3.traced) (cleared short.links (contains m0.marked) heap0.objects)
+  objects_are = ap (λ (h : Contents). h.objects) cleared_long ∙ ap (cleared long.links (contains m3.traced)) after
 
   pointed : (w : ℕ) → points heap2.objects w ≡ points heap0.objects w
   pointed w =
-      ap (λ os. points os w) objects_are ∙ points-filled (is_dead (cleared short (contains m0.marked) heap0.objects) long (contains m3.traced)) 0 (cleared short (contains m0.marked) heap0.objects) w
-      ∙ points-filled (is_dead heap0.objects short (contains m0.marked)) 0 heap0.objects w
+      ap (λ os. points os w) objects_are ∙ points-filled (is_dead (cleared short.links (contains m0.marked) heap0.objects) long.links (contains m3.traced)) 0 (cleared short.links (contains m0.marked) heap0.objects) w
+      ∙ points-filled (is_dead heap0.objects short.links (contains m0.marked)) 0 heap0.objects w
 
   pub decided : (picks : List Pick) × (out1 ≡ out ++ picks) × Decides (parts heap0 table0 short long) (contains m0.marked) picks (parts heap3 table1 new_short new_long)
   decided = (
@@ -60,16 +61,16 @@ module _ (heap0 heap1 heap2 heap3 : Contents) (m0 m1 m2 m3 : Marking) (table0 ta
     record {
       decision = record {
         kept = contains m3.traced;
-        kept_is = computes_kept heap0.objects table0.registrations short (contains m0.marked) (contains L) listed_is (contains m2.traced) led_is (contains m3.traced) kept_is;
+        kept_is = computes_kept heap0.objects table0.registrations short.links (contains m0.marked) (contains L) listed_is (contains m2.traced) led_is (contains m3.traced) kept_is;
         picks = p.picks;
-        picks_are = are_picks heap0.objects table0.registrations short (contains m0.marked) (contains L) listed_is (contains m2.traced) led_is p.picks ready;
+        picks_are = are_picks heap0.objects table0.registrations short.links (contains m0.marked) (contains L) listed_is (contains m2.traced) led_is p.picks ready;
       };
       picked = refl;
       is = λ i. record {
         objects = (left ∙ ap (λ os. retain_keys os (contains m3.traced)) objects_are) i;
         registrations = (ap (λ (t : Registered). t.registrations) p.table_is) i;
-        short = (short_is ∙ within_same heap2.objects heap0.objects short (contains m0.marked) (contains m3.traced) pointed) i;
-        long = (long_is ∙ within_same heap2.objects heap0.objects long (contains m3.traced) (contains m3.traced) pointed) i;
+        short = (short_is ∙ within_same heap2.objects heap0.objects short.links (contains m0.marked) (contains m3.traced) pointed) i;
+        long = (long_is ∙ within_same heap2.objects heap0.objects long.links (contains m3.traced) (contains m3.traced) pointed) i;
       };
     },
   )

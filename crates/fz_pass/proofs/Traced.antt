@@ -9,7 +9,6 @@ use Rattle.std.specs.List.{IsDistinct, list_any}
 use Rattle.std.specs.Map.{keys_of, lookup}
 use Rattle.std.specs.FinSet.{contains}
 use Rattle.std.specs.FinMap.{get, from_entries, contains_key}
-use Rattle.fz_model.specs.declared.kinds.RegKind.TheVariants.{Normal, IgnoreSelf, NoOrder}
 use Rattle.fz_model.specs.declared.kinds.ObjKind.{ObjKind}
 use Rattle.fz_model.specs.declared.kinds.ObjKind.TheVariants.{Scanned, Atomic}
 use Rattle.fz_model.specs.Allocation.{same_kind}
@@ -91,19 +90,6 @@ any_pointer objects left_out start a = (there (get objects start) refl, back)
     back (first, child, apart, leads) =
         let words : pointers_of objects start ≡ child.object.words = ap (λ g. option_map_or pointers g []) child.here ∙ ap (λ k. if same_kind k Scanned then child.object.words else []) child.scanned in
         (child.word, subst (λ ws. Contains ws child.word) (sym words) child.within, (first, child.pointed, apart, leads))
-
--- by kind
-pub leading_normal : (objects : Map Object) (start a : ℕ) → IsLeadingBut objects None start a ↔ IsLeading objects start Normal a
-leading_normal objects start a = (λ (first, child, apart, leads). (first, child, leads), λ (first, child, leads). (first, child, (λ e. none-some first e), leads))
-
-pub leading_but_itself : (objects : Map Object) (start a : ℕ) → IsLeadingBut objects (Some start) start a ↔ IsLeading objects start IgnoreSelf a
-leading_but_itself objects start a = (
-  λ (first, child, apart, leads). (first, (child, λ same. apart (ap Some (sym same))), leads),
-  λ (first, (child, apart), leads). (first, child, (λ e. apart (sym (same_Some start first e))), leads),
-)
-
-pub leading_nowhere : (objects : Map Object) (start a : ℕ) → IsLeading objects start NoOrder a → ⊥
-leading_nowhere objects start a (first, never, leads) = never
 
 -- ---- the entries of the table
 

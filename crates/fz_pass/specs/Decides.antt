@@ -6,6 +6,7 @@ use Rattle.fz_model.specs.State.{Map, Object, Core}
 use Rattle.fz_model.specs.Pass.{Decision, remaining_objects, without_picks, links_within, entries_of}
 use Rattle.fz_heap.specs.Contents.{Contents}
 use Rattle.fz_table.specs.Registered.{Registered}
+use Rattle.fz_links.specs.Linked.{Linked}
 
 pub record Parts : Type 0 where
   pub objects : Map Object
@@ -14,8 +15,8 @@ pub record Parts : Type 0 where
   pub long : Map ℕ
 
 -- the parts as they stand in heap, table and links
-abbrev pub parts : Contents → Registered → Map ℕ → Map ℕ → Parts
-parts heap table short long = record { objects = heap.objects; registrations = table.registrations; short = short; long = long }
+abbrev pub parts : Contents → Registered → Linked → Linked → Parts
+parts heap table short long = record { objects = heap.objects; registrations = table.registrations; short = short.links; long = long.links }
 
 -- what a pass with these found objects picks, and what it leaves
 pub record Decides (old : Parts) (found : ℕ → Bool) (picks : List Pick) (new : Parts) : Type 0 where

@@ -39,7 +39,7 @@ fn clear_if_dead(heap: &mut Heap, set: &Flags<HEAP_START>, link: Addr, target: A
 
 /// Writes zero to the word of each link whose target isn't in the set.
 pub(crate) fn clear_dead(heap: &mut Heap, links: &Links, set: &Flags<HEAP_START>)
-    ensures { heap.new ≡ record heap.old { objects = cleared links.now (contains set.now.members) heap.old.objects } }
+    ensures { heap.new ≡ record heap.old { objects = cleared links.now.links (contains set.now.members) heap.old.objects } }
 {
     for (link, target) in links.iter() {
         clear_if_dead(heap, set, link, target);

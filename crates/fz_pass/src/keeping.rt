@@ -28,7 +28,7 @@ pub(crate) fn keep_within(
     targets: &Flags<HEAP_START>,
     containers: &Flags<HEAP_START>,
 )
-    ensures { links.new ≡ links_within heap.now.objects links.old (contains targets.now.members) (contains containers.now.members) }
+    ensures { links.new.links ≡ links_within heap.now.objects links.old.links (contains targets.now.members) (contains containers.now.members) }
 {
     links.drop_where(
         |link: Addr, target: Addr| -> bool

@@ -35,7 +35,7 @@ pub fn decide(
     requires size { marker.old.size ≡ BLOCK_WORDS * heap.old.blocks }
     requires closed { IsClosed heap.old.objects marker.old.marked }
     requires room { length out.old.items + len table.old.registrations ≤ vec_capacity out.old }
-    ensures decided { (picks : List Pick) × (out.new.items ≡ out.old.items ++ picks) × Decides (parts heap.old table.old short.old long.old) (contains marker.old.marked) picks (parts heap.new table.new short.new long.new) }
+    ensures decided { (picks : List Pick) × (out.new.items ≡ out.old.items ++ picks) × Decides (parts heap.old table.old.registered short.old long.old) (contains marker.old.marked) picks (parts heap.new table.new.registered short.new long.new) }
     // The objects that it reclaims are condemned, and no other.
     ensures condemned { (a : ℕ) → contains heap.new.condemned a ≡ (contains_key heap.old.objects a && not (contains_key heap.new.objects a) || contains heap.old.condemned a) }
     ensures count { sets.len heap.new.condemned ≡ sets.len heap.old.condemned + result }
@@ -45,7 +45,7 @@ pub fn decide(
     // All else stays.
     ensures heap { heap.new ≡ record heap.old { objects = heap.new.objects; condemned = heap.new.condemned } }
     ensures marker { marker.new ≡ record marker.old { traced = marker.new.traced; listed = marker.new.listed } }
-    ensures table { table.new ≡ record table.old { registrations = table.new.registrations } }
+    ensures table { table.new.registered ≡ record table.old.registered { registrations = table.new.registrations } }
 {
     let before = heap.condemned();
     clear_dead(heap, short, marker.found());

@@ -3,15 +3,16 @@ use Rattle.std.proofs.Common.{◌≡◌, ℕ, List, [], ◌∷◌, ◌++◌, Opt
 use Rattle.std.specs.List.{join_with_byte, AllByRecursion}
 use Rattle.std.proofs.lemmas.List.Splits.{join_with_byte-slice_split}
 use Rattle.fz_script.specs.declared.job.Job.{Job}
-use Rattle.fz_script.specs.declared.job.Job.TheVariants.{Settle, Mutator, Collector, Churn, One}
+use Rattle.fz_script.specs.declared.job.Job.TheVariants.{Open, Settle, Mutator, Collector, Churn, Call}
 use Rattle.fz_script.specs.declared.job.Keyword.{Keyword}
 use Rattle.fz_script.specs.declared.job.Keyword.TheVariants.{Settle as ToSettle, Mutator as ToMutator, Collector as ToCollector, Churn as ToChurn}
 use Rattle.fz_script.specs.declared.step.Step.{Step}
+use Rattle.fz_script.specs.declared.step.Step.TheVariants as script
 use Rattle.fz_script.specs.Spelling.{Token, Text, IsToken, text}
 use Rattle.fz_script.specs.Spelling as steps
 use Rattle.fz_script.specs.Jobs.{words, spelling}
 use Rattle.fz_script.specs.Reading.{◌>>=◌, Values, values_at, words_of, end_at, step_in, named_at}
-use Rattle.fz_script.specs.JobReading.{keyword, keywords, keyword_at, fields_of, made, made_at, own_at, own_in, job_in}
+use Rattle.fz_script.specs.JobReading.{keyword, keywords, keyword_at, fields_of, made, made_at, own_at, own_in, job_of_step, job_in}
 use Rattle.fz_script.proofs.Laws.{bind_some, some_same, field_words, HasTaken, kind_takes, values_taken, MayFollow, values_again, lacks_space, fields_plain, split_joined, end_takes}
 use Rattle.fz_script.proofs.Laws as laws
 
@@ -62,12 +63,21 @@ own_takes ws job h =
     let P : Job → Type 0 = λ job. (ws ≡ map text (words job)) × AreTokens (words job) in
     subst P (ap (λ p. p.0) same ∙ some_same t.0.0 job e.2) (line, fit)
 
+-- a step that is a job is written as the job is
+same_words : (s : Step) (job : Job) → job_of_step s ≡ Some job → words job ≡ steps.words s
+same_words (script.Open blocks frames workers) job h = ap words (sym (some_same (Open blocks frames workers) job h))
+same_words (script.Call call) job h = ap words (sym (some_same (Call call) job h))
+same_words (script.Take worker) job h = cc
+same_words (script.Hold worker slot) job h = cc
+same_words (script.Finish worker) job h = cc
+same_words (script.Forfeit worker) job h = cc
+
 pub job_found : (line : List ℕ) (r : Option Job) → job_in (step_in (words_of line)) (words_of line) ≡ r → IfSome r (λ job. AreTokens (words job) × (line ≡ spelling job))
 job_found line r h = by_step (step_in (words_of line)) r refl h
   where
     by_step : (s : Option Step) (r : Option Job) → step_in (words_of line) ≡ s → job_in s (words_of line) ≡ r → IfSome r (λ job. AreTokens (words job) × (line ≡ spelling job))
     by_step s None is h = tt
-    by_step (Some s) (Some job) is h = subst (λ job. AreTokens (words job) × (line ≡ spelling job)) (some_same (One s) job h) (laws.found line (Some s) is)
+    by_step (Some s) (Some job) is h = subst (λ ws. AreTokens ws × (line ≡ join_with_byte 32 (map text ws))) (sym (same_words s job h)) (laws.found line (Some s) is)
     by_step None (Some job) is h = let t = own_takes (words_of line) job h in (t.1, sym (join_with_byte-slice_split 32 line) ∙ ap (join_with_byte 32) t.0)
 
 -- what is written
@@ -86,7 +96,8 @@ job_again (Settle collections) fits = made_again ToSettle collections fits
 job_again Mutator fits = made_again ToMutator tt fits
 job_again Collector fits = made_again ToCollector tt fits
 job_again (Churn count slot size kind finalizer_kind procedure) fits = made_again ToChurn ((count, slot), (size, kind), (finalizer_kind, procedure)) fits
-job_again (One step) fits = rw (laws.only (steps.spelling step) step fits refl) refl
+job_again (Open blocks frames workers) fits = rw (laws.only (spelling (Open blocks frames workers)) (script.Open blocks frames workers) fits refl) refl
+job_again (Call call) fits = rw (laws.only (spelling (Call call)) (script.Call call) fits refl) refl
 
 pub job_only : (line : List ℕ) (job : Job) → AreTokens (words job) → line ≡ spelling job → job_in (step_in (words_of line)) (words_of line) ≡ Some job
 job_only line job fits e = ap (λ l. job_in (step_in (words_of l)) (words_of l)) e ∙ job_again job fits

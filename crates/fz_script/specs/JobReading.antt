@@ -1,10 +1,11 @@
 -- Reading a line of a threads file word by word, as the code does it. Means only, as Reading.antt is.
 use Rattle.std.specs.Prelude.{ℕ, List, [], ◌∷◌, codes, Option, Some, None}
 use Rattle.fz_script.specs.declared.job.Job.{Job}
-use Rattle.fz_script.specs.declared.job.Job.TheVariants.{Settle, Mutator, Collector, Churn, One}
+use Rattle.fz_script.specs.declared.job.Job.TheVariants.{Open, Settle, Mutator, Collector, Churn, Call}
 use Rattle.fz_script.specs.declared.job.Keyword.{Keyword}
 use Rattle.fz_script.specs.declared.job.Keyword.TheVariants.{Settle as ToSettle, Mutator as ToMutator, Collector as ToCollector, Churn as ToChurn}
 use Rattle.fz_script.specs.declared.step.Step.{Step}
+use Rattle.fz_script.specs.declared.step.Step.TheVariants as steps
 use Rattle.fz_script.specs.Reading.{◌>>=◌, kind_at, Fields, nothing, a_number, a_slot, an_obj_kind, a_reg_kind, two, three, Values, values_at, end_at}
 
 abbrev pub keyword : Keyword → List ℕ
@@ -42,7 +43,13 @@ own_at words = keyword_at words >>= λ first. made_at first.0 first.1
 unfoldable pub own_in : List (List ℕ) → Option Job
 own_in words = own_at words >>= λ job. end_at job.1 >>= λ _. Some job.0
 
+-- an opening and a call are jobs too, and what a worker does is none
+abbrev pub job_of_step : Step → Option Job
+job_of_step (steps.Open blocks frames workers) = Some (Open blocks frames workers)
+job_of_step (steps.Call call) = Some (Call call)
+job_of_step _ = None
+
 -- a step, or else one of the others
 abbrev pub job_in : Option Step → List (List ℕ) → Option Job
-job_in (Some step) words = Some (One step)
+job_in (Some step) words = job_of_step step
 job_in None words = own_in words

@@ -10,7 +10,9 @@ use Rattle.fz_model.specs.declared.kinds.LinkKind.TheVariants.{Short, Long}
 use Rattle.fz_model.specs.declared.places.Slot.{Slot}
 use Rattle.fz_model.specs.declared.places.Place.{Place}
 use Rattle.fz_script.specs.declared.step.Step.{Step}
-use Rattle.fz_script.specs.declared.step.Step.TheVariants.{Open, New, Set, Copy, Load, Store, Register, Unregister, Link, Unlink, Move, Begin, Mark, Pause, Collect, Take, Hold, Finish, Forfeit, Close, Outstanding}
+use Rattle.fz_model.specs.declared.call.Call.{Call as WorldCall}
+use Rattle.fz_model.specs.declared.call.Call.TheVariants.{Alloc, Copy, Load, Store, Set, Register, Unregister, Link, Unlink, Move, Begin, Mark, Pause, Collect, Close, Outstanding}
+use Rattle.fz_script.specs.declared.step.Step.TheVariants.{Open, Call, Take, Hold, Finish, Forfeit}
 
 -- one word of a line: a number, a rank, or letters that stand for themselves
 pub data Token : Type 0 where
@@ -43,32 +45,38 @@ abbrev pub rank_words : Option ℕ → List Token
 rank_words None = []
 rank_words (Some rank) = Rank rank ∷ []
 
--- The words of a step's line, in their order: the verb, then its fields.
+-- The words of a call's line, in their order: the verb, then its fields.
 -- A further verb is one more clause here; all else that is said of a line follows from it.
-abbrev pub words : Step → List Token
-words (Open blocks frames workers) =
-    Text (codes "open") ∷ Number blocks ∷ Number frames ∷ Number workers ∷ []
-words (New slot size kind) = Text (codes "new") ∷ slot_words slot ++ Number size ∷ Text (obj_kind kind) ∷ []
-words (Set slot word) = Text (codes "set") ∷ slot_words slot ++ Number word ∷ []
-words (Copy slot to) = Text (codes "copy") ∷ slot_words slot ++ slot_words to
-words (Load place to) = Text (codes "load") ∷ place_words place ++ slot_words to
-words (Store place from) = Text (codes "store") ∷ place_words place ++ slot_words from
-words (Register slot kind procedure client_data rank) =
+abbrev pub call_words : WorldCall → List Token
+call_words (Alloc slot size kind) = Text (codes "new") ∷ slot_words slot ++ Number size ∷ Text (obj_kind kind) ∷ []
+call_words (Copy slot to) = Text (codes "copy") ∷ slot_words slot ++ slot_words to
+call_words (Load place to) = Text (codes "load") ∷ place_words place ++ slot_words to
+call_words (Store place from) = Text (codes "store") ∷ place_words place ++ slot_words from
+call_words (Set slot word) = Text (codes "set") ∷ slot_words slot ++ Number word ∷ []
+call_words (Register slot kind procedure client_data rank) =
     Text (codes "register") ∷ slot_words slot ++ Text (reg_kind kind) ∷ Number procedure ∷ Number client_data ∷ rank_words rank
-words (Unregister slot) = Text (codes "unregister") ∷ slot_words slot
-words (Link which place target) = Text (codes "link") ∷ Text (link_kind which) ∷ place_words place ++ slot_words target
-words (Unlink which place) = Text (codes "unlink") ∷ Text (link_kind which) ∷ place_words place
-words (Move which place to) = Text (codes "move") ∷ Text (link_kind which) ∷ place_words place ++ place_words to
-words Begin = Text (codes "begin") ∷ []
-words (Mark budget) = Text (codes "mark") ∷ Number budget ∷ []
-words Pause = Text (codes "pause") ∷ []
-words Collect = Text (codes "collect") ∷ []
+call_words (Unregister slot) = Text (codes "unregister") ∷ slot_words slot
+call_words (Link which place target) = Text (codes "link") ∷ Text (link_kind which) ∷ place_words place ++ slot_words target
+call_words (Unlink which place) = Text (codes "unlink") ∷ Text (link_kind which) ∷ place_words place
+call_words (Move which place to) = Text (codes "move") ∷ Text (link_kind which) ∷ place_words place ++ place_words to
+call_words Begin = Text (codes "begin") ∷ []
+call_words (Mark budget) = Text (codes "mark") ∷ Number budget ∷ []
+call_words Pause = Text (codes "pause") ∷ []
+call_words Collect = Text (codes "collect") ∷ []
+call_words Close = Text (codes "close") ∷ []
+call_words Outstanding = Text (codes "outstanding") ∷ []
+
+abbrev pub open_words : ℕ → ℕ → ℕ → List Token
+open_words blocks frames workers = Text (codes "open") ∷ Number blocks ∷ Number frames ∷ Number workers ∷ []
+
+-- the words of a step's line
+abbrev pub words : Step → List Token
+words (Open blocks frames workers) = open_words blocks frames workers
+words (Call call) = call_words call
 words (Take worker) = Text (codes "take") ∷ Number worker ∷ []
 words (Hold worker slot) = Text (codes "hold") ∷ Number worker ∷ slot_words slot
 words (Finish worker) = Text (codes "finish") ∷ Number worker ∷ []
 words (Forfeit worker) = Text (codes "forfeit") ∷ Number worker ∷ []
-words Close = Text (codes "close") ∷ []
-words Outstanding = Text (codes "outstanding") ∷ []
 
 -- a number is in decimal: digits alone, and no zero before another digit
 abbrev pub text : Token → List ℕ

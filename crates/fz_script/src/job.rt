@@ -2,23 +2,35 @@
 
 ghost use Rattle.std.specs.Prelude.{◌≡◌, ◌↔◌, IsTrue, Some, IfSome, List, ℕ, Option};
 ghost use Rattle.fz_script.specs.declared.job.Job.{Job};
-ghost use Rattle.fz_script.specs.Jobs.{Fits, MayStand, is_for_threads, spelling};
+ghost use Rattle.fz_script.specs.Jobs.{Fits, IsWithin, spelling};
 ghost use Rattle.fz_script.specs.Reading.{words_of, words_left, with_rest, step_in};
-ghost use Rattle.fz_script.specs.JobReading.{keyword_at, made_at, own_at, own_in, job_in};
+ghost use Rattle.fz_script.specs.JobReading.{keyword_at, made_at, own_at, own_in, job_of_step, job_in};
 ghost use Rattle.fz_script.specs.declared.job.Keyword.TheVariants.{Churn as ToChurn};
 
 use crate::fields::Field;
 use crate::reading::step_of;
 use crate::step::Step;
 use crate::words::Words;
-use fz_model::{ObjKind, RegKind, Slot};
+use fz_model::{Call, ObjKind, RegKind, Slot};
+
+/// The most collections after a file's sections.
+pub const MAX_COLLECTIONS: u64 = 100;
+
+/// The most objects that one line makes.
+pub const MAX_TURNS: u64 = 10_000;
 
 /// What one line of a threads file asks for, with the fields of the line in their order.
 ///
 /// A threads file opens a world, says how often it is collected at the end, and then has sections, each
-/// of which is the work of one thread. Slots, sizes and steps are those of a script.
+/// of which is the work of one thread. Slots, sizes, the opening and calls are those of a script.
 #[derive(Clone, Copy, Debug, PartialEq, Eq)]
 pub enum Job {
+    /// The first line of a file.
+    Open {
+        blocks: u64,
+        frames: u64,
+        workers: u64,
+    },
     /// The second line of a file: how the run ends.
     Settle {
         /// How many collections follow once all sections have ended: at most 100.
@@ -40,25 +52,24 @@ pub enum Job {
         /// The number of the procedure that is to finalize each object.
         procedure: u64,
     },
-    /// One step, as a script has it.
-    One(Step),
+    /// One call of the world.
+    Call(Call),
 }
 
 impl Job {
-    /// Whether its count is within its limits, and its step is one that a threads file may have.
-    fn may_stand(self) -> bool
-        ensures { IsTrue result ↔ MayStand self }
+    /// Whether its count is within its limits.
+    fn is_within(self) -> bool
+        ensures { IsTrue result ↔ IsWithin self }
     {
         match self {
-            Job::Settle { collections } => collections <= 100,
-            Job::Mutator | Job::Collector => true,
-            Job::Churn { count, .. } => 1 <= count && count <= 10_000,
-            Job::One(step) => is_for_threads(step),
+            Job::Settle { collections } => collections <= MAX_COLLECTIONS,
+            Job::Churn { count, .. } => 1 <= count && count <= MAX_TURNS,
+            _ => true,
         }
     }
 }
 
-/// What a line of a threads file asks for, if it may stand in one.
+/// What a line of a threads file asks for, if it asks for anything that such a file knows.
 ///
 /// The line is given without its line feed, and is written as those of a script are: see `step_of`. In
 /// which section it may stand, and where in the file, is the caller's question. It takes no memory.
@@ -69,15 +80,15 @@ pub fn job_of(line: &[u8]) -> Option<Job>
     ensures only { (job : Job) → Fits job → line.now ≡ spelling job → result ≡ Some job }
 {
     let job = read_job(line)?;
-    if job.may_stand() { Some(job) } else { None }
+    if job.is_within() { Some(job) } else { None }
 }
 
-/// What the line asks for, whether it may stand in a threads file or not.
+/// What the line asks for, whether its count is within its limits or not.
 fn read_job(line: &[u8]) -> Option<Job>
     ensures { job_in (step_in (words_of line.now)) (words_of line.now) ≡ result }
 {
     match step_of(line) {
-        Some(step) => Some(Job::One(step)),
+        Some(step) => job_of_step(step),
         None => read_own(line),
     }
 }
@@ -102,18 +113,22 @@ fn next_job(words: &mut Words<'_>) -> Option<Job>
     first.fields(words)
 }
 
-/// Whether a threads file may have the step.
-fn is_for_threads(step: Step) -> bool
-    ensures { result ≡ is_for_threads step }
+/// A step as a job. What a worker does is none, since workers are threads of their own there.
+fn job_of_step(step: Step) -> Option<Job>
+    ensures { result ≡ job_of_step step }
 {
     match step {
-        Step::Take { .. }
-        | Step::Hold { .. }
-        | Step::Finish { .. }
-        | Step::Forfeit { .. }
-        | Step::Close
-        | Step::Outstanding => false,
-        _ => true,
+        Step::Open {
+            blocks,
+            frames,
+            workers,
+        } => Some(Job::Open {
+            blocks,
+            frames,
+            workers,
+        }),
+        Step::Call(call) => Some(Job::Call(call)),
+        Step::Take { .. } | Step::Hold { .. } | Step::Finish { .. } | Step::Forfeit { .. } => None,
     }
 }
 

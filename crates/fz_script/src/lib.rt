@@ -14,6 +14,6 @@ mod step;
 mod tests;
 mod words;
 
-pub use job::{Job, job_of};
+pub use job::{Job, MAX_COLLECTIONS, MAX_TURNS, job_of};
 pub use reading::step_of;
 pub use step::Step;

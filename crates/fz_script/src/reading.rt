@@ -7,6 +7,7 @@ ghost use Rattle.fz_script.specs.Reading.{words_of, words_left, with_rest, named
 
 use crate::step::Step;
 use crate::words::Words;
+use fz_model::Call;
 
 /// The step that a line asks for, if it asks for one.
 ///
@@ -51,16 +52,16 @@ fn next_step(words: &mut Words<'_>) -> Option<Step>
         "link" => read_link(words),
         "unlink" => read_unlink(words),
         "move" => read_move(words),
-        "begin" => Some(Step::Begin),
+        "begin" => Some(Step::Call(Call::Begin)),
         "mark" => read_mark(words),
-        "pause" => Some(Step::Pause),
-        "collect" => Some(Step::Collect),
+        "pause" => Some(Step::Call(Call::Pause)),
+        "collect" => Some(Step::Call(Call::Collect)),
         "take" => read_take(words),
         "hold" => read_hold(words),
         "finish" => read_finish(words),
         "forfeit" => read_forfeit(words),
-        "close" => Some(Step::Close),
-        "outstanding" => Some(Step::Outstanding),
+        "close" => Some(Step::Call(Call::Close)),
+        "outstanding" => Some(Step::Call(Call::Outstanding)),
         _ => None,
     }
 }
@@ -84,7 +85,7 @@ fn read_new(words: &mut Words<'_>) -> Option<Step>
     ensures { named_at (codes "new") (words_left words.old) ≡ with_rest result (words_left words.new) }
 {
     let (slot, size, kind) = words.read()?;
-    Some(Step::New { slot, size, kind })
+    Some(Step::Call(Call::Alloc { slot, size, kind }))
 }
 
 #[tactic(auto, unfolding(crate::specs::Reading::named_at))]
@@ -92,7 +93,7 @@ fn read_set(words: &mut Words<'_>) -> Option<Step>
     ensures { named_at (codes "set") (words_left words.old) ≡ with_rest result (words_left words.new) }
 {
     let (slot, word) = words.read()?;
-    Some(Step::Set { slot, word })
+    Some(Step::Call(Call::Set { slot, word }))
 }
 
 #[tactic(auto, unfolding(crate::specs::Reading::named_at))]
@@ -100,7 +101,7 @@ fn read_copy(words: &mut Words<'_>) -> Option<Step>
     ensures { named_at (codes "copy") (words_left words.old) ≡ with_rest result (words_left words.new) }
 {
     let (slot, to) = words.read()?;
-    Some(Step::Copy { slot, to })
+    Some(Step::Call(Call::Copy { slot, to }))
 }
 
 #[tactic(auto, unfolding(crate::specs::Reading::named_at))]
@@ -108,7 +109,7 @@ fn read_load(words: &mut Words<'_>) -> Option<Step>
     ensures { named_at (codes "load") (words_left words.old) ≡ with_rest result (words_left words.new) }
 {
     let (place, to) = words.read()?;
-    Some(Step::Load { place, to })
+    Some(Step::Call(Call::Load { place, to }))
 }
 
 #[tactic(auto, unfolding(crate::specs::Reading::named_at))]
@@ -116,7 +117,7 @@ fn read_store(words: &mut Words<'_>) -> Option<Step>
     ensures { named_at (codes "store") (words_left words.old) ≡ with_rest result (words_left words.new) }
 {
     let (place, from) = words.read()?;
-    Some(Step::Store { place, from })
+    Some(Step::Call(Call::Store { place, from }))
 }
 
 #[tactic(auto, unfolding(crate::specs::Reading::named_at))]
@@ -124,22 +125,22 @@ fn read_register(words: &mut Words<'_>) -> Option<Step>
     ensures { named_at (codes "register") (words_left words.old) ≡ with_rest result (words_left words.new) }
 {
     let (slot, kind, (procedure, client_data, rank)) = words.read()?;
-    Some(Step::Register {
+    Some(Step::Call(Call::Register {
         slot,
         kind,
         procedure,
         client_data,
         rank,
-    })
+    }))
 }
 
 #[tactic(auto, unfolding(crate::specs::Reading::named_at))]
 fn read_unregister(words: &mut Words<'_>) -> Option<Step>
     ensures { named_at (codes "unregister") (words_left words.old) ≡ with_rest result (words_left words.new) }
 {
-    Some(Step::Unregister {
+    Some(Step::Call(Call::Unregister {
         slot: words.read()?,
-    })
+    }))
 }
 
 #[tactic(auto, unfolding(crate::specs::Reading::named_at))]
@@ -147,11 +148,11 @@ fn read_link(words: &mut Words<'_>) -> Option<Step>
     ensures { named_at (codes "link") (words_left words.old) ≡ with_rest result (words_left words.new) }
 {
     let (which, place, target) = words.read()?;
-    Some(Step::Link {
+    Some(Step::Call(Call::Link {
         which,
         place,
         target,
-    })
+    }))
 }
 
 #[tactic(auto, unfolding(crate::specs::Reading::named_at))]
@@ -159,7 +160,7 @@ fn read_unlink(words: &mut Words<'_>) -> Option<Step>
     ensures { named_at (codes "unlink") (words_left words.old) ≡ with_rest result (words_left words.new) }
 {
     let (which, place) = words.read()?;
-    Some(Step::Unlink { which, place })
+    Some(Step::Call(Call::Unlink { which, place }))
 }
 
 #[tactic(auto, unfolding(crate::specs::Reading::named_at))]
@@ -167,16 +168,16 @@ fn read_move(words: &mut Words<'_>) -> Option<Step>
     ensures { named_at (codes "move") (words_left words.old) ≡ with_rest result (words_left words.new) }
 {
     let (which, place, to) = words.read()?;
-    Some(Step::Move { which, place, to })
+    Some(Step::Call(Call::Move { which, place, to }))
 }
 
 #[tactic(auto, unfolding(crate::specs::Reading::named_at))]
 fn read_mark(words: &mut Words<'_>) -> Option<Step>
     ensures { named_at (codes "mark") (words_left words.old) ≡ with_rest result (words_left words.new) }
 {
-    Some(Step::Mark {
+    Some(Step::Call(Call::Mark {
         budget: words.read()?,
-    })
+    }))
 }
 
 #[tactic(auto, unfolding(crate::specs::Reading::named_at))]

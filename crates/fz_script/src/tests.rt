@@ -1,7 +1,7 @@
 //! Lines of each verb and each job, and lines that are none.
 
 use crate::{Job, Step, job_of, step_of};
-use fz_model::{LinkKind, ObjKind, Place, RegKind, Slot};
+use fz_model::{Call, LinkKind, ObjKind, Place, RegKind, Slot};
 use std::process::Abort;
 use std::str;
 
@@ -25,86 +25,86 @@ const EACH_VERB: [(&[u8], Step); 21] = [
     ),
     (
         b"new 0 1 2 atomic",
-        Step::New {
+        Step::Call(Call::Alloc {
             slot: Slot { frame: 0, slot: 1 },
             size: 2,
             kind: ObjKind::Atomic,
-        },
+        }),
     ),
     (
         b"set 0 1 18446744073709551615",
-        Step::Set {
+        Step::Call(Call::Set {
             slot: Slot { frame: 0, slot: 1 },
             word: u64::MAX,
-        },
+        }),
     ),
     (
         b"copy 0 1 2 3",
-        Step::Copy {
+        Step::Call(Call::Copy {
             slot: Slot { frame: 0, slot: 1 },
             to: Slot { frame: 2, slot: 3 },
-        },
+        }),
     ),
     (
         b"load 0 1 2 3 4",
-        Step::Load {
+        Step::Call(Call::Load {
             place: Place {
                 slot: Slot { frame: 0, slot: 1 },
                 offset: 2,
             },
             to: Slot { frame: 3, slot: 4 },
-        },
+        }),
     ),
     (
         b"store 0 1 2 3 4",
-        Step::Store {
+        Step::Call(Call::Store {
             place: Place {
                 slot: Slot { frame: 0, slot: 1 },
                 offset: 2,
             },
             from: Slot { frame: 3, slot: 4 },
-        },
+        }),
     ),
     (
         b"register 0 1 ignore_self 7 65536",
-        Step::Register {
+        Step::Call(Call::Register {
             slot: Slot { frame: 0, slot: 1 },
             kind: RegKind::IgnoreSelf,
             procedure: 7,
             client_data: 65536,
             rank: None,
-        },
+        }),
     ),
     (
         b"unregister 0 1",
-        Step::Unregister {
+        Step::Call(Call::Unregister {
             slot: Slot { frame: 0, slot: 1 },
-        },
+        }),
     ),
     (
         b"link short 0 1 2 3 4",
-        Step::Link {
+        Step::Call(Call::Link {
             which: LinkKind::Short,
             place: Place {
                 slot: Slot { frame: 0, slot: 1 },
                 offset: 2,
             },
             target: Slot { frame: 3, slot: 4 },
-        },
+        }),
     ),
     (
         b"unlink long 0 1 2",
-        Step::Unlink {
+        Step::Call(Call::Unlink {
             which: LinkKind::Long,
             place: Place {
                 slot: Slot { frame: 0, slot: 1 },
                 offset: 2,
             },
-        },
+        }),
     ),
     (
         b"move long 0 1 2 3 4 5",
-        Step::Move {
+        Step::Call(Call::Move {
             which: LinkKind::Long,
             place: Place {
                 slot: Slot { frame: 0, slot: 1 },
@@ -114,12 +114,12 @@ const EACH_VERB: [(&[u8], Step); 21] = [
                 slot: Slot { frame: 3, slot: 4 },
                 offset: 5,
             },
-        },
+        }),
     ),
-    (b"begin", Step::Begin),
-    (b"mark 10", Step::Mark { budget: 10 }),
-    (b"pause", Step::Pause),
-    (b"collect", Step::Collect),
+    (b"begin", Step::Call(Call::Begin)),
+    (b"mark 10", Step::Call(Call::Mark { budget: 10 })),
+    (b"pause", Step::Call(Call::Pause)),
+    (b"collect", Step::Call(Call::Collect)),
     (b"take 0", Step::Take { worker: 0 }),
     (
         b"hold 0 1 2",
@@ -130,8 +130,8 @@ const EACH_VERB: [(&[u8], Step); 21] = [
     ),
     (b"finish 1", Step::Finish { worker: 1 }),
     (b"forfeit 1", Step::Forfeit { worker: 1 }),
-    (b"close", Step::Close),
-    (b"outstanding", Step::Outstanding),
+    (b"close", Step::Call(Call::Close)),
+    (b"outstanding", Step::Call(Call::Outstanding)),
 ];
 
 #[test]
@@ -143,23 +143,23 @@ fn reads_each_verb(rt: HostRuntime) {
 
 #[test]
 fn reads_the_other_kinds(rt: HostRuntime) {
-    let new = Step::New {
+    let new = Step::Call(Call::Alloc {
         slot: Slot { frame: 0, slot: 0 },
         size: 64,
         kind: ObjKind::Scanned,
-    };
+    });
     must_read_step(&rt, b"new 0 0 64 scanned", Some(new));
     for (line, kind) in [
         (b"register 0 0 normal 1 2".as_slice(), RegKind::Normal),
         (b"register 0 0 no_order 1 2", RegKind::NoOrder),
     ] {
-        let register = Step::Register {
+        let register = Step::Call(Call::Register {
             slot: Slot { frame: 0, slot: 0 },
             kind,
             procedure: 1,
             client_data: 2,
             rank: None,
-        };
+        });
         must_read_step(&rt, line, Some(register));
     }
 }
@@ -170,13 +170,13 @@ fn reads_ranks(rt: HostRuntime) {
         (b"register 0 0 normal 1 2 0".as_slice(), 0u8),
         (b"register 0 0 normal 1 2 255", 255),
     ] {
-        let register = Step::Register {
+        let register = Step::Call(Call::Register {
             slot: Slot { frame: 0, slot: 0 },
             kind: RegKind::Normal,
             procedure: 1,
             client_data: 2,
             rank: Some(rank),
-        };
+        });
         must_read_step(&rt, line, Some(register));
     }
 }
@@ -254,16 +254,20 @@ fn reads_each_job(rt: HostRuntime) {
 }
 
 #[test]
-fn a_step_of_threads_is_a_job(rt: HostRuntime) {
+fn openings_and_calls_are_jobs(rt: HostRuntime) {
     for (line, step) in EACH_VERB {
         let want = match step {
-            Step::Take { .. }
-            | Step::Hold { .. }
-            | Step::Finish { .. }
-            | Step::Forfeit { .. }
-            | Step::Close
-            | Step::Outstanding => None,
-            _ => Some(Job::One(step)),
+            Step::Open {
+                blocks,
+                frames,
+                workers,
+            } => Some(Job::Open {
+                blocks,
+                frames,
+                workers,
+            }),
+            Step::Call(call) => Some(Job::Call(call)),
+            _ => None,
         };
         must_read_job(&rt, line, want);
     }
@@ -271,7 +275,7 @@ fn a_step_of_threads_is_a_job(rt: HostRuntime) {
 
 #[test]
 fn reads_no_other_job(rt: HostRuntime) {
-    let lines: [&[u8]; 29] = [
+    let lines: [&[u8]; 28] = [
         b"",
         b"# mutator",
         b"settle",
@@ -298,7 +302,6 @@ fn reads_no_other_job(rt: HostRuntime) {
         b"churn 1 0 0 1 normal scanned 0",
         b"churn 1 0 0 scanned normal 0",
         b"take 0",
-        b"close",
         b"collect 1",
         b"set 0 0 01",
     ];

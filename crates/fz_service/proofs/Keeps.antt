@@ -9,7 +9,7 @@ use Rattle.fz_model.specs.declared.answers.Entry.{Entry}
 use Rattle.fz_model.specs.declared.refusal.Refusal.{Refusal}
 use Rattle.fz_model.specs.declared.refusal.Refusal.TheVariants.{NotHeld}
 use Rattle.fz_model.specs.State.{Core, State, opening}
-use Rattle.fz_model.specs.Events.{Event, Answer, Finish, Outstanding, same_entry, not_held}
+use Rattle.fz_model.specs.Events.{Event, Answer, Finish, same_entry, not_held}
 use Rattle.fz_model.specs.Steps.{Step, StepsTo, NoStep, OneMore, any_call}
 use Rattle.fz_model.specs.Joint.{is_finish}
 use Rattle.fz_model.proofs.Sound.{first_none}
@@ -152,12 +152,6 @@ module _ (origin : Origin) (world : WorldView) (sent : List Entry) (published fi
         within = omega (arith, all, a, few);
         finished = h.finished;
       }
-
--- what a world tells of the held entries
-pub outstanding_is : (origin : Origin) (world : WorldView) (count : ℕ) → Does world Outstanding (Ok count) world → IsReachedFrom origin world → count ≡ length world.held
-unfolding Does
-outstanding_is origin world count does reached =
-    let next = does reached.state reached.stands in next.1.1.0 ∙ ap (λ (c : Core). length c.held) (sym reached.stands.core)
 
 -- the owner after it sent more
 pub sent_more : (origin : Origin) (old new : OwnerState) (parts amount : ℕ) (more : List Entry) → IsReady origin old parts amount → new ≡ record old { sent = old.sent ++ more } → IsReady origin new parts amount

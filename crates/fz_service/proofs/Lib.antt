@@ -4,4 +4,5 @@ pub mod Keeps
 pub mod Seated
 pub mod Ends
 pub mod Serving
+pub mod Served
 pub mod Slots

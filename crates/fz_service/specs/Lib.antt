@@ -2,3 +2,4 @@ pub mod States
 pub mod Takes
 pub mod Ends
 pub mod Workers
+pub mod Turns

@@ -1,8 +1,10 @@
 -- What a service opened with, and what contracts see under its lock.
-use Rattle.std.specs.Prelude.{◌≡◌, ℕ, ◌+◌, ◌<◌, ◌≤◌, Bool, not, List, [], length, take, filter, Some, Contains, refl}
+use Rattle.std.specs.Prelude.{◌≡◌, ℕ, ◌+◌, ◌<◌, ◌≤◌, Bool, true, false, not, List, [], length, take, filter, Some, Contains, refl}
 use Rattle.std.specs.Coded.{Coded, code_by, coded×, coded_ℕ, coded_list}
 use Rattle.std.specs.FinMap.{get}
 use Rattle.fz_model.specs.declared.answers.Entry.{Entry}
+use Rattle.fz_model.specs.declared.call.Call.{Call}
+use Rattle.fz_model.specs.declared.call.Call.TheVariants.{Pause, Collect}
 use Rattle.fz_model.specs.Codes.{entry_code}
 use Rattle.fz_model.specs.State.{Object, State, opening}
 use Rattle.fz_model.specs.Events.{Event, same_entry}
@@ -59,6 +61,12 @@ pub record IsReady (origin : Origin) (owner : OwnerState) (parts amount : ℕ) :
 -- nothing but the world may differ
 abbrev pub KeepsLine : LockedState → LockedState → Type 0
 KeepsLine old new = new ≡ record old { world = new.world }
+
+-- the calls that end a cycle, after which what they queued is sent
+abbrev pub ends_cycle : Call → Bool
+ends_cycle Pause = true
+ends_cycle Collect = true
+ends_cycle _ = false
 
 -- more may be sent, and nothing else differs but the world; where entries are left in the outbox a push was refused, as none of the first 64 is
 pub record SendsMore (old new : LockedState) : Type 0 where

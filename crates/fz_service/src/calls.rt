@@ -1,6 +1,6 @@
 //! The calls of a world, under the lock.
 
-ghost use Rattle.std.specs.Prelude.{◌≡◌, ◌≤◌, ◌+◌, ◌*◌, ◌↔◌, ℕ, IsTrue, IsFalse, IfOk, IfErr, IsSome, OnOk, OnErr};
+ghost use Rattle.std.specs.Prelude.{◌≡◌, ◌≤◌, ◌+◌, ◌*◌, ◌↔◌, ℕ, IsTrue, IsFalse, IfOk, IfErr, IsSome, OnOk, OnErr, length};
 ghost use Rattle.std.specs.Option.{IsNone};
 ghost use Rattle.std.specs.FinMap.{get, len};
 ghost use Rattle.std.specs.FinSet.{contains};
@@ -13,18 +13,45 @@ ghost use Rattle.fz_model.specs.Causes.{IsJudgedBy, is_off_heap};
 ghost use Rattle.fz_model.specs.Events.{Alloc, Load, Store, Set, Copy, Register, Unregister, Link, Unlink, MoveLink, Begin, Mark, Pause, Collect, Hold, Close, Outstanding, Queue, causes, links_of};
 ghost use Rattle.fz_world.specs.Cycles.{IsBegun, AreScanned};
 ghost use Rattle.fz_world.specs.Does.{Does};
+ghost use Rattle.fz_world.specs.Replies.{Replies};
 ghost use Rattle.fz_world.specs.World.{KeepsMarks, with_in_cycle};
-ghost use Rattle.fz_service.specs.States.{KeepsLine, SendsMore};
+ghost use Rattle.fz_service.specs.States.{ends_cycle, KeepsLine, SendsMore};
 
 use crate::locked::Locked;
 use crate::opening::Opening;
 use fz_model::{
-    Addr, Entry, LinkAnswer, LinkKind, MoveAnswer, ObjKind, Old, Passed, Progress, Refusal,
-    RegAnswer, RegKind, Word,
+    Addr, Call, Entry, LinkAnswer, LinkKind, MoveAnswer, ObjKind, Old, Passed, Progress, Refusal,
+    RegAnswer, RegKind, Reply, Word,
 };
+
+/// Whether the call ends a cycle, so that what it queued is to be sent.
+fn ends_cycle(call: Call) -> bool
+    ensures { result ≡ ends_cycle call }
+{
+    match call {
+        Call::Pause | Call::Collect => true,
+        _ => false,
+    }
+}
 
 /// Each call is the step of the same name of the world, and leaves the line as it is, but for what `pause` and `collect` send.
 impl<O: Opening> Locked<O> {
+    /// Carries out the call, and tells its answer; `pause` and `collect` send what they queued.
+    ///
+    /// It is refused as the call of its name is.
+    pub fn carry_out(&mut self, call: Call) -> Result<Reply, Refusal>
+        ensures step { Replies self.old.world call result self.new.world }
+        ensures line { IsFalse (ends_cycle call) → KeepsLine self.old self.new }
+        ensures sent { IsTrue (ends_cycle call) → OnOk result (SendsMore self.old self.new) }
+        ensures refused { OnErr result (self.new ≡ self.old) }
+    {
+        let reply = self.world.carry_out(call)?;
+        if ends_cycle(call) {
+            self.publish();
+        }
+        Ok(reply)
+    }
+
     /// Makes an object of `size` words, all of them zero, and puts its address into the slot; returns the address and the birth.
     ///
     /// Refusals, in their order: `BadSlot`, `BadSize`, `Exhausted`, `NoSpace`.
@@ -289,7 +316,8 @@ impl<O: Opening> Locked<O> {
 
     /// The number of held entries.
     pub fn outstanding(&self) -> u64
-        ensures { Does self.now.world Outstanding (Ok result) self.now.world }
+        ensures step { Does self.now.world Outstanding (Ok result) self.now.world }
+        ensures count { result ≡ length self.now.world.held }
     {
         self.world.outstanding()
     }

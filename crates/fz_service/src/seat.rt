@@ -2,7 +2,7 @@
 
 ghost use Rattle.std.specs.Prelude.{◌≡◌, ◌+◌, length};
 ghost use Rattle.fz_line.specs.Takes.{GainsEntry};
-ghost use Rattle.fz_service.specs.Takes.{MatchTake};
+ghost use Rattle.fz_service.specs.Takes.{MatchTake, IsShareOf, IsSameTake};
 
 use crate::opening::{Finishes, Opening};
 use fz_model::Entry;
@@ -58,17 +58,25 @@ pub enum Take<O: Opening> {
     Busy(Seat<O>),
 }
 
+/// The line's answer, with the share that belongs to its seat.
+fn with_share<O: Opening>(answer: fz_line::Take, share: Share<Finishes<O>>) -> Take<O>
+    requires share { (share.parts ≡ 1) × IsShareOf O.origin.line share.amount answer }
+    ensures { IsSameTake answer result }
+{
+    match answer {
+        fz_line::Take::Taken(duty) => Take::Taken(Duty { duty, share }),
+        fz_line::Take::Empty(seat) => Take::Empty(Seat { seat, share }),
+        fz_line::Take::Busy(seat) => Take::Busy(Seat { seat, share }),
+    }
+}
+
 impl<O: Opening> Seat<O> {
     /// Takes the first entry of the line: one steal, with no lock and no wait.
     pub fn take(self) -> Take<O>
         ensures { MatchTake result (GainsEntry self) (λ seat. seat ≡ self) }
     {
         let Seat { seat, share } = self;
-        match seat.take() {
-            fz_line::Take::Taken(duty) => Take::Taken(Duty { duty, share }),
-            fz_line::Take::Empty(seat) => Take::Empty(Seat { seat, share }),
-            fz_line::Take::Busy(seat) => Take::Busy(Seat { seat, share }),
-        }
+        with_share(seat.take(), share)
     }
 
     /// Its place among the seats of its service, counted from 0.

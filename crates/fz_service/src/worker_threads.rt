@@ -1,13 +1,13 @@
 //! Worker threads.
 
-ghost use Rattle.std.specs.Prelude.{◌≡◌, ℕ, ◌<◌, ◌≤◌, [], Option, length, slice_index_or, vec_capacity};
+ghost use Rattle.std.specs.Prelude.{◌≡◌, ℕ, ◌<◌, ◌≤◌, [], true, Option, length, slice_index_or, vec_capacity};
 ghost use Rattle.fz_line.specs.States.{SeatState};
 ghost use Rattle.fz_service.specs.Workers.{Extends, ExtendEach, SlotExtends, slots_of, in_slots};
 
 use crate::opening::Opening;
-use crate::seat::{Seat, Take};
+use crate::seat::Seat;
 use crate::service::Service;
-use crate::workers::{Gate, Proc};
+use crate::workers::{Gate, Proc, Turn};
 use std::alloc::Global;
 use std::marker::Model;
 use std::sync::Wait;
@@ -72,7 +72,7 @@ impl<O: Opening> Worker<O, List> {
     {
         if let Some(seat) = mem::replace(&mut self.slot, None) {
             let procs = self.procs.as_mut_slice();
-            let seat = service.serve_until(seat, procs, gate, stop, rt);
+            let (seat, _, _) = service.serve_until(seat, procs, gate, stop, rt);
             if let Some(other) = mem::replace(&mut self.slot, Some(seat)) {
                 other.retire();
             }
@@ -141,7 +141,8 @@ fn without_lists<O: Opening>(
 }
 
 impl<O: Opening> Service<O> {
-    /// Takes entries and finishes them until it finds the line empty in a take that began after `stop` was read as true.
+    /// Takes turns until one finds the line empty that began after `stop` was read as true. Returns the seat, what it read of `stop` last, and
+    /// its last turn.
     fn serve_until<G: Gate, R: Wait>(
         &self,
         seat: Seat<O>,
@@ -149,32 +150,31 @@ impl<O: Opening> Service<O> {
         gate: &G,
         stop: &AtomicBool,
         rt: &R,
-    ) -> Seat<O>
-        ensures { Extends seat result }
+    ) -> (Seat<O>, bool, Turn)
+        ensures seat { Extends seat result.0 }
+        ensures told { (result.1 ≡ true) × (result.2 ≡ Turn.Empty) }
     {
         let mut seat = seat;
+        let mut told = false;
+        let mut turn = Turn::Busy;
         let mut pause = Pause::new();
         for _turn in rt.forever() {
-            let last = stop.load(Ordering::SeqCst);
-            match seat.take() {
-                Take::Taken(duty) => {
-                    seat = self.attend(duty, procs, gate, rt).0;
-                    pause = Pause::new();
-                }
-                Take::Busy(same) => {
-                    seat = same;
-                    hint::spin_loop();
-                }
-                Take::Empty(same) => {
-                    if last {
-                        return same;
+            told = stop.load(Ordering::SeqCst);
+            let (same, now) = self.turn(seat, procs, gate, rt);
+            seat = same;
+            turn = now;
+            match turn {
+                Turn::Served(_) => pause = Pause::new(),
+                Turn::Busy => hint::spin_loop(),
+                Turn::Empty => {
+                    if told {
+                        break;
                     }
-                    seat = same;
                     pause.once(rt);
                 }
             }
         }
-        seat
+        (seat, told, turn)
     }
 
     /// Serves with each of these, in a thread of its own where one can be made.

@@ -1,1 +1,2 @@
 pub mod Registered
+pub mod Tabled

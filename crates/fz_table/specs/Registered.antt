@@ -1,4 +1,4 @@
--- What contracts see of a table: its registrations by the starts of their objects, and the next number.
+-- What is registered: the registrations by the starts of their objects, and the next number.
 use Rattle.std.specs.Prelude.{ℕ, refl}
 use Rattle.std.specs.Coded.{Coded, code_by, coded×, coded_ℕ}
 use Rattle.std.specs.FinMap as map

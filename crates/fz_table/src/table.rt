@@ -10,8 +10,8 @@ ghost use Rattle.fz_model.specs.declared.refusal.Refusal.TheVariants.{NoMemory};
 ghost use Rattle.fz_model.specs.Causes.{IsJudgedBy, IsJudgedOrLacks, full, register_causes};
 ghost use Rattle.fz_model.specs.Steps.{old_of};
 
-use crate::registrations::Registrations;
 use fz_model::{Addr, COUNT_LIMIT, Old, Refusal, RegKind, Registration, TABLE_LIMIT, Word};
+use fz_pairs::Pairs;
 use indexmap::IndexMap;
 use std::alloc::Global;
 use std::marker::Model;
@@ -36,14 +36,15 @@ impl Model for Table {
     ghost use Rattle.std.specs.Prelude.{◌≤◌};
     ghost use Rattle.std.specs.Ordering.{nat_cmp};
     ghost use Rattle.std.specs.FinMap.{len, from_entries};
+    ghost use Rattle.indexmap.specs.IndexMap.{spare};
     ghost use Rattle.fz_model.specs.declared.limits.TheConstants.{TABLE_LIMIT};
-    ghost use Rattle.fz_table.specs.Registered.{Registered, registered_code};
+    ghost use Rattle.fz_table.specs.Tabled.{Tabled, tabled_code};
 
-    ghost Value = { Registered };
+    ghost Value = { Tabled };
 
-    ghost coded = { registered_code };
+    ghost coded = { tabled_code };
 
-    ghost view = { λ t. record { registrations = from_entries t.entries.entries; next_number = t.next_number } };
+    ghost view = { λ t. record { registered = record { registrations = from_entries t.entries.entries; next_number = t.next_number }; room = spare t.entries } };
 
     ghost invariant = { λ t. len (from_entries {R = nat_cmp} t.entries.entries) ≤ TABLE_LIMIT };
 }
@@ -51,7 +52,7 @@ impl Model for Table {
 impl Table {
     /// An empty table.
     pub fn new(alloc: Global) -> Table
-        ensures { result ≡ record { registrations = empty; next_number = 0 } }
+        ensures { result.registered ≡ record { registrations = empty; next_number = 0 } }
     {
         Table {
             entries: IndexMap::new(alloc),
@@ -79,7 +80,7 @@ impl Table {
     /// Registers the object, with a new number; returns the number and what was replaced.
     ///
     /// The refusals, in this order: `Exhausted` once 2^48 numbers are given out, `TableFull` when 65,536 other objects are registered,
-    /// and `NoMemory` when the table has to grow for a new object and can't. A replacement takes no memory.
+    /// and `NoMemory` when no room is left for a new object and none can be had. A replacement takes no memory.
     pub fn register(
         &mut self,
         object: Addr,
@@ -89,15 +90,17 @@ impl Table {
         rank: u8,
     ) -> Result<(u64, Option<Old>), Refusal>
         ensures judged { IsJudgedOrLacks (register_causes self.old.registrations self.old.next_number object) result }
-        // Only an object's first registration can lack memory.
+        // Only an object's first registration can lack memory, and that where no room is left.
         ensures growth { IfErr result (λ r. r ≡ NoMemory → IsNone (get self.old.registrations object)) }
-        ensures unchanged { OnErr result (self.new ≡ self.old) }
+        ensures wanting { IfErr result (λ r. r ≡ NoMemory → self.old.room ≡ 0) }
+        ensures unchanged { OnErr result (self.new.registered ≡ self.old.registered) }
         ensures number { IfOk result (λ answer. answer.0 ≡ self.old.next_number) }
         ensures replaced { IfOk result (λ answer. answer.1 ≡ old_of self.old.registrations object) }
-        ensures registered { OnOk result (self.new ≡ record {
+        ensures registered { OnOk result (self.new.registered ≡ record {
           registrations = insert self.old.registrations object (record { number = self.old.next_number; kind = kind; proc = proc; cd = cd; rank = rank });
           next_number = self.old.next_number + 1;
         }) }
+        ensures room { self.old.room ≤ self.new.room + 1 }
     {
         self.check(object)?;
         self.register_checked(object, kind, proc, cd, rank)
@@ -105,7 +108,7 @@ impl Table {
 
     /// Registers an object, as `register` does. Asked only where `check` refuses nothing.
     ///
-    /// Refused `NoMemory` when the table has to grow for a new object and can't.
+    /// Refused `NoMemory` when no room is left for a new object and none can be had.
     pub fn register_checked(
         &mut self,
         object: Addr,
@@ -117,15 +120,17 @@ impl Table {
         requires few { self.old.next_number < COUNT_LIMIT }
         requires room { IsFalse (full self.old.registrations object).0 }
         ensures judged { IsJudgedOrLacks (register_causes self.old.registrations self.old.next_number object) result }
-        // Only an object's first registration can lack memory.
+        // Only an object's first registration can lack memory, and that where no room is left.
         ensures growth { IfErr result (λ r. r ≡ NoMemory → IsNone (get self.old.registrations object)) }
-        ensures unchanged { OnErr result (self.new ≡ self.old) }
+        ensures wanting { IfErr result (λ r. r ≡ NoMemory → self.old.room ≡ 0) }
+        ensures unchanged { OnErr result (self.new.registered ≡ self.old.registered) }
         ensures number { IfOk result (λ answer. answer.0 ≡ self.old.next_number) }
         ensures replaced { IfOk result (λ answer. answer.1 ≡ old_of self.old.registrations object) }
-        ensures registered { OnOk result (self.new ≡ record {
+        ensures registered { OnOk result (self.new.registered ≡ record {
           registrations = insert self.old.registrations object (record { number = self.old.next_number; kind = kind; proc = proc; cd = cd; rank = rank });
           next_number = self.old.next_number + 1;
         }) }
+        ensures room { self.old.room ≤ self.new.room + 1 }
     {
         let number = self.next_number;
         let registration = Registration {
@@ -145,7 +150,8 @@ impl Table {
     #[tactic(auto, using(fz_model::proofs::Tables::get_made, fz_model::proofs::Tables::made_removed))]
     pub fn take(&mut self, object: Addr) -> Option<Registration>
         ensures answer { result ≡ get self.old.registrations object }
-        ensures removed { self.new ≡ record self.old { registrations = remove self.old.registrations object } }
+        ensures removed { self.new.registered ≡ record self.old.registered { registrations = remove self.old.registrations object } }
+        ensures room { self.old.room ≤ self.new.room }
         ensures count { IfSome result (λ _. len self.new.registrations + 1 ≡ len self.old.registrations) }
     {
         self.entries.swap_remove(&object)
@@ -154,7 +160,8 @@ impl Table {
     /// Removes the object's registration; returns its procedure and client data.
     pub fn remove(&mut self, object: Addr) -> Option<Old>
         ensures answer { result ≡ old_of self.old.registrations object }
-        ensures removed { self.new ≡ record self.old { registrations = remove self.old.registrations object } }
+        ensures removed { self.new.registered ≡ record self.old.registered { registrations = remove self.old.registrations object } }
+        ensures room { self.old.room ≤ self.new.room }
     {
         self.take(object).map(pair_of)
     }
@@ -182,15 +189,13 @@ impl Table {
     }
 
     /// All registrations with their objects, each once, in no order that callers may count on.
-    pub fn iter(&self) -> Registrations<'_>
+    pub fn iter(&self) -> Pairs<'_, Addr, Registration>
         ensures all { from_entries result ≡ self.now.registrations }
         ensures once { IsDistinct nat_eq (keys_of result) }
         ensures count { length result ≡ len self.now.registrations }
         ensures limit { length result ≤ TABLE_LIMIT }
     {
-        Registrations {
-            entries: self.entries.iter(),
-        }
+        Pairs::of(self.entries.iter())
     }
 
     /// Whether the table has no room for the object: it is full, and the object isn't registered.

@@ -17,7 +17,8 @@ use Rattle.fz_threads.specs.declared.draft.Draft.TheVariants.{Empty, Opened, Set
 use Rattle.fz_text.specs.Lines.{with_lf, IsOneLine, Lines, all_lines, is_kept, max_line}
 use Rattle.fz_text.specs.Reading.{TakenFor, EndsInput}
 use Rattle.fz_text.specs.Lines.{IsEnded}
-use Rattle.fz_threads.specs.Jobs.{max_file_lines, may_follow, NoJob, OneMore, AreJobs, IsNoJob, FileIs, AtJob, IsUnreadable, input_failures}
+use Rattle.fz_threads.specs.declared.limits.TheConstants.{MAX_LINES}
+use Rattle.fz_threads.specs.Jobs.{may_follow, NoJob, OneMore, AreJobs, IsNoJob, FileIs, AtJob, IsUnreadable, input_failures}
 use Rattle.fz_threads.specs.Plans.{jobs_in, opened_at, opens_at, FirstAt, unreadable, TakesLine, ReadsJob, ReadsAll, Ends, PlanIsRead}
 use Rattle.fz_text.proofs.Taking.{took_ahead, no_more}
 use Rattle.fz_threads.specs.declared.plan.Plan.{Plan}
@@ -94,7 +95,7 @@ filter_kept line h = rw h refl
 filter_skipped : (line : List ℕ) → is_kept line ≡ false → filter is_kept (line ∷ []) ≡ []
 filter_skipped line h = rw h refl
 
-jobs_skip : (lines : List (List ℕ)) (jobs : List Job) (line : List ℕ) → AreJobs lines jobs → length line ≤ max_line → length lines + 1 ≤ max_file_lines → is_kept line ≡ false → AreJobs (lines ++ line ∷ []) jobs
+jobs_skip : (lines : List (List ℕ)) (jobs : List Job) (line : List ℕ) → AreJobs lines jobs → length line ≤ max_line → length lines + 1 ≤ MAX_LINES → is_kept line ≡ false → AreJobs (lines ++ line ∷ []) jobs
 jobs_skip lines jobs line a short few skipped = record {
   spelled = filter-append is_kept lines (line ∷ []) ∙ ap (λ l. filter is_kept lines ++ l) (filter_skipped line skipped) ∙ append-nil _ ∙ a.spelled;
   fit = a.fit;
@@ -103,7 +104,7 @@ jobs_skip lines jobs line a short few skipped = record {
   few = omega (arith, length-append lines (line ∷ []));
 }
 
-jobs_ask : (lines : List (List ℕ)) (jobs : List Job) (line : List ℕ) (job : Job) → AreJobs lines jobs → length line ≤ max_line → length lines + 1 ≤ max_file_lines → is_kept line ≡ true → Fits job → line ≡ spelling job → may_follow jobs job ≡ true
+jobs_ask : (lines : List (List ℕ)) (jobs : List Job) (line : List ℕ) (job : Job) → AreJobs lines jobs → length line ≤ max_line → length lines + 1 ≤ MAX_LINES → is_kept line ≡ true → Fits job → line ≡ spelling job → may_follow jobs job ≡ true
     → AreJobs (lines ++ line ∷ []) (jobs ++ job ∷ [])
 jobs_ask lines jobs line job a short few kept fits is follows = record {
   spelled = filter-append is_kept lines (line ∷ []) ∙ ap (λ l. filter is_kept lines ++ l) (filter_kept line kept) ∙ ap (λ l. l ++ line ∷ []) a.spelled
@@ -115,14 +116,14 @@ jobs_ask lines jobs line job a short few kept fits is follows = record {
 }
 
 -- a line was taken
-jobs_more : (lines : List (List ℕ)) (line : List ℕ) (number : ℕ) (old new : Draft) → AreJobs lines (jobs_in old) → length line ≤ max_line → length lines + 1 ≤ max_file_lines → TakesLine old number line new → AreJobs (lines ++ line ∷ []) (jobs_in new)
+jobs_more : (lines : List (List ℕ)) (line : List ℕ) (number : ℕ) (old new : Draft) → AreJobs lines (jobs_in old) → length line ≤ max_line → length lines + 1 ≤ MAX_LINES → TakesLine old number line new → AreJobs (lines ++ line ∷ []) (jobs_in new)
 jobs_more lines line number old new a short few takes = elim takes [
   | inl skips ↦ subst (λ d. AreJobs (lines ++ line ∷ []) (jobs_in d)) (sym skips.1) (jobs_skip lines (jobs_in old) line a short few skips.0)
   | inr asks ↦ subst (λ js. AreJobs (lines ++ line ∷ []) js) (sym asks.4.1) (jobs_ask lines (jobs_in old) line asks.0 a short few asks.1 asks.2 asks.3 asks.4.0)
 ]
 
 -- a line with its LF was taken
-pub place_more : (seen line : List ℕ) (number : ℕ) (old new : Draft) → Place seen number old → IsOneLine line → length line ≤ max_line → number ≤ max_file_lines → TakesLine old number line new → Place (seen ++ with_lf line) (number + 1) new
+pub place_more : (seen line : List ℕ) (number : ℕ) (old new : Draft) → Place seen number old → IsOneLine line → length line ≤ max_line → number ≤ MAX_LINES → TakesLine old number line new → Place (seen ++ with_lf line) (number + 1) new
 place_more seen line number old new p one short few takes = record {
   lines = p.lines ++ line ∷ [];
   is = ap (λ b. b ++ with_lf line) p.is ∙ ap (λ l. flat_map with_lf p.lines ++ l) (sym (append-nil (with_lf line))) ∙ sym (flat_map-append with_lf p.lines (line ∷ []));
@@ -146,7 +147,7 @@ with_last lines [] h = absurd (h refl)
 with_last lines (b ∷ bs) h = refl
 
 -- the file ended with a line that has no LF
-pub ends_last : (seen bytes line : List ℕ) (number : ℕ) (old new : Draft) → Place seen number old → bytes ≡ line → line ≢ [] → IsOneLine line → length line ≤ max_line → number ≤ max_file_lines → TakesLine old number line new
+pub ends_last : (seen bytes line : List ℕ) (number : ℕ) (old new : Draft) → Place seen number old → bytes ≡ line → line ≢ [] → IsOneLine line → length line ≤ max_line → number ≤ MAX_LINES → TakesLine old number line new
     → FileIs (seen ++ bytes) (jobs_in new) (number + 1) × FirstAt (seen ++ bytes) (jobs_in new) (opened_at new)
 ends_last seen bytes line number old new p e some one short few takes =
     let lines : all_lines p.lines line ≡ p.lines ++ line ∷ [] = with_last p.lines line some in
@@ -185,7 +186,7 @@ abbrev pub IsBadAt : List ℕ → Option (List ℕ) → ℕ → Draft → Type 0
 IsBadAt bytes left number draft = (line : List ℕ) × AtJob bytes left number line (jobs_in draft) × IsNoJob (jobs_in draft) number line
 
 abbrev IsBad : ℕ → Ending → Draft → List ℕ → Type 0
-IsBad number ending old line = (ending ≡ TooLong) ⊎ ((max_file_lines < number) ⊎ (IsTrue (is_kept line) × ((job : Job) → Fits job → line ≡ spelling job → may_follow (jobs_in old) job ≡ false)))
+IsBad number ending old line = (ending ≡ TooLong) ⊎ ((MAX_LINES < number) ⊎ (IsTrue (is_kept line) × ((job : Job) → Fits job → line ≡ spelling job → may_follow (jobs_in old) job ≡ false)))
 
 bad_line : (ending : Ending) (number : ℕ) (old : Draft) (line : List ℕ) → ending ≢ TooLong → IsBad number ending old line → IsNoJob (jobs_in old) number line
 bad_line ending number old line other (inl long) = absurd (other long)

@@ -1,5 +1,5 @@
 -- Holds of the lock, and how many of them were refused.
-use Rattle.std.proofs.Common.{◌≡◌, ℕ, ◌+◌, ◌==◌, Result, List, [], ◌∷◌, ◌++◌, Bool, true, false, ◌∙◌, ap, sym, refl, subst, append-nil, append_assoc, zero-add, map, drop, get_or, length, ◌<◌, count_by, is_err, cond, if◌then◌else◌}
+use Rattle.std.proofs.Common.{◌≡◌, ℕ, ◌+◌, ◌==◌, Result, Ok, Err, arith, List, [], ◌∷◌, ◌++◌, Bool, true, false, ◌∙◌, ap, sym, refl, subst, append-nil, append_assoc, zero-add, map, drop, get_or, length, ◌<◌, count_by, is_err, cond, if◌then◌else◌}
 use Rattle.std.proofs.lemmas.List.{map-append, replicate-append-replicate, drop_more}
 use Rattle.std.proofs.lemmas.List.Sums.{sum_by-append, sum_by-cons}
 use mir.Val.{bool_byte}
@@ -10,20 +10,21 @@ use Rattle.fz_world.specs.Does.{Does}
 use Rattle.fz_model.specs.Steps.{NoStep, OneMore}
 use Rattle.fz_service.specs.States.{Origin, LockedState, IsInOrder, RunsCalls, is_no_finish}
 use Rattle.fz_model.specs.Events as events
-use Rattle.fz_script.specs.declared.step.Step.{Step}
+use Rattle.fz_model.specs.declared.call.Call.{Call}
+use Rattle.fz_model.specs.declared.call.Reply.{Reply}
+use Rattle.fz_model.specs.Calls.{event, result_of}
+use Rattle.fz_world.specs.Replies.{Replies}
 use Rattle.fz_script.specs.declared.job.Job.{Job}
-use Rattle.fz_script.specs.declared.job.Job.TheVariants.{One}
-use Rattle.fz_threads.specs.Holds.{Hold, event_in, is_refused, calls_of, Carried, Held, HasRefused, IsTurn, AreTurns, NoTurn, OneTurn, Carries, Works, NoWork, OneJob, begins_section, own_from, own_jobs, Settles, settling}
+use Rattle.fz_script.specs.declared.job.Job.TheVariants as jobs
+use Rattle.fz_threads.specs.Holds.{Hold, event_in, is_refused, Held, HasRefused, IsTurn, AreTurns, NoTurn, OneTurn, Carries, Works, NoWork, OneJob, begins_section, own_from, own_jobs, Settles, settling}
 
-counted_one : (b : Bool) → cond b 1 0 + 0 ≡ if b then 1 else 0
-counted_one true = refl
-counted_one false = refl
+same_refused : (call : Call) (answer : Result (Answer (event call)) Refusal) → is_err (result_of call answer) ≡ is_err answer
+same_refused call (Ok answer) = refl
+same_refused call (Err refusal) = refl
 
-pub held : (origin : Origin) (old : LockedState) (events : List Event) (refused : Bool) (new : WorldView) → IsInOrder origin old → Carried events old.world refused new → Held origin events refused
-held origin old [] refused new ordered c = ([], refl, ap (λ b. if b then 1 else 0) (sym c))
-held origin old (e ∷ []) refused new ordered c =
-    (record { old = old; in_order = ordered; event = e; reply = c.0; new = new; does = c.1 } ∷ [], refl, sum_by-cons (λ h. cond (is_refused h) 1 0) (record { old = old; in_order = ordered; event = e; reply = c.0; new = new; does = c.1 }) [] ∙ counted_one (is_err c.0) ∙ ap (λ b. if b then 1 else 0) (sym c.2))
-held origin old (e ∷ f ∷ es) refused new ordered c = absurd c
+pub held : (origin : Origin) (old : LockedState) (call : Call) (result : Result Reply Refusal) (refused : Bool) (new : WorldView) → IsInOrder origin old → Replies old.world call result new → refused ≡ is_err result → Held origin (event call) refused
+held origin old call result refused new ordered replies is =
+    (record { old = old; in_order = ordered; event = event call; reply = replies.answer; new = new; does = replies.does }, refl, sym (is ∙ ap is_err replies.told ∙ same_refused call replies.answer))
 
 -- ---- sums of refused holds
 
@@ -34,26 +35,36 @@ bit_is false = refl
 counts_add : {origin : Origin} (xs ys : List (Hold origin)) (x y : ℕ) → x ≡ count_by is_refused xs → y ≡ count_by is_refused ys → x + y ≡ count_by is_refused (xs ++ ys)
 counts_add xs ys x y e f = ap (λ n. n + y) e ∙ ap (λ n. count_by is_refused xs + n) f ∙ sym (sum_by-append (λ h. cond (is_refused h) 1 0) xs ys)
 
-pub turn_refused : (origin : Origin) (new register drop : List Event) → Held origin new true → HasRefused origin (IsTurn new register drop) 1
+-- one hold more
+counted : {origin : Origin} (hold : Hold origin) (holds : List (Hold origin)) (b : Bool) → is_refused hold ≡ b → count_by is_refused (hold ∷ holds) ≡ bool_byte b + count_by is_refused holds
+counted hold holds b is = sum_by-cons (λ h. cond (is_refused h) 1 0) hold holds ∙ ap (λ r. cond r 1 0 + count_by is_refused holds) is ∙ ap (λ n. n + count_by is_refused holds) (bit_is b)
+
+pub turn_refused : (origin : Origin) (new register drop : Event) → Held origin new true → HasRefused origin (IsTurn new register drop) 1
 turn_refused origin new register drop h =
-    (h.0 ++ [], (h.0, [], refl, h.1, ap (λ n. if n == 0 then register ++ drop else []) (sym h.2)), sym h.2 ∙ ap (λ l. count_by is_refused l) (sym (append-nil h.0)))
+    let one : count_by is_refused (h.0 ∷ []) ≡ 1 = counted h.0 [] true h.2 in
+    (h.0 ∷ [], (h.0, [], refl, h.1, ap (λ b. if b then [] else register ∷ drop ∷ []) (sym h.2)), sym one)
 
-pub turn_taken : (origin : Origin) (new register drop : List Event) (r d : Bool) → Held origin new false → Held origin register r → Held origin drop d → HasRefused origin (IsTurn new register drop) (bool_byte r + bool_byte d)
-turn_taken origin new register drop r d h hr hd = (
-  h.0 ++ (hr.0 ++ hd.0),
-  (h.0, hr.0 ++ hd.0, refl, h.1, map-append event_in hr.0 hd.0 ∙ ap (λ l. l ++ map event_in hd.0) hr.1 ∙ ap (λ l. register ++ l) hd.1 ∙ ap (λ n. if n == 0 then register ++ drop else []) (sym h.2)),
-  sym (zero-add (bool_byte r + bool_byte d)) ∙ counts_add h.0 (hr.0 ++ hd.0) 0 (bool_byte r + bool_byte d) (sym h.2) (counts_add hr.0 hd.0 (bool_byte r) (bool_byte d) (sym (bit_is r) ∙ sym hr.2) (sym (bit_is d) ∙ sym hd.2)),
-)
+pub turn_taken : (origin : Origin) (new register drop : Event) (r d : Bool) → Held origin new false → Held origin register r → Held origin drop d → HasRefused origin (IsTurn new register drop) (bool_byte r + bool_byte d)
+turn_taken origin new register drop r d h hr hd =
+    let rest = hr.0 ∷ hd.0 ∷ [] in
+    let first : count_by is_refused (h.0 ∷ rest) ≡ 0 + count_by is_refused rest = counted h.0 rest false h.2 in
+    let second : count_by is_refused rest ≡ bool_byte r + count_by is_refused (hd.0 ∷ []) = counted hr.0 (hd.0 ∷ []) r hr.2 in
+    let third : count_by is_refused (hd.0 ∷ []) ≡ bool_byte d + 0 = counted hd.0 [] d hd.2 in (
+      h.0 ∷ rest,
+      (h.0, rest, refl, h.1, ap (λ e. e ∷ hd.0.event ∷ []) hr.1 ∙ ap (λ e. register ∷ e ∷ []) hd.1 ∙ ap (λ b. if b then [] else register ∷ drop ∷ []) (sym h.2)),
+      omega (arith, first, second, third),
+    )
 
-pub no_turn : (origin : Origin) (new register drop : List Event) → HasRefused origin (AreTurns new register drop 0) 0
+pub no_turn : (origin : Origin) (new register drop : Event) → HasRefused origin (AreTurns new register drop 0) 0
 no_turn origin new register drop = ([], NoTurn, refl)
 
-pub turns_more : (origin : Origin) (new register drop : List Event) (n x y : ℕ) → HasRefused origin (AreTurns new register drop n) x → HasRefused origin (IsTurn new register drop) y → HasRefused origin (AreTurns new register drop (n + 1)) (x + y)
+pub turns_more : (origin : Origin) (new register drop : Event) (n x y : ℕ) → HasRefused origin (AreTurns new register drop n) x → HasRefused origin (IsTurn new register drop) y → HasRefused origin (AreTurns new register drop (n + 1)) (x + y)
 turns_more origin new register drop n x y h t = (h.0 ++ t.0, OneTurn n h.0 t.0 h.1 t.1, counts_add h.0 t.0 x y h.2 t.2)
 
--- one step in a hold of its own is a job
-pub one_step : (origin : Origin) (step : Step) (b : Bool) → Held origin (calls_of step) b → HasRefused origin (Carries (One step)) (bool_byte b)
-one_step origin step b h = (h.0, h.1, sym (bit_is b) ∙ sym h.2)
+-- one call in a hold of its own is a job
+pub one_call : (origin : Origin) (call : Call) (b : Bool) → Held origin (event call) b → HasRefused origin (Carries (jobs.Call call)) (bool_byte b)
+one_call origin call b h =
+    let one : count_by is_refused (h.0 ∷ []) ≡ bool_byte b + 0 = counted h.0 [] b h.2 in (h.0 ∷ [], ap (λ e. e ∷ []) h.1, omega (arith, one))
 
 pub no_work : (origin : Origin) → HasRefused origin (Works []) 0
 no_work origin = ([], NoWork, refl)
@@ -110,17 +121,13 @@ doing_last origin number jobs begun refused d = subst (λ js. HasRefused origin 
 
 -- ---- the end of a run
 
-pub settles_first : (origin : Origin) (b : Bool) → Held origin (events.Pause ∷ []) b → Settles origin 0
-settles_first origin b h = (h.0, h.1)
+pub settles_first : (origin : Origin) (b : Bool) → Held origin events.Pause b → Settles origin 0
+settles_first origin b h = (h.0 ∷ [], ap (λ e. e ∷ []) h.1)
 
-pub settles_more : (origin : Origin) (n : ℕ) (b : Bool) → Settles origin n → Held origin (events.Collect ∷ []) b → Settles origin (n + 1)
-settles_more origin n b s h = (s.0 ++ h.0, map-append event_in s.0 h.0 ∙ ap (λ l. l ++ map event_in h.0) s.1 ∙ ap (λ l. settling n ++ l) h.1 ∙ ap (λ l. events.Pause ∷ l) (replicate-append-replicate n 1 events.Collect))
+pub settles_more : (origin : Origin) (n : ℕ) (b : Bool) → Settles origin n → Held origin events.Collect b → Settles origin (n + 1)
+settles_more origin n b s h = (s.0 ++ h.0 ∷ [], map-append event_in s.0 (h.0 ∷ []) ∙ ap (λ l. l ++ h.0.event ∷ []) s.1 ∙ ap (λ e. settling n ++ e ∷ []) h.1 ∙ ap (λ l. events.Pause ∷ l) (replicate-append-replicate n 1 events.Collect))
 
 -- one call of the world
 pub runs_one : (old : WorldView) (e : Event) (reply : Result (Answer e) Refusal) (new : WorldView) → is_no_finish e ≡ true → Does old e reply new → RunsCalls old new
 unfolding Does
 runs_one old e reply new may does = λ s stands. let d = does s stands in (d.0, OneMore e reply may NoStep d.1, d.2)
-
--- a step asked for this one call
-pub carried : (step known : Step) (e : Event) (reply : Result (Answer e) Refusal) (refused : Bool) (old new : WorldView) → step ≡ known → calls_of known ≡ e ∷ [] → Does old e reply new → refused ≡ is_err reply → Carried (calls_of step) old refused new
-carried step known e reply refused old new is asks does r = subst (λ es. Carried es old refused new) (sym (ap calls_of is ∙ asks)) (reply, does, r)

@@ -1,6 +1,7 @@
 -- What is told of a run of a threads file.
 use Rattle.std.proofs.Common.{◌≡◌, ℕ, ◌+◌, List, [], ◌∷◌, ◌++◌, Option, None, Some, Result, Ok, Err, Bool, true, false, sym, refl, subst, append-nil, arith, IfOk, IfErr, inl, inr, ◌⊎◌}
 use Rattle.std.specs.Io.KnownBytes.{Consumes, Appends, IsAtEnd}
+use Rattle.fz_model.specs.declared.limits.TheConstants.{MAX_BLOCKS, MAX_FRAMES, MAX_WORKERS}
 use Rattle.fz_model.specs.declared.refusal.Refusal.{Refusal}
 use Rattle.fz_model.specs.declared.refusal.Refusal.TheVariants.{BadLine, BadCount, NoMemory, Output, Input}
 use Rattle.fz_model.specs.Causes.{bad_count, first_cause, IsRefusedFor}
@@ -29,7 +30,7 @@ counts_only false false false q h = absurd cc
 -- an opening is refused for one of two reasons
 two_refusals : (asked : Asked) (q : Refusal) → IsRefusedFor (service_causes asked) true q → (q ≡ BadCount) ⊎ (q ≡ NoMemory)
 two_refusals asked q h = elim h [
-  | inl first ↦ inl (counts_only (bad_count 4096 asked.blocks).0 (bad_count 8 asked.frames).0 (bad_count 8 asked.workers).0 q first)
+  | inl first ↦ inl (counts_only (bad_count MAX_BLOCKS asked.blocks).0 (bad_count MAX_FRAMES asked.frames).0 (bad_count MAX_WORKERS asked.workers).0 q first)
   | inr none ↦ inr none.1
 ]
 

@@ -1,15 +1,13 @@
 -- What a thread does, one hold of the lock after another.
 use Rattle.std.specs.Prelude.{◌≡◌, ℕ, ◌+◌, ◌==◌, ◌<◌, Bool, true, false, if◌then◌else◌, List, [], ◌∷◌, ◌++◌, map, replicate, count_by, length, sum, slice_index, is_err, Result}
-use Rattle.std.specs.Option.{unwrap_or}
 use Rattle.fz_model.specs.declared.refusal.Refusal.{Refusal}
 use Rattle.fz_model.specs.Events as events
 use Rattle.fz_model.specs.Events.{Event, Answer}
 use Rattle.fz_world.specs.World.{WorldView}
 use Rattle.fz_world.specs.Does.{Does}
-use Rattle.fz_script.specs.declared.step.Step.{Step}
-use Rattle.fz_script.specs.declared.step.Step.TheVariants.{New, Set, Copy, Load, Store, Register, Unregister, Link, Unlink, Move, Begin, Mark, Pause, Collect}
+use Rattle.fz_model.specs.Calls.{event}
 use Rattle.fz_script.specs.declared.job.Job.{Job}
-use Rattle.fz_script.specs.declared.job.Job.TheVariants.{Mutator, Collector, Churn, One}
+use Rattle.fz_script.specs.declared.job.Job.TheVariants.{Mutator, Collector, Churn, Call}
 use Rattle.fz_service.specs.States.{Origin, LockedState, IsInOrder}
 
 -- the world made this call
@@ -31,40 +29,22 @@ event_in hold = hold.event
 abbrev pub is_refused : {origin : Origin} → Hold origin → Bool
 is_refused hold = is_err hold.reply
 
--- the call for which a step of a section asks; no other step has one here
-abbrev pub calls_of : Step → List Event
-calls_of (New slot size kind) = events.Alloc slot.frame slot.slot size kind ∷ []
-calls_of (Set slot word) = events.Set slot.frame slot.slot word ∷ []
-calls_of (Copy slot to) = events.Copy slot.frame slot.slot to.frame to.slot ∷ []
-calls_of (Load place to) = events.Load place.slot.frame place.slot.slot place.offset to.frame to.slot ∷ []
-calls_of (Store place from) = events.Store place.slot.frame place.slot.slot place.offset from.frame from.slot ∷ []
-calls_of (Register slot kind procedure client_data rank) = events.Register slot.frame slot.slot kind procedure client_data (unwrap_or rank 0) ∷ []
-calls_of (Unregister slot) = events.Unregister slot.frame slot.slot ∷ []
-calls_of (Link which place target) = events.Link which place.slot.frame place.slot.slot place.offset target.frame target.slot ∷ []
-calls_of (Unlink which place) = events.Unlink which place.slot.frame place.slot.slot place.offset ∷ []
-calls_of (Move which place to) = events.MoveLink which place.slot.frame place.slot.slot place.offset to.slot.frame to.slot.slot to.offset ∷ []
-calls_of Begin = events.Begin ∷ []
-calls_of (Mark budget) = events.Mark budget ∷ []
-calls_of Pause = events.Pause ∷ []
-calls_of Collect = events.Collect ∷ []
-calls_of _ = []
-
 -- one turn of `churn`: a new object, which is registered and dropped; a refused `new` leaves out the other two
-abbrev pub IsTurn : {origin : Origin} → (new register drop : List Event) → List (Hold origin) → Type 0
+abbrev pub IsTurn : {origin : Origin} → (new register drop : Event) → List (Hold origin) → Type 0
 IsTurn {origin} new register drop holds =
-    (first : List (Hold origin)) × (rest : List (Hold origin)) × (holds ≡ first ++ rest) × (map event_in first ≡ new)
-    × (map event_in rest ≡ if count_by is_refused first == 0 then register ++ drop else [])
+    (first : Hold origin) × (rest : List (Hold origin)) × (holds ≡ first ∷ rest) × (first.event ≡ new)
+    × (map event_in rest ≡ if is_refused first then [] else register ∷ drop ∷ [])
 
 -- a number of turns, one after another
-pub data AreTurns {origin : Origin} (new register drop : List Event) : ℕ → List (Hold origin) → Type 0 where
+pub data AreTurns {origin : Origin} (new register drop : Event) : ℕ → List (Hold origin) → Type 0 where
   NoTurn : AreTurns new register drop 0 []
   OneTurn : (n : ℕ) (holds more : List (Hold origin)) → AreTurns new register drop n holds → IsTurn new register drop more → AreTurns new register drop (n + 1) (holds ++ more)
 
 -- the holds of one job
 abbrev pub Carries : {origin : Origin} → Job → List (Hold origin) → Type 0
-Carries (One step) holds = map event_in holds ≡ calls_of step
+Carries (Call call) holds = map event_in holds ≡ event call ∷ []
 Carries (Churn count slot size kind finalizer_kind procedure) holds =
-    AreTurns (events.Alloc slot.frame slot.slot size kind ∷ []) (events.Register slot.frame slot.slot finalizer_kind procedure 0 0 ∷ []) (events.Set slot.frame slot.slot 0 ∷ []) count holds
+    AreTurns (events.Alloc slot.frame slot.slot size kind) (events.Register slot.frame slot.slot finalizer_kind procedure 0 0) (events.Set slot.frame slot.slot 0) count holds
 Carries _ holds = holds ≡ []
 
 -- the holds of these jobs, one after another
@@ -100,17 +80,11 @@ HasRefused origin P refused = (holds : List (Hold origin)) × P holds × (refuse
 abbrev pub settling : ℕ → List Event
 settling collections = events.Pause ∷ replicate collections events.Collect
 
--- what a step gives under the lock. Means only.
-abbrev pub Carried : List Event → WorldView → Bool → WorldView → Type 0
-Carried [] old refused new = refused ≡ false
-Carried (e ∷ []) old refused new = (reply : Result (Answer e) Refusal) × Does old e reply new × (refused ≡ is_err reply)
-Carried (e ∷ f ∷ es) old refused new = ⊥
+-- a hold in which this call was refused, or not. Means only.
+abbrev pub Held : Origin → Event → Bool → Type 0
+Held origin event refused = (hold : Hold origin) × (hold.event ≡ event) × (is_refused hold ≡ refused)
 
--- what a step gives in a hold of its own. Means only.
-abbrev pub Held : Origin → List Event → Bool → Type 0
-Held origin events refused = (holds : List (Hold origin)) × (map event_in holds ≡ events) × (count_by is_refused holds ≡ if refused then 1 else 0)
-
--- the sections of these jobs, with how many steps of each were refused, and of all
+-- the sections of these jobs, with how many calls of each were refused, and of all
 abbrev pub SectionsRefused : Origin → List Job → ℕ → Type 0
 SectionsRefused origin jobs refused =
     (counts : List ℕ) × (length counts ≡ count_by begins_section jobs) × (refused ≡ sum counts)

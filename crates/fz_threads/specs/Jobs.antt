@@ -1,72 +1,70 @@
 -- A threads file: the jobs that its lines ask for, and where each of them may stand.
 use Rattle.std.specs.Prelude.{◌≡◌, ℕ, ◌+◌, ◌==◌, ◌≤◌, ◌<◌, Bool, true, false, nat_lt, if◌then◌else◌, ◌⊎◌, List, [], ◌∷◌, ◌++◌, length, map, filter, flat_map, fold, Option, IsTrue}
 use Rattle.std.specs.List.{All}
-use Rattle.fz_script.specs.declared.step.Step.{Step}
-use Rattle.fz_script.specs.declared.step.Step.TheVariants.{Open, New, Set, Copy, Load, Store, Register, Unregister, Link, Unlink, Move, Begin, Mark, Pause, Collect}
+use Rattle.fz_model.specs.declared.call.Call.{Call as WorldCall}
+use Rattle.fz_model.specs.declared.call.Call.TheVariants.{Alloc, Copy, Load, Store, Set, Register, Unregister, Link, Unlink, Move, Begin, Mark, Pause, Collect, Close, Outstanding}
 use Rattle.fz_script.specs.declared.job.Job.{Job}
-use Rattle.fz_script.specs.declared.job.Job.TheVariants.{Settle, Mutator, Collector, Churn, One}
+use Rattle.fz_script.specs.declared.job.Job.TheVariants.{Open, Settle, Mutator, Collector, Churn, Call}
 use Rattle.fz_script.specs.Jobs.{spelling, Fits}
 use Rattle.std.specs.Io.KnownBytes.{Consumes, IsAtEnd, prepend_known}
 use Rattle.fz_model.specs.declared.refusal.Refusal.{Refusal}
 use Rattle.fz_model.specs.declared.refusal.Refusal.TheVariants.{BadLine, NoMemory, Input}
 use Rattle.fz_model.specs.Refusals.{code_of}
 use Rattle.fz_text.specs.declared.fault.DriveFault.{DriveFault}
-use Rattle.fz_text.specs.Lines.{IsEnded}
-use Rattle.fz_text.specs.Lines.{with_lf, IsOneLine, Lines, all_lines, is_kept, max_line}
+use Rattle.fz_text.specs.Lines.{with_lf, IsOneLine, Lines, all_lines, is_kept, max_line, IsEnded}
+use Rattle.fz_threads.specs.declared.limits.TheConstants.{MAX_LINES, MAX_MUTATORS}
 use Rattle.fz_threads.specs.declared.stage.Actor.{Actor}
 use Rattle.fz_threads.specs.declared.stage.Actor.TheVariants as actor
 use Rattle.fz_threads.specs.declared.stage.Stage.{Stage}
 
-abbrev pub max_file_lines : ℕ
-max_file_lines = 4096
-
 abbrev pub is_opening : Job → Bool
-is_opening (One (Open blocks frames workers)) = true
+is_opening (Open blocks frames workers) = true
 is_opening _ = false
 
 abbrev pub is_settle : Job → Bool
 is_settle (Settle collections) = true
 is_settle _ = false
 
--- the steps of a mutator
-abbrev pub is_mutators : Step → Bool
-is_mutators (New slot size kind) = true
-is_mutators (Set slot word) = true
-is_mutators (Copy slot to) = true
-is_mutators (Load place to) = true
-is_mutators (Store place from) = true
-is_mutators (Register slot kind procedure client_data rank) = true
-is_mutators (Unregister slot) = true
-is_mutators (Link which place target) = true
-is_mutators (Unlink which place) = true
-is_mutators (Move which place to) = true
-is_mutators _ = false
+-- whose call it is; nobody makes the last two, since the world closes at the end, and nothing is reported meanwhile
+abbrev pub maker : WorldCall → Actor
+maker (Alloc slot size kind) = actor.Mutator
+maker (Copy slot to) = actor.Mutator
+maker (Load place to) = actor.Mutator
+maker (Store place from) = actor.Mutator
+maker (Set slot word) = actor.Mutator
+maker (Register slot kind procedure client_data rank) = actor.Mutator
+maker (Unregister slot) = actor.Mutator
+maker (Link which place target) = actor.Mutator
+maker (Unlink which place) = actor.Mutator
+maker (Move which place to) = actor.Mutator
+maker Begin = actor.Collector
+maker (Mark budget) = actor.Collector
+maker Pause = actor.Collector
+maker Collect = actor.Collector
+maker Close = actor.Nobody
+maker Outstanding = actor.Nobody
 
--- the steps of the collector
-abbrev pub is_collectors : Step → Bool
-is_collectors Begin = true
-is_collectors (Mark budget) = true
-is_collectors Pause = true
-is_collectors Collect = true
-is_collectors _ = false
+abbrev pub is_same : Actor → Actor → Bool
+is_same actor.Mutator actor.Mutator = true
+is_same actor.Collector actor.Collector = true
+is_same _ _ = false
 
-abbrev pub is_step_of : Actor → Step → Bool
-is_step_of actor.Nobody step = false
-is_step_of actor.Mutator step = is_mutators step
-is_step_of actor.Collector step = is_collectors step
+abbrev pub is_call_of : Actor → WorldCall → Bool
+is_call_of actor call = is_same actor (maker call)
 
 abbrev pub may_churn : Actor → Bool
 may_churn actor.Nobody = false
 may_churn actor.Mutator = true
 may_churn actor.Collector = false
 
--- whether the job may come after `settle`, at this stage: at most eight mutators, at most one collector, and each has its own steps
+-- whether the job may come after `settle`, at this stage: at most eight mutators, at most one collector, and each has its own calls
 abbrev pub may_come : Stage → Job → Bool
+may_come stage (Open blocks frames workers) = false
 may_come stage (Settle collections) = false
-may_come stage Mutator = nat_lt stage.mutators 8
+may_come stage Mutator = nat_lt stage.mutators MAX_MUTATORS
 may_come stage Collector = nat_lt stage.collectors 1
 may_come stage (Churn count slot size kind finalizer_kind procedure) = may_churn stage.actor
-may_come stage (One step) = is_step_of stage.actor step
+may_come stage (Call call) = is_call_of stage.actor call
 
 -- the stage after the job
 abbrev pub stage_after : Stage → Job → Stage
@@ -94,12 +92,12 @@ pub record AreJobs (lines : List (List ℕ)) (jobs : List Job) : Type 0 where
   pub fit : All Fits jobs
   pub in_order : AreInOrder jobs
   pub short : All (λ line. length line ≤ max_line) lines
-  pub few : length lines ≤ max_file_lines
+  pub few : length lines ≤ MAX_LINES
 
 -- the line breaks the rules: it is too long, one too many, or asks for no job that may follow
 abbrev pub IsNoJob : List Job → ℕ → List ℕ → Type 0
 IsNoJob jobs number line =
-    (max_line < length line) ⊎ ((max_file_lines < number) ⊎ (IsTrue (is_kept line) × ((job : Job) → Fits job → line ≡ spelling job → may_follow jobs job ≡ false)))
+    (max_line < length line) ⊎ ((MAX_LINES < number) ⊎ (IsTrue (is_kept line) × ((job : Job) → Fits job → line ≡ spelling job → may_follow jobs job ≡ false)))
 
 -- what a file asks for: a world, how often it is collected at the end, and the jobs of the sections, with the first line of each
 pub record Asked : Type 0 where
@@ -110,7 +108,7 @@ pub record Asked : Type 0 where
   pub body : List Job
 
 abbrev pub asked_jobs : Asked → List Job
-asked_jobs asked = One (Open asked.blocks asked.frames asked.workers) ∷ Settle asked.collections ∷ asked.body
+asked_jobs asked = Open asked.blocks asked.frames asked.workers ∷ Settle asked.collections ∷ asked.body
 
 -- the bytes are a threads file that asks for this
 pub record IsThreadsFile (bytes : List ℕ) (asked : Asked) : Type 0 where
@@ -129,7 +127,7 @@ pub record AsksAt (bytes : List ℕ) (number : ℕ) (job : Job) : Type 0 where
 
 -- the line with this number asks for the opening
 abbrev pub OpensAt : List ℕ → ℕ → Asked → Type 0
-OpensAt bytes number asked = AsksAt bytes number (One (Open asked.blocks asked.frames asked.workers))
+OpensAt bytes number asked = AsksAt bytes number (Open asked.blocks asked.frames asked.workers)
 
 -- the lines of these bytes ask for these jobs; a further line would have this number
 pub record FileIs (bytes : List ℕ) (jobs : List Job) (number : ℕ) : Type 0 where

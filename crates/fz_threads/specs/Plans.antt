@@ -8,20 +8,20 @@ use Rattle.fz_text.specs.declared.input.Ending.TheVariants.{TooLong}
 use Rattle.fz_text.specs.declared.fault.DriveFault.{DriveFault}
 use Rattle.fz_model.specs.declared.refusal.Refusal.{Refusal}
 use Rattle.fz_model.specs.declared.refusal.Refusal.TheVariants.{BadLine, NoMemory}
-use Rattle.fz_script.specs.declared.step.Step.TheVariants.{Open}
 use Rattle.fz_script.specs.declared.job.Job.{Job}
-use Rattle.fz_script.specs.declared.job.Job.TheVariants.{One}
+use Rattle.fz_script.specs.declared.job.Job.TheVariants.{Open}
+use Rattle.fz_threads.specs.declared.limits.TheConstants.{MAX_LINES}
 use Rattle.fz_threads.specs.declared.plan.Plan.{Plan}
 use Rattle.fz_threads.specs.declared.draft.Draft.{Draft}
 use Rattle.fz_threads.specs.declared.draft.Draft.TheVariants.{Empty, Opened, Settled}
-use Rattle.fz_threads.specs.Jobs.{Asked, asked_jobs, may_follow, max_file_lines, AsksAt, OpensAt, FileIs, IsThreadsFile, IsUnreadable, input_failures}
+use Rattle.fz_threads.specs.Jobs.{Asked, asked_jobs, may_follow, AsksAt, OpensAt, FileIs, IsThreadsFile, IsUnreadable, input_failures}
 
 abbrev pub asked_by : Plan → Asked
 asked_by plan = record { blocks = plan.size.blocks; frames = plan.size.frames; workers = plan.size.workers; collections = plan.collections; body = plan.jobs.items }
 
 abbrev pub jobs_in : Draft → List Job
 jobs_in Empty = []
-jobs_in (Opened size) = One (Open size.blocks size.frames size.workers) ∷ []
+jobs_in (Opened size) = Open size.blocks size.frames size.workers ∷ []
 jobs_in (Settled plan) = asked_jobs (asked_by plan)
 
 -- the line that asked for the opening, where there is one
@@ -57,9 +57,9 @@ TakesLine old number line new =
 
 -- what the line with this number gives
 abbrev pub ReadsJob : ℕ → Ending → Draft → List ℕ → Result (Unit {0}) Refusal → Draft → Type 0
-ReadsJob number ending old line (Ok x) new = (ending ≢ TooLong) × (number ≤ max_file_lines) × TakesLine old number line new
+ReadsJob number ending old line (Ok x) new = (ending ≢ TooLong) × (number ≤ MAX_LINES) × TakesLine old number line new
 ReadsJob number ending old line (Err refusal) new =
-    (refusal ≡ NoMemory) ⊎ ((refusal ≡ BadLine) × ((ending ≡ TooLong) ⊎ ((max_file_lines < number) ⊎ (IsTrue (is_kept line) × ((job : Job) → Fits job → line ≡ spelling job → may_follow (jobs_in old) job ≡ false)))))
+    (refusal ≡ NoMemory) ⊎ ((refusal ≡ BadLine) × ((ending ≡ TooLong) ⊎ ((MAX_LINES < number) ⊎ (IsTrue (is_kept line) × ((job : Job) → Fits job → line ≡ spelling job → may_follow (jobs_in old) job ≡ false)))))
 
 -- the plan is whole, or the file has ended too early
 abbrev pub Ends : Draft → ℕ → Result Plan DriveFault → Type 0

@@ -18,7 +18,7 @@ use Rattle.fz_threads.specs.Jobs.{Asked, IsThreadsFile, Unreadable, OpensAt}
 use Rattle.fz_threads.specs.Holds.{SectionsRefused, Settles}
 use Rattle.fz_threads.specs.Tallies.{summary_text}
 
--- the numbers of an ended service, and the refused steps of all sections
+-- the numbers of an ended service, and the refused calls of all sections
 abbrev pub tally_of : Final → ℕ → Tally
 tally_of end refused =
     record { enqueued = end.enqueued; finished = end.finished; forfeited = end.forfeited; left = length end.left.items; passes = end.passes; reclaimed = end.reclaimed; refused = refused }

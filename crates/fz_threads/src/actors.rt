@@ -3,11 +3,12 @@
 ghost use Rattle.std.specs.Prelude.{◌≡◌, ◌≤◌, ◌<◌, ◌+◌, sum, length, IfOk};
 ghost use Rattle.std.specs.List.{All};
 ghost use Rattle.fz_service.specs.Workers.{ExtendEach};
+ghost use Rattle.fz_threads.specs.declared.limits.TheConstants.{MAX_LINES, MAX_REFUSED};
 ghost use Rattle.fz_threads.specs.Holds.{HasRefused, Works, own_jobs, SectionsRefused, Settles};
 
 use crate::holds::hold_for;
 use crate::section::Sections;
-use fz_script::Step;
+use fz_model::Call;
 use fz_service::{Gate, Opening, Proc, Seat, Service};
 use std::alloc::{AllocError, Global};
 use std::sync::Wait;
@@ -24,8 +25,8 @@ impl Gate for OpenGate {
 
 /// The sum of these numbers.
 fn total(counts: &[u64]) -> u64
-    requires each { All (λ count. count ≤ 81920000) counts.now }
-    requires few { length counts.now ≤ 4096 }
+    requires each { All (λ count. count ≤ MAX_REFUSED) counts.now }
+    requires few { length counts.now ≤ MAX_LINES }
     ensures { result ≡ sum counts.now }
 {
     let mut total = 0;
@@ -35,7 +36,7 @@ fn total(counts: &[u64]) -> u64
     total
 }
 
-/// Carries out all sections, each on a thread of its own; returns how many of their steps were refused.
+/// Carries out all sections, each on a thread of its own; returns how many of their calls were refused.
 fn run_sections<O: Opening + Send + Sync, R: Threads + Wait + Sync>(
     alloc: Global,
     service: &Service<O>,
@@ -45,9 +46,9 @@ fn run_sections<O: Opening + Send + Sync, R: Threads + Wait + Sync>(
     ensures { IfOk result (SectionsRefused O.origin sections.now.jobs.items) }
 {
     let section = |index: usize| -> u64
-        requires { index < 4096 }
+        requires { index < MAX_LINES }
         ensures refused { HasRefused O.origin (Works (own_jobs (index + 1) sections.entry.now.jobs.items)) result }
-        ensures few { result ≤ 81920000 }
+        ensures few { result ≤ MAX_REFUSED }
     { sections.work(service, index + 1, rt) };
     let refused = thread::map_indices(rt, alloc, sections.count(), &section)?;
     Ok(total(refused.as_slice()))
@@ -57,9 +58,9 @@ fn run_sections<O: Opening + Send + Sync, R: Threads + Wait + Sync>(
 fn settle<O: Opening, R: Wait>(service: &Service<O>, collections: u64, rt: &R)
     ensures { Settles O.origin collections }
 {
-    let _no_cycle = hold_for(service, Step::Pause, rt);
+    let _no_cycle = hold_for(service, Call::Pause, rt);
     for _turn in 0..collections {
-        let _exhausted = hold_for(service, Step::Collect, rt);
+        let _exhausted = hold_for(service, Call::Collect, rt);
     }
 }
 
@@ -104,7 +105,7 @@ fn serve<O: Opening + Send + Sync, R: Threads + Wait + Sync>(
     service.run_workers(seats, procs.as_mut_slice(), &OpenGate, stop, rt)
 }
 
-/// Carries out all sections, with the workers beside them; returns the seats, and how many of the sections' steps were refused.
+/// Carries out all sections, with the workers beside them; returns the seats, and how many of the sections' calls were refused.
 pub(crate) fn side_by_side<O: Opening + Send + Sync, R: Threads + Wait + Sync>(
     alloc: Global,
     service: &Service<O>,

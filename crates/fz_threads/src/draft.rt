@@ -4,7 +4,7 @@ ghost use Rattle.fz_threads.specs.Plans.{Adds};
 
 use crate::plan::{Plan, Size};
 use fz_model::Refusal;
-use fz_script::{Job, Step};
+use fz_script::Job;
 use std::alloc::Global;
 
 /// What the lines so far ask for.
@@ -22,13 +22,11 @@ impl Draft {
     {
         match self {
             Draft::Empty => match job {
-                Job::One(
-                    Step::Open {
-                        blocks,
-                        frames,
-                        workers,
-                    },
-                ) => {
+                Job::Open {
+                    blocks,
+                    frames,
+                    workers,
+                } => {
                     *self = Draft::Opened(Size {
                         blocks,
                         frames,

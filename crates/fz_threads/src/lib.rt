@@ -4,6 +4,7 @@
 mod actors;
 mod draft;
 mod holds;
+mod limits;
 mod plan;
 mod procedures;
 mod reading;

@@ -4,15 +4,13 @@ ghost use Rattle.std.specs.Prelude.{◌≡◌};
 ghost use Rattle.fz_threads.specs.Plans.{unreadable, ReadsJob, Ends, ReadsAll, PlanIsRead, is_empty};
 
 use crate::draft::Draft;
+use crate::limits::MAX_LINES;
 use crate::plan::Plan;
 use arrayvec::ArrayVec;
 use fz_model::Refusal;
 use fz_script::job_of;
 use fz_text::{Chunk, DriveFault, Ending, MAX_LINE, Source, is_kept, next_line};
 use std::alloc::Global;
-
-/// The most lines of a file.
-const MAX_LINES: u64 = 4_096;
 
 /// Why a file isn't carried out: a malformed line has its number, and no other cause has one.
 fn unreadable(refusal: Refusal, number: u64) -> DriveFault

@@ -5,6 +5,8 @@ ghost use Rattle.std.specs.List.{All};
 ghost use Rattle.fz_model.specs.Causes.{first_cause};
 ghost use Rattle.fz_service.specs.Ends.{IsEachOnce};
 ghost use Rattle.fz_text.specs.Written.{text_line, refused_words};
+ghost use Rattle.fz_script.specs.declared.job.TheConstants.{MAX_TURNS};
+ghost use Rattle.fz_threads.specs.declared.limits.TheConstants.{MAX_LINES};
 ghost use Rattle.fz_threads.specs.Plans.{asked_by};
 ghost use Rattle.fz_threads.specs.Holds.{turns_of, SectionsRefused};
 ghost use Rattle.fz_threads.specs.Threads.{Summarized, RunStopped, faults_of, tally_of, service_causes};
@@ -146,8 +148,8 @@ fn run_plan<W: Sink, T: Threads + Wait + Sync>(
     procs: Vec<Vec<Box<dyn Proc + Send>>>,
     rt: &T,
 ) -> Result<(), DriveFault>
-    requires stand { All (λ job. turns_of job ≤ 10000) plan.jobs.items }
-    requires few { length plan.jobs.items ≤ 4096 }
+    requires stand { All (λ job. turns_of job ≤ MAX_TURNS) plan.jobs.items }
+    requires few { length plan.jobs.items ≤ MAX_LINES }
     ensures { RunsPlan (asked_by plan) plan.size.line (W.written writer.old) (W.failures writer.old) result (W.written writer.new) (W.failures writer.new) }
 {
     let Plan {

@@ -2,23 +2,27 @@
 
 ghost use Rattle.std.specs.Prelude.{◌≡◌, ◌≤◌, ◌*◌, length};
 ghost use Rattle.std.specs.List.{All};
-ghost use Rattle.fz_threads.specs.Holds.{calls_of, HasRefused, IsTurn, AreTurns, Carries, Works, own_jobs, begins_section, turns_of};
+ghost use Rattle.fz_model.specs.Calls.{event};
+ghost use Rattle.fz_script.specs.declared.job.TheConstants.{MAX_TURNS};
+ghost use Rattle.fz_threads.specs.declared.limits.TheConstants.{MAX_LINES, MAX_REFUSED_OF_LINE, MAX_REFUSED};
+ghost use Rattle.fz_threads.specs.Holds.{HasRefused, IsTurn, AreTurns, Carries, Works, own_jobs, begins_section, turns_of};
 ghost use Rattle.std.specs.List.{count_by};
 
 use crate::holds::hold_for;
-use fz_script::{Job, Step};
+use fz_model::Call;
+use fz_script::Job;
 use fz_service::{Opening, Service};
 use std::sync::Wait;
 
-/// One turn of `churn`; returns how many of its steps were refused. A refused `new` leaves out the other two.
+/// One turn of `churn`; returns how many of its calls were refused. A refused `new` leaves out the other two.
 fn turn<O: Opening, R: Wait>(
     service: &Service<O>,
-    new: Step,
-    register: Step,
-    let_go: Step,
+    new: Call,
+    register: Call,
+    let_go: Call,
     rt: &R,
 ) -> u64
-    ensures refused { HasRefused O.origin (IsTurn (calls_of new) (calls_of register) (calls_of let_go)) result }
+    ensures refused { HasRefused O.origin (IsTurn (event new) (event register) (event let_go)) result }
     ensures few { result ≤ 2 }
 {
     if hold_for(service, new, rt) {
@@ -29,18 +33,18 @@ fn turn<O: Opening, R: Wait>(
     registered as u64 + dropped as u64
 }
 
-/// Carries out `count` turns; returns how many of their steps were refused.
+/// Carries out `count` turns; returns how many of their calls were refused.
 fn turns<O: Opening, R: Wait>(
     service: &Service<O>,
     count: u64,
-    new: Step,
-    register: Step,
-    let_go: Step,
+    new: Call,
+    register: Call,
+    let_go: Call,
     rt: &R,
 ) -> u64
-    requires { count ≤ 10000 }
-    ensures refused { HasRefused O.origin (AreTurns (calls_of new) (calls_of register) (calls_of let_go) count) result }
-    ensures few { result ≤ 20000 }
+    requires { count ≤ MAX_TURNS }
+    ensures refused { HasRefused O.origin (AreTurns (event new) (event register) (event let_go) count) result }
+    ensures few { result ≤ MAX_REFUSED_OF_LINE }
 {
     let mut refused = 0;
     for _turn in 0..count {
@@ -49,14 +53,14 @@ fn turns<O: Opening, R: Wait>(
     refused
 }
 
-/// Carries out a job; returns how many of its steps were refused.
+/// Carries out a job; returns how many of its calls were refused.
 fn carry<O: Opening, R: Wait>(service: &Service<O>, job: Job, rt: &R) -> u64
-    requires { turns_of job ≤ 10000 }
+    requires { turns_of job ≤ MAX_TURNS }
     ensures refused { HasRefused O.origin (Carries job) result }
-    ensures few { result ≤ 20000 }
+    ensures few { result ≤ MAX_REFUSED_OF_LINE }
 {
     match job {
-        Job::One(step) => hold_for(service, step, rt) as u64,
+        Job::Call(call) => hold_for(service, call, rt) as u64,
         Job::Churn {
             count,
             slot,
@@ -67,18 +71,18 @@ fn carry<O: Opening, R: Wait>(service: &Service<O>, job: Job, rt: &R) -> u64
         } => turns(
             service,
             count,
-            Step::New { slot, size, kind },
-            Step::Register {
+            Call::Alloc { slot, size, kind },
+            Call::Register {
                 slot,
                 kind: finalizer_kind,
                 procedure,
                 client_data: 0,
                 rank: None,
             },
-            Step::Set { slot, word: 0 },
+            Call::Set { slot, word: 0 },
             rt,
         ),
-        Job::Settle { .. } | Job::Mutator | Job::Collector => 0,
+        Job::Open { .. } | Job::Settle { .. } | Job::Mutator | Job::Collector => 0,
     }
 }
 
@@ -88,16 +92,16 @@ fn begins_section(job: Job) -> bool
 {
     match job {
         Job::Mutator | Job::Collector => true,
-        Job::Settle { .. } | Job::Churn { .. } | Job::One(_) => false,
+        Job::Open { .. } | Job::Settle { .. } | Job::Churn { .. } | Job::Call(_) => false,
     }
 }
 
-/// Carries out the jobs of the section with this number, counted from 1; returns how many of its steps were refused.
+/// Carries out the jobs of the section with this number, counted from 1; returns how many of its calls were refused.
 fn work<O: Opening, R: Wait>(service: &Service<O>, jobs: &[Job], number: usize, rt: &R) -> u64
-    requires stand { All (λ job. turns_of job ≤ 10000) jobs.now }
-    requires few { length jobs.now ≤ 4096 }
+    requires stand { All (λ job. turns_of job ≤ MAX_TURNS) jobs.now }
+    requires few { length jobs.now ≤ MAX_LINES }
     ensures refused { HasRefused O.origin (Works (own_jobs number jobs.now)) result }
-    ensures few { result ≤ 20000 * length jobs.now }
+    ensures few { result ≤ MAX_REFUSED_OF_LINE * length jobs.now }
 {
     let mut begun = 0;
     let mut refused = 0;
@@ -115,14 +119,14 @@ fn work<O: Opening, R: Wait>(service: &Service<O>, jobs: &[Job], number: usize, 
 #[derive(Drop)]
 pub(crate) struct Sections {
     pub(crate) jobs: Vec<Job>,
-    ghost stand: { All (λ job. turns_of job ≤ 10000) jobs.items },
-    ghost few: { length jobs.items ≤ 4096 },
+    ghost stand: { All (λ job. turns_of job ≤ MAX_TURNS) jobs.items },
+    ghost few: { length jobs.items ≤ MAX_LINES },
 }
 
 impl Sections {
     pub(crate) fn of(jobs: Vec<Job>) -> Sections
-        requires stand { All (λ job. turns_of job ≤ 10000) jobs.items }
-        requires few { length jobs.items ≤ 4096 }
+        requires stand { All (λ job. turns_of job ≤ MAX_TURNS) jobs.items }
+        requires few { length jobs.items ≤ MAX_LINES }
         ensures { result.jobs.items ≡ jobs.items }
     {
         Sections { jobs }
@@ -131,12 +135,12 @@ impl Sections {
     /// How many sections there are.
     pub(crate) fn count(&self) -> usize
         ensures count { result ≡ count_by begins_section self.now.jobs.items }
-        ensures few { result ≤ 4096 }
+        ensures few { result ≤ MAX_LINES }
     {
         self.jobs.iter().filter(|job| begins_section(**job)).count()
     }
 
-    /// Carries out the section with this number, counted from 1; returns how many of its steps were refused.
+    /// Carries out the section with this number, counted from 1; returns how many of its calls were refused.
     pub(crate) fn work<O: Opening, R: Wait>(
         &self,
         service: &Service<O>,
@@ -144,7 +148,7 @@ impl Sections {
         rt: &R,
     ) -> u64
         ensures refused { HasRefused O.origin (Works (own_jobs number self.now.jobs.items)) result }
-        ensures few { result ≤ 81920000 }
+        ensures few { result ≤ MAX_REFUSED }
     {
         work(service, self.jobs.as_slice(), number, rt)
     }

@@ -1,12 +1,11 @@
 //! Where in a threads file a job may stand.
 
 ghost use Rattle.std.specs.Prelude.{◌≡◌, true};
-ghost use Rattle.fz_threads.specs.Jobs.{is_mutators, is_collectors, is_step_of, may_come, stage_after, first_stage};
+ghost use Rattle.fz_threads.specs.Jobs.{maker, is_call_of, may_come, stage_after, first_stage};
 
-use fz_script::{Job, Step};
-
-/// The most sections of mutators.
-const MAX_MUTATORS: u64 = 8;
+use crate::limits::MAX_MUTATORS;
+use fz_model::Call;
+use fz_script::Job;
 
 /// Whose section it is.
 #[derive(Clone, Copy, Debug, PartialEq, Eq)]
@@ -25,40 +24,32 @@ pub(crate) struct Stage {
     pub(crate) collectors: u64,
 }
 
-fn is_mutators(step: Step) -> bool
-    ensures { result ≡ is_mutators step }
+/// Whose call it is. Nobody makes the last two: the world closes at the end, and nothing is reported meanwhile.
+fn maker(call: Call) -> Actor
+    ensures { result ≡ maker call }
 {
-    match step {
-        Step::New { .. }
-        | Step::Set { .. }
-        | Step::Copy { .. }
-        | Step::Load { .. }
-        | Step::Store { .. }
-        | Step::Register { .. }
-        | Step::Unregister { .. }
-        | Step::Link { .. }
-        | Step::Unlink { .. }
-        | Step::Move { .. } => true,
-        _ => false,
+    match call {
+        Call::Alloc { .. }
+        | Call::Copy { .. }
+        | Call::Load { .. }
+        | Call::Store { .. }
+        | Call::Set { .. }
+        | Call::Register { .. }
+        | Call::Unregister { .. }
+        | Call::Link { .. }
+        | Call::Unlink { .. }
+        | Call::Move { .. } => Actor::Mutator,
+        Call::Begin | Call::Mark { .. } | Call::Pause | Call::Collect => Actor::Collector,
+        Call::Close | Call::Outstanding => Actor::Nobody,
     }
 }
 
-fn is_collectors(step: Step) -> bool
-    ensures { result ≡ is_collectors step }
+fn is_call_of(actor: Actor, call: Call) -> bool
+    ensures { result ≡ is_call_of actor call }
 {
-    match step {
-        Step::Begin | Step::Mark { .. } | Step::Pause | Step::Collect => true,
+    match (actor, maker(call)) {
+        (Actor::Mutator, Actor::Mutator) | (Actor::Collector, Actor::Collector) => true,
         _ => false,
-    }
-}
-
-fn is_step_of(actor: Actor, step: Step) -> bool
-    ensures { result ≡ is_step_of actor step }
-{
-    match actor {
-        Actor::Nobody => false,
-        Actor::Mutator => is_mutators(step),
-        Actor::Collector => is_collectors(step),
     }
 }
 
@@ -79,14 +70,14 @@ impl Stage {
         ensures { result ≡ may_come self job }
     {
         match job {
-            Job::Settle { .. } => false,
+            Job::Open { .. } | Job::Settle { .. } => false,
             Job::Mutator => self.mutators < MAX_MUTATORS,
             Job::Collector => self.collectors < 1,
             Job::Churn { .. } => match self.actor {
                 Actor::Mutator => true,
                 Actor::Nobody | Actor::Collector => false,
             },
-            Job::One(step) => is_step_of(self.actor, step),
+            Job::Call(call) => is_call_of(self.actor, call),
         }
     }
 
@@ -106,7 +97,7 @@ impl Stage {
                 mutators: self.mutators,
                 collectors: self.collectors + 1,
             },
-            Job::Settle { .. } | Job::Churn { .. } | Job::One(_) => self,
+            Job::Open { .. } | Job::Settle { .. } | Job::Churn { .. } | Job::Call(_) => self,
         }
     }
 }

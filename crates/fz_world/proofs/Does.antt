@@ -10,7 +10,7 @@ use Rattle.fz_model.specs.Pass.{IsFinding, Passes}
 use Rattle.fz_model.specs.Seen.{SeenIsClosed}
 use Rattle.fz_model.specs.declared.answers.Passed.{Passed}
 use Rattle.fz_model.specs.declared.answers.Progress.{Progress}
-use Rattle.fz_model.specs.Causes.{Causes, first_cause, slot_causes, place_causes, start_causes, register_causes, is_off_heap, full}
+use Rattle.fz_model.specs.Causes.{Causes, IsJudgedBy, first_cause, slot_causes, place_causes, start_causes, register_causes, is_off_heap, full}
 use Rattle.fz_model.proofs.Judged.{judged_more, judged_err}
 use Rattle.fz_model.specs.declared.kinds.LinkKind.{LinkKind}
 use Rattle.fz_model.specs.declared.kinds.RegKind.{RegKind}
@@ -36,6 +36,11 @@ does_refused old new e r h same s stands =
 pub hands_on : (old : WorldView) (e : Event) (reply : Result (Answer e) Refusal) (r : Refusal) → first_cause (causes old.core e) ≡ Some r → IsErrAnd reply (λ x. x ≡ r) → Does old e reply old
 hands_on old e (Err x) r h is = does_refused old old e x (inl (h ∙ ap Some (sym is))) refl
 hands_on old e (Ok answer) r h is = absurd is
+
+-- a refusal that is handed on is judged as it was
+pub judged_on : {A : Type 0} → (causes : Causes) (reply : Result A Refusal) (r : Refusal) → first_cause causes ≡ Some r → IsErrAnd reply (λ x. x ≡ r) → IsJudgedBy causes reply
+judged_on causes (Err x) r h is = h ∙ ap Some (sym is)
+judged_on causes (Ok answer) r h is = absurd is
 
 -- ---- what was seen, one step later
 

@@ -4,4 +4,4 @@ use Rattle.fz_world.specs.World.{core_of}
 use Rattle.fz_world.specs.declared.world.World.TheInside.{Inside}
 
 abbrev pub core_inside : Inside → Core
-core_inside w = core_of w.heap w.frames w.table w.short w.long w.ready w.passes w.closed w.cycle
+core_inside w = core_of w.heap w.frames w.table.registered w.short w.long w.ready w.passes w.closed w.cycle

@@ -7,3 +7,4 @@ pub mod Keeping
 pub mod Whole
 pub mod Scans
 pub mod Passing
+pub mod Replying

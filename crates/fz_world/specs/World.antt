@@ -7,11 +7,12 @@ use Rattle.std.specs.FinSet.{contains, insert}
 use Rattle.std.specs.FinMap as map
 use Rattle.fz_model.specs.declared.answers.Pick.{Pick}
 use Rattle.fz_model.specs.declared.limits.TheConstants.{BLOCK_WORDS, COUNT_LIMIT}
-use Rattle.fz_model.specs.State.{Map, Core}
+use Rattle.fz_model.specs.State.{Core}
 use Rattle.fz_model.specs.Codes.{core_code}
 use Rattle.fz_model.specs.Parts.{AreSound}
 use Rattle.fz_heap.specs.Contents.{Contents}
 use Rattle.fz_table.specs.Registered.{Registered}
+use Rattle.fz_links.specs.Linked.{Linked}
 use Rattle.fz_dirty.specs.Flags.{Set}
 use Rattle.fz_dirty.specs.Pages.{Pages}
 use Rattle.fz_marker.specs.Marking.{Marking, CleanAreClosed, readable_count}
@@ -30,15 +31,15 @@ world_code =
     code_by (Core × (Set × (Set × (Set × ℕ)))) (coded× core_code (coded× (sets.code coded_ℕ) (coded× (sets.code coded_ℕ) (coded× (sets.code coded_ℕ) coded_ℕ))))
     (λ w. (w.core, (w.marked, (w.scanned, (w.noted, w.scans))))) (λ p. record { core = p.0; marked = p.1.0; scanned = p.1.1.0; noted = p.1.1.1.0; scans = p.1.1.1.1 }) (λ _. refl)
 
-abbrev pub core_of : Contents → List (List ℕ) → Registered → Map ℕ → Map ℕ → Ready → ℕ → Bool → Bool → Core
+abbrev pub core_of : Contents → List (List ℕ) → Registered → Linked → Linked → Ready → ℕ → Bool → Bool → Core
 core_of heap frames table short long ready passes closed cycle =
     record {
       blocks = heap.blocks;
       objects = heap.objects;
       frames = frames;
       registrations = table.registrations;
-      short = short;
-      long = long;
+      short = short.links;
+      long = long.links;
       held = ready.held;
       queue = ready.queue;
       next_birth = heap.next_birth;

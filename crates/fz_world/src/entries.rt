@@ -1,9 +1,10 @@
 //! Entries of the queue, and the end of a world.
 
-ghost use Rattle.std.specs.Prelude.{◌≡◌, ◌-◌};
+ghost use Rattle.std.specs.Prelude.{◌≡◌, ◌-◌, length, OnErr};
 ghost use Rattle.std.specs.FinMap.{len};
 ghost use Rattle.std.specs.declared.result.Result.TheVariants.{Ok};
-ghost use Rattle.fz_model.specs.Events.{Hold, Finish, Close, Outstanding, Queue};
+ghost use Rattle.fz_model.specs.Causes.{IsJudgedBy};
+ghost use Rattle.fz_model.specs.Events.{Hold, Finish, Close, Outstanding, Queue, causes};
 ghost use Rattle.fz_world.specs.World.{KeepsMarks};
 ghost use Rattle.fz_world.specs.Does.{Does};
 
@@ -17,6 +18,8 @@ impl World {
     /// Refusals, in their order: `BadSlot`, `NotHeld` where no held entry is the same in all its fields.
     pub fn hold(&mut self, frame: u64, slot: u64, entry: &Entry) -> Result<(), Refusal>
         ensures step { Does self.old (Hold frame slot entry.now) result self.new }
+        ensures caused { IsJudgedBy (causes self.old.core (Hold frame slot entry.now)) result }
+        ensures refused { OnErr result (self.new ≡ self.old) }
         ensures marks { KeepsMarks self.old self.new }
     {
         self.frames.check(frame, slot)?;
@@ -30,6 +33,8 @@ impl World {
     /// Refused `NotHeld` otherwise.
     pub fn finish(&mut self, entry: &Entry) -> Result<(), Refusal>
         ensures step { Does self.old (Finish entry.now) result self.new }
+        ensures caused { IsJudgedBy (causes self.old.core (Finish entry.now)) result }
+        ensures refused { OnErr result (self.new ≡ self.old) }
         ensures marks { KeepsMarks self.old self.new }
     {
         self.ready.finish(entry)
@@ -40,6 +45,8 @@ impl World {
     /// Refused `Closed` where the world is closed.
     pub fn close(&mut self) -> Result<(), Refusal>
         ensures step { Does self.old Close result self.new }
+        ensures caused { IsJudgedBy (causes self.old.core Close) result }
+        ensures refused { OnErr result (self.new ≡ self.old) }
         ensures marks { KeepsMarks self.old self.new }
     {
         if self.closed {
@@ -51,7 +58,8 @@ impl World {
 
     /// The number of held entries.
     pub fn outstanding(&self) -> u64
-        ensures { Does self.now Outstanding (Ok result) self.now }
+        ensures step { Does self.now Outstanding (Ok result) self.now }
+        ensures count { result ≡ length self.now.held }
     {
         self.ready.outstanding()
     }

@@ -1,11 +1,11 @@
 //! Disappearing links.
 
-ghost use Rattle.std.specs.Prelude.{◌≡◌, ◌+◌, ◌++◌, IfOk, IfErr, IsSome};
+ghost use Rattle.std.specs.Prelude.{◌≡◌, ◌+◌, ◌++◌, IfOk, IfErr, OnErr, IsSome};
 ghost use Rattle.std.specs.Option.{IsNone};
 ghost use Rattle.std.specs.FinMap.{get};
 ghost use Rattle.fz_model.specs.Memory.{slot_word};
-ghost use Rattle.fz_model.specs.Causes.{IsJudgedBy, slot_causes, place_causes, start_causes};
-ghost use Rattle.fz_model.specs.Events.{Link, Unlink, MoveLink, links_of};
+ghost use Rattle.fz_model.specs.Causes.{IsJudgedBy, IsJudgedOrLacks, slot_causes, place_causes, start_causes};
+ghost use Rattle.fz_model.specs.Events.{Link, Unlink, MoveLink, causes, links_of};
 ghost use Rattle.fz_world.specs.World.{KeepsMarks};
 ghost use Rattle.fz_world.specs.Does.{Does};
 
@@ -70,6 +70,8 @@ impl World {
         target_slot: u64,
     ) -> Result<LinkAnswer, Refusal>
         ensures step { Does self.old (Link which frame slot offset target_frame target_slot) result self.new }
+        ensures caused { IsJudgedOrLacks (causes self.old.core (Link which frame slot offset target_frame target_slot)) result }
+        ensures refused { OnErr result (self.new ≡ self.old) }
         // Only a new link can want memory.
         ensures growth { IfErr result (λ r. r ≡ Refusal.NoMemory → IsNone (get (links_of self.old.core which) (slot_word self.old.frames frame slot + offset))) }
         ensures marks { KeepsMarks self.old self.new }
@@ -94,6 +96,8 @@ impl World {
         offset: u64,
     ) -> Result<bool, Refusal>
         ensures step { Does self.old (Unlink which frame slot offset) result self.new }
+        ensures caused { IsJudgedBy (causes self.old.core (Unlink which frame slot offset)) result }
+        ensures refused { OnErr result (self.new ≡ self.old) }
         ensures marks { KeepsMarks self.old self.new }
     {
         let word = self.frames.get(frame, slot)?;
@@ -118,6 +122,8 @@ impl World {
         to_offset: u64,
     ) -> Result<MoveAnswer, Refusal>
         ensures step { Does self.old (MoveLink which frame slot offset to_frame to_slot to_offset) result self.new }
+        ensures caused { IsJudgedOrLacks (causes self.old.core (MoveLink which frame slot offset to_frame to_slot to_offset)) result }
+        ensures refused { OnErr result (self.new ≡ self.old) }
         // Only a link that comes to another place, where none stands, can want memory.
         ensures growth { IfErr result (λ r. r ≡ Refusal.NoMemory → IsSome (get (links_of self.old.core which) (slot_word self.old.frames frame slot + offset)) × IsNone (get (links_of self.old.core which) (slot_word self.old.frames to_frame to_slot + to_offset))) }
         ensures marks { KeepsMarks self.old self.new }

@@ -75,6 +75,8 @@ impl World {
         to_slot: u64,
     ) -> Result<Word, Refusal>
         ensures step { Does self.old (Load frame slot offset to_frame to_slot) result self.new }
+        ensures caused { IsJudgedBy (causes self.old.core (Load frame slot offset to_frame to_slot)) result }
+        ensures refused { OnErr result (self.new ≡ self.old) }
         ensures marks { KeepsMarks self.old self.new }
     {
         let word = self.frames.get(frame, slot)?;
@@ -97,6 +99,7 @@ impl World {
         from_slot: u64,
     ) -> Result<(), Refusal>
         ensures step { Does self.old (Store frame slot offset from_frame from_slot) result self.new }
+        ensures caused { IsJudgedBy (causes self.old.core (Store frame slot offset from_frame from_slot)) result }
         ensures refused { OnErr result (self.new ≡ self.old) }
         ensures marks { OnOk result (self.new ≡ record self.old { core = self.new.core; noted = with_in_cycle self.old.cycle self.old.noted (block_of (slot_word self.old.frames frame slot + offset)) }) }
     {
@@ -112,6 +115,8 @@ impl World {
     /// Refused `BadSlot` where there is no such slot.
     pub fn set(&mut self, frame: u64, slot: u64, word: Word) -> Result<(), Refusal>
         ensures step { Does self.old (Set frame slot word) result self.new }
+        ensures caused { IsJudgedBy (causes self.old.core (Set frame slot word)) result }
+        ensures refused { OnErr result (self.new ≡ self.old) }
         ensures marks { KeepsMarks self.old self.new }
     {
         self.frames.check(frame, slot)?;
@@ -130,6 +135,8 @@ impl World {
         to_slot: u64,
     ) -> Result<(), Refusal>
         ensures step { Does self.old (Copy frame slot to_frame to_slot) result self.new }
+        ensures caused { IsJudgedBy (causes self.old.core (Copy frame slot to_frame to_slot)) result }
+        ensures refused { OnErr result (self.new ≡ self.old) }
         ensures marks { KeepsMarks self.old self.new }
     {
         let word = self.frames.get(frame, slot)?;

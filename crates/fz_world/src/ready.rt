@@ -43,7 +43,9 @@ impl Model for Ready {
 fn reserve(queue: &mut Vec<Entry>, more: usize) -> Result<u64, Refusal>
     requires { more ≤ TABLE_LIMIT }
     ensures refused { IfErr result (λ r. r ≡ Refusal.NoMemory) }
+    ensures wanting { OnErr result (vec_capacity queue.old < vec_len queue.old + more) }
     ensures items { queue.new.items ≡ queue.old.items }
+    ensures len { vec_len queue.new ≡ vec_len queue.old }
     ensures room { IfOk result (λ entries. (entries ≡ vec_len queue.new + more) × (entries ≤ vec_capacity queue.new)) }
     ensures capacity { vec_capacity queue.old ≤ vec_capacity queue.new }
     ensures fits { IfOk result (λ entries. entries + 64 ≤ 2 ^ 64) }
@@ -93,6 +95,7 @@ impl Ready {
     pub(crate) fn reserve(&mut self, more: usize) -> Result<(), Refusal>
         requires { more ≤ TABLE_LIMIT }
         ensures refused { IfErr result (λ r. r ≡ Refusal.NoMemory) }
+        ensures wanting { 0 < more → OnErr result (self.old.room < more) }
         ensures same { (self.new.queue ≡ self.old.queue) × (self.new.held ≡ self.old.held) }
         ensures kept { self.old.room ≤ self.new.room }
         ensures room { OnOk result (more ≤ self.new.room) }

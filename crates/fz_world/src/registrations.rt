@@ -1,6 +1,6 @@
 //! Registrations of finalizers.
 
-ghost use Rattle.std.specs.Prelude.{◌≡◌, ◌≤◌, ◌+◌, IsFalse, IfOk, IfErr, OnOk, OnErr, vec_capacity, ℕ};
+ghost use Rattle.std.specs.Prelude.{◌≡◌, ◌≤◌, ◌+◌, ◌⊎◌, IsFalse, IfOk, IfErr, OnOk, OnErr, vec_capacity, vec_len, ℕ};
 ghost use Rattle.std.specs.Option.{IsNone};
 ghost use Rattle.std.specs.FinMap.{get, len, insert};
 ghost use Rattle.fz_model.specs.declared.answers.Registration.{Registration};
@@ -8,7 +8,7 @@ ghost use Rattle.fz_model.specs.declared.limits.TheConstants.{TABLE_LIMIT};
 ghost use Rattle.fz_model.specs.Memory.{slot_word};
 ghost use Rattle.fz_model.specs.Causes.{IsJudgedBy, IsJudgedOrLacks, start_causes, register_causes, is_off_heap, full};
 ghost use Rattle.fz_model.specs.Steps.{old_of};
-ghost use Rattle.fz_model.specs.Events.{Register, Unregister};
+ghost use Rattle.fz_model.specs.Events.{Register, Unregister, causes};
 ghost use Rattle.fz_world.specs.World.{KeepsMarks};
 ghost use Rattle.fz_world.specs.Does.{Does};
 
@@ -52,6 +52,7 @@ fn make_room(
     requires pick_room { len table.now.registrations ≤ vec_capacity picks.old }
     ensures refused { IfErr result (λ r. r ≡ Refusal.NoMemory) }
     ensures growth { IfErr result (λ r. IsNone (get table.now.registrations object)) }
+    ensures wanting { OnErr result ((ready.old.room ≤ len table.now.registrations) ⊎ (vec_capacity picks.old ≤ vec_len picks.old + len table.now.registrations)) }
     ensures same { (ready.new.queue ≡ ready.old.queue) × (ready.new.held ≡ ready.old.held) }
     ensures roomier { ready.old.room ≤ ready.new.room }
     ensures items { picks.new.items ≡ picks.old.items }
@@ -81,10 +82,11 @@ fn enroll(
     requires pick_room { len table.old.registrations ≤ vec_capacity picks.old }
     ensures judged { IsJudgedOrLacks (register_causes table.old.registrations table.old.next_number object) result }
     ensures growth { IfErr result (λ r. r ≡ Refusal.NoMemory → IsNone (get table.old.registrations object)) }
-    ensures unchanged { OnErr result (table.new ≡ table.old) }
+    ensures wanting { IfErr result (λ r. r ≡ Refusal.NoMemory → (table.old.room ≡ 0) ⊎ ((ready.old.room ≤ len table.old.registrations) ⊎ (vec_capacity picks.old ≤ vec_len picks.old + len table.old.registrations))) }
+    ensures unchanged { OnErr result (table.new.registered ≡ table.old.registered) }
     ensures number { IfOk result (λ answer. answer.0 ≡ table.old.next_number) }
     ensures replaced { IfOk result (λ answer. answer.1 ≡ old_of table.old.registrations object) }
-    ensures registered { OnOk result (table.new ≡ record {
+    ensures registered { OnOk result (table.new.registered ≡ record {
       registrations = insert table.old.registrations object (record { number = table.old.next_number; kind = registration.0; proc = registration.1; cd = registration.2; rank = registration.3 });
       next_number = table.old.next_number + 1;
     }) }
@@ -118,6 +120,8 @@ impl World {
         rank: u8,
     ) -> Result<RegAnswer, Refusal>
         ensures step { Does self.old (Register frame slot kind proc cd rank) result self.new }
+        ensures caused { IsJudgedOrLacks (causes self.old.core (Register frame slot kind proc cd rank)) result }
+        ensures refused { OnErr result (self.new ≡ self.old) }
         // Only the first registration of an object can want memory.
         ensures inside { IfErr result (λ r. r ≡ Refusal.NoMemory → IsFalse (is_off_heap self.old.blocks (slot_word self.old.frames frame slot))) }
         ensures growth { IfErr result (λ r. r ≡ Refusal.NoMemory → IsNone (get self.old.registrations (slot_word self.old.frames frame slot))) }
@@ -144,6 +148,8 @@ impl World {
     /// Refusals, in their order: `BadSlot`, `NotPointer`, `NotStart`; a word that is zero or outside the heap has no registration.
     pub fn unregister(&mut self, frame: u64, slot: u64) -> Result<Option<Old>, Refusal>
         ensures step { Does self.old (Unregister frame slot) result self.new }
+        ensures caused { IsJudgedBy (causes self.old.core (Unregister frame slot)) result }
+        ensures refused { OnErr result (self.new ≡ self.old) }
         ensures marks { KeepsMarks self.old self.new }
     {
         let word = self.frames.get(frame, slot)?;

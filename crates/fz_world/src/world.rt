@@ -30,8 +30,8 @@ pub struct Config {
 /// A world of objects, frames, registrations, links and entries of ready finalizers, after `gc.h`, with a mostly parallel marker.
 ///
 /// A contract sees all that a state of the model keeps but what an open cycle has seen, and the marks of the cycle begun last. A refused call
-/// returns the first of its refusals that stands, and changes nothing that a contract sees. Memory is taken by `open`, `alloc`, `register`, `link`
-/// and `move_link` alone.
+/// returns the first of its refusals that stands, and changes nothing that a contract sees. Memory is taken by `open`, `register`, `link` and
+/// `move_link` alone.
 pub struct World {
     pub(crate) heap: Heap,
     pub(crate) frames: Frames,
@@ -76,9 +76,9 @@ impl Model for World {
 
     ghost coded = { world_code };
 
-    ghost view = { λ w. view_of (core_of w.heap w.frames w.table w.short w.long w.ready w.passes w.closed w.cycle) w.marker w.dirty };
+    ghost view = { λ w. view_of (core_of w.heap w.frames w.table.registered w.short w.long w.ready w.passes w.closed w.cycle) w.marker w.dirty };
 
-    ghost invariant = { λ w. IsWorld w.heap w.table w.ready w.marker w.dirty (vec_capacity w.picks) w.picks.items w.cycle × HasNumber w.passes w.cycle };
+    ghost invariant = { λ w. IsWorld w.heap w.table.registered w.ready w.marker w.dirty (vec_capacity w.picks) w.picks.items w.cycle × HasNumber w.passes w.cycle };
 }
 
 /// The marker and the pages of a heap.

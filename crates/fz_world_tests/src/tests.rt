@@ -1,5 +1,6 @@
 //! Lives of objects from end to end as tables of steps, and the limits of a world. A call that is refused for want of memory is made again at once,
-//! and then every answer is as if nothing had been short: `tests/refused-allocations` makes each allocation of these tests fail in turn.
+//! and then every answer is as if nothing had been short: `tests/refused-allocations` makes each allocation of these tests fail in turn. The tests
+//! whose names end in `with_ample_memory` ask once, so that a call that wants memory without cause fails them.
 
 use fz_model::LinkKind::{Long, Short};
 use fz_model::ObjKind::{Atomic, Scanned};
@@ -501,11 +502,11 @@ fn scans_of_a_chain(rt: HostRuntime) {
     assert_eq!(rt; first_wrong_of(made, &SCANS_OF_A_CHAIN), Ok(None));
 }
 
-/// Makes one-word objects and registers each.
+/// Makes one-word objects and registers each. It asks once.
 fn registered_many(world: &mut World, count: u64) -> Result<(), Refusal> {
     for _ in 0..count {
         made(world, 0, 1, Scanned)?;
-        registered(world, 0, Normal, 0)?;
+        world.register(0, 0, Normal, 7, 0, 0)?;
     }
     Ok(())
 }
@@ -529,9 +530,58 @@ const FULL_TABLE: [Step; 4] = [
 
 /// The table holds registrations of 65,536 objects. Then it has no room for another object's, but takes a new one of one of them.
 #[test]
-fn full_table(rt: HostRuntime) {
+fn full_table_with_ample_memory(rt: HostRuntime) {
     let made = filled(rt.alloc());
     assert_eq!(rt; first_wrong_of(made, &FULL_TABLE), Ok(None));
+}
+
+/// A heap of objects of 1,024 words. The first slot holds the last of them, which ends in the last block, and the second slot the first.
+fn filled_with_large(alloc: Global) -> Result<World, Refusal> {
+    let mut world = opened(alloc, MAX_BLOCKS, 1)?;
+    for _ in 0..BLOCK_WORDS * MAX_BLOCKS / MAX_OBJECT_WORDS {
+        made(&mut world, 0, MAX_OBJECT_WORDS, Scanned)?;
+    }
+    world.set(0, 1, HEAP_START)?;
+    Ok(world)
+}
+
+/// The first word of the last object that doesn't become a link when it is asked once.
+fn first_unlinked(world: &mut World, which: LinkKind) -> Option<u64> {
+    for word in 0..MAX_OBJECT_WORDS {
+        if world.link(which, 0, 0, word, 0, 1) != Ok(LinkAnswer::Success) {
+            return Some(word);
+        }
+    }
+    None
+}
+
+/// The first word of the object in a slot whose link doesn't move to the same word of the object in another, asked once.
+fn first_unmoved(world: &mut World, which: LinkKind, from: u64, to: u64) -> Option<u64> {
+    for word in 0..MAX_OBJECT_WORDS {
+        if world.move_link(which, 0, from, word, 0, to, word) != Ok(MoveAnswer::Success) {
+            return Some(word);
+        }
+    }
+    None
+}
+
+/// Whether each word of the last object becomes a link, and the links move to the first object and back.
+fn are_linked_and_moved(world: &mut World, which: LinkKind) -> bool {
+    first_unlinked(world, which).is_none()
+        && first_unmoved(world, which, 0, 1).is_none()
+        && first_unmoved(world, which, 1, 0).is_none()
+}
+
+/// Whether this is so of links of both kinds.
+fn all_are_linked_and_moved(alloc: Global) -> Result<bool, Refusal> {
+    let mut world = filled_with_large(alloc)?;
+    Ok(are_linked_and_moved(&mut world, Short) && are_linked_and_moved(&mut world, Long))
+}
+
+/// Links of each word of the largest objects, the last word of the heap among them.
+#[test]
+fn links_of_large_objects_with_ample_memory(rt: HostRuntime) {
+    assert_eq!(rt; all_are_linked_and_moved(rt.alloc()), Ok(true));
 }
 
 /// Makes and drops an object that points to itself and is registered.

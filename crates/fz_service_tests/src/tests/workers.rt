@@ -17,17 +17,17 @@ use std::thread;
 use std::thread::Threads;
 
 /// How often a worker that waits for another yields at most.
-const TURNS: u32 = 1_000_000;
+pub(super) const TURNS: u32 = 1_000_000;
 
 /// The calls of procedures, in their order: each tells the procedure, the entry, and whether it is `run`.
 #[derive(Drop)]
-struct Calls {
+pub(super) struct Calls {
     count: AtomicU64,
     calls: Vec<AtomicU64>,
 }
 
 impl Calls {
-    fn with_room(alloc: Global, room: usize) -> Result<Calls, AllocError> {
+    pub(super) fn with_room(alloc: Global, room: usize) -> Result<Calls, AllocError> {
         let mut calls = Vec::new(alloc);
         for _ in 0..room {
             calls.push(AtomicU64::new(0))?;
@@ -36,21 +36,21 @@ impl Calls {
         Ok(Calls { count, calls })
     }
 
-    fn add(&self, call: u64) {
+    pub(super) fn add(&self, call: u64) {
         let place = self.count.fetch_add(1, Ordering::SeqCst);
         if place < self.calls.len() as u64 {
             self.calls[place as usize].store(call, Ordering::SeqCst);
         }
     }
 
-    fn at(&self, place: usize) -> u64 {
+    pub(super) fn at(&self, place: usize) -> u64 {
         match self.calls.get(place) {
             Some(call) => call.load(Ordering::SeqCst),
             None => 0,
         }
     }
 
-    fn count(&self) -> u64 {
+    pub(super) fn count(&self) -> u64 {
         self.count.load(Ordering::SeqCst)
     }
 }

@@ -1,10 +1,12 @@
-use Rattle.std.proofs.Common.{rules, ◌≡◌, ◌≢◌, ◌∙◌, ℕ, List, [], ◌∷◌, Bor, Option, None, Some, Result, Ok, Err, IfOk, is_some, option_map, ap, sym, codes, map, slice_get}
+use Rattle.std.proofs.Common.{rules, ◌≡◌, ◌≢◌, ◌∙◌, refl, ℕ, List, [], ◌∷◌, Bor, Option, None, Some, Result, Ok, Err, IfOk, is_some, option_map, ap, sym, codes, map, slice_get, subst, inl, inr}
 use denote.Enum.Bare.{same_false}
 use Rattle.clap.specs.contracts.error.kind.ErrorKind.{the_type}
 use Rattle.clap.specs.declared.error.kind.ErrorKind.TheVariants.{OutOfMemory}
 use Rattle.finalize.specs.declared.program.Program.{Program}
 use Rattle.finalize.specs.declared.program.Program.TheVariants.{Run, Threads}
-use Rattle.finalize.specs.Program.{Names}
+use Rattle.std.proofs.lemmas.Option.{same_Some}
+use Rattle.std.specs.Io.KnownBytes.{Keeps}
+use Rattle.finalize.specs.Program.{name_of, IsFile, Names, ReadFrom, RanOn}
 use Rattle.finalize.proofs.program.execute.Goals as goal
 use Rattle.finalize.proofs.program.execute.Goals.{in_default-file_of-via-in-Ok+in_default, in_default-file_of-via-in-Err+else-eq}
 
@@ -39,4 +41,24 @@ pub returns-in_default-file_of-clause-taken : goal.returns-in_default-file_of-cl
 returns-in_default-file_of-clause-taken g c = λ program file are is two. elim c.in_default-file_of.branch [
   | in_default-file_of-via-in-Ok+in_default w ↦ is_there c.file_of.result file (c.file_of.ensures.found program file are is) (search rules)
   | in_default-file_of-via-in-Err+else-eq w ↦ same_false the_type w.kind.result OutOfMemory (sym w.eq.ensures ∙ w.if-eq.false) (w.kind.ensures ∙ w.in-Err.ensures.taken program file are is)
+]
+
+-- what ran on the file that was found ran on the file that the words name
+ran_on : {E : Type 0} (holds : List ℕ → Option (List ℕ)) (words : List (List ℕ)) (program : Program) (P : Program → Option (List ℕ) → Type 0) (found : Result (Option (Bor (List ℕ))) E) (word : Bor (List ℕ))
+    → Names program words → found ≡ Ok (Some word) → ((p : Program) (file : List ℕ) → words ≡ name_of p ∷ file ∷ [] → IsFile file → IfOk found (λ some. option_map (λ w. w.now) some ≡ Some file))
+    → ReadFrom holds word.now (P program) → RanOn holds words P
+ran_on holds words program P found word (file, are) is finds (input, keeps, ran) = (program, file, are, (input, (λ right. subst (λ (f : List ℕ). Keeps (holds f) input) (same right) keeps), ran))
+  where
+    same : IsFile file → word.now ≡ file
+    same right = same_Some word.now file (subst (λ (r : Result (Option (Bor (List ℕ))) _). IfOk r (λ some. option_map (λ w. w.now) some ≡ Some file)) is (finds program file are right))
+
+pub returns-in-Ok-Some-clause-reported : goal.returns-in-Ok-Some-clause-reported
+returns-in-Ok-Some-clause-reported g c = λ zero.
+    let ends = c.run_file.ensures.reported zero in
+    (ran_on _ _ c.in-Some.program _ c.file_of.result c.in-Ok-Some.file c.in-Some.ensures.some (search rules) c.file_of.ensures.found ends.0, ends.1, ends.2)
+
+pub returns-in-Ok-Some-clause-failed : goal.returns-in-Ok-Some-clause-failed
+returns-in-Ok-Some-clause-failed g c = λ one. elim (c.run_file.ensures.failed one) [
+  | inl unopened ↦ inl (unopened.0, (_, inr refl, unopened.1))
+  | inr stopped ↦ inr (stopped.0, ran_on _ _ c.in-Some.program _ c.file_of.result c.in-Ok-Some.file c.in-Some.ensures.some (search rules) c.file_of.ensures.found stopped.1, stopped.2, stopped.3)
 ]

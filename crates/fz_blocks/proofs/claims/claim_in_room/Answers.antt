@@ -1,39 +1,41 @@
-use Rattle.std.proofs.Common.{◌∙◌, sym, arith}
+use Rattle.std.proofs.Common.{◌≡◌, ◌∙◌, ℕ, List, Some, true, slice_get, sym, subst, arith}
 use Rattle.std.proofs.lemmas.Bool.{and_parts}
-use Rattle.std.proofs.lemmas.Option.{slice_get_within}
+use Rattle.std.proofs.lemmas.Option.{same_Some, slice_get_within}
+use Rattle.fz_blocks.specs.declared.block.Block.{Block}
 use Rattle.fz_blocks.specs.Blocks.{has_free_cell}
 use Rattle.fz_blocks.specs.Classes.{class_of}
+use Rattle.fz_blocks.specs.Layout.{has_room}
+use Rattle.fz_blocks.specs.Listed.{IsFirst}
+use Rattle.fz_blocks.proofs.Alike.{roomy_own, roomy_unfull, claimed_alike}
 use Rattle.fz_blocks.proofs.Bits.{cell_fits}
 use Rattle.fz_blocks.proofs.Claiming.{room_claimed}
-use Rattle.fz_blocks.proofs.Tables.{room_is}
+use Rattle.fz_blocks.proofs.Listed.{room_is}
 use Rattle.fz_blocks.proofs.claims.claim_in_room.Goals as goal
 
-pub claim_in-place-requires : goal.claim_in-place-requires
-claim_in-place-requires c =
-    let first = c.requires.first in
-    record { block = first.block; here = first.here; roomy = (and_parts (has_free_cell first.block) _ (sym (room_is (class_of c.args.size c.args.kind) first.block) ∙ first.passes)).0 }
+roomy : (class : ℕ) (blocks : List Block) (at : ℕ) → IsFirst (has_room class) blocks at → (block : Block) → slice_get blocks at ≡ Some block → has_free_cell block ≡ true
+roomy class blocks at first block here =
+    subst (λ k. has_free_cell k ≡ true) (same_Some first.block block (sym first.here ∙ here)) (and_parts (has_free_cell first.block) _ (sym (room_is class first.block) ∙ first.passes)).0
 
-pub overflow_mul-result : goal.overflow_mul-result
-overflow_mul-result c =
-    let lt = slice_get_within c.args.table.now c.args.at c.claim_in-place.ensures.was c.claim_in-place.ensures.here in
-    let few = c.requires.few in
-    omega (arith, lt, few)
+pub get-block-requires : goal.get-block-requires
+get-block-requires c = slice_get_within c.args.blocks.now c.args.at c.requires.first.block c.requires.first.here
 
-pub overflow_add-result : goal.overflow_add-result
-overflow_add-result c =
-    let lt = slice_get_within c.args.table.now c.args.at c.claim_in-place.ensures.was c.claim_in-place.ensures.here in
-    let few = c.requires.few in
-    omega (arith, lt, few)
+pub claim_least-place-requires-clause-own : goal.claim_least-place-requires-clause-own
+claim_least-place-requires-clause-own c = roomy_own c.get-block.result (roomy (class_of c.args.size c.args.kind) c.args.blocks.now c.args.at c.requires.first c.get-block.result c.get-block.ensures)
+
+pub claim_least-place-requires-clause-room : goal.claim_least-place-requires-clause-room
+claim_least-place-requires-clause-room c = roomy_unfull c.get-block.result (roomy (class_of c.args.size c.args.kind) c.args.blocks.now c.args.at c.requires.first c.get-block.result c.get-block.ensures)
+
+pub change-requires-clause-alike : goal.change-requires-clause-alike
+change-requires-clause-alike c = λ unfull.
+    claimed_alike c.get-block.result c.claim_least-place.new.self c.claim_least-place.result c.claim_least-place.ensures
+    (roomy (class_of c.args.size c.args.kind) c.args.blocks.now c.args.at c.requires.first c.get-block.result c.get-block.ensures) (sym c.is_full.ensures ∙ unfull) c.args.blocks.now c.args.at c.get-block.ensures
 
 pub overflow_add-result-2 : goal.overflow_add-result-2
 overflow_add-result-2 c =
-    let is = c.claim_in-place.ensures in
-    let lt = slice_get_within c.args.table.now c.args.at is.was is.here in
-    let few = c.requires.few in
-    let small = cell_fits is.was.size c.claim_in-place.result is.was.sized is.claims.cell in
-    omega (arith, lt, few, small)
+    let small = cell_fits c.get-block.result.size c.claim_least-place.result c.get-block.result.sized c.claim_least-place.ensures.cell in
+    let lt = slice_get_within c.args.blocks.now c.args.at c.get-block.result c.get-block.ensures in
+    omega (arith, lt, c.requires.few, small)
 
 pub returns : goal.returns
 returns c =
-    let is = c.claim_in-place.ensures in
-    room_claimed c.args.table.now c.claim_in-place.new.self c.requires.runs c.args.size c.args.kind c.requires.sized c.requires.small c.args.at c.claim_in-place.result is.was is.now is.claims is.after is.here c.requires.first
+    room_claimed c.args.blocks.now c.change.new.self c.requires.runs c.args.size c.args.kind c.requires.sized c.requires.small c.args.at c.claim_least-place.result c.get-block.result c.claim_least-place.new.self c.claim_least-place.ensures c.change.ensures c.get-block.ensures c.requires.first

@@ -7,5 +7,5 @@ use Rattle.fz_blocks.proofs.claims.claim_place.Goals as goal
 
 pub returns-in_err-at : goal.returns-in_err-at
 returns-in_err-at c =
-    subst (λ r. MatchOption r ((place_in (extents_in c.args.table.now) (length c.args.table.now) c.args.size c.args.kind ≡ None) × (c.args.table.now ≡ c.args.table.now)) (λ start. IsClaimed c.args.table.now c.args.table.now c.args.size c.args.kind start))
-    (sym c.from_residual.ensures) (nowhere c.args.table.now c.requires.runs c.args.size c.args.kind c.requires.sized c.in_default.ensures c.in_err-at.ensures, refl)
+    subst (λ r. MatchOption r ((place_in (extents_in c.args.blocks.now) (length c.args.blocks.now) c.args.size c.args.kind ≡ None) × (c.args.blocks.now ≡ c.args.blocks.now)) (λ start. IsClaimed c.args.blocks.now c.args.blocks.now c.args.size c.args.kind start))
+    (sym c.from_residual.ensures) (nowhere c.args.blocks.now c.requires.runs c.args.size c.args.kind c.requires.sized c.in_default.ensures c.in_err-at.ensures, refl)

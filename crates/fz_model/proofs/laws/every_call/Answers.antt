@@ -5,7 +5,7 @@ use Rattle.fz_model.proofs.Standing.{reached_standing, links_stand}
 use Rattle.fz_model.proofs.CallLaws.{links_are_made, links_are_unlinked, links_are_moved, hold_gives_the_object}
 use Rattle.fz_model.proofs.PassLaws.{each_pass_is_lawful}
 use Rattle.fz_model.proofs.CycleLaws.{seen_in_this_cycle}
-use Rattle.fz_model.proofs.OrderLaws.{first_is_told}
+use Rattle.fz_model.proofs.OrderLaws.{first_is_told, workers_come_first}
 use Rattle.fz_model.proofs.WithinLimits.{tables_are_within}
 use Rattle.fz_model.proofs.HasStep.{each_call_has_step, each_event_has_step}
 use Rattle.fz_model.proofs.laws.every_call.Goals as goal
@@ -27,6 +27,9 @@ returns-clause-links_are_made c s r = links_are_made s
 
 pub returns-clause-first_is_told : goal.returns-clause-first_is_told
 returns-clause-first_is_told c s r = first_is_told s
+
+pub returns-clause-workers_come_first : goal.returns-clause-workers_come_first
+returns-clause-workers_come_first c moves end r = workers_come_first end
 
 pub returns-clause-tables_are_within : goal.returns-clause-tables_are_within
 returns-clause-tables_are_within c = tables_are_within

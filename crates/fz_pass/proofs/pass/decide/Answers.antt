@@ -16,10 +16,10 @@ pub trace_led-requires-clause-closed : goal.trace_led-requires-clause-closed
 trace_led-requires-clause-closed c =
     let m0 = c.args.marker.now in
     let heap0 = c.args.heap.now in
-    let first = cleared_by heap0 c.clear_dead.new.heap c.args.short.now c.found.result.now.members m0.marked (ap (λ (f : Flagged). f.members) c.found.ensures) c.clear_dead.ensures in
+    let first = cleared_by heap0 c.clear_dead.new.heap c.args.short.now.links c.found.result.now.members m0.marked (ap (λ (f : Flagged). f.members) c.found.ensures) c.clear_dead.ensures in
     let begun : c.list_unreachable.new.marker.traced ≡ m0.marked = ap (λ (m : Marking). m.traced) c.list_unreachable.ensures.same ∙ ap (λ (m : Marking). m.traced) c.trace_found.ensures in
     subst (IsClosed c.clear_dead.new.heap.objects) (sym begun)
-    (subst (λ (h : Contents). IsClosed h.objects m0.marked) (sym first) (closed_after heap0.objects c.args.short.now m0.marked (nothing_at_zero heap0.blocks heap0.objects c.condemned-before.ensures.objects) c.requires.closed))
+    (subst (λ (h : Contents). IsClosed h.objects m0.marked) (sym first) (closed_after heap0.objects c.args.short.now.links m0.marked (nothing_at_zero heap0.blocks heap0.objects c.condemned-before.ensures.objects) c.requires.closed))
 
 pub returns-clause-decided : goal.returns-clause-decided
 returns-clause-decided c =
@@ -30,12 +30,12 @@ returns-clause-decided c =
     let heap0 = c.args.heap.now in
     let heap1 = c.clear_dead.new.heap in
     let heap2 = c.clear_dead-2.new.heap in
-    let table0 = c.args.table.now in
-    let table1 = c.pick_free.new.table in
+    let table0 = c.args.table.now.registered in
+    let table1 = c.pick_free.new.table.registered in
     let out0 = c.args.out.now.items in
     let out1 = c.pick_free.new.out.items in
-    let short = c.args.short.now in
-    let long = c.args.long.now in
+    let short = c.args.short.now.links in
+    let long = c.args.long.now.links in
     let first = cleared_by heap0 heap1 short c.found.result.now.members m0.marked (ap (λ (f : Flagged). f.members) c.found.ensures) c.clear_dead.ensures in
     let begun : m1.traced ≡ m0.marked = ap (λ (m : Marking). m.traced) c.list_unreachable.ensures.same ∙ ap (λ (m : Marking). m.traced) c.trace_found.ensures in
     let listed : (a : ℕ) → contains m1.listed a ≡ is_unreachable heap1.objects table0.registrations (contains m0.marked) a =
@@ -49,7 +49,7 @@ returns-clause-decided c =
     let second = cleared_by heap1 heap2 long c.kept-kept.result.now.members m3.traced (ap (λ (f : Flagged). f.members) c.kept-kept.ensures) c.clear_dead-2.ensures in
     let found : c.found-found.result.now.members ≡ m0.marked = ap (λ (f : Flagged). f.members) c.found-found.ensures ∙ marked in
     let kept : c.kept-kept.result.now.members ≡ m3.traced = ap (λ (f : Flagged). f.members) c.kept-kept.ensures in
-    decided heap0 heap1 heap2 c.condemn_outside.new.heap m0 m1 m2 m3 table0 table1 short long c.keep_within.new.links c.keep_within-2.new.links m1.listed out0 out1 first begun listed c.trace_led.ensures picks reached second
+    decided heap0 heap1 heap2 c.condemn_outside.new.heap m0 m1 m2 m3 table0 table1 c.args.short.now c.args.long.now c.keep_within.new.links c.keep_within-2.new.links m1.listed out0 out1 first begun listed c.trace_led.ensures picks reached second
     (c.keep_within.ensures ∙ (λ i. links_within heap2.objects short (contains (found i)) (contains (kept i))))
     (c.keep_within-2.ensures ∙ (λ i. links_within heap2.objects long (contains (kept i)) (contains (kept i))))
     (c.condemn_outside.ensures.objects ∙ ap (λ (f : Flagged). retain_keys heap2.objects (contains f.members)) c.kept-kept.ensures)
@@ -58,15 +58,15 @@ pub returns-clause-condemned : goal.returns-clause-condemned
 returns-clause-condemned c =
     let m3 = c.trace_listed.new.marker in
     let heap2 = c.clear_dead-2.new.heap in
-    condemned c.args.heap.now c.clear_dead.new.heap heap2 c.condemn_outside.new.heap c.args.short.now c.args.long.now c.found.result.now.members m3.traced c.clear_dead.ensures
-    (cleared_by c.clear_dead.new.heap heap2 c.args.long.now c.kept-kept.result.now.members m3.traced (ap (λ (f : Flagged). f.members) c.kept-kept.ensures) c.clear_dead-2.ensures)
+    condemned c.args.heap.now c.clear_dead.new.heap heap2 c.condemn_outside.new.heap c.args.short.now.links c.args.long.now.links c.found.result.now.members m3.traced c.clear_dead.ensures
+    (cleared_by c.clear_dead.new.heap heap2 c.args.long.now.links c.kept-kept.result.now.members m3.traced (ap (λ (f : Flagged). f.members) c.kept-kept.ensures) c.clear_dead-2.ensures)
     (c.condemn_outside.ensures.objects ∙ ap (λ (f : Flagged). retain_keys heap2.objects (contains f.members)) c.kept-kept.ensures)
     (λ a. c.condemn_outside.ensures.condemned a ∙ ap (λ (f : Flagged). is_outside heap2.objects (contains f.members) a || contains heap2.condemned a) c.kept-kept.ensures)
 
 pub condemn_outside-requires : goal.condemn_outside-requires
 condemn_outside-requires c =
-    still_within c.clear_dead.new.heap c.clear_dead-2.new.heap c.args.long.now c.kept-kept.result.now.members c.clear_dead-2.ensures
-    (still_within c.args.heap.now c.clear_dead.new.heap c.args.short.now c.found.result.now.members c.clear_dead.ensures c.condemned-before.ensures.objects)
+    still_within c.clear_dead.new.heap c.clear_dead-2.new.heap c.args.long.now.links c.kept-kept.result.now.members c.clear_dead-2.ensures
+    (still_within c.args.heap.now c.clear_dead.new.heap c.args.short.now.links c.found.result.now.members c.clear_dead.ensures c.condemned-before.ensures.objects)
 
 pub overflow_sub-result : goal.overflow_sub-result
 overflow_sub-result c =
@@ -82,8 +82,8 @@ returns-clause-count c =
 
 pub returns-clause-reclaimed : goal.returns-clause-reclaimed
 returns-clause-reclaimed c =
-    let first = len_cleared c.args.heap.now c.clear_dead.new.heap c.args.short.now c.found.result.now.members c.clear_dead.ensures in
-    let second = len_cleared c.clear_dead.new.heap c.clear_dead-2.new.heap c.args.long.now c.kept-kept.result.now.members c.clear_dead-2.ensures in
+    let first = len_cleared c.args.heap.now c.clear_dead.new.heap c.args.short.now.links c.found.result.now.members c.clear_dead.ensures in
+    let second = len_cleared c.clear_dead.new.heap c.clear_dead-2.new.heap c.args.long.now.links c.kept-kept.result.now.members c.clear_dead-2.ensures in
     let held = ap (λ (h : Contents). sets.len h.condemned) c.clear_dead.ensures in
     let still = ap (λ (h : Contents). sets.len h.condemned) c.clear_dead-2.ensures in
     omega (arith, first, second, held, still, c.condemned-before.ensures.count, c.condemn_outside.ensures.count, c.condemn_outside.ensures.more, c.condemned.ensures.count)

@@ -1,10 +1,11 @@
 use Rattle.std.proofs.Common.{◌≤◌, ◌*◌, drop}
 use Rattle.fz_threads.proofs.Holding.{Doing}
+use Rattle.fz_threads.specs.declared.limits.TheConstants.{MAX_REFUSED_OF_LINE}
 use Rattle.fz_threads.proofs.section.work.Given as goal
 
 abbrev pub invariant-loop-job : goal.invariant-loop-job
 invariant-loop-job g l = record {
   doing : Doing g.O.Opening.origin l.number l.jobs l.begun (drop l.job-index l.jobs) l.refused;
-  few : l.refused ≤ 20000 * l.job-index;
+  few : l.refused ≤ MAX_REFUSED_OF_LINE * l.job-index;
   begun : l.begun ≤ l.job-index;
 }

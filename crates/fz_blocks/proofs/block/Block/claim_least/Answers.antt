@@ -5,7 +5,7 @@ use Rattle.fz_model.specs.Bits.{has_bit}
 use Rattle.fz_blocks.specs.Blocks.{Claims}
 use Rattle.fz_blocks.proofs.Bits.{set_bit}
 use Rattle.fz_model.proofs.Bits.{no_bits}
-use Rattle.fz_blocks.proofs.Blocks.{least_within, least_cell, least_free, before_least}
+use Rattle.fz_blocks.proofs.Objects.{least_within, least_cell, least_free, before_least}
 use Rattle.fz_blocks.proofs.block.Block.claim_least.Goals as goal
 
 pub overflow_shl-self : goal.overflow_shl-self

@@ -1,6 +1,6 @@
 use Rattle.std.proofs.Common.{◌∙◌, arith}
 use Rattle.std.proofs.Math.Nat.{mod_self, add-mod_right}
-use Rattle.fz_blocks.proofs.Blocks.{first_cell, next_cell}
+use Rattle.fz_blocks.proofs.Objects.{first_cell, next_cell}
 use Rattle.fz_blocks.proofs.block.Block.of.Goals as goal
 
 pub loop-place-init : goal.loop-place-init

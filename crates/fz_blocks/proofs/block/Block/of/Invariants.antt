@@ -1,5 +1,5 @@
 use Rattle.std.proofs.Common.{◌≡◌, ◌≤◌, ◌-◌, ◌%◌}
-use Rattle.fz_blocks.proofs.Blocks.{AreCellsBelow}
+use Rattle.fz_blocks.proofs.Objects.{AreCellsBelow}
 use Rattle.fz_blocks.proofs.block.Block.of.Given as goal
 
 abbrev pub invariant-loop-place : goal.invariant-loop-place

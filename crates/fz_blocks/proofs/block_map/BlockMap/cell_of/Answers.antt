@@ -15,28 +15,28 @@ Answer w r extents = MatchOption r (points_in extents w ≡ None) (λ found. (po
 pub returns-in_err-offset : goal.returns-in_err-offset
 returns-in_err-offset c =
     subst (λ (v : Claimed). Answer c.args.word c.from_residual.result v.extents) c.self.view_is
-    (subst (λ r. Answer c.args.word r (extents_in c.self.inside.table)) (sym c.from_residual.ensures) (points_low c.self.inside.table c.self.invariant.runs c.args.word (omega (arith, c.in_err-offset.ensures))))
+    (subst (λ r. Answer c.args.word r (extents_in c.self.inside.blocks)) (sym c.from_residual.ensures) (points_low c.self.inside.blocks c.self.invariant.runs c.args.word (omega (arith, c.in_err-offset.ensures))))
 
 pub returns-in_err-block : goal.returns-in_err-block
 returns-in_err-block c =
     subst (λ (v : Claimed). Answer c.args.word c.from_residual-in_err-block.result v.extents) c.self.view_is
-    (subst (λ r. Answer c.args.word r (extents_in c.self.inside.table)) (sym c.from_residual-in_err-block.ensures)
-    (points_past c.self.inside.table c.self.invariant.runs c.args.word c.in_ok-offset.offset c.in_ok-offset.ensures.0 c.in_ok-offset.ensures.1 (read_none c.self.inside.table c.as_slice-all.result.now (c.in_ok-offset.offset / 64) c.as_slice-all.ensures c.in_err-block.ensures.lookup.0)))
+    (subst (λ r. Answer c.args.word r (extents_in c.self.inside.blocks)) (sym c.from_residual-in_err-block.ensures)
+    (points_past c.self.inside.blocks c.self.invariant.runs c.args.word c.in_ok-offset.offset c.in_ok-offset.ensures.0 c.in_ok-offset.ensures.1 (read_none c.self.inside.blocks c.as_slice-all.result.now (c.in_ok-offset.offset / 64) c.as_slice-all.ensures c.in_err-block.ensures.lookup.0)))
 
 pub returns-in-Some : goal.returns-in-Some
 returns-in-Some c =
-    let here = read_block c.self.inside.table c.as_slice-all.result.now (c.in_ok-offset.offset / 64) c.in_ok-block.block.now c.as_slice-all.ensures c.in_ok-block.ensures.lookup.0 c.in_ok-block.ensures.lookup.1 in
-    let found = points_here c.self.inside.table c.self.invariant.runs c.args.word c.in_ok-offset.offset c.in_ok-offset.ensures.0 c.in_ok-offset.ensures.1 c.in_ok-block.block.now here c.in-Some.start c.in-Some.ensures in
-    subst (λ (v : Claimed). Answer c.args.word (Some (c.args.word - c.in_ok-offset.offset % 64 + c.in-Some.start, c.extent.result)) v.extents) c.self.view_is (found.0, subst (λ x. get (extents_in c.self.inside.table) (c.args.word - c.in_ok-offset.offset % 64 + c.in-Some.start) ≡ Some x) (sym c.extent.ensures) found.1)
+    let here = read_block c.self.inside.blocks c.as_slice-all.result.now (c.in_ok-offset.offset / 64) c.in_ok-block.block.now c.as_slice-all.ensures c.in_ok-block.ensures.lookup.0 c.in_ok-block.ensures.lookup.1 in
+    let found = points_here c.self.inside.blocks c.self.invariant.runs c.args.word c.in_ok-offset.offset c.in_ok-offset.ensures.0 c.in_ok-offset.ensures.1 c.in_ok-block.block.now here c.in-Some.start c.in-Some.ensures in
+    subst (λ (v : Claimed). Answer c.args.word (Some (c.args.word - c.in_ok-offset.offset % 64 + c.in-Some.start, c.extent.result)) v.extents) c.self.view_is (found.0, subst (λ x. get (extents_in c.self.inside.blocks) (c.args.word - c.in_ok-offset.offset % 64 + c.in-Some.start) ≡ Some x) (sym c.extent.ensures) found.1)
 
 pub returns-then-block-eq0 : goal.returns-then-block-eq0
 returns-then-block-eq0 c =
-    let here = read_block c.self.inside.table c.as_slice-all.result.now (c.in_ok-offset.offset / 64) c.in_ok-block.block.now c.as_slice-all.ensures c.in_ok-block.ensures.lookup.0 c.in_ok-block.ensures.lookup.1 in
-    subst (λ (v : Claimed). Answer c.args.word None v.extents) c.self.view_is (points_free c.self.inside.table c.self.invariant.runs c.args.word c.in_ok-offset.offset c.in_ok-offset.ensures.0 c.in_ok-offset.ensures.1 c.in_ok-block.block.now here c.in_default.ensures c.if-block-eq0.true)
+    let here = read_block c.self.inside.blocks c.as_slice-all.result.now (c.in_ok-offset.offset / 64) c.in_ok-block.block.now c.as_slice-all.ensures c.in_ok-block.ensures.lookup.0 c.in_ok-block.ensures.lookup.1 in
+    subst (λ (v : Claimed). Answer c.args.word None v.extents) c.self.view_is (points_free c.self.inside.blocks c.self.invariant.runs c.args.word c.in_ok-offset.offset c.in_ok-offset.ensures.0 c.in_ok-offset.ensures.1 c.in_ok-block.block.now here c.in_default.ensures c.if-block-eq0.true)
 
 pub overflow_sub-index : goal.overflow_sub-index
 overflow_sub-index c =
-    let here = read_block c.self.inside.table c.as_slice-all.result.now (c.in_ok-offset.offset / 64) c.in_ok-block.block.now c.as_slice-all.ensures c.in_ok-block.ensures.lookup.0 c.in_ok-block.ensures.lookup.1 in
+    let here = read_block c.self.inside.blocks c.as_slice-all.result.now (c.in_ok-offset.offset / 64) c.in_ok-block.block.now c.as_slice-all.ensures c.in_ok-block.ensures.lookup.0 c.in_ok-block.ensures.lookup.1 in
     let later = c.self.invariant.runs.behind (c.in_ok-offset.offset / 64) c.in_ok-block.block.now here (omega (arith, c.if-block-eq0.false)) in
     let low = later.within in
     let back = c.from-back.ensures in
@@ -44,7 +44,7 @@ overflow_sub-index c =
 
 pub overflow_sub-start-2 : goal.overflow_sub-start-2
 overflow_sub-start-2 c =
-    let here = read_block c.self.inside.table c.as_slice-all.result.now (c.in_ok-offset.offset / 64) c.in_ok-block.block.now c.as_slice-all.ensures c.in_ok-block.ensures.lookup.0 c.in_ok-block.ensures.lookup.1 in
+    let here = read_block c.self.inside.blocks c.as_slice-all.result.now (c.in_ok-offset.offset / 64) c.in_ok-block.block.now c.as_slice-all.ensures c.in_ok-block.ensures.lookup.0 c.in_ok-block.ensures.lookup.1 in
     let later = c.self.invariant.runs.behind (c.in_ok-offset.offset / 64) c.in_ok-block.block.now here (omega (arith, c.if-block-eq0.false)) in
     let low = later.within in
     let back = c.from-back.ensures in
@@ -54,24 +54,24 @@ overflow_sub-start-2 c =
 
 pub returns-then-word-start : goal.returns-then-word-start
 returns-then-word-start c =
-    let blocks = c.self.inside.table in
-    let here = read_block c.self.inside.table c.as_slice-all.result.now (c.in_ok-offset.offset / 64) c.in_ok-block.block.now c.as_slice-all.ensures c.in_ok-block.ensures.lookup.0 c.in_ok-block.ensures.lookup.1 in
-    let there = read_block c.self.inside.table c.as_slice-all.result.now (c.in_ok-offset.offset / 64 - c.from-back.result) c.in_ok-first.first.now c.as_slice-all.ensures c.in_ok-first.ensures.lookup.0 c.in_ok-first.ensures.lookup.1 in
+    let blocks = c.self.inside.blocks in
+    let here = read_block c.self.inside.blocks c.as_slice-all.result.now (c.in_ok-offset.offset / 64) c.in_ok-block.block.now c.as_slice-all.ensures c.in_ok-block.ensures.lookup.0 c.in_ok-block.ensures.lookup.1 in
+    let there = read_block c.self.inside.blocks c.as_slice-all.result.now (c.in_ok-offset.offset / 64 - c.from-back.result) c.in_ok-first.first.now c.as_slice-all.ensures c.in_ok-first.ensures.lookup.0 c.in_ok-first.ensures.lookup.1 in
     let far = c.if-word-start.true in
     let size = c.from.ensures in
     let back = c.from-back.ensures in
     subst (λ (v : Claimed). Answer c.args.word None v.extents) c.self.view_is
-    (points_rest c.self.inside.table c.self.invariant.runs c.args.word c.in_ok-offset.offset c.in_ok-offset.ensures.0 c.in_ok-offset.ensures.1 c.in_ok-block.block.now here c.in_default.ensures c.if-block-eq0.false c.in_ok-first.first.now
-    (subst (λ k. slice_get c.self.inside.table (c.in_ok-offset.offset / 64 - k) ≡ Some c.in_ok-first.first.now) back there) (omega (arith, far, size, back)))
+    (points_rest c.self.inside.blocks c.self.invariant.runs c.args.word c.in_ok-offset.offset c.in_ok-offset.ensures.0 c.in_ok-offset.ensures.1 c.in_ok-block.block.now here c.in_default.ensures c.if-block-eq0.false c.in_ok-first.first.now
+    (subst (λ k. slice_get c.self.inside.blocks (c.in_ok-offset.offset / 64 - k) ≡ Some c.in_ok-first.first.now) back there) (omega (arith, far, size, back)))
 
 pub returns : goal.returns
 returns c =
-    let here = read_block c.self.inside.table c.as_slice-all.result.now (c.in_ok-offset.offset / 64) c.in_ok-block.block.now c.as_slice-all.ensures c.in_ok-block.ensures.lookup.0 c.in_ok-block.ensures.lookup.1 in
-    let there = read_block c.self.inside.table c.as_slice-all.result.now (c.in_ok-offset.offset / 64 - c.from-back.result) c.in_ok-first.first.now c.as_slice-all.ensures c.in_ok-first.ensures.lookup.0 c.in_ok-first.ensures.lookup.1 in
+    let here = read_block c.self.inside.blocks c.as_slice-all.result.now (c.in_ok-offset.offset / 64) c.in_ok-block.block.now c.as_slice-all.ensures c.in_ok-block.ensures.lookup.0 c.in_ok-block.ensures.lookup.1 in
+    let there = read_block c.self.inside.blocks c.as_slice-all.result.now (c.in_ok-offset.offset / 64 - c.from-back.result) c.in_ok-first.first.now c.as_slice-all.ensures c.in_ok-first.ensures.lookup.0 c.in_ok-first.ensures.lookup.1 in
     let near = c.if-word-start.false in
     let size = c.from.ensures in
     let back = c.from-back.ensures in
-    let found = points_back c.self.inside.table c.self.invariant.runs c.args.word c.in_ok-offset.offset c.in_ok-offset.ensures.0 c.in_ok-offset.ensures.1 c.in_ok-block.block.now here c.in_default.ensures c.if-block-eq0.false c.in_ok-first.first.now
-    (subst (λ k. slice_get c.self.inside.table (c.in_ok-offset.offset / 64 - k) ≡ Some c.in_ok-first.first.now) back there) (omega (arith, near, size, back)) in
+    let found = points_back c.self.inside.blocks c.self.invariant.runs c.args.word c.in_ok-offset.offset c.in_ok-offset.ensures.0 c.in_ok-offset.ensures.1 c.in_ok-block.block.now here c.in_default.ensures c.if-block-eq0.false c.in_ok-first.first.now
+    (subst (λ k. slice_get c.self.inside.blocks (c.in_ok-offset.offset / 64 - k) ≡ Some c.in_ok-first.first.now) back there) (omega (arith, near, size, back)) in
     subst (λ k. (points_in c.args.self.now.extents c.args.word ≡ Some (c.args.word - c.in_ok-offset.offset % 64 - 64 * k)) × (get c.args.self.now.extents (c.args.word - c.in_ok-offset.offset % 64 - 64 * k) ≡ Some c.extent-2.result)) (sym back)
-    (subst (λ (v : Claimed). Answer c.args.word (Some (c.args.word - c.in_ok-offset.offset % 64 - 64 * c.in_ok-block.block.now.back, c.extent-2.result)) v.extents) c.self.view_is (found.0, subst (λ x. get (extents_in c.self.inside.table) (c.args.word - c.in_ok-offset.offset % 64 - 64 * c.in_ok-block.block.now.back) ≡ Some x) (sym c.extent-2.ensures) found.1))
+    (subst (λ (v : Claimed). Answer c.args.word (Some (c.args.word - c.in_ok-offset.offset % 64 - 64 * c.in_ok-block.block.now.back, c.extent-2.result)) v.extents) c.self.view_is (found.0, subst (λ x. get (extents_in c.self.inside.blocks) (c.args.word - c.in_ok-offset.offset % 64 - 64 * c.in_ok-block.block.now.back) ≡ Some x) (sym c.extent-2.ensures) found.1))

@@ -17,7 +17,7 @@ on_ok (Ok x) p = p
 on_ok (Err e) p = tt
 
 pub returns-clause-apart : goal.returns-clause-apart
-returns-clause-apart c = on_ok _ (apart c.claim_place.new.table (still_runs _ c.claim_place.new.table _ _ _ c.claim_place.ensures c.self.invariant.runs))
+returns-clause-apart c = on_ok _ (apart c.claim_place.new.blocks (still_runs _ c.claim_place.new.blocks _ _ _ c.claim_place.ensures c.self.invariant.runs))
 
 pub returns-clause-within : goal.returns-clause-within
-returns-clause-within c = on_ok _ (within c.claim_place.new.table (still_runs _ c.claim_place.new.table _ _ _ c.claim_place.ensures c.self.invariant.runs))
+returns-clause-within c = on_ok _ (within c.claim_place.new.blocks (still_runs _ c.claim_place.new.blocks _ _ _ c.claim_place.ensures c.self.invariant.runs))

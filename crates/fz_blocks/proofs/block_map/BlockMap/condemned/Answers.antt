@@ -7,10 +7,10 @@ use Rattle.fz_blocks.proofs.Mapped.{are_gone}
 use Rattle.fz_blocks.proofs.block_map.BlockMap.condemned.Goals as goal
 
 pub returns-clause-count : goal.returns-clause-count
-returns-clause-count c = c.condemned.ensures ∙ sym (len-condemned_in c.self.inside.table) ∙ ap (λ (v : Claimed). len v.condemned) c.self.view_is
+returns-clause-count c = c.condemned.ensures ∙ sym (len-condemned_in c.self.inside.blocks) ∙ ap (λ (v : Claimed). len v.condemned) c.self.view_is
 
 pub returns-clause-gone : goal.returns-clause-gone
-returns-clause-gone c = subst AreGone c.self.view_is (are_gone c.self.inside.table)
+returns-clause-gone c = subst AreGone c.self.view_is (are_gone c.self.inside.blocks)
 
 pub returns-clause-within : goal.returns-clause-within
-returns-clause-within c = subst (λ (v : Claimed). (a : ℕ) → contains v.condemned a ≡ true → IsInHeap v.blocks a) c.self.view_is (condemned_within c.self.inside.table)
+returns-clause-within c = subst (λ (v : Claimed). (a : ℕ) → contains v.condemned a ≡ true → IsInHeap v.blocks a) c.self.view_is (condemned_within c.self.inside.blocks)

@@ -9,5 +9,5 @@ pub returns : goal.returns
 returns c =
     c.of.ensures
     ∙ ap (λ bs. starts_from bs 65536) c.as_slice.ensures
-    ∙ sym (keys-extents_in c.self.inside.table)
+    ∙ sym (keys-extents_in c.self.inside.blocks)
     ∙ ap (λ (v : Claimed). keys v.extents) c.self.view_is

@@ -7,4 +7,4 @@ use Rattle.fz_blocks.proofs.block_map.BlockMap.starts_in.Goals as goal
 
 pub returns : goal.returns
 returns c = λ place small.
-    start_key c.self.inside.table c.args.block place c.get.result c.get.ensures small ∙ ap (λ (v : Claimed). contains_key v.extents (block_start c.args.block + place)) c.self.view_is
+    start_key c.self.inside.blocks c.args.block place c.get.result c.get.ensures small ∙ ap (λ (v : Claimed). contains_key v.extents (block_start c.args.block + place)) c.self.view_is

@@ -1,14 +1,17 @@
 use Rattle.std.proofs.Common.{◌∙◌, ap}
 use Rattle.fz_blocks.specs.Claimed.{Claimed, swept}
+use Rattle.fz_blocks.proofs.Alike.{kept_alike}
 use Rattle.fz_blocks.proofs.Mapped.{map_swept, swept_view}
 use Rattle.fz_blocks.proofs.block_map.BlockMap.sweep.Goals as goal
 
+pub put_alike-requires-clause-alike : goal.put_alike-requires-clause-alike
+put_alike-requires-clause-alike c = kept_alike c.get-clean.result c.sweep.new.self c.sweep.ensures.alike c.sweep.ensures.objects c.self.inside.blocks c.args.block c.get-clean.ensures
+
 pub invariant_of-self : goal.invariant_of-self
 invariant_of-self c =
-    let is = c.sweep_in.ensures in
-    map_swept c.self.inside.table c.self.invariant c.args.block is.was is.now is.here is.alike is.objects c.sweep_in.new.self is.after
+    map_swept c.self.inside.blocks c.self.invariant c.args.block c.get-clean.result c.sweep.new.self c.get-clean.ensures c.sweep.ensures.alike c.sweep.ensures.objects c.put_alike.new.self c.put_alike.ensures
 
 pub returns : goal.returns
 returns c =
-    let is = c.sweep_in.ensures in
-    swept_view c.self.inside.table c.args.block is.was is.now is.here is.alike is.objects is.swept c.sweep_in.new.self is.after ∙ ap (λ (v : Claimed). record v { condemned = swept v.condemned c.args.block 1 }) c.self.view_is
+    swept_view c.self.inside.blocks c.args.block c.get-clean.result c.sweep.new.self c.get-clean.ensures c.sweep.ensures.alike c.sweep.ensures.objects c.sweep.ensures.swept c.put_alike.new.self c.put_alike.ensures
+    ∙ ap (λ (v : Claimed). record v { condemned = swept v.condemned c.args.block 1 }) c.self.view_is

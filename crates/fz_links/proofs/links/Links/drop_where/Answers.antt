@@ -8,10 +8,10 @@ use Rattle.fz_model.proofs.KeyedEntries.{limit_removed}
 use Rattle.fz_links.proofs.Dropping.{IsSifted, sifted_kept, sifted_dropped, sifted_all, length-swap_remove}
 use Rattle.fz_links.proofs.links.Links.drop_where.Goals as goal
 
-pub returns : goal.returns
-returns g c = λ test computes.
+pub returns-clause-dropped : goal.returns-clause-dropped
+returns-clause-dropped g c = λ test computes.
     let none : c.loop-place.place ≡ 0 = omega arith in
-    sifted_all test c.args.self.now c.loop-place.self-inside.entries.entries (subst (λ p. IsSifted test c.args.self.now p c.loop-place.self-inside.entries.entries) none (c.loop-place.invariant.sifted test computes))
+    sifted_all test c.args.self.now.links c.loop-place.self-inside.entries.entries (subst (λ p. IsSifted test c.args.self.now.links p c.loop-place.self-inside.entries.entries) none (c.loop-place.invariant.sifted test computes))
 
 pub loop-place-preserved-else-f : goal.loop-place-preserved-else-f
 loop-place-preserved-else-f g c =
@@ -22,9 +22,10 @@ loop-place-preserved-else-f g c =
     record {
       within = omega (arith, within);
       few = c.loop-place.invariant.few;
+      roomier = c.loop-place.invariant.roomier;
       sifted = λ test computes.
-          sifted_kept test c.args.self.now es place c.in-Some.link.now c.in-Some.target.now
-          (subst (λ p. IsSifted test c.args.self.now p es) next (c.loop-place.invariant.sifted test computes))
+          sifted_kept test c.args.self.now.links es place c.in-Some.link.now c.in-Some.target.now
+          (subst (λ p. IsSifted test c.args.self.now.links p es) next (c.loop-place.invariant.sifted test computes))
           (sym c.in-Some.ensures.entry)
           (sym (computes c.in-Some.link.now c.in-Some.target.now c.f.result c.f.ensures) ∙ c.if-f.false);
     }
@@ -46,9 +47,10 @@ loop-place-preserved-then-f g c =
     record {
       within = omega (arith, within, fewer);
       few = subst (λ (m : Map ℕ). len m ≤ TABLE_LIMIT) (sym removed) (limit_removed (from_entries es) link c.loop-place.invariant.few);
+      roomier = let kept = c.swap_remove_index.ensures.room.0 in let before = c.loop-place.invariant.roomier in omega (arith, kept, before);
       sifted = λ test computes.
-          sifted_dropped test c.args.self.now es c.swap_remove_index.new.self.entries place link target
-          (subst (λ p. IsSifted test c.args.self.now p es) next (c.loop-place.invariant.sifted test computes))
+          sifted_dropped test c.args.self.now.links es c.swap_remove_index.new.self.entries place link target
+          (subst (λ p. IsSifted test c.args.self.now.links p es) next (c.loop-place.invariant.sifted test computes))
           (omega (arith, within))
           (get_made es link ∙ c.in-Some.ensures.value)
           (sym (computes link target c.f.result c.f.ensures) ∙ c.if-f.true)

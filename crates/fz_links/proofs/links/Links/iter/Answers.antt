@@ -1,14 +1,14 @@
-use Rattle.std.proofs.Common.{ℕ, ◌≤◌, ◌∙◌, ap, sym, subst}
+use Rattle.std.proofs.Common.{length, ◌≤◌, ◌∙◌, ap, sym, subst}
 use Rattle.std.specs.FinMap.{len}
 use Rattle.fz_model.specs.declared.limits.TheConstants.{TABLE_LIMIT}
-use Rattle.fz_model.specs.State.{Map}
+use Rattle.fz_links.specs.Linked.{Linked}
 use Rattle.fz_model.proofs.KeyedEntries.{len_made}
 use Rattle.fz_links.proofs.links.Links.iter.Goals as goal
 
 pub returns-clause-count : goal.returns-clause-count
 returns-clause-count c =
-    c.iter.ensures.len ∙ sym (len_made c.self.inside.entries.entries c.iter.ensures.unique) ∙ ap (λ (t : Map ℕ). len t) c.self.view_is
+    ap length c.of.ensures ∙ c.iter.ensures.len ∙ sym (len_made c.self.inside.entries.entries c.iter.ensures.unique) ∙ ap (λ (t : Linked). len t.links) c.self.view_is
 
 pub returns-clause-limit : goal.returns-clause-limit
 returns-clause-limit c =
-    subst (λ n. n ≤ TABLE_LIMIT) (len_made c.self.inside.entries.entries c.iter.ensures.unique ∙ sym c.iter.ensures.len) c.self.invariant
+    subst (λ n. n ≤ TABLE_LIMIT) (len_made c.self.inside.entries.entries c.iter.ensures.unique ∙ sym (ap length c.of.ensures ∙ c.iter.ensures.len)) c.self.invariant

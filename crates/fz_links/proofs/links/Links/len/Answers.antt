@@ -1,14 +1,13 @@
 use Rattle.std.proofs.Common.{◌≤◌, ◌∙◌, ap, sym, subst}
 use Rattle.std.specs.FinMap.{len}
 use Rattle.fz_model.specs.declared.limits.TheConstants.{TABLE_LIMIT}
-use Rattle.std.proofs.Common.{ℕ}
-use Rattle.fz_model.specs.State.{Map}
+use Rattle.fz_links.specs.Linked.{Linked}
 use Rattle.fz_model.proofs.KeyedEntries.{len_made}
 use Rattle.fz_links.proofs.links.Links.len.Goals as goal
 
 pub returns-clause-count : goal.returns-clause-count
 returns-clause-count c =
-    c.len.ensures.len ∙ sym (len_made c.self.inside.entries.entries c.len.ensures.unique) ∙ ap (λ (t : Map ℕ). len t) c.self.view_is
+    c.len.ensures.len ∙ sym (len_made c.self.inside.entries.entries c.len.ensures.unique) ∙ ap (λ (t : Linked). len t.links) c.self.view_is
 
 pub returns-clause-limit : goal.returns-clause-limit
 returns-clause-limit c =

@@ -1,8 +1,8 @@
-use Rattle.std.proofs.Common.{◌≤◌, ◌∙◌, ap, sym, subst, is_some, ℕ}
+use Rattle.std.proofs.Common.{◌≤◌, ◌∙◌, ap, sym, subst, is_some}
 use Rattle.std.specs.FinMap.{get, len, remove}
 use Rattle.fz_model.specs.declared.limits.TheConstants.{TABLE_LIMIT}
 use Rattle.fz_model.proofs.Tables.{get_made, made_removed}
-use Rattle.fz_model.specs.State.{Map}
+use Rattle.fz_links.specs.Linked.{Linked}
 use Rattle.fz_model.proofs.KeyedEntries.{limit_removed}
 use Rattle.fz_links.proofs.links.Links.unregister.Goals as goal
 
@@ -13,8 +13,8 @@ invariant_of-self c =
 pub returns-clause-answer : goal.returns-clause-answer
 returns-clause-answer c =
     c.is_some.ensures
-    ∙ ap is_some (c.swap_remove.ensures.value ∙ sym (get_made c.self.inside.entries.entries c.args.link) ∙ ap (λ (t : Map ℕ). get t c.args.link) c.self.view_is)
+    ∙ ap is_some (c.swap_remove.ensures.value ∙ sym (get_made c.self.inside.entries.entries c.args.link) ∙ ap (λ (t : Linked). get t.links c.args.link) c.self.view_is)
 
 pub returns-clause-removed : goal.returns-clause-removed
 returns-clause-removed c =
-    made_removed c.self.inside.entries.entries _ c.args.link c.swap_remove.ensures.updates.0 ∙ ap (λ (t : Map ℕ). remove t c.args.link) c.self.view_is
+    made_removed c.self.inside.entries.entries _ c.args.link c.swap_remove.ensures.updates.0 ∙ ap (λ (t : Linked). remove t.links c.args.link) c.self.view_is

@@ -4,7 +4,6 @@ use Rattle.fz_model.specs.declared.answers.Entry.{Entry}
 use Rattle.fz_service.specs.States.{LockedState, locked_state}
 use Rattle.fz_service.specs.declared.ending.Final.{Final}
 use Rattle.fz_service.specs.Ends.{IsEnd}
-use Rattle.fz_service.proofs.Keeps.{outstanding_is}
 use Rattle.fz_service.proofs.Ends.{drained_by, enough, is_end}
 use Rattle.fz_service.proofs.locked.Locked.settle.Goals as goal
 
@@ -12,7 +11,7 @@ pub overflow_sub-finished : goal.overflow_sub-finished
 overflow_sub-finished g c =
     let w = c.self.inside in
     let queue = ap (λ (es : List Entry). length es) c.queue.ensures.queue in
-    let held = outstanding_is _ w.world _ c.outstanding-outstanding.ensures c.self.invariant.0.reached in
+    let held = c.outstanding-outstanding.ensures.count in
     let all = c.self.invariant.0.finished in
     omega (arith, queue, held, all)
 
@@ -20,7 +19,7 @@ pub overflow_sub-result : goal.overflow_sub-result
 overflow_sub-result g c =
     let w = c.self.inside in
     let queue = ap (λ (es : List Entry). length es) c.queue.ensures.queue in
-    let held = outstanding_is _ w.world _ c.outstanding-outstanding.ensures c.self.invariant.0.reached in
+    let held = c.outstanding-outstanding.ensures.count in
     let d = drained_by g.O.Opening.origin (locked_state w.world w.owner.sent w.published w.book.total) _ c.args.seats.items _ (c.as_mut_slice.ensures.value ∙ c.without_shares-plain.ensures.seats) c.self.invariant.0 c.drain.ensures.first c.drain.ensures.rest c.drain.ensures.idle
     (sym (c.audit.ensures.whole (c.without_shares-plain.ensures.all.0 ∙ c.requires.all)) ∙ c.without_shares-plain.ensures.all.1) in
     let few = enough _ _ _ _ d in
@@ -31,7 +30,7 @@ pub returns : goal.returns
 returns g c =
     let w = c.self.inside in
     let queue = ap (λ (es : List Entry). length es) c.queue.ensures.queue in
-    let held = outstanding_is _ w.world _ c.outstanding-outstanding.ensures c.self.invariant.0.reached in
+    let held = c.outstanding-outstanding.ensures.count in
     let d = drained_by g.O.Opening.origin (locked_state w.world w.owner.sent w.published w.book.total) _ c.args.seats.items _ (c.as_mut_slice.ensures.value ∙ c.without_shares-plain.ensures.seats) c.self.invariant.0 c.drain.ensures.first c.drain.ensures.rest c.drain.ensures.idle
     (sym (c.audit.ensures.whole (c.without_shares-plain.ensures.all.0 ∙ c.requires.all)) ∙ c.without_shares-plain.ensures.all.1) in
     let left = c.len.ensures in

@@ -1,10 +1,10 @@
 use Rattle.std.proofs.Common.{◌∙◌, ap, sym}
-use Rattle.fz_table.specs.Registered.{Registered}
+use Rattle.fz_table.specs.Tabled.{Tabled}
 use Rattle.fz_model.proofs.KeyedEntries.{empty_made, none_made}
 use Rattle.fz_table.proofs.table.Table.is_empty.Goals as goal
 
 pub returns : goal.returns
 returns c =
-    let view = ap (λ (t : Registered). t.registrations) c.self.view_is in
+    let view = ap (λ (t : Tabled). t.registrations) c.self.view_is in
     let es = c.self.inside.entries.entries in
     (λ h. sym view ∙ empty_made es (c.is_empty.ensures.0 h), λ h. c.is_empty.ensures.1 (none_made es (view ∙ h)))

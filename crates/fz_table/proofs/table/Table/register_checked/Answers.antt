@@ -6,7 +6,7 @@ use Rattle.fz_model.specs.declared.limits.TheConstants.{TABLE_LIMIT}
 use Rattle.fz_model.specs.Causes.{full}
 use Rattle.fz_model.specs.Steps.{old_of}
 use Rattle.fz_model.proofs.Tables.{get_made, made_inserted}
-use Rattle.fz_table.specs.Registered.{Registered}
+use Rattle.fz_table.specs.Tabled.{Tabled}
 use Rattle.fz_model.proofs.KeyedEntries.{limit_inserted}
 use Rattle.fz_table.proofs.Entries.{pair_of}
 use Rattle.fz_table.proofs.table.Table.register_checked.Goals as goal
@@ -17,25 +17,25 @@ IfErr-always (Err e) h = h e
 
 pub returns-in_err-replaced-clause-growth : goal.returns-in_err-replaced-clause-growth
 returns-in_err-replaced-clause-growth c =
-    let absent : get c.args.self.now.registrations c.args.object ≡ None = ap (λ (t : Registered). get t.registrations c.args.object) (sym c.self.view_is)
+    let absent : get c.args.self.now.registrations c.args.object ≡ None = ap (λ (t : Tabled). get t.registrations c.args.object) (sym c.self.view_is)
     ∙ get_made c.self.inside.entries.entries c.args.object ∙ c.in_err-replaced.ensures.absent in
     IfErr-always c.from_residual.result (λ _ _. subst IsNone (sym absent) (search rules))
 
 pub invariant_of-self-2 : goal.invariant_of-self-2
 invariant_of-self-2 c =
-    let free = ap (λ (t : Registered). (full t.registrations c.args.object).0) c.self.view_is ∙ c.requires.room in
+    let free = ap (λ (t : Tabled). (full t.registrations c.args.object).0) c.self.view_is ∙ c.requires.room in
     subst (λ m. len m ≤ TABLE_LIMIT) (sym (made_inserted c.self.inside.entries.entries _ c.args.object _ c.in_ok-replaced.ensures.updates.0)) (limit_inserted _ c.args.object _ free c.self.invariant)
 
 pub returns-clause-replaced : goal.returns-clause-replaced
 returns-clause-replaced c =
     let mapped : c.map.result ≡ option_map pair_of c.in_ok-replaced.replaced = search rules in
     mapped ∙ ap (option_map pair_of) (c.in_ok-replaced.ensures.old ∙ sym (get_made c.self.inside.entries.entries c.args.object))
-    ∙ ap (λ (t : Registered). old_of t.registrations c.args.object) c.self.view_is
+    ∙ ap (λ (t : Tabled). old_of t.registrations c.args.object) c.self.view_is
 
 pub returns-clause-registered : goal.returns-clause-registered
 returns-clause-registered c =
     ap (λ m. record { registrations = m; next_number = c.self.inside.next_number + 1 }) (made_inserted c.self.inside.entries.entries _ c.args.object _ c.in_ok-replaced.ensures.updates.0)
-    ∙ ap (λ (t : Registered). record {
+    ∙ ap (λ (t : Tabled). record {
       registrations = insert t.registrations c.args.object (record { number = t.next_number; kind = c.args.kind; proc = c.args.proc; cd = c.args.cd; rank = c.args.rank });
       next_number = t.next_number + 1;
     }) c.self.view_is

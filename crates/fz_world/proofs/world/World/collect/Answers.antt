@@ -28,7 +28,7 @@ pub invariant_of-self : goal.invariant_of-self
 invariant_of-self c =
     let w = c.self.inside in
     let off : w.cycle ≡ false = ap (λ (v : WorldView). v.core.cycle) c.self.view_is ∙ ap (λ (k : Core). k.cycle) c.mark_anew.ensures.core in (
-      subst (λ (b : Bool). IsWorld w.heap w.table w.ready c.finish.new.self w.dirty (vec_capacity w.picks) w.picks.items b) (sym off) (world_remarked _ _ _ _ _ _ _ _ w.heap.condemned c.finish.new.self w.dirty c.finish.ensures.size refl c.self.invariant.0),
+      subst (λ (b : Bool). IsWorld w.heap w.table.registered w.ready c.finish.new.self w.dirty (vec_capacity w.picks) w.picks.items b) (sym off) (world_remarked _ _ _ _ _ _ _ _ w.heap.condemned c.finish.new.self w.dirty c.finish.ensures.size refl c.self.invariant.0),
       c.self.invariant.1,
     )
 

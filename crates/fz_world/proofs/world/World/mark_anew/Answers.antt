@@ -36,7 +36,7 @@ invariant_of-self c =
     let pages = ap (λ (p : Pages). p.pages) c.take_all.ensures in
     let scanned = ap (λ (m : Marking). m.scanned) c.mark_roots.ensures.same ∙ ap (λ (m : Marking). m.scanned) c.begin.ensures in
     let scans = ap (λ (m : Marking). m.scans) c.mark_roots.ensures.same ∙ ap (λ (m : Marking). m.scans) c.begin.ensures in (
-      subst (λ (h : Contents). IsWorld h w.table w.ready c.mark_roots.new.marker c.take_all.new.self (vec_capacity w.picks) w.picks.items c.args.opens) (sym c.sweep_all.ensures)
+      subst (λ (h : Contents). IsWorld h w.table.registered w.ready c.mark_roots.new.marker c.take_all.new.self (vec_capacity w.picks) w.picks.items c.args.opens) (sym c.sweep_all.ensures)
           (world_anew _ _ _ _ _ _ _ _ c.mark_roots.new.marker c.take_all.new.self c.args.opens size pages scanned scans c.self.invariant.0),
       λ on. subst (λ (v : WorldView). v.core.passes + 1 < COUNT_LIMIT) (sym c.self.view_is) c.requires.few,
     )

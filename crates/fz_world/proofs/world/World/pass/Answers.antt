@@ -24,7 +24,7 @@ enqueue-requires c =
     let d = c.decide-reclaimed.ensures.decided in
     let items : c.as_slice.result.now ≡ d.0 = c.as_slice.ensures.value ∙ d.1 ∙ ap (λ ps. ps ++ d.0) (world_none_picked _ _ _ _ _ _ _ _ c.self.invariant.0) in
     let count = ap length items in
-    let fit = left_fit c.self.inside c.decide-reclaimed.new.heap c.decide-reclaimed.new.table c.decide-reclaimed.new.short c.decide-reclaimed.new.long d.0 d.2 in
+    let fit = left_fit c.self.inside c.decide-reclaimed.new.heap c.decide-reclaimed.new.table.registered c.decide-reclaimed.new.short c.decide-reclaimed.new.long d.0 d.2 in
     let room = world_room _ _ _ _ _ _ _ _ c.self.invariant.0 in
     omega (arith, count, fit, room)
 
@@ -35,7 +35,7 @@ invariant_of-self c =
     let picked : c.decide-reclaimed.new.out.items ≡ d.0 = d.1 ∙ ap (λ ps. ps ++ d.0) none in
     let idle : IsFalse c.self.inside.cycle = subst (λ (w : WorldView). IsFalse w.cycle) (sym c.self.view_is) c.requires.idle in
     let closed : IsClosed c.self.inside.heap.objects c.self.inside.marker.marked = subst (λ (w : WorldView). IsClosed w.objects w.marked) (sym c.self.view_is) c.requires.closed in (
-      pass_keeps c.self.inside c.decide-reclaimed.new.heap c.decide-reclaimed.new.table c.decide-reclaimed.new.short c.decide-reclaimed.new.long d.0 d.2 c.enqueue.new.self c.as_slice.result.now _ _ idle (c.as_slice.ensures.value ∙ picked) refl c.decide-reclaimed.ensures.heap c.decide-reclaimed.ensures.table c.enqueue.ensures.queue c.enqueue.ensures.held c.decide-reclaimed.ensures.reclaimed
+      pass_keeps c.self.inside c.decide-reclaimed.new.heap c.decide-reclaimed.new.table.registered c.decide-reclaimed.new.short c.decide-reclaimed.new.long d.0 d.2 c.enqueue.new.self c.as_slice.result.now _ _ idle (c.as_slice.ensures.value ∙ picked) refl c.decide-reclaimed.ensures.heap c.decide-reclaimed.ensures.table c.enqueue.ensures.queue c.enqueue.ensures.held c.decide-reclaimed.ensures.reclaimed
           c.decide-reclaimed.new.marker _ _ _ _ closed (subst (λ (w : WorldView). (a : ℕ) → IsRoot w.core a → IsTrue (contains w.marked a)) (sym c.self.view_is) c.requires.roots)
           (ap (λ m. m.size) c.decide-reclaimed.ensures.marker) (let room = c.decide-reclaimed.ensures.room in let same = c.clear.ensures.capacity in omega (arith, room, same)) c.enqueue.ensures.room c.clear.ensures.items c.self.invariant.0,
       λ on. absurd (true≢false (sym on ∙ idle)),
@@ -47,4 +47,4 @@ returns-clause-passes c =
     let none = world_none_picked _ _ _ _ _ _ _ _ c.self.invariant.0 in
     let picked : c.decide-reclaimed.new.out.items ≡ d.0 = d.1 ∙ ap (λ ps. ps ++ d.0) none in
     let idle : IsFalse c.self.inside.cycle = subst (λ (w : WorldView). IsFalse w.cycle) (sym c.self.view_is) c.requires.idle in
-    rw (← c.self.view_is) (pass_passes c.self.inside c.decide-reclaimed.new.heap c.decide-reclaimed.new.table c.decide-reclaimed.new.short c.decide-reclaimed.new.long d.0 d.2 c.enqueue.new.self c.as_slice.result.now _ _ idle (c.as_slice.ensures.value ∙ picked) (c.len-picked.ensures ∙ c.decide-reclaimed.new.out.ok.0 ∙ ap length picked) c.decide-reclaimed.ensures.heap c.decide-reclaimed.ensures.table c.enqueue.ensures.queue c.enqueue.ensures.held c.decide-reclaimed.ensures.reclaimed)
+    rw (← c.self.view_is) (pass_passes c.self.inside c.decide-reclaimed.new.heap c.decide-reclaimed.new.table.registered c.decide-reclaimed.new.short c.decide-reclaimed.new.long d.0 d.2 c.enqueue.new.self c.as_slice.result.now _ _ idle (c.as_slice.ensures.value ∙ picked) (c.len-picked.ensures ∙ c.decide-reclaimed.new.out.ok.0 ∙ ap length picked) c.decide-reclaimed.ensures.heap c.decide-reclaimed.ensures.table c.enqueue.ensures.queue c.enqueue.ensures.held c.decide-reclaimed.ensures.reclaimed)

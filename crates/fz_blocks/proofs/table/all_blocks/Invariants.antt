@@ -1,6 +1,0 @@
-use Rattle.std.proofs.Common.{◌≡◌, ◌≤◌, ◌*◌, ℕ, nat_lt}
-use Rattle.std.specs.FinSet.{contains}
-use Rattle.fz_blocks.proofs.table.all_blocks.Given as goal
-
-abbrev pub invariant-loop-block : goal.invariant-loop-block
-invariant-loop-block l = (l.blocks ≤ 64 * l.all.room) × ((b : ℕ) → contains l.all.members b ≡ nat_lt b l.block)

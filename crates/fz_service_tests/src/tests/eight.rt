@@ -1,0 +1,128 @@
+//! Eight workers at once, each with a list of six procedures.
+
+ghost use Rattle.std.specs.Prelude.{◌≡◌};
+
+use super::wanted::same;
+use super::workers::{Calls, TURNS};
+use super::{ended, opened, prepared, queue_entries};
+use fz_model::Entry;
+use fz_service::{Gate, Opening, Prepared, Proc, Seat};
+use fz_world::World;
+use std::alloc::Global;
+use std::marker::Brand;
+use std::process::Abort;
+use std::sync::atomic::{AtomicBool, AtomicU64, Ordering};
+use std::sync::{Arc, Wait};
+use std::test::*;
+use std::thread;
+use std::thread::Threads;
+
+/// The number of workers, and of the entries of a round.
+const WORKERS: u64 = 8;
+
+/// The number of rounds. The entries of each have a procedure of their own.
+const ROUNDS: u64 = 6;
+
+/// A gate that lets a round's entries pass once all of them are there. So each worker has one entry of each round.
+#[derive(Drop)]
+struct Rounds {
+    came: AtomicU64,
+    missed: AtomicBool,
+}
+
+impl Gate for Rounds {
+    fn entered(&self, seq: u64) {
+        let wanted = (seq / WORKERS + 1).saturating_mul(WORKERS);
+        self.came.fetch_add(1, Ordering::SeqCst);
+        for _ in 0..TURNS {
+            if self.came.load(Ordering::SeqCst) >= wanted {
+                return;
+            }
+            thread::yield_now();
+        }
+        self.missed.store(true, Ordering::SeqCst);
+    }
+}
+
+/// The procedure of a round, which writes down its calls.
+#[derive(Drop)]
+struct OfRound {
+    round: u64,
+    calls: Arc<Calls, Global>,
+}
+
+impl Proc for OfRound {
+    fn work(&mut self, _entry: &Entry) {
+        self.calls.add(self.round.saturating_mul(2));
+    }
+
+    fn run(&mut self, _entry: &Entry, _world: &mut World) {
+        self.calls
+            .add(self.round.saturating_mul(2).saturating_add(1));
+    }
+}
+
+/// Each seat finished an entry of each round.
+fn finished_in_each_round<O: Opening>(rt: &impl Abort, seats: &[Seat<O>]) {
+    for seat in seats {
+        same(rt, "finished by a seat", seat.finished(), ROUNDS);
+    }
+}
+
+/// Serves the entries of all rounds.
+fn serves_rounds<O: Opening + Send + Sync, R: Abort + Wait + Threads + Sync>(
+    rt: &R,
+    prepared: Prepared,
+    procs: &mut [Vec<Box<dyn Proc + Send>>],
+    gate: &Rounds,
+)
+    requires { prepared ≡ O.origin }
+{
+    let (service, seats) = opened::<O>(rt, prepared);
+    let mut rounds = [0; 48];
+    for (place, round) in rounds.iter_mut().enumerate() {
+        *round = place as u64 / WORKERS;
+    }
+    queue_entries(rt, &mut service.enter(rt), &rounds);
+    let stop = AtomicBool::new(true);
+    let seats = service.run_workers(seats, procs, gate, &stop, rt);
+    finished_in_each_round(rt, seats.as_slice());
+    let end = ended(rt, service, seats);
+    same(rt, "finished", end.finished, WORKERS * ROUNDS);
+}
+
+/// A worker called `work` and then `run` of each round's procedure.
+fn calls_in_each_round(rt: &impl Abort, calls: &Calls) {
+    same(rt, "calls", calls.count(), 2 * ROUNDS);
+    for place in 0..2 * ROUNDS as usize {
+        same(rt, "a call", calls.at(place), place as u64);
+    }
+}
+
+#[test]
+fn eight_workers_have_lists_of_six(rt: HostRuntime) -> Result<(), Fail> {
+    let mut all = Vec::new(rt.alloc());
+    let mut procs = Vec::new(rt.alloc());
+    for _worker in 0..WORKERS {
+        let calls = Arc::new(rt.alloc(), Calls::with_room(rt.alloc(), 12)?)?;
+        let mut list: Vec<Box<dyn Proc + Send>> = Vec::new(rt.alloc());
+        for round in 0..ROUNDS {
+            let calls = Arc::try_clone(&calls)?;
+            list.push(Box::new(rt.alloc(), OfRound { round, calls })?)?;
+        }
+        all.push(calls)?;
+        procs.push(list)?;
+    }
+    let gate = Rounds {
+        came: AtomicU64::new(0),
+        missed: AtomicBool::new(false),
+    };
+    let prepared = prepared(&rt, rt.alloc(), WORKERS);
+    serves_rounds::<Brand, HostRuntime>(&rt, prepared, procs.as_mut_slice(), &gate);
+    let missed = gate.missed.load(Ordering::SeqCst);
+    same(&rt, "a worker waited in vain", missed, false);
+    for calls in all.iter() {
+        calls_in_each_round(&rt, calls);
+    }
+    Ok(())
+}

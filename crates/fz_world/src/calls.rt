@@ -1,0 +1,232 @@
+//! Calls that come as values, each carried out by the call of its name.
+
+ghost use Rattle.std.specs.Prelude.{◌≡◌, OnErr};
+ghost use Rattle.fz_model.specs.declared.call.Call.TheVariants as calls;
+ghost use Rattle.fz_world.specs.Replies.{Replies};
+
+use crate::world::World;
+use fz_model::{Call, LinkKind, ObjKind, Place, Refusal, RegKind, Reply, Slot, Word};
+
+impl World {
+    /// Carries out the call, and tells its answer. It is refused as the call of its name is, and then changes nothing.
+    pub fn carry_out(&mut self, call: Call) -> Result<Reply, Refusal>
+        ensures told { Replies self.old call result self.new }
+        ensures refused { OnErr result (self.new ≡ self.old) }
+    {
+        match call {
+            Call::Alloc { slot, size, kind } => alloc(self, slot, size, kind),
+            Call::Copy { slot, to } => copy(self, slot, to),
+            Call::Load { place, to } => load(self, place, to),
+            Call::Store { place, from } => store(self, place, from),
+            Call::Set { slot, word } => set(self, slot, word),
+            Call::Register {
+                slot,
+                kind,
+                procedure,
+                client_data,
+                rank,
+            } => register(self, slot, kind, procedure, client_data, rank),
+            Call::Unregister { slot } => unregister(self, slot),
+            Call::Link {
+                which,
+                place,
+                target,
+            } => link(self, which, place, target),
+            Call::Unlink { which, place } => unlink(self, which, place),
+            Call::Move { which, place, to } => move_link(self, which, place, to),
+            Call::Begin => begin(self),
+            Call::Mark { budget } => mark(self, budget),
+            Call::Pause => pause(self),
+            Call::Collect => collect(self),
+            Call::Close => close(self),
+            Call::Outstanding => outstanding(self),
+        }
+    }
+}
+
+// Each call hands its result on as it is, so that no call pays for the results of others.
+
+#[tactic(auto, using(crate::proofs::Replying::replies, crate::proofs::Replying::refuses))]
+#[inline(never)]
+fn alloc(world: &mut World, slot: Slot, size: u64, kind: ObjKind) -> Result<Reply, Refusal>
+    ensures told { Replies world.old (calls.Alloc slot size kind) result world.new }
+    ensures refused { OnErr result (world.new ≡ world.old) }
+{
+    let (address, birth) = world.alloc(slot.frame, slot.slot, size, kind)?;
+    Ok(Reply::Allocated { address, birth })
+}
+
+#[tactic(auto, using(crate::proofs::Replying::replies, crate::proofs::Replying::refuses))]
+#[inline(never)]
+fn copy(world: &mut World, slot: Slot, to: Slot) -> Result<Reply, Refusal>
+    ensures told { Replies world.old (calls.Copy slot to) result world.new }
+    ensures refused { OnErr result (world.new ≡ world.old) }
+{
+    world.copy(slot.frame, slot.slot, to.frame, to.slot)?;
+    Ok(Reply::Done)
+}
+
+#[tactic(auto, using(crate::proofs::Replying::replies, crate::proofs::Replying::refuses))]
+#[inline(never)]
+fn load(world: &mut World, place: Place, to: Slot) -> Result<Reply, Refusal>
+    ensures told { Replies world.old (calls.Load place to) result world.new }
+    ensures refused { OnErr result (world.new ≡ world.old) }
+{
+    let Place { slot, offset } = place;
+    Ok(Reply::Word(world.load(slot.frame, slot.slot, offset, to.frame, to.slot)?))
+}
+
+#[tactic(auto, using(crate::proofs::Replying::replies, crate::proofs::Replying::refuses))]
+#[inline(never)]
+fn store(world: &mut World, place: Place, from: Slot) -> Result<Reply, Refusal>
+    ensures told { Replies world.old (calls.Store place from) result world.new }
+    ensures refused { OnErr result (world.new ≡ world.old) }
+{
+    let Place { slot, offset } = place;
+    world.store(slot.frame, slot.slot, offset, from.frame, from.slot)?;
+    Ok(Reply::Done)
+}
+
+#[tactic(auto, using(crate::proofs::Replying::replies, crate::proofs::Replying::refuses))]
+#[inline(never)]
+fn set(world: &mut World, slot: Slot, word: Word) -> Result<Reply, Refusal>
+    ensures told { Replies world.old (calls.Set slot word) result world.new }
+    ensures refused { OnErr result (world.new ≡ world.old) }
+{
+    world.set(slot.frame, slot.slot, word)?;
+    Ok(Reply::Done)
+}
+
+#[tactic(auto, using(crate::proofs::Replying::replies, crate::proofs::Replying::refuses))]
+#[inline(never)]
+fn register(
+    world: &mut World,
+    slot: Slot,
+    kind: RegKind,
+    procedure: u64,
+    client_data: Word,
+    rank: Option<u8>,
+) -> Result<Reply, Refusal>
+    ensures told { Replies world.old (calls.Register slot kind procedure client_data rank) result world.new }
+    ensures refused { OnErr result (world.new ≡ world.old) }
+{
+    let rank = rank.unwrap_or(0);
+    Ok(Reply::Registered(world.register(
+        slot.frame,
+        slot.slot,
+        kind,
+        procedure,
+        client_data,
+        rank,
+    )?))
+}
+
+#[tactic(auto, using(crate::proofs::Replying::replies, crate::proofs::Replying::refuses))]
+#[inline(never)]
+fn unregister(world: &mut World, slot: Slot) -> Result<Reply, Refusal>
+    ensures told { Replies world.old (calls.Unregister slot) result world.new }
+    ensures refused { OnErr result (world.new ≡ world.old) }
+{
+    Ok(Reply::Unregistered(world.unregister(slot.frame, slot.slot)?))
+}
+
+#[tactic(auto, using(crate::proofs::Replying::replies, crate::proofs::Replying::refuses))]
+#[inline(never)]
+fn link(world: &mut World, which: LinkKind, place: Place, target: Slot) -> Result<Reply, Refusal>
+    ensures told { Replies world.old (calls.Link which place target) result world.new }
+    ensures refused { OnErr result (world.new ≡ world.old) }
+{
+    let Place { slot, offset } = place;
+    Ok(Reply::Linked(world.link(
+        which,
+        slot.frame,
+        slot.slot,
+        offset,
+        target.frame,
+        target.slot,
+    )?))
+}
+
+#[tactic(auto, using(crate::proofs::Replying::replies, crate::proofs::Replying::refuses))]
+#[inline(never)]
+fn unlink(world: &mut World, which: LinkKind, place: Place) -> Result<Reply, Refusal>
+    ensures told { Replies world.old (calls.Unlink which place) result world.new }
+    ensures refused { OnErr result (world.new ≡ world.old) }
+{
+    let Place { slot, offset } = place;
+    Ok(Reply::Unlinked(world.unlink(which, slot.frame, slot.slot, offset)?))
+}
+
+#[tactic(auto, using(crate::proofs::Replying::replies, crate::proofs::Replying::refuses))]
+#[inline(never)]
+fn move_link(world: &mut World, which: LinkKind, place: Place, to: Place) -> Result<Reply, Refusal>
+    ensures told { Replies world.old (calls.Move which place to) result world.new }
+    ensures refused { OnErr result (world.new ≡ world.old) }
+{
+    let Place { slot, offset } = place;
+    Ok(Reply::Moved(world.move_link(
+        which,
+        slot.frame,
+        slot.slot,
+        offset,
+        to.slot.frame,
+        to.slot.slot,
+        to.offset,
+    )?))
+}
+
+#[tactic(auto, using(crate::proofs::Replying::replies, crate::proofs::Replying::refuses))]
+#[inline(never)]
+fn begin(world: &mut World) -> Result<Reply, Refusal>
+    ensures told { Replies world.old calls.Begin result world.new }
+    ensures refused { OnErr result (world.new ≡ world.old) }
+{
+    world.begin()?;
+    Ok(Reply::Done)
+}
+
+#[tactic(auto, using(crate::proofs::Replying::replies, crate::proofs::Replying::refuses))]
+#[inline(never)]
+fn mark(world: &mut World, budget: u64) -> Result<Reply, Refusal>
+    ensures told { Replies world.old (calls.Mark budget) result world.new }
+    ensures refused { OnErr result (world.new ≡ world.old) }
+{
+    Ok(Reply::Marked(world.mark(budget)?))
+}
+
+#[tactic(auto, using(crate::proofs::Replying::replies, crate::proofs::Replying::refuses))]
+#[inline(never)]
+fn pause(world: &mut World) -> Result<Reply, Refusal>
+    ensures told { Replies world.old calls.Pause result world.new }
+    ensures refused { OnErr result (world.new ≡ world.old) }
+{
+    Ok(Reply::Passed(world.pause()?))
+}
+
+#[tactic(auto, using(crate::proofs::Replying::replies, crate::proofs::Replying::refuses))]
+#[inline(never)]
+fn collect(world: &mut World) -> Result<Reply, Refusal>
+    ensures told { Replies world.old calls.Collect result world.new }
+    ensures refused { OnErr result (world.new ≡ world.old) }
+{
+    Ok(Reply::Passed(world.collect()?))
+}
+
+#[tactic(auto, using(crate::proofs::Replying::replies, crate::proofs::Replying::refuses))]
+#[inline(never)]
+fn close(world: &mut World) -> Result<Reply, Refusal>
+    ensures told { Replies world.old calls.Close result world.new }
+    ensures refused { OnErr result (world.new ≡ world.old) }
+{
+    world.close()?;
+    Ok(Reply::Done)
+}
+
+#[tactic(auto, using(crate::proofs::Replying::replies, crate::proofs::Replying::refuses))]
+#[inline(never)]
+fn outstanding(world: &mut World) -> Result<Reply, Refusal>
+    ensures told { Replies world.old calls.Outstanding result world.new }
+    ensures refused { OnErr result (world.new ≡ world.old) }
+{
+    Ok(Reply::Outstanding(world.outstanding()))
+}
