@@ -1,6 +1,6 @@
 //! Entries of the queue, and the end of a world.
 
-ghost use Rattle.std.specs.Prelude.{◌≡◌, ◌-◌, length, OnErr};
+ghost use Rattle.std.specs.Prelude.{◌≡◌, ◌-◌, length, slice_get, OnErr};
 ghost use Rattle.std.specs.FinMap.{len};
 ghost use Rattle.std.specs.declared.result.Result.TheVariants.{Ok};
 ghost use Rattle.fz_model.specs.Causes.{IsJudgedBy};
@@ -89,5 +89,12 @@ impl World {
         ensures step { Does self.now Queue (Ok result.now) self.now }
     {
         self.ready.queue()
+    }
+
+    /// The next entry for who has taken so many: the one with this number, if it was queued.
+    pub fn next(&self, taken: u64) -> Option<Entry>
+        ensures { result ≡ slice_get self.now.queue taken }
+    {
+        self.ready.queue().get(taken as usize).copied()
     }
 }

@@ -2,4 +2,6 @@
 #![tactic(auto)]
 
 #[cfg(test)]
+mod shown;
+#[cfg(test)]
 mod tests;

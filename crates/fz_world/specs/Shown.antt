@@ -1,0 +1,31 @@
+-- What a world shows of its tables, by address.
+use Rattle.std.specs.Prelude.{◌≡◌, ℕ, ◌≤◌, ◌<◌, Bool, length, IsTrue, IsFalse}
+use Rattle.std.specs.FinMap.{contains_key}
+use Rattle.fz_model.specs.State as model
+use Rattle.fz_model.specs.State.{Core}
+use Rattle.fz_model.specs.Extents.{IsInHeap}
+use Rattle.fz_model.specs.Events.{links_of}
+use Rattle.fz_world.specs.declared.shown.Object.{Object}
+use Rattle.fz_world.specs.declared.shown.Table.{Table}
+use Rattle.fz_world.specs.declared.shown.Table.TheVariants.{Objects, Registrations, Links}
+
+-- of an object's words only their number is shown
+abbrev pub shown_object : ℕ → model.Object → Object
+shown_object start o = record { start = start; size = length o.words; kind = o.kind; birth = o.birth }
+
+-- the addresses at which a table has a row
+abbrev pub has_row : Core → Table → ℕ → Bool
+has_row c Objects = contains_key c.objects
+has_row c Registrations = contains_key c.registrations
+has_row c (Links which) = contains_key (links_of c which)
+
+-- at no address of a heap of `blocks` blocks from one on
+abbrev pub HasNoneFrom : ℕ → (ℕ → Bool) → ℕ → Type 0
+HasNoneFrom blocks has from = (a : ℕ) → IsInHeap blocks a → from ≤ a → IsFalse (has a)
+
+-- the first address of the heap from one on
+pub record IsFirstFrom (blocks : ℕ) (has : ℕ → Bool) (from first : ℕ) : Type 0 where
+  pub here : IsTrue (has first)
+  pub in_heap : IsInHeap blocks first
+  pub after : from ≤ first
+  pub before : (a : ℕ) → IsInHeap blocks a → from ≤ a → a < first → IsFalse (has a)

@@ -1,0 +1,169 @@
+//! What a world shows: readers, which change nothing and take no memory.
+//!
+//! A table is read at one address, or in order of address: `next_object`, `next_registration` and `next_link` find the first row from an address on,
+//! and whoever goes on from the address behind it sees each row once. So no list is made and nothing is sorted, and each answer is exact by itself.
+
+ghost use Rattle.std.specs.Prelude.{◌≡◌, ◌<◌, ◌+◌, Some, IfOk, IfSome, MatchOption, Contains, option_map};
+ghost use Rattle.std.specs.List.{list_any};
+ghost use Rattle.std.specs.FinMap.{get, keys, contains_key};
+ghost use Rattle.fz_model.specs.declared.answers.Entry.{Entry};
+ghost use Rattle.fz_model.specs.Memory.{slot_word, word_at};
+ghost use Rattle.fz_model.specs.Causes.{IsJudgedBy, slot_causes, place_causes};
+ghost use Rattle.fz_model.specs.Events.{links_of, same_entry};
+ghost use Rattle.fz_world.specs.Ready.{IsNextHeld};
+ghost use Rattle.fz_world.specs.Shown.{shown_object, has_row, HasNoneFrom, IsFirstFrom};
+
+use crate::world::World;
+use fz_heap::Starts;
+use fz_model::{
+    Addr, BLOCK_WORDS, Entry, HEAP_START, LinkKind, ObjKind, Refusal, Registration, Word,
+};
+
+/// An object of the heap.
+#[derive(Clone, Copy, Debug, PartialEq, Eq)]
+pub struct Object {
+    /// The address of its first word.
+    pub start: Addr,
+    /// In words.
+    pub size: u64,
+    pub kind: ObjKind,
+    /// No other object of the world has it.
+    pub birth: u64,
+}
+
+/// The tables that have rows by address.
+#[derive(Clone, Copy)]
+pub(crate) enum Table {
+    Objects,
+    Registrations,
+    Links(LinkKind),
+}
+
+impl World {
+    /// The word of a slot.
+    ///
+    /// Refused `BadSlot` where there is no such slot.
+    pub fn slot(&self, frame: u64, slot: u64) -> Result<Word, Refusal>
+        ensures judged { IsJudgedBy (slot_causes self.now.frames frame slot) result }
+        ensures word { IfOk result (λ word. word ≡ slot_word self.now.frames frame slot) }
+    {
+        self.frames.get(frame, slot)
+    }
+
+    /// The word at an offset, in words, from where `word` points into an object. Unlike `load` it puts the word nowhere, so it keeps nothing alive.
+    ///
+    /// Refusals, in their order: `NotPointer`, `OutsideObject` where the word plus the offset leaves the object.
+    pub fn read(&self, word: Word, offset: u64) -> Result<Word, Refusal>
+        ensures judged { IsJudgedBy (place_causes self.now.objects word offset) result }
+        ensures read { IfOk result (λ read. read ≡ word_at self.now.objects (word + offset)) }
+    {
+        self.heap.read(word, offset)
+    }
+
+    /// The starts of all objects, by rising address.
+    pub fn starts(&self) -> Starts<'_>
+        ensures { result ≡ keys self.now.objects }
+    {
+        self.heap.objects()
+    }
+
+    /// The object that starts at the address, if one starts there.
+    pub fn object(&self, start: Addr) -> Option<Object>
+        ensures { result ≡ option_map (shown_object start) (get self.now.objects start) }
+    {
+        let (size, kind, birth) = self.heap.facts(start)?;
+        Some(Object {
+            start,
+            size,
+            kind,
+            birth,
+        })
+    }
+
+    /// The registration of the object that starts at the address, if it is registered.
+    pub fn registration(&self, object: Addr) -> Option<Registration>
+        ensures { result ≡ get self.now.registrations object }
+    {
+        self.table.get(object)
+    }
+
+    /// The start of the target of the link whose word stands at the address, if a link of that kind stands there.
+    pub fn target(&self, which: LinkKind, place: Addr) -> Option<Addr>
+        ensures { result ≡ get (links_of self.now.core which) place }
+    {
+        match which {
+            LinkKind::Short => self.short.get(place),
+            LinkKind::Long => self.long.get(place),
+        }
+    }
+
+    /// Whether the entry is held, in all its fields.
+    pub fn is_held(&self, entry: &Entry) -> bool
+        ensures { result ≡ list_any (same_entry entry.now) self.now.held }
+    {
+        self.ready.check_held(entry).is_ok()
+    }
+
+    /// The first held entry whose number is `from` or more. `queue` has the others too.
+    pub fn next_held(&self, from: u64) -> Option<Entry>
+        ensures { MatchOption result ((e : Entry) → Contains self.now.held e → e.seq < from) (IsNextHeld self.now.held from) }
+    {
+        self.ready.next_held(from)
+    }
+
+    /// The first object of the heap that starts at `from` or behind it. It looks at each address between.
+    pub fn next_object(&self, from: Addr) -> Option<Object>
+        ensures first { MatchOption result (HasNoneFrom self.now.blocks (contains_key self.now.objects) from) (λ object. IsFirstFrom self.now.blocks (contains_key self.now.objects) from object.start) }
+        ensures object { IfSome result (λ object. option_map (shown_object object.start) (get self.now.objects object.start) ≡ Some object) }
+    {
+        let start = self.first_from(Table::Objects, from)?;
+        self.object(start)
+    }
+
+    /// The first registered object of the heap from `from` on, with its registration. It looks at each address between.
+    pub fn next_registration(&self, from: Addr) -> Option<(Addr, Registration)>
+        ensures first { MatchOption result (HasNoneFrom self.now.blocks (contains_key self.now.registrations) from) (λ row. IsFirstFrom self.now.blocks (contains_key self.now.registrations) from row.0) }
+        ensures registration { IfSome result (λ row. get self.now.registrations row.0 ≡ Some row.1) }
+    {
+        let object = self.first_from(Table::Registrations, from)?;
+        let registration = self.registration(object)?;
+        Some((object, registration))
+    }
+
+    /// The first link of that kind whose word stands in the heap at `from` or behind it: the address of its word, and the start of its target. It
+    /// looks at each address between.
+    pub fn next_link(&self, which: LinkKind, from: Addr) -> Option<(Addr, Addr)>
+        ensures first { MatchOption result (HasNoneFrom self.now.blocks (contains_key (links_of self.now.core which)) from) (λ row. IsFirstFrom self.now.blocks (contains_key (links_of self.now.core which)) from row.0) }
+        ensures target { IfSome result (λ row. get (links_of self.now.core which) row.0 ≡ Some row.1) }
+    {
+        let place = self.first_from(Table::Links(which), from)?;
+        let target = self.target(which, place)?;
+        Some((place, target))
+    }
+
+    /// Whether the table has a row at the address.
+    fn has_row(&self, table: Table, address: Addr) -> bool
+        ensures { result ≡ has_row self.now.core table address }
+    {
+        match table {
+            Table::Objects => self.object(address).is_some(),
+            Table::Registrations => self.registration(address).is_some(),
+            Table::Links(which) => self.target(which, address).is_some(),
+        }
+    }
+
+    /// The first address of the heap from one on at which the table has a row.
+    fn first_from(&self, table: Table, from: Addr) -> Option<Addr>
+        ensures { MatchOption result (HasNoneFrom self.now.blocks (has_row self.now.core table) from) (IsFirstFrom self.now.blocks (has_row self.now.core table) from) }
+    {
+        let end = HEAP_START + BLOCK_WORDS * self.heap.blocks();
+        let mut address = from.max(HEAP_START);
+        while address < end {
+            if self.has_row(table, address) {
+                return Some(address);
+            }
+            address += 1;
+        }
+        None
+    }
+}
