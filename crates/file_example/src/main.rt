@@ -14,7 +14,7 @@ mod session;
 use anyhow::{Result, bail};
 use close::CloseFile;
 use files::OpenFiles;
-use fz_service::{Proc, Service};
+use fz_service::{Proc, Service, procedures};
 use fz_world::Config;
 use mutator::refused;
 use session::run;
@@ -37,16 +37,10 @@ fn main(rt: HostRuntime) -> Result<()> {
         bail!("want FILE..");
     }
     let files = Arc::new(rt.alloc(), Mutex::new(OpenFiles::new(rt.alloc())))?;
-    let mut procs = Vec::new(rt.alloc());
-    for _ in 0..WORKERS {
-        let close = CloseFile {
-            files: Arc::try_clone(&files)?,
-            rt,
-        };
-        let mut list: Vec<Box<dyn Proc + Send>> = Vec::new(rt.alloc());
-        list.push(Box::new(rt.alloc(), close)?)?;
-        procs.push(list)?;
-    }
+    let procs = procedures!(rt.alloc(); WORKERS; CloseFile {
+        files: Arc::try_clone(&files)?,
+        rt,
+    });
     let prepared = Service::prepare(rt.alloc(), CONFIG, WORKERS).map_err(refused)?;
-    run::<Brand, HostRuntime>(&rt, rt.alloc(), prepared, procs, &files, names.as_slice())
+    run::<Brand, HostRuntime>(&rt, prepared, procs, &files, names.as_slice())
 }

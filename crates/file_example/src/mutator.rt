@@ -24,14 +24,20 @@ pub(crate) fn mutate<O: Opening, R: Files<File = File> + Print + Wait>(
     files: &Mutex<OpenFiles>,
     names: &[String],
 ) -> Result<()> {
-    owners::make_lists(&mut service.enter(rt), names.len() as u64).map_err(refused)?;
+    service
+        .enter(rt)
+        .with_world(|world| owners::make_lists(world, names.len() as u64))
+        .map_err(refused)?;
     for name in names {
         open(rt, service, files, name)?;
     }
     for turn in 0..2 {
         for file in 0..names.len() as u64 {
             if file % 2 == turn {
-                owners::let_go(&mut service.enter(rt), file).map_err(refused)?;
+                service
+                    .enter(rt)
+                    .with_world(|world| owners::let_go(world, file))
+                    .map_err(refused)?;
             }
         }
         let passed = service.enter(rt).collect().map_err(refused)?;
@@ -53,7 +59,10 @@ fn open<O: Opening, R: Files<File = File> + Print + Wait>(
 ) -> Result<()> {
     let opened = fs::open(rt, name).context(format_args!("opening {name}"))?;
     let file = files.lock(rt).insert(opened)?;
-    owners::make_owner(&mut service.enter(rt), file).map_err(refused)?;
+    service
+        .enter(rt)
+        .with_world(|world| owners::make_owner(world, file))
+        .map_err(refused)?;
     println!(rt; "{name}: opened")?;
     Ok(())
 }
@@ -67,7 +76,10 @@ fn show<O: Opening, R: Print + Wait>(
 ) -> Result<()> {
     for (file, name) in names.iter().enumerate() {
         let file = file as u64;
-        if owners::has(&mut service.enter(rt), CACHE, file).map_err(refused)? {
+        let cached = service
+            .enter(rt)
+            .with_world(|world| owners::has(world, CACHE, file));
+        if cached.map_err(refused)? {
             let bytes = size(rt, files, file)?;
             println!(rt; "{name}: cached, {bytes} bytes")?;
         } else {

@@ -1,4 +1,7 @@
 //! What lies in the heap: objects that own files, and three lists with a word for each file.
+//!
+//! Each function makes calls of the world alone, so a finalizer's procedure may call it, and so may who holds the service's lock.
+#![tactic(auto, using(fz_service::proofs::Running::runs_calls))]
 
 ghost use Rattle.std.specs.Prelude.{◌≤◌, IfOk};
 ghost use Rattle.fz_service.specs.States.{RunsCalls};
@@ -7,7 +10,6 @@ use fz_model::LinkKind::Short;
 use fz_model::ObjKind::{Atomic, Scanned};
 use fz_model::Refusal;
 use fz_model::RegKind::Normal;
-use fz_service::{Locked, Opening};
 use fz_world::World;
 
 /// The place of `CloseFile` in each worker's list of procedures.
@@ -29,50 +31,51 @@ const ONE: u64 = 3;
 const HAND: u64 = 4;
 
 /// Makes the lists.
-pub(crate) fn make_lists<O: Opening>(locked: &mut Locked<O>, files: u64) -> Result<(), Refusal> {
-    locked.alloc(0, KEPT, files, Scanned)?;
-    locked.alloc(0, CACHE, files, Atomic)?;
-    locked.alloc(0, CLOSED, files, Atomic)?;
-    locked.set(0, ONE, 1)
+pub(crate) fn make_lists(world: &mut World, files: u64) -> Result<(), Refusal>
+    ensures { RunsCalls world.old world.new }
+{
+    world.alloc(0, KEPT, files, Scanned)?;
+    world.alloc(0, CACHE, files, Atomic)?;
+    world.alloc(0, CLOSED, files, Atomic)?;
+    world.set(0, ONE, 1)
 }
 
 /// Makes an object that owns the file with this number, keeps it, and caches it.
-pub(crate) fn make_owner<O: Opening>(locked: &mut Locked<O>, file: u64) -> Result<(), Refusal> {
-    locked.alloc(0, HAND, 1, Scanned)?;
-    locked.register(0, HAND, Normal, CLOSE, file, 0)?;
-    locked.store(0, KEPT, file, 0, HAND)?;
-    locked.store(0, CACHE, file, 0, HAND)?;
-    locked.link(Short, 0, CACHE, file, 0, HAND)?;
-    locked.set(0, HAND, 0)
+pub(crate) fn make_owner(world: &mut World, file: u64) -> Result<(), Refusal>
+    ensures { RunsCalls world.old world.new }
+{
+    world.alloc(0, HAND, 1, Scanned)?;
+    world.register(0, HAND, Normal, CLOSE, file, 0)?;
+    world.store(0, KEPT, file, 0, HAND)?;
+    world.store(0, CACHE, file, 0, HAND)?;
+    world.link(Short, 0, CACHE, file, 0, HAND)?;
+    world.set(0, HAND, 0)
 }
 
 /// Lets go of the object that owns this file.
-pub(crate) fn let_go<O: Opening>(locked: &mut Locked<O>, file: u64) -> Result<(), Refusal> {
-    locked.store(0, KEPT, file, 0, HAND)
+pub(crate) fn let_go(world: &mut World, file: u64) -> Result<(), Refusal>
+    ensures { RunsCalls world.old world.new }
+{
+    world.store(0, KEPT, file, 0, HAND)
 }
 
 /// Whether the list in the slot has a word for the file.
-pub(crate) fn has<O: Opening>(
-    locked: &mut Locked<O>,
-    list: u64,
-    file: u64,
-) -> Result<bool, Refusal> {
-    let word = locked.load(0, list, file, 0, HAND)?;
-    locked.set(0, HAND, 0)?;
+pub(crate) fn has(world: &mut World, list: u64, file: u64) -> Result<bool, Refusal>
+    ensures { RunsCalls world.old world.new }
+{
+    let word = world.load(0, list, file, 0, HAND)?;
+    world.set(0, HAND, 0)?;
     Ok(word != 0)
 }
 
 /// For how many of the files the list in the slot has a word.
-pub(crate) fn count<O: Opening>(
-    locked: &mut Locked<O>,
-    list: u64,
-    files: u64,
-) -> Result<u64, Refusal>
-    ensures { IfOk result (λ count. count ≤ files) }
+pub(crate) fn count(world: &mut World, list: u64, files: u64) -> Result<u64, Refusal>
+    ensures calls { RunsCalls world.old world.new }
+    ensures within { IfOk result (λ count. count ≤ files) }
 {
     let mut count = 0;
     for file in 0..files {
-        if has(locked, list, file)? {
+        if has(world, list, file)? {
             count += 1;
         }
     }

@@ -379,6 +379,25 @@ fn openings_outside_the_limits(rt: HostRuntime) {
     }
 }
 
+/// Each number of workers and of frames.
+#[test]
+fn openings_within_the_limits(rt: HostRuntime) {
+    let scripts: [&[u8]; 8] = [
+        b"open 1 1 8\n",
+        b"open 2 2 7\n",
+        b"open 3 3 6\n",
+        b"open 64 4 5\n",
+        b"open 65 5 4\n",
+        b"open 4094 6 3\n",
+        b"open 4095 7 2\n",
+        b"open 4096 8 1\n",
+    ];
+    let report = b"ok\nend enqueued 0 finished 0 forfeited 0 in_hand 0 left 0\n";
+    for (number, script) in scripts.iter().enumerate() {
+        must_report(&rt, &run(rt.alloc(), *script, WHOLE), report, number);
+    }
+}
+
 /// What the workers are refused, and what stays in their hands.
 #[test]
 fn workers_are_refused(rt: HostRuntime) {

@@ -1,12 +1,13 @@
 -- What an accepted finish takes away.
 use Rattle.std.proofs.Common.{◌≡◌, ℕ, ◌+◌, ◌<◌, ◌≤◌, ◌==◌, ◌||◌, Bool, true, cond, not, List, [], ◌∷◌, length, filter, count_by, Contains, sym, ap, ◌∙◌, subst, ⊎_elim, arith, true≢false}
-use Rattle.std.proofs.lemmas.Bool.{cases_Bool, and_parts, eqb-true, eq-eqb}
+use Rattle.std.proofs.lemmas.Bool.{cases_Bool, eq-eqb}
 use Rattle.std.proofs.lemmas.List.Sums.{length-filter}
 use Rattle.std.specs.List.{list_any}
 use Rattle.fz_model.specs.declared.answers.Entry.{Entry}
 use Rattle.fz_model.specs.Events.{same_entry}
 use Rattle.fz_model.proofs.Lists.{contains_at, any_at, count_cons}
 use Rattle.fz_model.proofs.Counts.{count_not}
+use Rattle.fz_model.proofs.Events.{one_entry}
 
 module _ {X : Type 0} (p : X → Bool) where
   some_counted : (xs : List X) → list_any p xs ≡ true → 0 < count_by p xs
@@ -28,25 +29,6 @@ module _ {X : Type 0} (p : X → Bool) where
       (λ on. omega (arith, a, b, rest, ap {B = ℕ} (λ t. cond t 1 0) on, ap {B = ℕ} (λ t. cond t 1 0) (weaker x on)))
       (λ off. omega (arith, a, b, rest, ap {B = ℕ} (λ t. cond t 1 0) off))
       (cases_Bool (p x))
-
--- entries that agree in all fields are one
-one_entry : (d e : Entry) → same_entry d e ≡ true → d ≡ e
-one_entry d e h =
-    let seq = and_parts (d.seq == e.seq) _ h in
-    let pass = and_parts (d.pass == e.pass) _ seq.1 in
-    let reg = and_parts (d.reg == e.reg) _ pass.1 in
-    let obj = and_parts (d.obj == e.obj) _ reg.1 in
-    let birth = and_parts (d.birth == e.birth) _ obj.1 in
-    let last = and_parts (d.proc == e.proc) (d.cd == e.cd) birth.1 in
-    λ i. record {
-      seq = eqb-true d.seq e.seq seq.0 i;
-      pass = eqb-true d.pass e.pass pass.0 i;
-      reg = eqb-true d.reg e.reg reg.0 i;
-      obj = eqb-true d.obj e.obj obj.0 i;
-      birth = eqb-true d.birth e.birth birth.0 i;
-      proc = eqb-true d.proc e.proc last.0 i;
-      cd = eqb-true d.cd e.cd last.1 i;
-    }
 
 pub held_one : (held : List Entry) (e : Entry) → list_any (same_entry e) held ≡ true → Contains held e
 held_one held e h =

@@ -61,6 +61,7 @@ module _ (origin : Origin) (old new : WorldView) (sent : List Entry) (published 
 
   -- after calls of a procedure
   pub ran : RunsCalls old new → IsInOrder origin (locked_state old sent published finished) → IsInOrder origin (locked_state new sent published finished)
+  unfolding RunsCalls
   ran runs h =
       let r = h.reached in
       let next = runs r.state r.stands in

@@ -3,6 +3,7 @@ pub mod Finishing
 pub mod Keeps
 pub mod Seated
 pub mod Ends
+pub mod Running
 pub mod Serving
 pub mod Served
 pub mod Slots

@@ -2,11 +2,8 @@
 use Rattle.std.proofs.Common.{◌≡◌, ◌+◌, ◌≤◌, List, [], ◌∷◌, ◌++◌, Bool, true, false, refl, sym, ap, ◌∙◌, append-nil, append_assoc, length, length-append, arith}
 use mir.Val.{bool_byte}
 use Rattle.fz_model.specs.declared.answers.Entry.{Entry}
-use Rattle.fz_model.specs.Steps.{NoStep}
 use Rattle.fz_line.specs.States.{SeatState, DutyState}
 use Rattle.fz_line.specs.Takes.{GainsEntry}
-use Rattle.fz_world.specs.World.{WorldView}
-use Rattle.fz_service.specs.States.{RunsCalls}
 use Rattle.fz_service.specs.Workers.{Extends, Serves}
 use Rattle.fz_service.specs.declared.seat.Take.{Take}
 use Rattle.fz_service.specs.declared.seat.Take.TheVariants as take
@@ -14,10 +11,6 @@ use Rattle.fz_service.specs.declared.workers.Turn.{Turn}
 use Rattle.fz_service.specs.declared.workers.Turn.TheVariants.{Served, Empty, Busy}
 use Rattle.fz_service.specs.Takes.{MatchTake}
 use Rattle.fz_service.specs.Turns.{IsAnswered, Turns}
-
--- no call
-pub runs_none : (world : WorldView) → RunsCalls world world
-runs_none world s stands = (s, NoStep, stands)
 
 pub same_seat : (s : SeatState) → Extends s s
 same_seat s = record { line = refl; index = refl; since = []; took = sym (append-nil s.took) }

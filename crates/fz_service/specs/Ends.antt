@@ -45,3 +45,8 @@ pub record IsEnd (s : LockedState) (seats : List SeatState) (end : Final) : Type
 -- the same of some state in order, since no contract names what a lock held
 abbrev pub IsEndOfRun : Origin → List SeatState → Final → Type 0
 IsEndOfRun origin seats end = (s : LockedState) × IsInOrder origin s × IsEnd s seats end
+
+-- the same of a service of this size, which ended with all its seats
+abbrev pub IsEndOfSize : ℕ → ℕ → ℕ → Final → Type 0
+IsEndOfSize blocks frames workers end =
+    (origin : Origin) × (origin.blocks ≡ blocks) × (origin.frames ≡ frames) × (origin.workers ≡ workers) × (seats : List SeatState) × IsEachOnce workers seats × IsEndOfRun origin seats end

@@ -84,7 +84,7 @@ abbrev pub is_no_finish : Event → Bool
 is_no_finish e = not (is_finish e)
 
 -- calls other than `finish` lead from the old world to the new
-abbrev pub RunsCalls : WorldView → WorldView → Type 0
+unfoldable pub RunsCalls : WorldView → WorldView → Type 0
 RunsCalls old new = (s : State) → StandsFor old s → (t : State) × StepsTo is_no_finish s t × StandsFor new t
 
 -- a seat of this line that has finished nothing

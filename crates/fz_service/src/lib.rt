@@ -4,6 +4,7 @@
 //! seats. `enter` takes the lock and lends `Locked`, which has the calls of a world.
 #![tactic(auto)]
 
+mod beside;
 mod calls;
 mod ending;
 mod locked;
@@ -14,10 +15,11 @@ mod service;
 mod worker_threads;
 mod workers;
 
+pub use beside::{Program, with_service};
 pub use ending::Final;
 pub use locked::Locked;
 pub use opening::{Finishes, Opening};
 pub use prepared::Prepared;
-pub use seat::{Duty, Seat, Take};
+pub use seat::{Duty, Seat, Take, retire_all};
 pub use service::{Guard, Service};
-pub use workers::{Gate, Proc};
+pub use workers::{Gate, OpenGate, Proc};

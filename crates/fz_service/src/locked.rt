@@ -6,8 +6,9 @@ ghost use Rattle.fz_model.specs.State.{opening};
 ghost use Rattle.fz_line.specs.States.{owner_state};
 ghost use Rattle.fz_line.specs.Views.{first_room};
 ghost use Rattle.fz_world.specs.Does.{Does, StandsFor};
-ghost use Rattle.fz_world.specs.World.{KeepsMarks};
-ghost use Rattle.fz_service.specs.States.{locked_state, LetsGo, RunsCalls, KeepsLine};
+ghost use Rattle.fz_world.specs.World.{WorldView, KeepsMarks};
+ghost use Rattle.fz_service.specs.States.{locked_state, LetsGo, RunsCalls, KeepsLine, SendsMore};
+ghost use Rattle.std.specs.Fn.{FnOnceReturnsAtMut};
 ghost use Rattle.fz_service.specs.Takes.{reply_of};
 
 use crate::opening::{Finishes, Opening};
@@ -87,6 +88,19 @@ impl<O: Opening> Locked<O> {
         let count = self.owner.publish(outbox);
         self.published += count;
         count
+    }
+
+    /// Lends the world to `work`, which changes it by calls alone, as a procedure's `run` does, and then sends what these queued.
+    pub fn with_world<T, F: FnOnce(&mut World) -> T>(&mut self, work: F) -> T
+        requires callable { F.IsAlwaysCallable work }
+        requires calls { (old : WorldView) (answer : T) (new : WorldView) → FnOnceReturnsAtMut F.FnOnce work old answer new → RunsCalls old new }
+        ensures answer { FnOnceReturnsAtMut F.FnOnce work self.old.world result self.new.world }
+        ensures calls { RunsCalls self.old.world self.new.world }
+        ensures sent { SendsMore self.old self.new }
+    {
+        let answer = work(&mut self.world);
+        self.publish();
+        answer
     }
 
     /// Ends the duty with its work done: the entry is held no more.

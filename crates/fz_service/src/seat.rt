@@ -135,3 +135,11 @@ impl<O: Opening> Duty<O> {
         }
     }
 }
+
+/// Ends these seats for good. Their service can't be shut down after that.
+pub fn retire_all<O: Opening>(mut seats: Vec<Seat<O>>) {
+    while let Some(seat) = seats.pop() {
+        seat.retire();
+    }
+    seats.destroy_empty();
+}

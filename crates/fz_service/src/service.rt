@@ -13,6 +13,7 @@ use crate::ending::Final;
 use crate::locked::Locked;
 use crate::opening::Opening;
 use crate::prepared::Prepared;
+use crate::seat;
 use crate::seat::Seat;
 use fz_line::{line, retire_all};
 use fz_model::{MAX_BLOCKS, MAX_FRAMES, Refusal};
@@ -117,6 +118,22 @@ impl<O: Opening> Service<O> {
             Err((refusal, locked, seats)) => {
                 let lock = Mutex::new(locked);
                 Err((refusal, Service { lock }, seats))
+            }
+        }
+    }
+
+    /// Ends the service, with all its seats, as `shutdown` does. Where that is refused, the seats are retired and the service is dropped.
+    ///
+    /// Refusals, in their order: `SeatsMissing` where the seats' indices aren't each index once, `NoMemory` where an allocation failed.
+    pub fn conclude(self, seats: Vec<Seat<O>>) -> Result<Final, Refusal>
+        ensures ended { IfOk result (λ end. IsEndOfRun O.origin seats.items end × IsEachOnce O.origin.workers seats.items) }
+        ensures refused { IfErr result (λ refusal. IsRefusedEnd O.origin.workers seats.items refusal) }
+    {
+        match self.shutdown(seats) {
+            Ok(totals) => Ok(totals),
+            Err((refusal, _service, seats)) => {
+                seat::retire_all(seats);
+                Err(refusal)
             }
         }
     }

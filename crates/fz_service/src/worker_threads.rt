@@ -141,8 +141,65 @@ fn without_lists<O: Opening>(
 }
 
 impl<O: Opening> Service<O> {
-    /// Takes turns until one finds the line empty that began after `stop` was read as true. Returns the seat, what it read of `stop` last, and
-    /// its last turn.
+    /// Takes turns until it reads `stop` as true. Returns the seat, and what it read.
+    fn serve_until_told<G: Gate, R: Wait>(
+        &self,
+        seat: Seat<O>,
+        procs: &mut [Box<dyn Proc + Send>],
+        gate: &G,
+        stop: &AtomicBool,
+        rt: &R,
+    ) -> (Seat<O>, bool)
+        ensures seat { Extends seat result.0 }
+        ensures told { result.1 ≡ true }
+    {
+        let mut seat = seat;
+        let mut told = false;
+        let mut pause = Pause::new();
+        for _turn in rt.forever() {
+            told = stop.load(Ordering::SeqCst);
+            if told {
+                break;
+            }
+            let (same, turn) = self.turn(seat, procs, gate, rt);
+            seat = same;
+            match turn {
+                Turn::Served(_) => pause = Pause::new(),
+                Turn::Busy => hint::spin_loop(),
+                Turn::Empty => pause.once(rt),
+            }
+        }
+        (seat, told)
+    }
+
+    /// Takes turns until one finds the line empty. Returns the seat, and that turn.
+    fn serve_rest<G: Gate, R: Wait>(
+        &self,
+        seat: Seat<O>,
+        procs: &mut [Box<dyn Proc + Send>],
+        gate: &G,
+        rt: &R,
+    ) -> (Seat<O>, Turn)
+        ensures seat { Extends seat result.0 }
+        ensures empty { result.1 ≡ Turn.Empty }
+    {
+        let mut seat = seat;
+        let mut turn = Turn::Busy;
+        for _turn in rt.forever() {
+            let (same, now) = self.turn(seat, procs, gate, rt);
+            seat = same;
+            turn = now;
+            match turn {
+                Turn::Served(_) => (),
+                Turn::Busy => hint::spin_loop(),
+                Turn::Empty => break,
+            }
+        }
+        (seat, turn)
+    }
+
+    /// Takes turns until it reads `stop` as true, and then until a further one finds the line empty: whatever was published before `stop` was set
+    /// is taken by then. Returns the seat, what it read of `stop` last, and its last turn.
     fn serve_until<G: Gate, R: Wait>(
         &self,
         seat: Seat<O>,
@@ -154,27 +211,9 @@ impl<O: Opening> Service<O> {
         ensures seat { Extends seat result.0 }
         ensures told { (result.1 ≡ true) × (result.2 ≡ Turn.Empty) }
     {
-        let mut seat = seat;
-        let mut told = false;
-        let mut turn = Turn::Busy;
-        let mut pause = Pause::new();
-        for _turn in rt.forever() {
-            told = stop.load(Ordering::SeqCst);
-            let (same, now) = self.turn(seat, procs, gate, rt);
-            seat = same;
-            turn = now;
-            match turn {
-                Turn::Served(_) => pause = Pause::new(),
-                Turn::Busy => hint::spin_loop(),
-                Turn::Empty => {
-                    if told {
-                        break;
-                    }
-                    pause.once(rt);
-                }
-            }
-        }
-        (seat, told, turn)
+        let (seat, told) = self.serve_until_told(seat, procs, gate, stop, rt);
+        let (seat, last) = self.serve_rest(seat, procs, gate, rt);
+        (seat, told, last)
     }
 
     /// Serves with each of these, in a thread of its own where one can be made.

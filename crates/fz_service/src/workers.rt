@@ -14,20 +14,46 @@ use fz_model::Entry;
 use fz_world::World;
 use std::sync::Wait;
 
-/// A finalizer's procedure.
+/// A finalizer's procedure. Each part does nothing where it isn't written.
 pub trait Proc: Drop {
     /// Its work outside of the lock.
-    fn work(&mut self, entry: &Entry);
+    fn work(&mut self, _entry: &Entry) {}
 
     /// Its work on the world, under the lock: calls other than `open` and `finish`.
-    fn run(&mut self, entry: &Entry, world: &mut World)
-        ensures { RunsCalls world.old world.new };
+    #[tactic(auto, using(crate::proofs::Running::runs_calls))]
+    fn run(&mut self, _entry: &Entry, _world: &mut World)
+        ensures { RunsCalls _world.old _world.new }
+    {}
+}
+
+/// The lists of procedures of so many workers, each with a value of each of these expressions, in their order.
+///
+/// The function that calls it is left by `?` where there is no memory, or where an expression is.
+#[macro_export]
+macro_rules! procedures {
+    ($alloc:expr; $workers:expr; $($procedure:expr),+ $(,)?) => {{
+        let alloc = $alloc;
+        let mut lists = Vec::new(alloc);
+        for _worker in 0..$workers {
+            let mut list: Vec<Box<dyn $crate::Proc + Send>> = Vec::new(alloc);
+            $(list.push(Box::new(alloc, $procedure)?)?;)+
+            lists.push(list)?;
+        }
+        lists
+    }};
 }
 
 /// What is told of each entry before its procedure is called.
 pub trait Gate {
     /// The entry with this sequence number was taken. The lock isn't held.
     fn entered(&self, seq: u64);
+}
+
+/// A gate that lets each entry through.
+pub struct OpenGate;
+
+impl Gate for OpenGate {
+    fn entered(&self, _seq: u64) {}
 }
 
 /// What a worker's turn came to.
@@ -49,6 +75,7 @@ fn work(procs: &mut [Box<dyn Proc + Send>], entry: &Entry) {
 }
 
 /// Calls `run` of the entry's procedure, if the list has it.
+#[tactic(auto, using(crate::proofs::Running::runs_calls))]
 fn run(procs: &mut [Box<dyn Proc + Send>], entry: &Entry, world: &mut World)
     ensures { RunsCalls world.old world.new }
 {

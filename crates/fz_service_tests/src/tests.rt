@@ -2,6 +2,8 @@
 //! that they run at the same time, and the service's answers from end to end.
 
 mod eight;
+mod limits;
+mod programs;
 mod rows;
 mod stops;
 mod threads;
@@ -13,7 +15,7 @@ ghost use Rattle.std.specs.Prelude.{◌≡◌};
 use fz_model::ObjKind::Scanned;
 use fz_model::RegKind::Normal;
 use fz_model::{Passed, Refusal};
-use fz_service::{Duty, Final, Gate, Locked, Opening, Prepared, Seat, Service, Take};
+use fz_service::{Duty, Final, Locked, Opening, Prepared, Seat, Service, Take};
 use fz_world::Config;
 use std::alloc::Global;
 use std::marker::Brand;
@@ -25,13 +27,6 @@ use wanted::{accepted, collects, count_seats, put_back, same};
 /// The most takes until an answer other than Busy.
 const TRIES: u32 = 1_000;
 
-/// A gate that lets all pass.
-struct Open;
-
-impl Gate for Open {
-    fn entered(&self, _seq: u64) {}
-}
-
 fn prepared(rt: &impl Abort, alloc: Global, workers: u64) -> Prepared {
     prepared_with(rt, alloc, 4, workers)
 }
@@ -39,14 +34,6 @@ fn prepared(rt: &impl Abort, alloc: Global, workers: u64) -> Prepared {
 fn prepared_with(rt: &impl Abort, alloc: Global, blocks: u64, workers: u64) -> Prepared {
     let config = Config { blocks, frames: 1 };
     Service::prepare(alloc, config, workers).expect(rt, "memory")
-}
-
-/// Ends all these seats.
-fn retire_all<O: Opening>(mut seats: Vec<Seat<O>>) {
-    while let Some(seat) = seats.pop() {
-        seat.retire();
-    }
-    seats.destroy_empty();
 }
 
 /// Makes an object of one word, registers it with this procedure, and drops it.
@@ -153,13 +140,7 @@ fn opened<O: Opening>(rt: &impl Abort, prepared: Prepared) -> (Service<O>, Vec<S
 }
 
 fn ended<O: Opening>(rt: &impl Abort, service: Service<O>, seats: Vec<Seat<O>>) -> Final {
-    match service.shutdown(seats) {
-        Ok(end) => end,
-        Err((_, _, seats)) => {
-            retire_all(seats);
-            panic!(rt; "refused")
-        }
-    }
+    service.conclude(seats).expect(rt, "ended")
 }
 
 /// Two entries are taken and given up while the lock is held; then the line is empty, and the service ends with two forfeits.

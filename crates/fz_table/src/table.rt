@@ -166,13 +166,6 @@ impl Table {
         self.take(object).map(pair_of)
     }
 
-    /// The object's registration.
-    pub fn get(&self, object: Addr) -> Option<Registration>
-        ensures { result ≡ get self.now.registrations object }
-    {
-        self.entries.get(&object).copied()
-    }
-
     /// How many objects are registered.
     pub fn len(&self) -> usize
         ensures count { result ≡ len self.now.registrations }
@@ -196,6 +189,13 @@ impl Table {
         ensures limit { length result ≤ TABLE_LIMIT }
     {
         Pairs::of(self.entries.iter())
+    }
+
+    /// The object's registration.
+    pub fn get(&self, object: Addr) -> Option<Registration>
+        ensures { result ≡ get self.now.registrations object }
+    {
+        self.entries.get(&object).copied()
     }
 
     /// Whether the table has no room for the object: it is full, and the object isn't registered.

@@ -7,8 +7,7 @@ use Rattle.fz_model.specs.declared.refusal.Refusal.{Refusal}
 use Rattle.fz_model.specs.Events.{Event, Answer}
 use Rattle.fz_world.specs.World.{WorldView}
 use Rattle.fz_world.specs.Does.{Does}
-use Rattle.fz_model.specs.Steps.{NoStep, OneMore}
-use Rattle.fz_service.specs.States.{Origin, LockedState, IsInOrder, RunsCalls, is_no_finish}
+use Rattle.fz_service.specs.States.{Origin, LockedState, IsInOrder}
 use Rattle.fz_model.specs.Events as events
 use Rattle.fz_model.specs.declared.call.Call.{Call}
 use Rattle.fz_model.specs.declared.call.Reply.{Reply}
@@ -126,8 +125,3 @@ settles_first origin b h = (h.0 ∷ [], ap (λ e. e ∷ []) h.1)
 
 pub settles_more : (origin : Origin) (n : ℕ) (b : Bool) → Settles origin n → Held origin events.Collect b → Settles origin (n + 1)
 settles_more origin n b s h = (s.0 ++ h.0 ∷ [], map-append event_in s.0 (h.0 ∷ []) ∙ ap (λ l. l ++ h.0.event ∷ []) s.1 ∙ ap (λ e. settling n ++ e ∷ []) h.1 ∙ ap (λ l. events.Pause ∷ l) (replicate-append-replicate n 1 events.Collect))
-
--- one call of the world
-pub runs_one : (old : WorldView) (e : Event) (reply : Result (Answer e) Refusal) (new : WorldView) → is_no_finish e ≡ true → Does old e reply new → RunsCalls old new
-unfolding Does
-runs_one old e reply new may does = λ s stands. let d = does s stands in (d.0, OneMore e reply may NoStep d.1, d.2)

@@ -2,4 +2,3 @@ pub mod FileReading
 pub mod Holding
 pub mod Sections
 pub mod Telling
-pub mod Seating

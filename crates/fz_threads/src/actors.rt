@@ -9,19 +9,11 @@ ghost use Rattle.fz_threads.specs.Holds.{HasRefused, Works, own_jobs, SectionsRe
 use crate::holds::hold_for;
 use crate::section::Sections;
 use fz_model::Call;
-use fz_service::{Gate, Opening, Proc, Seat, Service};
+use fz_service::{OpenGate, Opening, Proc, Seat, Service};
 use std::alloc::{AllocError, Global};
 use std::sync::Wait;
-use std::sync::atomic::{AtomicBool, Ordering};
+use std::thread;
 use std::thread::Threads;
-use std::{mem, thread};
-
-/// A gate that lets each entry through.
-struct OpenGate;
-
-impl Gate for OpenGate {
-    fn entered(&self, _seq: u64) {}
-}
 
 /// The sum of these numbers.
 fn total(counts: &[u64]) -> u64
@@ -64,13 +56,12 @@ fn settle<O: Opening, R: Wait>(service: &Service<O>, collections: u64, rt: &R)
     }
 }
 
-/// What the main thread does: all sections, and the run's end. Then the workers may stop.
+/// What the main thread does: all sections, and the run's end.
 fn lead<O: Opening + Send + Sync, R: Threads + Wait + Sync>(
     alloc: Global,
     service: &Service<O>,
     sections: &Sections,
     collections: u64,
-    stop: &AtomicBool,
     rt: &R,
 ) -> Result<u64, AllocError>
     ensures refused { IfOk result (SectionsRefused O.origin sections.now.jobs.items) }
@@ -78,31 +69,7 @@ fn lead<O: Opening + Send + Sync, R: Threads + Wait + Sync>(
 {
     let refused = run_sections(alloc, service, sections, rt);
     settle(service, collections, rt);
-    stop.store(true, Ordering::SeqCst);
     refused
-}
-
-/// Ends all these seats.
-pub(crate) fn retire_all<O: Opening>(mut seats: Vec<Seat<O>>) {
-    while let Some(seat) = seats.pop() {
-        seat.retire();
-    }
-    seats.destroy_empty();
-}
-
-/// Serves with all seats until it is told to stop; returns them.
-fn serve<O: Opening + Send + Sync, R: Threads + Wait + Sync>(
-    alloc: Global,
-    service: &Service<O>,
-    seats: &mut Vec<Seat<O>>,
-    mut procs: Vec<Vec<Box<dyn Proc + Send>>>,
-    stop: &AtomicBool,
-    rt: &R,
-) -> Vec<Seat<O>>
-    ensures { ExtendEach seats.old.items result.items }
-{
-    let seats = mem::replace(seats, Vec::new(alloc));
-    service.run_workers(seats, procs.as_mut_slice(), &OpenGate, stop, rt)
 }
 
 /// Carries out all sections, with the workers beside them; returns the seats, and how many of the sections' calls were refused.
@@ -112,23 +79,18 @@ pub(crate) fn side_by_side<O: Opening + Send + Sync, R: Threads + Wait + Sync>(
     seats: Vec<Seat<O>>,
     sections: &Sections,
     collections: u64,
-    procs: Vec<Vec<Box<dyn Proc + Send>>>,
+    mut procs: Vec<Vec<Box<dyn Proc + Send>>>,
     rt: &R,
 ) -> (Vec<Seat<O>>, Result<u64, AllocError>)
     ensures seats { ExtendEach seats.items result.0.items }
     ensures refused { IfOk result.1 (SectionsRefused O.origin sections.now.jobs.items) }
     ensures settled { Settles O.origin collections }
 {
-    let stop = AtomicBool::new(false);
-    let mut given = seats;
-    let slot = &mut given;
-    let (back, refused) = thread::join(
+    service.run_beside(
+        seats,
+        procs.as_mut_slice(),
+        &OpenGate,
         rt,
-        || -> Vec<Seat<O>>
-            ensures { ExtendEach slot.entry.now.items result.items }
-        { serve(alloc, service, slot, procs, &stop, rt) },
-        || lead(alloc, service, sections, collections, &stop, rt),
-    );
-    retire_all(given);
-    (back, refused)
+        || lead(alloc, service, sections, collections, rt),
+    )
 }

@@ -14,8 +14,7 @@ use fz_world::World;
 pub struct Nothing;
 
 impl Proc for Nothing {
-    fn work(&mut self, _entry: &Entry) {}
-
+    #[tactic(auto, using(fz_service::proofs::Running::runs_calls))]
     fn run(&mut self, _entry: &Entry, _world: &mut World)
         ensures calls { RunsCalls _world.old _world.new }
         ensures nothing { _world.new ≡ _world.old }
@@ -27,8 +26,7 @@ impl Proc for Nothing {
 pub struct Keep;
 
 impl Proc for Keep {
-    fn work(&mut self, _entry: &Entry) {}
-
+    #[tactic(auto, using(fz_service::proofs::Running::runs_calls))]
     fn run(&mut self, entry: &Entry, world: &mut World)
         ensures calls { RunsCalls world.old world.new }
         ensures holds { Makes (Hold 0 15 entry.now) world.old world.new }

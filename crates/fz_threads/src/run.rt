@@ -12,14 +12,14 @@ ghost use Rattle.fz_threads.specs.Holds.{turns_of, SectionsRefused};
 ghost use Rattle.fz_threads.specs.Threads.{Summarized, RunStopped, faults_of, tally_of, service_causes};
 ghost use Rattle.fz_threads.specs.Telling.{lineless, TellsFault, text_for, opening_fault, asked_from, TellsEnd, TellsSummary, RunsPlan};
 
-use crate::actors::{retire_all, side_by_side};
+use crate::actors::side_by_side;
 use crate::plan::Plan;
 use crate::reading::read_plan;
 use crate::section::Sections;
 use crate::summary::write_summary;
 use crate::tally::Tally;
 use fz_model::Refusal;
-use fz_service::{Final, Opening, Prepared, Proc, Seat, Service};
+use fz_service::{Final, Opening, Prepared, Proc, Seat, Service, retire_all};
 use fz_text::{DriveFault, Sink, Source, write_malformed, write_refused};
 use fz_world::Config;
 use std::alloc::Global;
@@ -91,13 +91,8 @@ fn end_of<O: Opening>(
     ensures ended { IfOk result (TellsEnd O.origin refused) }
     ensures refused { IfErr result (λ refusal. refusal ≡ Refusal.NoMemory) }
 {
-    match service.shutdown(seats) {
-        Ok(end) => Ok(tally_of(&end, refused)),
-        Err((refusal, _service, seats)) => {
-            retire_all(seats);
-            Err(refusal)
-        }
-    }
+    let end = service.conclude(seats)?;
+    Ok(tally_of(&end, refused))
 }
 
 /// Writes the summary of a run.

@@ -12,7 +12,7 @@ ghost use Rattle.std.specs.Prelude.{◌≡◌};
 
 use arrayvec::ArrayVec;
 use fz_model::{MAX_WORKERS, Refusal};
-use fz_service::Proc;
+use fz_service::{Proc, procedures};
 use fz_text::{DriveFault, Failures, Limits, MemorySink, MemorySource, WHOLE};
 use fz_threads::{Keep, Nothing, drive_threads};
 use std::alloc::{AllocError, Global};
@@ -46,13 +46,7 @@ fn run_within<R: AllocGlobal + Threads + Wait + Sync>(
     limits: Limits,
 ) -> Result<Outcome, AllocError> {
     let alloc = rt.alloc();
-    let mut procs = Vec::new(alloc);
-    for _worker in 0..MAX_WORKERS {
-        let mut list: Vec<Box<dyn Proc + Send>> = Vec::new(alloc);
-        list.push(Box::new(alloc, Nothing)?)?;
-        list.push(Box::new(alloc, Keep)?)?;
-        procs.push(list)?;
-    }
+    let procs = procedures!(alloc; MAX_WORKERS; Nothing, Keep);
     Ok(run_with(rt, file, limits, procs))
 }
 

@@ -4,7 +4,7 @@ use anyhow::{Error, Result, anyhow};
 use fz_model::ObjKind::Scanned;
 use fz_model::Refusal;
 use fz_model::RegKind::Normal;
-use fz_service::{Final, Locked, Opening, Prepared, Seat, Service};
+use fz_service::{Final, Locked, Opening, Prepared, Seat, Service, retire_all};
 use fz_world::Config;
 use std::alloc::Global;
 use std::sync::Wait;
@@ -62,14 +62,6 @@ pub(crate) fn make_and_drop<O: Opening, R: Eprint>(
     locked.set(0, 0, 0).map_err(refused)
 }
 
-/// Ends these seats for good.
-fn retire_all<O: Opening>(mut seats: Vec<Seat<O>>) {
-    while let Some(seat) = seats.pop() {
-        seat.retire();
-    }
-    seats.destroy_empty();
-}
-
 /// Ends the service. Where that is refused, the world is as open or closed as it was.
 pub(crate) fn end<O: Opening, R: Eprint + Wait>(
     rt: &R,
@@ -87,11 +79,5 @@ pub(crate) fn end<O: Opening, R: Eprint + Wait>(
         retire_all(seats);
         return Err(anyhow!("a refused end changed something"));
     }
-    match service.shutdown(seats) {
-        Ok(end) => Ok(end),
-        Err((refusal, _, seats)) => {
-            retire_all(seats);
-            Err(refused(refusal))
-        }
-    }
+    service.conclude(seats).map_err(refused)
 }

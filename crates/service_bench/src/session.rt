@@ -4,7 +4,7 @@ ghost use Rattle.std.specs.Prelude.{◌≡◌};
 
 use crate::finishing::finish_all;
 use crate::steps::enter_and_set;
-use fz_service::{Opening, Prepared, Seat, Service};
+use fz_service::{Opening, Prepared, Service};
 use std::alloc::Global;
 use std::io;
 use std::rt::Clock;
@@ -39,27 +39,8 @@ pub(crate) fn run<O: Opening + Send + Sync, R: Clock + Threads + Wait + Sync>(
         Test::Steps => 0,
         Test::Workers => count,
     };
-    match finished(service, seats) {
-        Some(finished) if finished == due => nanoseconds,
+    match service.conclude(seats) {
+        Ok(end) if end.finished == due => nanoseconds,
         _ => Ok(None),
     }
-}
-
-/// Ends the service; returns how many entries were finished.
-fn finished<O: Opening>(service: Service<O>, seats: Vec<Seat<O>>) -> Option<u64> {
-    match service.shutdown(seats) {
-        Ok(end) => Some(end.finished),
-        Err((_, _, seats)) => {
-            retire_all(seats);
-            None
-        }
-    }
-}
-
-/// Ends these seats for good.
-pub(crate) fn retire_all<O: Opening>(mut seats: Vec<Seat<O>>) {
-    while let Some(seat) = seats.pop() {
-        seat.retire();
-    }
-    seats.destroy_empty();
 }

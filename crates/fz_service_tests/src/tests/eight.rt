@@ -56,6 +56,7 @@ impl Proc for OfRound {
         self.calls.add(self.round.saturating_mul(2));
     }
 
+    #[tactic(auto, using(fz_service::proofs::Running::runs_calls))]
     fn run(&mut self, _entry: &Entry, _world: &mut World) {
         self.calls
             .add(self.round.saturating_mul(2).saturating_add(1));

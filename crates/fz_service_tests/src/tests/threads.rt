@@ -3,16 +3,14 @@
 ghost use Rattle.std.specs.Prelude.{◌≡◌, length};
 
 use super::wanted::{accepted, count_seats, same};
-use super::{Open, ended, make_and_drop, opened, prepared, prepared_with};
-use fz_service::{Opening, Prepared, Proc, Seat, Service, Take};
-use std::alloc::Global;
+use super::{ended, make_and_drop, opened, prepared, prepared_with};
+use fz_service::{OpenGate, Opening, Prepared, Seat, Service, Take};
 use std::marker::Brand;
 use std::process::Abort;
 use std::sync::Wait;
-use std::sync::atomic::{AtomicBool, Ordering};
 use std::test::*;
+use std::thread;
 use std::thread::Threads;
-use std::{mem, thread};
 
 /// In each of a number of rounds, makes objects, drops them and collects.
 fn collect_rounds<O: Opening, R: Abort + Wait>(
@@ -94,38 +92,17 @@ fn takes_beside_collects<O: Opening + Send + Sync, R: Abort + Wait + Threads + S
     same(rt, "taken and left together", all, Some(50));
 }
 
-/// Gives the seats to workers, and takes them back.
-fn run_in_place<O: Opening + Send + Sync, R: Wait + Threads + Sync>(
-    rt: &R,
-    alloc: Global,
-    service: &Service<O>,
-    seats: &mut Vec<Seat<O>>,
-    stop: &AtomicBool,
-) {
-    let given = mem::replace(seats, Vec::new(alloc));
-    let back = service.run_workers(given, &mut [], &Open, stop, rt);
-    let empty = mem::replace(seats, back);
-    empty.destroy_empty();
-}
-
 /// Eight workers serve thousands of entries while they are queued.
 fn serves_thousands<O: Opening + Send + Sync, R: Abort + Wait + Threads + Sync>(
     rt: &R,
-    alloc: Global,
     prepared: Prepared,
 )
     requires { prepared ≡ O.origin }
 {
-    let (service, mut seats) = opened::<O>(rt, prepared);
-    let stop = AtomicBool::new(false);
-    thread::join_mut(
-        rt,
-        &mut || {
-            collect_rounds(rt, &service, 30, 100);
-            stop.store(true, Ordering::SeqCst);
-        },
-        &mut || run_in_place(rt, alloc, &service, &mut seats, &stop),
-    );
+    let (service, seats) = opened::<O>(rt, prepared);
+    let (seats, ()) = service.run_beside(seats, &mut [], &OpenGate, rt, || {
+        collect_rounds(rt, &service, 30, 100)
+    });
     let end = ended(rt, service, seats);
     let counts = (end.enqueued, end.taken, end.finished);
     same(rt, "the end's counts", counts, (3_000, 3_000, 3_000));
@@ -142,5 +119,5 @@ fn counts_balance_beside_collects(rt: HostRuntime) {
 #[test]
 fn eight_workers_finish_all(rt: HostRuntime) {
     let prepared = prepared_with(&rt, rt.alloc(), 64, 8);
-    serves_thousands::<Brand, HostRuntime>(&rt, rt.alloc(), prepared);
+    serves_thousands::<Brand, HostRuntime>(&rt, prepared);
 }

@@ -3,9 +3,9 @@
 ghost use Rattle.std.specs.Prelude.{◌≡◌, ◌<◌, ◌^◌, length};
 
 use super::wanted::{count_seats, same};
-use super::{Open, ended, opened, prepared, prepared_with, queue_entries};
+use super::{ended, opened, prepared, prepared_with, queue_entries};
 use fz_model::Entry;
-use fz_service::{Gate, Opening, Prepared, Proc, Seat};
+use fz_service::{Gate, OpenGate, Opening, Prepared, Proc, Seat, procedures};
 use fz_world::World;
 use std::alloc::{AllocError, Global};
 use std::marker::Brand;
@@ -56,7 +56,7 @@ impl Calls {
 }
 
 /// A call in one number: three digits, the last of them 1 for `work` and 2 for `run`.
-fn call(proc: u64, seq: u64, part: u64) -> u64 {
+pub(super) fn call(proc: u64, seq: u64, part: u64) -> u64 {
     proc.wrapping_mul(100)
         .wrapping_add(seq.wrapping_mul(10))
         .wrapping_add(part)
@@ -64,9 +64,9 @@ fn call(proc: u64, seq: u64, part: u64) -> u64 {
 
 /// A procedure that writes down its calls.
 #[derive(Drop)]
-struct Recorded {
-    number: u64,
-    calls: Arc<Calls, Global>,
+pub(super) struct Recorded {
+    pub(super) number: u64,
+    pub(super) calls: Arc<Calls, Global>,
 }
 
 impl Proc for Recorded {
@@ -74,6 +74,7 @@ impl Proc for Recorded {
         self.calls.add(call(self.number, entry.seq, 1));
     }
 
+    #[tactic(auto, using(fz_service::proofs::Running::runs_calls))]
     fn run(&mut self, entry: &Entry, _world: &mut World) {
         self.calls.add(call(self.number, entry.seq, 2));
     }
@@ -135,8 +136,6 @@ impl Proc for Meets {
     fn work(&mut self, entry: &Entry) {
         self.0.come(entry.seq);
     }
-
-    fn run(&mut self, _entry: &Entry, _world: &mut World) {}
 }
 
 /// How many each of two seats finished.
@@ -180,19 +179,14 @@ fn one_worker_enters_while_another_is_at_the_gate(rt: HostRuntime) {
 #[test]
 fn one_worker_enters_while_another_works(rt: HostRuntime) -> Result<(), Fail> {
     let meeting = Arc::new(rt.alloc(), Meeting::new(0, 1))?;
-    let mut procs = Vec::new(rt.alloc());
-    for _ in 0..2 {
-        let mut list: Vec<Box<dyn Proc + Send>> = Vec::new(rt.alloc());
-        list.push(Box::new(rt.alloc(), Meets(Arc::try_clone(&meeting)?))?)?;
-        procs.push(list)?;
-    }
+    let mut procs = procedures!(rt.alloc(); 2u64; Meets(Arc::try_clone(&meeting)?));
     let prepared = prepared(&rt, rt.alloc(), 2);
-    let finished = serve_all::<Brand, Open, HostRuntime>(
+    let finished = serve_all::<Brand, OpenGate, HostRuntime>(
         &rt,
         prepared,
         &[0, 0],
         procs.as_mut_slice(),
-        &Open,
+        &OpenGate,
     );
     same(&rt, "the workers met", meeting.met(), true);
     same(&rt, "finished by each seat", finished, [1, 1]);
@@ -252,10 +246,10 @@ fn invokes_in_order<O: Opening, R: Abort + Wait>(
     let (service, mut seats) = opened::<O>(rt, prepared);
     queue_entries(rt, &mut service.enter(rt), &[0, 1, 2, 1, 0]);
     count_seats(rt, seats.as_slice(), 1);
-    let (seat, none) = service.invoke_finalizers(seats.remove(0), procs, 0, &Open, rt);
+    let (seat, none) = service.invoke_finalizers(seats.remove(0), procs, 0, &OpenGate, rt);
     same(rt, "without a take", (none, seat.taken()), (0, 0));
-    let (seat, two) = service.invoke_finalizers(seat, procs, 2, &Open, rt);
-    let (seat, rest) = service.invoke_finalizers(seat, procs, 10, &Open, rt);
+    let (seat, two) = service.invoke_finalizers(seat, procs, 2, &OpenGate, rt);
+    let (seat, rest) = service.invoke_finalizers(seat, procs, 10, &OpenGate, rt);
     same(rt, "two takes, and the rest", (two, rest), (2, 3));
     seats.push_reserved(seat);
     let end = ended(rt, service, seats);
@@ -302,7 +296,7 @@ fn invokes_all<O: Opening, R: Abort + Wait>(
     queue_entries(rt, &mut service.enter(rt), numbers);
     count_seats(rt, seats.as_slice(), 1);
     let count = numbers.len() as u64;
-    let (seat, served) = service.invoke_finalizers(seats.remove(0), procs, count, &Open, rt);
+    let (seat, served) = service.invoke_finalizers(seats.remove(0), procs, count, &OpenGate, rt);
     same(rt, "finished in one call", served, count);
     seats.push_reserved(seat);
     let end = ended(rt, service, seats);

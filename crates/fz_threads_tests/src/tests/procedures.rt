@@ -5,7 +5,7 @@ use super::{Outcome, run_with};
 use fz_model::Entry;
 use fz_model::ObjKind::Scanned;
 use fz_model::RegKind::Normal;
-use fz_service::Proc;
+use fz_service::{Proc, procedures};
 use fz_text::WHOLE;
 use fz_threads::{Keep, Nothing};
 use fz_world::{Config, World};
@@ -86,6 +86,7 @@ impl Proc for Counted {
         self.0.works.fetch_add(1, Ordering::SeqCst);
     }
 
+    #[tactic(auto, using(fz_service::proofs::Running::runs_calls))]
     fn run(&mut self, _entry: &Entry, _world: &mut World) {
         self.0.runs.fetch_add(1, Ordering::SeqCst);
     }
@@ -112,13 +113,8 @@ fn finishes_all(rt: &impl Abort, outcome: &Outcome) {
 fn each_entry_has_its_procedure_called_once(rt: HostRuntime) -> Result<(), Fail> {
     let zero = Arc::new(rt.alloc(), Calls::none())?;
     let one = Arc::new(rt.alloc(), Calls::none())?;
-    let mut procs = Vec::new(rt.alloc());
-    for _worker in 0..2u64 {
-        let mut list: Vec<Box<dyn Proc + Send>> = Vec::new(rt.alloc());
-        list.push(Box::new(rt.alloc(), Counted(Arc::try_clone(&zero)?))?)?;
-        list.push(Box::new(rt.alloc(), Counted(Arc::try_clone(&one)?))?)?;
-        procs.push(list)?;
-    }
+    let procs =
+        procedures!(rt.alloc(); 2u64; Counted(Arc::try_clone(&zero)?), Counted(Arc::try_clone(&one)?));
     let outcome = run_with(&rt, THREE_PROCEDURES, WHOLE, procs);
     finishes_all(&rt, &outcome);
     same(&rt, "calls of procedure 0", zero.counts(), (30, 30));

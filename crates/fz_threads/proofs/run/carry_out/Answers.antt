@@ -3,7 +3,7 @@ use Rattle.std.proofs.KnownBytes.{Appends-nil}
 use Rattle.fz_threads.specs.Holds.{SectionsRefused}
 use Rattle.fz_service.specs.Workers.{ExtendEach}
 use Rattle.fz_threads.specs.Telling.{asked_from, lineless}
-use Rattle.fz_threads.proofs.Seating.{come_back}
+use Rattle.fz_service.proofs.Seated.{come_back}
 use Rattle.fz_threads.proofs.Telling.{refusal_stops, silence_stops, summary_tells, sums_up}
 use Rattle.fz_threads.proofs.run.carry_out.Goals as goal
 

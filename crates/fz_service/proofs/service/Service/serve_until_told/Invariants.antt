@@ -1,0 +1,9 @@
+use Rattle.fz_service.specs.Workers.{Extends}
+use Rattle.fz_service.proofs.service.Service.serve_until_told.Given as goal
+
+abbrev pub invariant-loop-turn : goal.invariant-loop-turn
+invariant-loop-turn g l = record {
+  next : (goal.iterator-loop-turn g).can_next l._turn-iterator;
+  ends : (goal.iterator-loop-turn g).is_finite l._turn-iterator;
+  seat : Extends l.initial.seat l.seat;
+}

@@ -1,0 +1,235 @@
+//! Each number of workers, all that is called of an entry in one log, and thousands of entries queued at once.
+
+ghost use Rattle.std.specs.Prelude.{◌≡◌};
+
+use super::wanted::{accepted, collects, count_seats, same};
+use super::workers::{Calls, Recorded, call};
+use super::{
+    ended, make_and_drop, make_and_drop_with, opened, prepared, prepared_with, queue_entries,
+};
+use fz_model::{Entry, MAX_WORKERS, Progress, Refusal};
+use fz_service::{Gate, Locked, OpenGate, Opening, Prepared, Proc, retire_all};
+use fz_world::World;
+use std::alloc::Global;
+use std::marker::Brand;
+use std::process::Abort;
+use std::sync::atomic::AtomicBool;
+use std::sync::{Arc, Wait};
+use std::test::*;
+use std::thread::{Parker, Threads};
+use std::time::Duration;
+
+/// Serves an entry for each worker with a thread a seat, once the workers were told to stop. All have to be finished.
+fn serves_one_each<O: Opening + Send + Sync, R: Abort + Wait + Threads + Sync>(
+    rt: &R,
+    prepared: Prepared,
+    workers: u64,
+)
+    requires { prepared ≡ O.origin }
+{
+    let (service, seats) = opened::<O>(rt, prepared);
+    let numbers = [0; 8];
+    let numbers = &numbers[..(workers as usize).min(8)];
+    queue_entries(rt, &mut service.enter(rt), numbers);
+    let stop = AtomicBool::new(true);
+    let seats = service.run_workers(seats, &mut [], &OpenGate, &stop, rt);
+    let end = ended(rt, service, seats);
+    assert_eq!(rt;
+        (end.taken, end.finished),
+        (workers, workers),
+        "with {workers} workers"
+    );
+}
+
+#[test]
+fn each_number_of_workers_serves(rt: HostRuntime) {
+    for workers in 1..=MAX_WORKERS {
+        let prepared = prepared(&rt, rt.alloc(), workers);
+        serves_one_each::<Brand, HostRuntime>(&rt, prepared, workers);
+    }
+}
+
+/// A gate that writes down the entries that it is told of, as calls of part 0.
+#[derive(Drop)]
+struct Logged(Arc<Calls, Global>);
+
+impl Gate for Logged {
+    fn entered(&self, seq: u64) {
+        self.0.add(call(0, seq, 0));
+    }
+}
+
+/// Serves two entries of the first procedure.
+fn serves_two<O: Opening, R: Abort + Wait>(
+    rt: &R,
+    prepared: Prepared,
+    procs: &mut [Box<dyn Proc + Send>],
+    gate: &Logged,
+)
+    requires { prepared ≡ O.origin }
+{
+    let (service, mut seats) = opened::<O>(rt, prepared);
+    queue_entries(rt, &mut service.enter(rt), &[0, 0]);
+    count_seats(rt, seats.as_slice(), 1);
+    let (seat, served) = service.invoke_finalizers(seats.remove(0), procs, 2, gate, rt);
+    same(rt, "finished", served, 2);
+    seats.push_reserved(seat);
+    let _ = ended(rt, service, seats);
+}
+
+/// Of each entry the gate is told first, then `work` is called, and then `run`.
+#[test]
+fn the_gate_is_told_before_work_and_work_before_run(rt: HostRuntime) -> Result<(), Fail> {
+    let calls = Arc::new(rt.alloc(), Calls::with_room(rt.alloc(), 6)?)?;
+    let mut procs: Vec<Box<dyn Proc + Send>> = Vec::new(rt.alloc());
+    let recorded = Recorded {
+        number: 0,
+        calls: Arc::try_clone(&calls)?,
+    };
+    procs.push(Box::new(rt.alloc(), recorded)?)?;
+    let gate = Logged(Arc::try_clone(&calls)?);
+    let prepared = prepared(&rt, rt.alloc(), 1);
+    serves_two::<Brand, HostRuntime>(&rt, prepared, procs.as_mut_slice(), &gate);
+    same(&rt, "calls", calls.count(), 6);
+    for place in 0..6u64 {
+        let wanted = call(0, place / 3, place % 3);
+        same(&rt, "a call", calls.at(place as usize), wanted);
+    }
+    Ok(())
+}
+
+/// Makes so many objects, registers each, and drops them.
+fn make_and_drop_all<O: Opening>(rt: &impl Abort, locked: &mut Locked<O>, count: u64) {
+    for _object in 0..count {
+        make_and_drop(rt, locked);
+    }
+}
+
+/// A cycle in steps whose pass queues so many entries, after which all is sent.
+fn pauses<O: Opening>(rt: &impl Abort, locked: &mut Locked<O>, picked: u64) {
+    accepted(rt, "begin", locked.begin());
+    same(rt, "mark", locked.mark(u64::MAX), Ok(Progress::Done));
+    let answer = locked.pause();
+    let queued = match answer {
+        Ok(passed) => passed.picked,
+        Err(_) => 0,
+    };
+    same(rt, "picked by a pause", queued, picked);
+    same(rt, "not sent after a pause", locked.outbox().len(), 0);
+}
+
+/// Queues 64 entries, 2,000 at once by a collection, and 2,100 by a pause. All are sent at once, and one worker finishes them.
+fn sends_thousands<O: Opening, R: Abort + Wait>(rt: &R, prepared: Prepared)
+    requires { prepared ≡ O.origin }
+{
+    let (service, mut seats) = opened::<O>(rt, prepared);
+    {
+        let mut locked = service.enter(rt);
+        make_and_drop_all(rt, &mut locked, 64);
+        collects(rt, &mut locked, 1, 64, 0);
+        make_and_drop_all(rt, &mut locked, 2_000);
+        collects(rt, &mut locked, 2, 2_000, 0);
+        make_and_drop_all(rt, &mut locked, 2_100);
+        pauses(rt, &mut locked, 2_100);
+    }
+    count_seats(rt, seats.as_slice(), 1);
+    let (seat, served) = service.invoke_finalizers(seats.remove(0), &mut [], 5_000, &OpenGate, rt);
+    same(rt, "finished", served, 4_164);
+    seats.push_reserved(seat);
+    let _ = ended(rt, service, seats);
+}
+
+#[test]
+fn thousands_are_sent_at_once(rt: HostRuntime) {
+    let prepared = prepared_with(&rt, rt.alloc(), 80, 1);
+    sends_thousands::<Brand, HostRuntime>(&rt, prepared);
+}
+
+/// A procedure that collects.
+#[derive(Drop)]
+struct Collects;
+
+impl Proc for Collects {
+    #[tactic(auto, using(fz_service::proofs::Running::runs_calls))]
+    fn run(&mut self, _entry: &Entry, world: &mut World) {
+        let _ = world.collect();
+    }
+}
+
+/// The first entry's procedure collects, and queues 2,000 entries, which the same seat takes.
+fn takes_what_was_collected<O: Opening, R: Abort + Wait>(
+    rt: &R,
+    prepared: Prepared,
+    procs: &mut [Box<dyn Proc + Send>],
+)
+    requires { prepared ≡ O.origin }
+{
+    let (service, mut seats) = opened::<O>(rt, prepared);
+    {
+        let mut locked = service.enter(rt);
+        make_and_drop_with(rt, &mut locked, 0);
+        collects(rt, &mut locked, 1, 1, 0);
+        make_and_drop_all(rt, &mut locked, 2_000);
+    }
+    count_seats(rt, seats.as_slice(), 1);
+    let (seat, served) = service.invoke_finalizers(seats.remove(0), procs, 5_000, &OpenGate, rt);
+    same(rt, "finished", served, 2_001);
+    seats.push_reserved(seat);
+    let _ = ended(rt, service, seats);
+}
+
+#[test]
+fn a_seat_takes_what_its_procedure_collected(rt: HostRuntime) -> Result<(), Fail> {
+    let mut procs: Vec<Box<dyn Proc + Send>> = Vec::new(rt.alloc());
+    procs.push(Box::new(rt.alloc(), Collects)?)?;
+    let prepared = prepared_with(&rt, rt.alloc(), 80, 1);
+    takes_what_was_collected::<Brand, HostRuntime>(&rt, prepared, procs.as_mut_slice());
+    Ok(())
+}
+
+/// Two workers find nothing for more than two seconds, and then an entry, which one of them finishes.
+fn serves_after_idling<O: Opening + Send + Sync, R: Abort + Wait + Threads + Sync>(
+    rt: &R,
+    prepared: Prepared,
+)
+    requires { prepared ≡ O.origin }
+{
+    let (service, seats) = opened::<O>(rt, prepared);
+    let (seats, ()) = service.run_beside(seats, &mut [], &OpenGate, rt, || {
+        Parker::new().park_timeout(rt, Duration::from_millis(2_100));
+        queue_entries(rt, &mut service.enter(rt), &[1]);
+    });
+    let end = ended(rt, service, seats);
+    same(rt, "taken and finished", (end.taken, end.finished), (1, 1));
+}
+
+#[test]
+fn workers_serve_after_idling(rt: HostRuntime) {
+    let prepared = prepared(&rt, rt.alloc(), 2);
+    serves_after_idling::<Brand, HostRuntime>(&rt, prepared);
+}
+
+/// A service can't end without its seats. With them it does.
+fn refuses_to_end_without_seats<O: Opening>(rt: &impl Abort, alloc: Global, prepared: Prepared)
+    requires { prepared ≡ O.origin }
+{
+    let (service, seats) = opened::<O>(rt, prepared);
+    match service.shutdown(Vec::new(alloc)) {
+        Ok(_) => {
+            retire_all(seats);
+            panic!(rt; "no seat was given")
+        }
+        Err((refusal, service, none)) => {
+            retire_all(none);
+            same(rt, "the refusal", refusal, Refusal::SeatsMissing);
+            let end = ended(rt, service, seats);
+            same(rt, "passes", end.passes, 0);
+        }
+    }
+}
+
+#[test]
+fn an_end_without_seats_is_refused(rt: HostRuntime) {
+    let prepared = prepared(&rt, rt.alloc(), 2);
+    refuses_to_end_without_seats::<Brand>(&rt, rt.alloc(), prepared);
+}
