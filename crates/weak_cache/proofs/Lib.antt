@@ -1,0 +1,5 @@
+pub mod Keeping
+pub mod Opening
+pub mod Putting
+pub mod Getting
+pub mod Passing

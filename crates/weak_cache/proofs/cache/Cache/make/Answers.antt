@@ -1,0 +1,14 @@
+use Rattle.std.proofs.Common.{refl}
+use Rattle.weak_cache.proofs.Keeping.{quiet_now, quiet_same, quiet_whole}
+use Rattle.weak_cache.proofs.cache.Cache.make.Goals as goal
+
+pub returns-in_err-alloc-clause-same : goal.returns-in_err-alloc-clause-same
+returns-in_err-alloc-clause-same c = quiet_now _ _ _ _ _ _ c.alloc.ensures.step refl c.self.view_is c.self.invariant
+
+pub returns-in_err-register-clause-same : goal.returns-in_err-register-clause-same
+returns-in_err-register-clause-same c =
+    quiet_same c.self.inside.keys _ _ _ _ _ c.register.ensures.step refl (quiet_whole _ _ _ _ _ c.alloc.ensures.step refl c.self.invariant) (quiet_now _ _ _ _ _ _ c.alloc.ensures.step refl c.self.view_is c.self.invariant)
+
+pub returns-clause-same : goal.returns-clause-same
+returns-clause-same c =
+    quiet_same c.self.inside.keys _ _ _ _ _ c.register.ensures.step refl (quiet_whole _ _ _ _ _ c.alloc.ensures.step refl c.self.invariant) (quiet_now _ _ _ _ _ _ c.alloc.ensures.step refl c.self.view_is c.self.invariant)

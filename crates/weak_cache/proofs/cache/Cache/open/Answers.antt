@@ -1,0 +1,8 @@
+use Rattle.weak_cache.proofs.Opening.{opened}
+use Rattle.weak_cache.proofs.cache.Cache.open.Goals as goal
+
+pub invariant_of-result : goal.invariant_of-result
+invariant_of-result c = (opened _ _ _ _ _ _ c.in_ok-world.ensures.opened c.in_ok-alloc.ensures.step).whole
+
+pub returns-clause-empty : goal.returns-clause-empty
+returns-clause-empty c = (opened _ _ _ _ _ _ c.in_ok-world.ensures.opened c.in_ok-alloc.ensures.step).empty

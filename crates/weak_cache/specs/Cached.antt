@@ -1,0 +1,53 @@
+-- What is cached, and what holds of a cache between two calls.
+use Rattle.std.specs.Prelude.{◌≡◌, ℕ, ◌+◌, ◌<◌, Option, Some, None, length, slice_get, unwrap_or, refl}
+use Rattle.std.specs.Coded.{Coded, code_by, coded×, coded_ℕ}
+use Rattle.std.specs.FinMap.{get}
+use Rattle.fz_model.specs.State.{Object, Core, State}
+use Rattle.fz_model.specs.Memory.{slot_word}
+use Rattle.fz_model.specs.Steps.{IsReached}
+use Rattle.fz_world.specs.World.{WorldView, world_code}
+use Rattle.fz_world.specs.Does.{StandsFor}
+use Rattle.weak_cache.specs.declared.cache.TheConstants.{LIST, HAND}
+
+pub record CacheView : Type 0 where
+  pub keys : ℕ
+  pub world : WorldView
+
+abbrev pub cache_code : Coded CacheView
+cache_code = code_by (ℕ × WorldView) (coded× coded_ℕ world_code) (λ c. (c.keys, c.world)) (λ p. record { keys = p.0; world = p.1 }) (λ _. refl)
+
+-- where the list starts, and the word of the object in hand
+abbrev pub list_in : Core → ℕ
+list_in c = slot_word c.frames 0 LIST
+
+abbrev pub in_hand : CacheView → ℕ
+in_hand cache = slot_word cache.world.frames 0 HAND
+
+-- what is cached under a key: the target of the short link at the key's word of the list
+abbrev pub cached_in : Core → ℕ → Option ℕ
+cached_in c key = get c.short (list_in c + key)
+
+abbrev pub cached : CacheView → ℕ → Option ℕ
+cached cache key = cached_in cache.world.core key
+
+-- the same is cached under each key
+abbrev pub SameIn : Core → Core → Type 0
+SameIn c d = (key : ℕ) → cached_in d key ≡ cached_in c key
+
+unfoldable pub KeepsCached : WorldView → WorldView → Type 0
+KeepsCached old new = SameIn old.core new.core
+
+-- the list has a word for each key, what is cached under it or zero; and no long link stands anywhere
+pub record IsCache (keys : ℕ) (c : Core) : Type 0 where
+  pub list : Object
+  pub here : get c.objects (list_in c) ≡ Some list
+  pub size : length list.words ≡ keys
+  pub words : (key : ℕ) → key < keys → slice_get list.words key ≡ Some (unwrap_or (cached_in c key) 0)
+  pub no_long : (place : ℕ) → get c.long place ≡ None
+
+-- the world stands for a state that calls reach, and in which the cache is whole
+pub record IsWhole (keys : ℕ) (world : WorldView) : Type 0 where
+  pub state : State
+  pub reached : IsReached state
+  pub stands : StandsFor world state
+  pub cache : IsCache keys state.core

@@ -1,0 +1,125 @@
+//! The cache.
+
+ghost use Rattle.std.specs.Prelude.{◌≡◌, ◌≢◌, ◌<◌, ℕ, Some, None, IfOk, OnOk, IfSome, slice_get};
+ghost use Rattle.fz_model.specs.CallLaws.{Stands};
+ghost use Rattle.fz_model.specs.Reachability.{IsReachable};
+ghost use Rattle.weak_cache.specs.Cached.{cached, in_hand, KeepsCached};
+
+use fz_model::LinkKind::Short;
+use fz_model::ObjKind::Atomic;
+use fz_model::RegKind::Normal;
+use fz_model::{Addr, Entry, Passed, Refusal, every_call};
+use fz_world::{Config, World};
+use std::alloc::Global;
+use std::marker::Model;
+
+/// The slot of the list.
+const LIST: u64 = 0;
+
+/// The slot of the object in hand.
+const HAND: u64 = 1;
+
+/// A weak cache, with objects of its own: each is cached under its key until a collection finds it unreachable.
+///
+/// The list is an object with a word for each key. It is atomic, so it keeps nothing alive; and a short link stands at each word in use, so
+/// the collection that doesn't find its target clears it.
+#[derive(Drop)]
+pub(crate) struct Cache {
+    world: World,
+    keys: u64,
+}
+
+impl Model for Cache {
+    ghost use Rattle.weak_cache.specs.Cached.{CacheView, cache_code, IsWhole};
+
+    ghost Value = { CacheView };
+
+    ghost coded = { cache_code };
+
+    ghost view = { λ c. record { keys = c.keys; world = c.world } };
+
+    ghost invariant = { λ c. IsWhole c.keys c.world };
+}
+
+#[tactic(auto, using(crate::proofs::Keeping::quiet_calls))]
+impl Cache {
+    /// A cache for the keys below a number, in a heap of this many blocks. Nothing is cached.
+    pub(crate) fn open(alloc: Global, blocks: u64, keys: u64) -> Result<Cache, Refusal>
+        ensures keys { IfOk result (λ cache. cache.keys ≡ keys) }
+        ensures empty { IfOk result (λ cache. (key : ℕ) → cached cache key ≡ None) }
+    {
+        let mut world = World::open(alloc, Config { blocks, frames: 1 })?;
+        world.alloc(0, LIST, keys, Atomic)?;
+        Ok(Cache { world, keys })
+    }
+
+    /// Makes an object, in hand, with a finalizer that is told the client data.
+    pub(crate) fn make(&mut self, client_data: u64) -> Result<(), Refusal>
+        ensures same { KeepsCached self.old.world self.new.world }
+        ensures keys { self.new.keys ≡ self.old.keys }
+    {
+        self.world.alloc(0, HAND, 1, Atomic)?;
+        self.world.register(0, HAND, Normal, 0, client_data, 0)?;
+        Ok(())
+    }
+
+    /// Caches the object in hand under the key.
+    pub(crate) fn put(&mut self, key: u64) -> Result<(), Refusal>
+        ensures cached { OnOk result (cached self.new key ≡ Some (in_hand self.old)) }
+        ensures others { (other : ℕ) → other ≢ key → cached self.new other ≡ cached self.old other }
+        ensures keys { self.new.keys ≡ self.old.keys }
+    {
+        self.world.link(Short, 0, LIST, key, 0, HAND)?;
+        self.world.store(0, LIST, key, 0, HAND)
+    }
+
+    /// The address of the object under the key, which is in hand then; nothing is in hand where none is cached.
+    pub(crate) fn get(&mut self, key: u64) -> Result<Option<Addr>, Refusal>
+        ensures found { key < self.old.keys → IfOk result (λ found. found ≡ cached self.old key) }
+        ensures stands { key < self.old.keys → IfOk result (λ found. IfSome found (Stands self.old.world.objects)) }
+        ensures same { KeepsCached self.old.world self.new.world }
+        ensures keys { self.new.keys ≡ self.old.keys }
+    {
+        every_call();
+        let word = self.world.load(0, LIST, key, 0, HAND)?;
+        if word == 0 {
+            return Ok(None);
+        }
+        Ok(Some(word))
+    }
+
+    /// Lets go of the object in hand.
+    pub(crate) fn let_go(&mut self) -> Result<(), Refusal>
+        ensures same { KeepsCached self.old.world self.new.world }
+        ensures keys { self.new.keys ≡ self.old.keys }
+    {
+        self.world.set(0, HAND, 0)
+    }
+
+    /// Collects: what isn't found is cached no more.
+    pub(crate) fn collect(&mut self) -> Result<Passed, Refusal>
+        // What is cached afterwards was cached before, under the same key. So an empty key stays empty.
+        ensures kept { (key a : ℕ) → cached self.new key ≡ Some a → cached self.old key ≡ Some a }
+        // What is reachable stays cached.
+        ensures reachable { (key a : ℕ) → key < self.old.keys → cached self.old key ≡ Some a → IsReachable self.old.world.core a → cached self.new key ≡ Some a }
+        ensures keys { self.new.keys ≡ self.old.keys }
+    {
+        every_call();
+        self.world.collect()
+    }
+
+    /// The next entry for who has taken so many.
+    pub(crate) fn next(&self, taken: u64) -> Option<Entry>
+        ensures { result ≡ slice_get self.now.world.queue taken }
+    {
+        self.world.next(taken)
+    }
+
+    /// Finishes an entry.
+    pub(crate) fn finish(&mut self, entry: &Entry) -> Result<(), Refusal>
+        ensures same { KeepsCached self.old.world self.new.world }
+        ensures keys { self.new.keys ≡ self.old.keys }
+    {
+        self.world.finish(entry)
+    }
+}
