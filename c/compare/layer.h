@@ -1,0 +1,273 @@
+/* One program over two collectors: with BDWGC over bdwgc, else over derrimas.h.
+ *
+ * Objects stand in numbered roots. A root leads to its object; a link is a word of an object. Sizes and offsets are in words. Over bdwgc the
+ * stack and the registers of the processor are roots too, so the layer overwrites what calls left there before it collects.
+ */
+#ifndef LAYER_H
+#define LAYER_H
+
+#include <stdbool.h>
+#include <stdint.h>
+#include <stdio.h>
+#include <stdlib.h>
+
+/* Of a procedure that handles objects, below one that collects: so nothing of it is left in a frame or a register that bdwgc scans. */
+#define APART __attribute__((noinline))
+
+enum { ROOTS = 128, NORMAL = 0, IGNORE_SELF = 1, NO_ORDER = 2 };
+
+/* A finalizer: hold puts its object into a root. */
+typedef void (*finalizer)(uint64_t cd);
+
+static void fail(const char *what)
+{
+    fprintf(stderr, "%s failed\n", what);
+    exit(1);
+}
+
+#ifdef BDWGC
+#include <gc/gc.h>
+#include <sys/wait.h>
+#include <unistd.h>
+
+static void **roots;
+static void *current;
+
+static inline void layer_open(void)
+{
+    GC_INIT();
+    GC_set_finalize_on_demand(1);
+    GC_set_java_finalization(1); /* what a picked no-order object leads to is kept, too */
+    GC_set_warn_proc(GC_ignore_warn_proc);
+    GC_disable();
+    roots = GC_malloc_uncollectable(ROOTS * sizeof *roots);
+    if (!roots)
+        fail("open");
+}
+
+static inline void layer_close(void) { GC_free(roots); }
+
+/* Calls the procedure where nothing of earlier calls is left: bdwgc has no second world, so another process does. */
+static inline void layer_apart(void (*procedure)(void))
+{
+    pid_t child;
+    int status;
+
+    fflush(stdout);
+    child = fork();
+    if (child == 0) {
+        procedure();
+        fflush(stdout);
+        _exit(0);
+    }
+    if (child < 0 || waitpid(child, &status, 0) != child || status != 0)
+        fail("a process");
+}
+
+static inline void new_object(int at, uint64_t size, bool is_atomic)
+{
+    roots[at] = is_atomic ? GC_malloc_atomic(size * 8) : GC_malloc(size * 8);
+    if (!roots[at])
+        fail("new");
+    if (is_atomic)
+        for (uint64_t n = 0; n < size; n++)
+            ((void **)roots[at])[n] = 0;
+}
+
+static inline void forget(int at) { roots[at] = 0; }
+static inline void copy(int at, int to) { roots[to] = roots[at]; }
+static inline void store(int at, uint64_t offset, int from) { ((void **)roots[at])[offset] = roots[from]; }
+static inline bool load(int at, uint64_t offset, int to) { return (roots[to] = ((void **)roots[at])[offset]) != 0; }
+
+/* The client data of a registration is the number of a row of this table, which isn't an address. */
+static struct closure { finalizer run; uint64_t cd; } closures[1 << 16];
+static unsigned made = 0;
+
+static void run(void *object, void *cd)
+{
+    struct closure *c = &closures[(uintptr_t)cd];
+
+    current = object;
+    c->run(c->cd);
+    current = 0;
+}
+
+static inline void finalize(int at, int kind, finalizer f, uint64_t cd)
+{
+    void *row = (void *)(uintptr_t)(made % (1 << 16));
+
+    closures[made++ % (1 << 16)] = (struct closure){f, cd};
+    if (kind == NORMAL)
+        GC_register_finalizer(roots[at], run, row, 0, 0);
+    else if (kind == IGNORE_SELF)
+        GC_register_finalizer_ignore_self(roots[at], run, row, 0, 0);
+    else
+        GC_register_finalizer_no_order(roots[at], run, row, 0, 0);
+}
+
+static inline void unfinalize(int at) { GC_register_finalizer(roots[at], 0, 0, 0, 0); }
+static inline void hold(int at) { roots[at] = current; }
+
+static inline int make_link(bool is_long, int at, uint64_t offset, int target)
+{
+    void **place = (void **)roots[at] + offset;
+
+    return is_long ? GC_register_long_link(place, roots[target]) : GC_general_register_disappearing_link(place, roots[target]);
+}
+
+static inline int remove_link(bool is_long, int at, uint64_t offset)
+{
+    void **place = (void **)roots[at] + offset;
+
+    return is_long ? GC_unregister_long_link(place) : GC_unregister_disappearing_link(place);
+}
+
+static inline int move_link(bool is_long, int at, uint64_t offset, uint64_t to)
+{
+    void **place = (void **)roots[at] + offset, **other = (void **)roots[at] + to;
+
+    return is_long ? GC_move_long_link(place, other) : GC_move_disappearing_link(place, other);
+}
+
+APART static void scrub(void)
+{
+    volatile char old[65536];
+
+    for (unsigned n = 0; n < sizeof old; n++)
+        old[n] = 0;
+}
+
+APART static void collect(void)
+{
+    scrub();
+    GC_enable();
+    GC_gcollect();
+    GC_disable();
+    scrub();
+}
+
+static inline uint64_t invoke(void) { return (uint64_t)GC_invoke_finalizers(); }
+
+#else
+#include "derrimas.h"
+
+static fz_world world;
+static const fz_entry *current;
+static finalizer finalizers[64];
+static unsigned known = 0;
+
+#define MUST(call) do { if ((call) != FZ_OK) fail(#call); } while (0)
+
+static fz_slot root(int n) { return fz_at((uint64_t)n / FZ_SLOTS, (uint64_t)n % FZ_SLOTS); }
+
+static inline void layer_open(void) { MUST(fz_open(&world, 1024, FZ_MAX_FRAMES)); }
+static inline void layer_close(void) { fz_destroy(&world); }
+
+/* Calls the procedure where nothing of earlier calls is left. */
+static inline void layer_apart(void (*procedure)(void))
+{
+    layer_close();
+    layer_open();
+    procedure();
+}
+
+static inline void new_object(int at, uint64_t size, bool is_atomic)
+{
+    fz_made made;
+
+    MUST(fz_alloc(&world, root(at), size, is_atomic, &made));
+}
+
+static inline void forget(int at) { MUST(fz_set(&world, root(at), 0)); }
+static inline void copy(int at, int to) { MUST(fz_copy(&world, root(at), root(to))); }
+static inline void store(int at, uint64_t offset, int from) { MUST(fz_store(&world, root(at), offset, root(from))); }
+
+static inline bool load(int at, uint64_t offset, int to)
+{
+    uint64_t word;
+
+    MUST(fz_load(&world, root(at), offset, root(to), &word));
+    return word != 0;
+}
+
+static uint64_t number_of(finalizer f)
+{
+    for (unsigned n = 0; n < known; n++)
+        if (finalizers[n] == f)
+            return n;
+    finalizers[known] = f;
+    return known++;
+}
+
+static inline void finalize(int at, int kind, finalizer f, uint64_t cd)
+{
+    fz_registered registered;
+    uint64_t proc = number_of(f);
+
+    if (kind == NORMAL)
+        MUST(fz_register(&world, root(at), proc, cd, 0, &registered));
+    else if (kind == IGNORE_SELF)
+        MUST(fz_register_ignore_self(&world, root(at), proc, cd, 0, &registered));
+    else
+        MUST(fz_register_no_order(&world, root(at), proc, cd, 0, &registered));
+}
+
+static inline void unfinalize(int at)
+{
+    fz_old old;
+
+    MUST(fz_unregister(&world, root(at), &old));
+}
+
+static inline void hold(int at) { MUST(fz_hold(&world, root(at), current)); }
+
+static inline int make_link(bool is_long, int at, uint64_t offset, int target)
+{
+    uint8_t answer;
+
+    MUST(fz_link(&world, is_long, root(at), offset, root(target), &answer));
+    return answer;
+}
+
+static inline int remove_link(bool is_long, int at, uint64_t offset)
+{
+    bool was;
+
+    MUST(fz_unlink(&world, is_long, root(at), offset, &was));
+    return was;
+}
+
+static inline int move_link(bool is_long, int at, uint64_t offset, uint64_t to)
+{
+    uint8_t answer;
+
+    MUST(fz_move_link(&world, is_long, root(at), offset, root(at), to, &answer));
+    return answer;
+}
+
+static void collect(void)
+{
+    fz_passed passed;
+
+    MUST(fz_collect(&world, &passed));
+}
+
+static void run(fz_world *w, const fz_entry *entry, void *data)
+{
+    (void)w;
+    (void)data;
+    current = entry;
+    finalizers[entry->proc](entry->cd);
+    current = NULL;
+}
+
+static inline uint64_t invoke(void)
+{
+    fz_proc procs[64];
+
+    for (unsigned n = 0; n < 64; n++)
+        procs[n] = run;
+    return fz_invoke_finalizers(&world, procs, 64, NULL);
+}
+#endif
+#endif

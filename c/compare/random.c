@@ -1,0 +1,201 @@
+/* random FIRST COUNT: graphs of chance over bdwgc and over derrimas.h, whose outputs are to be the same.
+ *
+ * A graph has up to 60 objects, scanned and atomic, which lead to each other at random. Some have finalizers of the three kinds; some finalizers
+ * keep their objects. All have a long link, and half of them a short one, in two objects that stay; atomic ones have links in their own words. In
+ * each of some rounds roots are dropped, objects of the others are changed, and a collection follows. Then the line of the round tells which
+ * finalizers have run, as a set, and which words of links are 0: so a 0 among the long ones says that the object is gone.
+ */
+#include "layer.h"
+#include <string.h>
+
+enum { MOST = 60, WORDS = 4, ROUNDS = 5, FOUND = 90, SHORTS = 100, LONGS = 101, HOLDER_WORDS = 64 };
+
+/* ---- chance */
+
+static uint64_t seed;
+
+static unsigned chance(unsigned below)
+{
+    seed ^= seed << 13;
+    seed ^= seed >> 7;
+    seed ^= seed << 17;
+    return (unsigned)((seed >> 20) % below);
+}
+
+/* ---- a graph */
+
+struct object {
+    unsigned words;
+    bool is_atomic, is_rooted, has_short, has_run, keeps;
+    bool has_link[WORDS]; /* of an atomic object: a link stood there once, so that its word is an address, or 0 */
+};
+
+static struct object objects[MOST];
+static int count;
+static uint64_t number; /* of the graph */
+
+/* The finalizer of all: it tells that it ran, and may put its object into its root again. Its client data is the object's number, which is far
+ * below the heap: a larger one might be an address of the library's heap, and keep what stands there. */
+static void note(uint64_t n)
+{
+    objects[n].has_run = true;
+    if (!objects[n].keeps)
+        return;
+    hold((int)n);
+    objects[n].is_rooted = true;
+}
+
+/* A rooted object of chance, or -1. */
+static int rooted(void)
+{
+    int n = (int)chance((unsigned)count);
+
+    return objects[n].is_rooted ? n : -1;
+}
+
+APART static void make_objects(void)
+{
+    memset(objects, 0, sizeof objects);
+    new_object(SHORTS, HOLDER_WORDS, true);
+    new_object(LONGS, HOLDER_WORDS, true);
+    for (int n = 0; n < count; n++) {
+        struct object *o = &objects[n];
+        o->words = 1 + chance(WORDS);
+        o->is_atomic = chance(5) == 0;
+        o->is_rooted = true;
+        o->has_short = chance(2) == 0;
+        new_object(n, o->words, o->is_atomic);
+        store(LONGS, (uint64_t)n, n);
+        make_link(true, LONGS, (uint64_t)n, n);
+        if (!o->has_short)
+            continue;
+        store(SHORTS, (uint64_t)n, n);
+        make_link(false, SHORTS, (uint64_t)n, n);
+    }
+}
+
+/* ---- changes: each of rooted objects alone */
+
+static void connect(int n, int to)
+{
+    if (!objects[n].is_atomic)
+        store(n, chance(objects[n].words), to);
+}
+
+/* A link in a word of an atomic object, or one moved or removed there. */
+static void change_link(int n, int target)
+{
+    struct object *o = &objects[n];
+    unsigned at = chance(o->words), to = chance(o->words);
+    bool is_long = chance(2);
+
+    if (!o->is_atomic)
+        return;
+    switch (chance(4)) {
+    case 0:
+        printf(" removed %d", remove_link(is_long, n, at));
+        break;
+    case 1:
+        printf(" moved %d", move_link(is_long, n, at, to));
+        break;
+    default:
+        store(n, at, target);
+        o->has_link[at] = true;
+        printf(" linked %d", make_link(is_long, n, at, target));
+    }
+}
+
+static void change_finalizer(int n)
+{
+    objects[n].keeps = chance(4) == 0;
+    if (chance(6) == 0)
+        unfinalize(n);
+    else
+        finalize(n, (int)chance(3), note, (uint64_t)n);
+}
+
+APART static void change(unsigned times)
+{
+    while (times-- > 0) {
+        int n = rooted(), other = rooted();
+        unsigned what = chance(8);
+        if (n < 0 || other < 0)
+            continue;
+        if (what < 4)
+            connect(n, other);
+        else if (what < 6)
+            change_finalizer(n);
+        else
+            change_link(n, other);
+    }
+}
+
+APART static void drop_roots(void)
+{
+    unsigned part = 1 + chance(3);
+
+    for (int n = 0; n < count; n++)
+        if (objects[n].is_rooted && chance(3) < part) {
+            forget(n);
+            objects[n].is_rooted = false;
+        }
+}
+
+/* ---- what is told of a round */
+
+static bool is_zero(int at, uint64_t offset)
+{
+    bool is = !load(at, offset, FOUND);
+
+    forget(FOUND);
+    return is;
+}
+
+APART static void tell(void)
+{
+    printf(" | ran");
+    for (int n = 0; n < count; n++)
+        if (objects[n].has_run)
+            printf(" %d", n);
+    printf(" | short");
+    for (int n = 0; n < count; n++)
+        if (objects[n].has_short && is_zero(SHORTS, (uint64_t)n))
+            printf(" %d", n);
+    printf(" | gone");
+    for (int n = 0; n < count; n++)
+        if (is_zero(LONGS, (uint64_t)n))
+            printf(" %d", n);
+    printf(" | words");
+    for (int n = 0; n < count; n++)
+        for (unsigned at = 0; at < objects[n].words; at++)
+            if (objects[n].is_rooted && objects[n].has_link[at] && is_zero(n, at))
+                printf(" %d.%u", n, at);
+    printf("\n");
+}
+
+static void play(void)
+{
+    seed = (number + 1) * UINT64_C(0x9e3779b97f4a7c15);
+    count = 1 + (int)chance(MOST);
+    make_objects();
+    for (int round = 0; round < ROUNDS; round++) {
+        printf("%llu.%d", (unsigned long long)number, round);
+        change(round == 0 ? 4 * (unsigned)count : (unsigned)count);
+        drop_roots();
+        collect();
+        if (chance(3) > 0) /* else they wait for a later round */
+            invoke();
+        tell();
+    }
+}
+
+int main(int words, char **word)
+{
+    uint64_t first = words == 3 ? strtoull(word[1], NULL, 10) : 0, after = words == 3 ? first + strtoull(word[2], NULL, 10) : 10;
+
+    layer_open();
+    for (number = first; number < after; number++)
+        layer_apart(play);
+    layer_close();
+    return 0;
+}

@@ -1,0 +1,45 @@
+#!/usr/bin/env python3
+"""Objects that stand for Python's values: a finalizer lets go of each once, and a weak link tells when it is gone."""
+from derrimas import Refused, Samples, World, sample
+
+NAMES, FIRST, SECOND, FOUND = (0, 0), (0, 1), (0, 2), (0, 3)
+owned = {1: "first", 2: "second"}
+
+with World(blocks=4) as world:
+    world.finalizer(0, lambda _, entry: print("finalized", owned.pop(entry.cd), "of birth", entry.birth))
+    world.alloc(NAMES, 2, atomic=True)
+    for key, slot in ((1, FIRST), (2, SECOND)):
+        world.alloc(slot, 1)
+        world.register(slot, proc=0, cd=key)
+        world.store(NAMES, key - 1, slot)
+        world.link(NAMES, key - 1, slot)
+    print(*world.objects(), *world.registrations(), *world.links(), sep="\n")
+
+    world.set(FIRST, 0)
+    print(world.collect())
+    print("weak:", [world.load(NAMES, n, FOUND) != 0 for n in (0, 1)])
+    world.set(FOUND, 0)
+    print("held:", *world.held())
+    print("ran", world.invoke_finalizers(), "owned", owned)
+    print(world.collect())
+    print(world.counts())
+
+    for refused in (lambda: world.alloc(FIRST, 5000), lambda: world.set((9, 9), 0), lambda: world.finish(world.queued(0))):
+        try:
+            refused()
+        except Refused as why:
+            print("refused:", why.code, why)
+
+try:
+    world.collect()
+except Refused as why:
+    print("refused:", why.code, why)
+
+
+def numbers(struct):
+    """What the fields of a struct hold."""
+    return [numbers(value) if hasattr(value, "_fields_") else value for value in (getattr(struct, name) for name, _ in struct._fields_)]
+
+
+for name, _ in Samples._fields_:
+    print(name, numbers(getattr(sample(), name)))

@@ -1,0 +1,5 @@
+mod AsBox
+pub mod Told
+pub mod Looking
+pub mod Taking
+pub mod Opening

@@ -1,0 +1,50 @@
+-- What the readers of a world find, as its own contracts say it.
+use Rattle.std.specs.Prelude.{◌≡◌, ◌+◌, ◌-◌, ◌<◌, ℕ, Option, Some, Result, IfOk, IfSome, MatchOption, Contains, length, option_map}
+use Rattle.std.specs.FinMap.{get, contains_key, len}
+use Rattle.std.specs.FinSet as sets
+use Rattle.fz_model.specs.declared.answers.Entry.{Entry}
+use Rattle.fz_model.specs.declared.answers.Registration.{Registration}
+use Rattle.fz_model.specs.declared.kinds.LinkKind.{LinkKind}
+use Rattle.fz_model.specs.declared.refusal.Refusal.{Refusal}
+use Rattle.fz_model.specs.Memory.{slot_word, word_at}
+use Rattle.fz_model.specs.Causes.{IsJudgedBy, slot_causes, place_causes}
+use Rattle.fz_model.specs.Events.{links_of}
+use Rattle.fz_world.specs.declared.shown.Object.{Object}
+use Rattle.fz_world.specs.World.{WorldView}
+use Rattle.fz_world.specs.Ready.{IsNextHeld}
+use Rattle.fz_world.specs.Shown.{shown_object, HasNoneFrom, IsFirstFrom}
+use Rattle.fz_c.specs.declared.shown.Counts.{Counts}
+
+abbrev pub IsWordOfSlot : WorldView → ℕ → ℕ → Result ℕ Refusal → Type 0
+IsWordOfSlot w frame slot reply = IsJudgedBy (slot_causes w.frames frame slot) reply × IfOk reply (λ word. word ≡ slot_word w.frames frame slot)
+
+abbrev pub IsWordAt : WorldView → ℕ → ℕ → Result ℕ Refusal → Type 0
+IsWordAt w word offset reply = IsJudgedBy (place_causes w.objects word offset) reply × IfOk reply (λ read. read ≡ word_at w.objects (word + offset))
+
+abbrev pub IsNextObject : WorldView → ℕ → Option Object → Type 0
+IsNextObject w from found =
+    MatchOption found (HasNoneFrom w.blocks (contains_key w.objects) from) (λ object. IsFirstFrom w.blocks (contains_key w.objects) from object.start)
+    × IfSome found (λ object. option_map (shown_object object.start) (get w.objects object.start) ≡ Some object)
+
+abbrev pub IsNextRegistration : WorldView → ℕ → Option (ℕ × Registration) → Type 0
+IsNextRegistration w from found =
+    MatchOption found (HasNoneFrom w.blocks (contains_key w.registrations) from) (λ row. IsFirstFrom w.blocks (contains_key w.registrations) from row.0)
+    × IfSome found (λ row. get w.registrations row.0 ≡ Some row.1)
+
+abbrev pub IsNextLink : WorldView → LinkKind → ℕ → Option (ℕ × ℕ) → Type 0
+IsNextLink w which from found =
+    MatchOption found (HasNoneFrom w.blocks (contains_key (links_of w.core which)) from) (λ row. IsFirstFrom w.blocks (contains_key (links_of w.core which)) from row.0)
+    × IfSome found (λ row. get (links_of w.core which) row.0 ≡ Some row.1)
+
+abbrev pub IsNextHeldEntry : WorldView → ℕ → Option Entry → Type 0
+IsNextHeldEntry w from found = MatchOption found ((e : Entry) → Contains w.held e → e.seq < from) (IsNextHeld w.held from)
+
+-- `taken` counts the entries that were handed out
+pub record IsCounted (w : WorldView) (taken : ℕ) (counts : Counts) : Type 0 where
+  pub passes : counts.passes ≡ w.passes
+  pub reclaimed : counts.reclaimed ≡ w.next_birth - len w.objects
+  pub queued : counts.queued ≡ length w.queue
+  pub taken_are : counts.taken ≡ taken
+  pub outstanding : counts.outstanding ≡ length w.held
+  pub scans : counts.scans ≡ w.scans
+  pub noted : counts.noted ≡ sets.len w.noted

@@ -1,0 +1,157 @@
+//! Disappearing links.
+
+ghost use Rattle.std.specs.Prelude.{◌≡◌};
+ghost use Rattle.fz_model.specs.Events.{Link, Unlink, MoveLink};
+ghost use Rattle.fz_c.specs.Told.{Calls, IsTold};
+ghost use Rattle.fz_c.specs.Places.{link_kind_of, TellsLinkAnswer, TellsUnlinked, TellsMoved};
+
+use crate::codes::{Code, NO_WORLD, OK};
+use crate::handle::Handle;
+use crate::slots::Slot;
+use fz_model::{LinkAnswer, LinkKind, MoveAnswer, Refusal};
+use std::alloc::Global;
+
+/// `GC_SUCCESS`
+const SUCCESS: u8 = 0;
+
+/// `GC_DUPLICATE`
+const DUPLICATE: u8 = 1;
+
+/// `GC_NOT_FOUND`
+const NOT_FOUND: u8 = 4;
+
+pub(crate) fn kind_for(is_long: bool) -> LinkKind
+    ensures { result ≡ link_kind_of is_long }
+{
+    if is_long {
+        LinkKind::Long
+    } else {
+        LinkKind::Short
+    }
+}
+
+fn tell_link_answer(reply: Result<LinkAnswer, Refusal>, answer: &mut u8) -> Code
+    ensures { IsTold reply result (TellsLinkAnswer answer.new) (answer.new ≡ answer.old) }
+{
+    match reply {
+        Ok(linked) => {
+            *answer = match linked {
+                LinkAnswer::Success => SUCCESS,
+                LinkAnswer::Duplicate => DUPLICATE,
+            };
+            OK
+        }
+        Err(refusal) => refusal.code(),
+    }
+}
+
+fn tell_unlinked(reply: Result<bool, Refusal>, was: &mut bool) -> Code
+    ensures { IsTold reply result (TellsUnlinked was.new) (was.new ≡ was.old) }
+{
+    match reply {
+        Ok(unlinked) => {
+            *was = unlinked;
+            OK
+        }
+        Err(refusal) => refusal.code(),
+    }
+}
+
+fn tell_moved(reply: Result<MoveAnswer, Refusal>, answer: &mut u8) -> Code
+    ensures { IsTold reply result (TellsMoved answer.new) (answer.new ≡ answer.old) }
+{
+    match reply {
+        Ok(moved) => {
+            *answer = match moved {
+                MoveAnswer::Success => SUCCESS,
+                MoveAnswer::Duplicate => DUPLICATE,
+                MoveAnswer::NotFound => NOT_FOUND,
+            };
+            OK
+        }
+        Err(refusal) => refusal.code(),
+    }
+}
+
+/// `World::link`.
+#[tactic(auto, using(crate::proofs::Told::not_called, crate::proofs::Told::called, crate::proofs::Told::none_taken))]
+#[unsafe(no_mangle)]
+pub extern "C" fn fz_link(
+    alloc: Global,
+    world: &mut Handle,
+    is_long: bool,
+    slot: Slot,
+    offset: u64,
+    target: Slot,
+    answer: &mut u8,
+) -> Code
+    ensures { Calls world.old.value (Link (link_kind_of is_long) slot.frame slot.slot offset target.frame target.slot) world.new.value result (TellsLinkAnswer answer.new) (answer.new ≡ answer.old) }
+{
+    let Some(mut session) = world.take(alloc) else {
+        return NO_WORLD;
+    };
+    let reply = session.world.link(
+        kind_for(is_long),
+        slot.frame,
+        slot.slot,
+        offset,
+        target.frame,
+        target.slot,
+    );
+    world.put(session);
+    tell_link_answer(reply, answer)
+}
+
+/// `World::unlink`.
+#[tactic(auto, using(crate::proofs::Told::not_called, crate::proofs::Told::called, crate::proofs::Told::none_taken))]
+#[unsafe(no_mangle)]
+pub extern "C" fn fz_unlink(
+    alloc: Global,
+    world: &mut Handle,
+    is_long: bool,
+    slot: Slot,
+    offset: u64,
+    was: &mut bool,
+) -> Code
+    ensures { Calls world.old.value (Unlink (link_kind_of is_long) slot.frame slot.slot offset) world.new.value result (TellsUnlinked was.new) (was.new ≡ was.old) }
+{
+    let Some(mut session) = world.take(alloc) else {
+        return NO_WORLD;
+    };
+    let reply = session
+        .world
+        .unlink(kind_for(is_long), slot.frame, slot.slot, offset);
+    world.put(session);
+    tell_unlinked(reply, was)
+}
+
+/// `World::move_link`.
+#[tactic(auto, using(crate::proofs::Told::not_called, crate::proofs::Told::called, crate::proofs::Told::none_taken))]
+#[unsafe(no_mangle)]
+pub extern "C" fn fz_move_link(
+    alloc: Global,
+    world: &mut Handle,
+    is_long: bool,
+    slot: Slot,
+    offset: u64,
+    to: Slot,
+    to_offset: u64,
+    answer: &mut u8,
+) -> Code
+    ensures { Calls world.old.value (MoveLink (link_kind_of is_long) slot.frame slot.slot offset to.frame to.slot to_offset) world.new.value result (TellsMoved answer.new) (answer.new ≡ answer.old) }
+{
+    let Some(mut session) = world.take(alloc) else {
+        return NO_WORLD;
+    };
+    let reply = session.world.move_link(
+        kind_for(is_long),
+        slot.frame,
+        slot.slot,
+        offset,
+        to.frame,
+        to.slot,
+        to_offset,
+    );
+    world.put(session);
+    tell_moved(reply, answer)
+}

@@ -1,0 +1,131 @@
+//! Objects and their words.
+
+ghost use Rattle.std.specs.Prelude.{◌≡◌};
+ghost use Rattle.fz_model.specs.Events.{Alloc, Load, Store};
+ghost use Rattle.fz_c.specs.Told.{Calls, IsTold, Reads};
+ghost use Rattle.fz_c.specs.Places.{kind_of, TellsMade, TellsWord};
+ghost use Rattle.fz_c.specs.Shows.{IsWordAt};
+
+use crate::codes::{Code, NO_WORLD, OK, tell, tell_word};
+use crate::handle::Handle;
+use crate::slots::Slot;
+use fz_model::{Addr, ObjKind, Refusal};
+use std::alloc::Global;
+
+/// A new object.
+#[repr(C)]
+#[derive(Clone, Copy)]
+pub struct Made {
+    pub address: u64,
+    pub birth: u64,
+}
+
+fn kind_for(atomic: bool) -> ObjKind
+    ensures { result ≡ kind_of atomic }
+{
+    if atomic {
+        ObjKind::Atomic
+    } else {
+        ObjKind::Scanned
+    }
+}
+
+fn tell_made(reply: Result<(Addr, u64), Refusal>, made: &mut Made) -> Code
+    ensures { IsTold reply result (TellsMade made.new) (made.new ≡ made.old) }
+{
+    match reply {
+        Ok((address, birth)) => {
+            *made = Made { address, birth };
+            OK
+        }
+        Err(refusal) => refusal.code(),
+    }
+}
+
+/// `World::alloc`.
+#[tactic(auto, using(crate::proofs::Told::not_called, crate::proofs::Told::called, crate::proofs::Told::none_taken))]
+#[unsafe(no_mangle)]
+pub extern "C" fn fz_alloc(
+    alloc: Global,
+    world: &mut Handle,
+    slot: Slot,
+    size: u64,
+    atomic: bool,
+    made: &mut Made,
+) -> Code
+    ensures { Calls world.old.value (Alloc slot.frame slot.slot size (kind_of atomic)) world.new.value result (TellsMade made.new) (made.new ≡ made.old) }
+{
+    let Some(mut session) = world.take(alloc) else {
+        return NO_WORLD;
+    };
+    let reply = session
+        .world
+        .alloc(slot.frame, slot.slot, size, kind_for(atomic));
+    world.put(session);
+    tell_made(reply, made)
+}
+
+/// `World::load`.
+#[tactic(auto, using(crate::proofs::Told::not_called, crate::proofs::Told::called, crate::proofs::Told::none_taken))]
+#[unsafe(no_mangle)]
+pub extern "C" fn fz_load(
+    alloc: Global,
+    world: &mut Handle,
+    slot: Slot,
+    offset: u64,
+    to: Slot,
+    word: &mut u64,
+) -> Code
+    ensures { Calls world.old.value (Load slot.frame slot.slot offset to.frame to.slot) world.new.value result (TellsWord word.new) (word.new ≡ word.old) }
+{
+    let Some(mut session) = world.take(alloc) else {
+        return NO_WORLD;
+    };
+    let reply = session
+        .world
+        .load(slot.frame, slot.slot, offset, to.frame, to.slot);
+    world.put(session);
+    tell_word(reply, word)
+}
+
+/// `World::store`.
+#[tactic(auto, using(crate::proofs::Told::not_called, crate::proofs::Told::called, crate::proofs::Told::none_taken))]
+#[unsafe(no_mangle)]
+pub extern "C" fn fz_store(
+    alloc: Global,
+    world: &mut Handle,
+    slot: Slot,
+    offset: u64,
+    from: Slot,
+) -> Code
+    ensures { Calls world.old.value (Store slot.frame slot.slot offset from.frame from.slot) world.new.value result (λ _. Unit {0}) (Unit {0}) }
+{
+    let Some(mut session) = world.take(alloc) else {
+        return NO_WORLD;
+    };
+    let reply = session
+        .world
+        .store(slot.frame, slot.slot, offset, from.frame, from.slot);
+    world.put(session);
+    tell(reply)
+}
+
+/// `World::read`.
+#[tactic(auto, using(crate::proofs::Looking::not_read, crate::proofs::Looking::reads, crate::proofs::Told::none_taken))]
+#[unsafe(no_mangle)]
+pub extern "C" fn fz_read(
+    alloc: Global,
+    world: &mut Handle,
+    word: u64,
+    offset: u64,
+    value: &mut u64,
+) -> Code
+    ensures { Reads world.old.value world.new.value result (λ session. IsWordAt session.world word offset) (TellsWord value.new) (value.new ≡ value.old) }
+{
+    let Some(session) = world.take(alloc) else {
+        return NO_WORLD;
+    };
+    let reply = session.world.read(word, offset);
+    world.put(session);
+    tell_word(reply, value)
+}

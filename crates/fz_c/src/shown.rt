@@ -1,0 +1,238 @@
+//! What a world shows: objects, registrations and links in order of address, entries in order of the queue, and counts.
+
+ghost use Rattle.std.specs.Prelude.{◌≡◌, slice_get};
+ghost use Rattle.fz_c.specs.declared.codes.TheConstants as codes;
+ghost use Rattle.fz_c.specs.Told.{IsFound, Looks, Finds};
+ghost use Rattle.fz_c.specs.Places.{kind_of, number_of, link_kind_of, TellsEntry, TellsObject, TellsRegistration, TellsLinked};
+ghost use Rattle.fz_c.specs.Shows.{IsNextObject, IsNextRegistration, IsNextLink, IsNextHeldEntry, IsCounted};
+
+use crate::codes::{Code, EMPTY, NO_WORLD, OK};
+use crate::entries::{Entry, tell_entry};
+use crate::handle::Handle;
+use crate::links::kind_for;
+use fz_model::{Addr, ObjKind, RegKind};
+use std::alloc::Global;
+
+/// An object.
+#[repr(C)]
+#[derive(Clone, Copy)]
+pub struct Object {
+    pub start: u64,
+    /// In words.
+    pub size: u64,
+    pub birth: u64,
+    pub atomic: bool,
+}
+
+/// The registration of an object.
+#[repr(C)]
+#[derive(Clone, Copy)]
+pub struct Registration {
+    /// The start of the object.
+    pub object: u64,
+    pub number: u64,
+    pub proc: u64,
+    pub cd: u64,
+    /// 0, 1 or 2, as `number_for` has them.
+    pub kind: u8,
+    pub rank: u8,
+}
+
+/// A disappearing link.
+#[repr(C)]
+#[derive(Clone, Copy)]
+pub struct Linked {
+    /// The address of its word.
+    pub place: u64,
+    /// The start of its target.
+    pub target: u64,
+}
+
+/// What a world counts.
+#[repr(C)]
+#[derive(Clone, Copy)]
+pub struct Counts {
+    pub passes: u64,
+    /// Objects.
+    pub reclaimed: u64,
+    /// Entries that were ever queued.
+    pub queued: u64,
+    /// Entries that were taken.
+    pub taken: u64,
+    /// Entries that aren't finished.
+    pub outstanding: u64,
+    /// Scans of objects, in the cycle begun last.
+    pub scans: u64,
+    /// Pages that were noted, in the cycle begun last.
+    pub noted: u64,
+}
+
+fn is_atomic(kind: ObjKind) -> bool
+    ensures { kind_of result ≡ kind }
+{
+    match kind {
+        ObjKind::Scanned => false,
+        ObjKind::Atomic => true,
+    }
+}
+
+/// The number of a kind of registration.
+fn number_for(kind: RegKind) -> u8
+    ensures { result ≡ number_of kind }
+{
+    match kind {
+        RegKind::Normal => 0,
+        RegKind::IgnoreSelf => 1,
+        RegKind::NoOrder => 2,
+    }
+}
+
+fn tell_object(found: Option<fz_world::Object>, object: &mut Object) -> Code
+    ensures { IsFound found result (TellsObject object.new) (object.new ≡ object.old) }
+{
+    let Some(next) = found else {
+        return EMPTY;
+    };
+    *object = Object {
+        start: next.start,
+        size: next.size,
+        birth: next.birth,
+        atomic: is_atomic(next.kind),
+    };
+    OK
+}
+
+fn tell_registration(
+    found: Option<(Addr, fz_model::Registration)>,
+    registration: &mut Registration,
+) -> Code
+    ensures { IsFound found result (TellsRegistration registration.new) (registration.new ≡ registration.old) }
+{
+    let Some((object, next)) = found else {
+        return EMPTY;
+    };
+    *registration = Registration {
+        object,
+        number: next.number,
+        proc: next.proc,
+        cd: next.cd,
+        kind: number_for(next.kind),
+        rank: next.rank,
+    };
+    OK
+}
+
+fn tell_linked(found: Option<(Addr, Addr)>, linked: &mut Linked) -> Code
+    ensures { IsFound found result (TellsLinked linked.new) (linked.new ≡ linked.old) }
+{
+    let Some((place, target)) = found else {
+        return EMPTY;
+    };
+    *linked = Linked { place, target };
+    OK
+}
+
+/// `World::next_object`.
+#[tactic(auto, using(crate::proofs::Looking::not_found, crate::proofs::Looking::finds, crate::proofs::Told::none_taken))]
+#[unsafe(no_mangle)]
+pub extern "C" fn fz_next_object(
+    alloc: Global,
+    world: &mut Handle,
+    from: u64,
+    object: &mut Object,
+) -> Code
+    ensures { Finds world.old.value world.new.value result (λ session. IsNextObject session.world from) (TellsObject object.new) (object.new ≡ object.old) }
+{
+    let Some(session) = world.take(alloc) else {
+        return NO_WORLD;
+    };
+    let found = session.world.next_object(from);
+    world.put(session);
+    tell_object(found, object)
+}
+
+/// `World::next_registration`.
+#[tactic(auto, using(crate::proofs::Looking::not_found, crate::proofs::Looking::finds, crate::proofs::Told::none_taken))]
+#[unsafe(no_mangle)]
+pub extern "C" fn fz_next_registration(
+    alloc: Global,
+    world: &mut Handle,
+    from: u64,
+    registration: &mut Registration,
+) -> Code
+    ensures { Finds world.old.value world.new.value result (λ session. IsNextRegistration session.world from) (TellsRegistration registration.new) (registration.new ≡ registration.old) }
+{
+    let Some(session) = world.take(alloc) else {
+        return NO_WORLD;
+    };
+    let found = session.world.next_registration(from);
+    world.put(session);
+    tell_registration(found, registration)
+}
+
+/// `World::next_link`.
+#[tactic(auto, using(crate::proofs::Looking::not_found, crate::proofs::Looking::finds, crate::proofs::Told::none_taken))]
+#[unsafe(no_mangle)]
+pub extern "C" fn fz_next_link(
+    alloc: Global,
+    world: &mut Handle,
+    is_long: bool,
+    from: u64,
+    linked: &mut Linked,
+) -> Code
+    ensures { Finds world.old.value world.new.value result (λ session. IsNextLink session.world (link_kind_of is_long) from) (TellsLinked linked.new) (linked.new ≡ linked.old) }
+{
+    let Some(session) = world.take(alloc) else {
+        return NO_WORLD;
+    };
+    let found = session.world.next_link(kind_for(is_long), from);
+    world.put(session);
+    tell_linked(found, linked)
+}
+
+/// `World::next_held`.
+#[tactic(auto, using(crate::proofs::Looking::not_found, crate::proofs::Looking::finds, crate::proofs::Told::none_taken))]
+#[unsafe(no_mangle)]
+pub extern "C" fn fz_next_held(
+    alloc: Global,
+    world: &mut Handle,
+    from: u64,
+    entry: &mut Entry,
+) -> Code
+    ensures { Finds world.old.value world.new.value result (λ session. IsNextHeldEntry session.world from) (TellsEntry entry.new) (entry.new ≡ entry.old) }
+{
+    let Some(session) = world.take(alloc) else {
+        return NO_WORLD;
+    };
+    let found = session.world.next_held(from);
+    world.put(session);
+    tell_entry(found, entry)
+}
+
+/// The entry of the queue with that number, whether or not it was taken or finished.
+#[tactic(auto, using(crate::proofs::Looking::not_found, crate::proofs::Looking::finds, crate::proofs::Told::none_taken))]
+#[unsafe(no_mangle)]
+pub extern "C" fn fz_queued(alloc: Global, world: &mut Handle, seq: u64, entry: &mut Entry) -> Code
+    ensures { Finds world.old.value world.new.value result (λ session found. found ≡ slice_get session.world.queue seq) (TellsEntry entry.new) (entry.new ≡ entry.old) }
+{
+    let Some(session) = world.take(alloc) else {
+        return NO_WORLD;
+    };
+    let found = session.queued(seq);
+    world.put(session);
+    tell_entry(found, entry)
+}
+
+/// Tells all that the world counts.
+#[tactic(auto, using(crate::proofs::Looking::not_looked, crate::proofs::Looking::looked, crate::proofs::Told::none_taken))]
+#[unsafe(no_mangle)]
+pub extern "C" fn fz_count(alloc: Global, world: &mut Handle, counts: &mut Counts) -> Code
+    ensures { Looks world.old.value world.new.value result (λ session. (result ≡ codes.OK) × IsCounted session.world session.taken counts.new) (counts.new ≡ counts.old) }
+{
+    let Some(session) = world.take(alloc) else {
+        return NO_WORLD;
+    };
+    *counts = session.counts();
+    world.put(session);
+    OK
+}

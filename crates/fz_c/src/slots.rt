@@ -1,0 +1,61 @@
+//! Slots, which are the roots that a program sets.
+
+ghost use Rattle.std.specs.Prelude.{◌≡◌};
+ghost use Rattle.fz_model.specs.Events.{Set, Copy};
+ghost use Rattle.fz_c.specs.Told.{Calls, Reads};
+ghost use Rattle.fz_c.specs.Places.{TellsWord};
+ghost use Rattle.fz_c.specs.Shows.{IsWordOfSlot};
+
+use crate::codes::{Code, NO_WORLD, tell, tell_word};
+use crate::handle::Handle;
+use std::alloc::Global;
+
+/// A slot of a frame, both counted from 0.
+#[repr(C)]
+#[derive(Clone, Copy)]
+pub struct Slot {
+    pub frame: u64,
+    pub slot: u64,
+}
+
+/// `World::set`.
+#[tactic(auto, using(crate::proofs::Told::not_called, crate::proofs::Told::called, crate::proofs::Told::none_taken))]
+#[unsafe(no_mangle)]
+pub extern "C" fn fz_set(alloc: Global, world: &mut Handle, slot: Slot, word: u64) -> Code
+    ensures { Calls world.old.value (Set slot.frame slot.slot word) world.new.value result (λ _. Unit {0}) (Unit {0}) }
+{
+    let Some(mut session) = world.take(alloc) else {
+        return NO_WORLD;
+    };
+    let reply = session.world.set(slot.frame, slot.slot, word);
+    world.put(session);
+    tell(reply)
+}
+
+/// `World::slot`.
+#[tactic(auto, using(crate::proofs::Looking::not_read, crate::proofs::Looking::reads, crate::proofs::Told::none_taken))]
+#[unsafe(no_mangle)]
+pub extern "C" fn fz_get(alloc: Global, world: &mut Handle, slot: Slot, word: &mut u64) -> Code
+    ensures { Reads world.old.value world.new.value result (λ session. IsWordOfSlot session.world slot.frame slot.slot) (TellsWord word.new) (word.new ≡ word.old) }
+{
+    let Some(session) = world.take(alloc) else {
+        return NO_WORLD;
+    };
+    let reply = session.world.slot(slot.frame, slot.slot);
+    world.put(session);
+    tell_word(reply, word)
+}
+
+/// `World::copy`.
+#[tactic(auto, using(crate::proofs::Told::not_called, crate::proofs::Told::called, crate::proofs::Told::none_taken))]
+#[unsafe(no_mangle)]
+pub extern "C" fn fz_copy(alloc: Global, world: &mut Handle, slot: Slot, to: Slot) -> Code
+    ensures { Calls world.old.value (Copy slot.frame slot.slot to.frame to.slot) world.new.value result (λ _. Unit {0}) (Unit {0}) }
+{
+    let Some(mut session) = world.take(alloc) else {
+        return NO_WORLD;
+    };
+    let reply = session.world.copy(slot.frame, slot.slot, to.frame, to.slot);
+    world.put(session);
+    tell(reply)
+}

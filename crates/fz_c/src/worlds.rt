@@ -1,0 +1,72 @@
+//! Worlds come and go.
+
+ghost use Rattle.std.specs.Prelude.{◌≡◌, None, IfOk};
+ghost use Rattle.fz_model.specs.Events.{Close};
+ghost use Rattle.fz_model.specs.Causes.{IsJudgedOrLacks};
+ghost use Rattle.fz_world.specs.Does.{open_causes};
+ghost use Rattle.fz_c.specs.Told.{Calls};
+ghost use Rattle.fz_c.specs.Opens.{IsOpening, Opened, Opens};
+
+use crate::codes::{Code, HAS_WORLD, NO_WORLD, OK, tell};
+use crate::handle::Handle;
+use crate::session::Session;
+use fz_model::Refusal;
+use fz_world::{Config, World};
+use std::alloc::Global;
+
+fn open(alloc: Global, blocks: u64, frames: u64) -> Result<Box<Session, Global>, Refusal>
+    ensures judged { IsJudgedOrLacks (open_causes blocks frames) result }
+    ensures opened { IfOk result (λ session. IsOpening session.value blocks frames) }
+{
+    let world = World::open(alloc, Config { blocks, frames })?;
+    Ok(Box::new(alloc, Session { world, taken: 0 })?)
+}
+
+fn open_into(alloc: Global, world: &mut Handle, blocks: u64, frames: u64) -> Code
+    requires { world.old.value ≡ None }
+    ensures { Opened blocks frames world.new.value result }
+{
+    match open(alloc, blocks, frames) {
+        Ok(session) => {
+            world.put(session);
+            OK
+        }
+        Err(refusal) => refusal.code(),
+    }
+}
+
+/// Opens a world in a handle that has none.
+#[unsafe(no_mangle)]
+pub extern "C" fn fz_open(alloc: Global, world: &mut Handle, blocks: u64, frames: u64) -> Code
+    ensures { Opens world.old.value blocks frames world.new.value result }
+{
+    match world.take(alloc) {
+        Some(session) => {
+            world.put(session);
+            HAS_WORLD
+        }
+        None => open_into(alloc, world, blocks, frames),
+    }
+}
+
+/// Frees the handle's world, if it has one.
+#[unsafe(no_mangle)]
+pub extern "C" fn fz_destroy(alloc: Global, world: &mut Handle)
+    ensures { world.new.value ≡ None }
+{
+    drop(world.take(alloc));
+}
+
+/// `World::close`.
+#[tactic(auto, using(crate::proofs::Told::not_called, crate::proofs::Told::called, crate::proofs::Told::none_taken))]
+#[unsafe(no_mangle)]
+pub extern "C" fn fz_close(alloc: Global, world: &mut Handle) -> Code
+    ensures { Calls world.old.value Close world.new.value result (λ _. Unit {0}) (Unit {0}) }
+{
+    let Some(mut session) = world.take(alloc) else {
+        return NO_WORLD;
+    };
+    let reply = session.world.close();
+    world.put(session);
+    tell(reply)
+}
