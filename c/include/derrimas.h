@@ -171,7 +171,7 @@ static inline fz_slot fz_at(uint64_t frame, uint64_t slot)
 
 /* ---- worlds */
 
-/* Opens a world with a heap of so many blocks (1 to FZ_MAX_BLOCKS) and so many frames (1 to FZ_MAX_FRAMES): GC_INIT. All
+/* Opens a world of a number of blocks (1 to FZ_MAX_BLOCKS) and a number of frames (1 to FZ_MAX_FRAMES): GC_INIT. All
  * slots are 0.
  * Refused: FZ_HAS_WORLD, FZ_BAD_COUNT, FZ_NO_MEMORY. */
 fz_code fz_open(fz_world *world, uint64_t blocks, uint64_t frames) FZ_NONNULL;

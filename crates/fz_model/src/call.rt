@@ -67,7 +67,7 @@ pub enum Call {
     },
     /// Opens a cycle.
     Begin,
-    /// Scans at most so many marked objects.
+    /// Scans at most `budget` marked objects.
     Mark {
         budget: u64,
     },

@@ -65,7 +65,7 @@ pub trait Program<R: Wait, T> {
     fn run<O: Opening>(self, service: &Service<O>, rt: &R) -> T;
 }
 
-/// Opens a service of this size with so many workers, runs the program beside them, and ends the service. Returns what the program told, and the
+/// Opens a service of this size with this number of workers, runs the program beside them, and ends the service. Returns what the program told, and the
 /// totals.
 ///
 /// The worker at each place has the list of procedures at that place. Refusals, in their order: `BadCount` where blocks, frames or workers are

@@ -26,7 +26,7 @@ pub trait Proc: Drop {
     {}
 }
 
-/// The lists of procedures of so many workers, each with a value of each of these expressions, in their order.
+/// Makes a list of procedures for each of a number of workers. Each list has a value of each expression, in their order.
 ///
 /// The function that calls it is left by `?` where there is no memory, or where an expression is.
 #[macro_export]

@@ -91,7 +91,7 @@ impl World {
         self.ready.queue()
     }
 
-    /// The next entry for who has taken so many: the one with this number, if it was queued.
+    /// The entry with this number, if it was queued: the next one for a caller that has taken `taken` entries.
     pub fn next(&self, taken: u64) -> Option<Entry>
         ensures { result ≡ slice_get self.now.queue taken }
     {

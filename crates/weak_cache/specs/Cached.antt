@@ -1,12 +1,16 @@
 -- What is cached, and what holds of a cache between two calls.
-use Rattle.std.specs.Prelude.{◌≡◌, ℕ, ◌+◌, ◌<◌, Option, Some, None, length, slice_get, unwrap_or, refl}
+use Rattle.std.specs.Prelude.{◌≡◌, ℕ, ◌+◌, ◌<◌, Option, Some, None, Ok, length, slice_get, unwrap_or, refl}
 use Rattle.std.specs.Coded.{Coded, code_by, coded×, coded_ℕ}
 use Rattle.std.specs.FinMap.{get}
+use Rattle.fz_model.specs.declared.answers.RegAnswer.{RegAnswer}
+use Rattle.fz_model.specs.declared.kinds.ObjKind.TheVariants.{Atomic}
+use Rattle.fz_model.specs.declared.kinds.RegKind.TheVariants.{Normal}
+use Rattle.fz_model.specs.Events.{Alloc, Register}
 use Rattle.fz_model.specs.State.{Object, Core, State}
 use Rattle.fz_model.specs.Memory.{slot_word}
 use Rattle.fz_model.specs.Steps.{IsReached}
 use Rattle.fz_world.specs.World.{WorldView, world_code}
-use Rattle.fz_world.specs.Does.{StandsFor}
+use Rattle.fz_world.specs.Does.{Does, StandsFor}
 use Rattle.weak_cache.specs.declared.cache.TheConstants.{LIST, HAND}
 
 pub record CacheView : Type 0 where
@@ -36,6 +40,12 @@ SameIn c d = (key : ℕ) → cached_in d key ≡ cached_in c key
 
 unfoldable pub KeepsCached : WorldView → WorldView → Type 0
 KeepsCached old new = SameIn old.core new.core
+
+-- an object is made, in hand, and then registered with this client data
+abbrev pub Makes : WorldView → ℕ → WorldView → Type 0
+Makes old client_data new =
+    (mid : WorldView) × (made : ℕ × ℕ) × (answer : RegAnswer)
+    × Does old (Alloc 0 HAND 1 Atomic) (Ok made) mid × Does mid (Register 0 HAND Normal 0 client_data 0) (Ok answer) new
 
 -- the list has a word for each key, what is cached under it or zero; and no long link stands anywhere
 pub record IsCache (keys : ℕ) (c : Core) : Type 0 where

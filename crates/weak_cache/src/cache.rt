@@ -2,8 +2,11 @@
 
 ghost use Rattle.std.specs.Prelude.{◌≡◌, ◌≢◌, ◌<◌, ℕ, Some, None, IfOk, OnOk, IfSome, slice_get};
 ghost use Rattle.fz_model.specs.CallLaws.{Stands};
+ghost use Rattle.fz_model.specs.Events.{Set, Collect, Finish};
 ghost use Rattle.fz_model.specs.Reachability.{IsReachable};
-ghost use Rattle.weak_cache.specs.Cached.{cached, in_hand, KeepsCached};
+ghost use Rattle.fz_world.specs.Does.{Does};
+ghost use Rattle.weak_cache.specs.declared.cache.TheConstants.{HAND};
+ghost use Rattle.weak_cache.specs.Cached.{cached, in_hand, KeepsCached, Makes};
 
 use fz_model::LinkKind::Short;
 use fz_model::ObjKind::Atomic;
@@ -55,6 +58,7 @@ impl Cache {
 
     /// Makes an object, in hand, with a finalizer that is told the client data.
     pub(crate) fn make(&mut self, client_data: u64) -> Result<(), Refusal>
+        ensures made { OnOk result (Makes self.old.world client_data self.new.world) }
         ensures same { KeepsCached self.old.world self.new.world }
         ensures keys { self.new.keys ≡ self.old.keys }
     {
@@ -90,6 +94,7 @@ impl Cache {
 
     /// Lets go of the object in hand.
     pub(crate) fn let_go(&mut self) -> Result<(), Refusal>
+        ensures step { Does self.old.world (Set 0 HAND 0) result self.new.world }
         ensures same { KeepsCached self.old.world self.new.world }
         ensures keys { self.new.keys ≡ self.old.keys }
     {
@@ -98,6 +103,7 @@ impl Cache {
 
     /// Collects: what isn't found is cached no more.
     pub(crate) fn collect(&mut self) -> Result<Passed, Refusal>
+        ensures step { Does self.old.world Collect result self.new.world }
         // What is cached afterwards was cached before, under the same key. So an empty key stays empty.
         ensures kept { (key a : ℕ) → cached self.new key ≡ Some a → cached self.old key ≡ Some a }
         // What is reachable stays cached.
@@ -108,7 +114,7 @@ impl Cache {
         self.world.collect()
     }
 
-    /// The next entry for who has taken so many.
+    /// The next entry for a caller that has taken `taken` entries.
     pub(crate) fn next(&self, taken: u64) -> Option<Entry>
         ensures { result ≡ slice_get self.now.world.queue taken }
     {
@@ -117,6 +123,7 @@ impl Cache {
 
     /// Finishes an entry.
     pub(crate) fn finish(&mut self, entry: &Entry) -> Result<(), Refusal>
+        ensures step { Does self.old.world (Finish entry.now) result self.new.world }
         ensures same { KeepsCached self.old.world self.new.world }
         ensures keys { self.new.keys ≡ self.old.keys }
     {

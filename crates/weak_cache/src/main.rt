@@ -24,7 +24,7 @@ fn show<R: Print>(rt: &R, cache: &mut Cache, keys: u64) -> Result<()> {
     Ok(())
 }
 
-/// Takes so many entries one after another, tells what is finalized, and finishes them.
+/// Takes a number of entries one after another, prints what is finalized, and finishes them.
 fn finalize<R: Print>(rt: &R, cache: &mut Cache, entries: u64) -> Result<()> {
     for taken in 0..entries {
         let Some(entry) = cache.next(taken) else {

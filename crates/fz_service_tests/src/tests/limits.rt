@@ -98,14 +98,14 @@ fn the_gate_is_told_before_work_and_work_before_run(rt: HostRuntime) -> Result<(
     Ok(())
 }
 
-/// Makes so many objects, registers each, and drops them.
+/// Makes `count` objects, registers each, and drops them.
 fn make_and_drop_all<O: Opening>(rt: &impl Abort, locked: &mut Locked<O>, count: u64) {
     for _object in 0..count {
         make_and_drop(rt, locked);
     }
 }
 
-/// A cycle in steps whose pass queues so many entries, after which all is sent.
+/// A cycle in steps whose pass queues `picked` entries, after which all is sent.
 fn pauses<O: Opening>(rt: &impl Abort, locked: &mut Locked<O>, picked: u64) {
     accepted(rt, "begin", locked.begin());
     same(rt, "mark", locked.mark(u64::MAX), Ok(Progress::Done));

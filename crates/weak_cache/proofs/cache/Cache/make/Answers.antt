@@ -1,4 +1,5 @@
-use Rattle.std.proofs.Common.{refl}
+use Rattle.std.proofs.Common.{refl, subst}
+use Rattle.weak_cache.specs.Cached.{CacheView, Makes}
 use Rattle.weak_cache.proofs.Keeping.{quiet_now, quiet_same, quiet_whole}
 use Rattle.weak_cache.proofs.cache.Cache.make.Goals as goal
 
@@ -12,3 +13,6 @@ returns-in_err-register-clause-same c =
 pub returns-clause-same : goal.returns-clause-same
 returns-clause-same c =
     quiet_same c.self.inside.keys _ _ _ _ _ c.register.ensures.step refl (quiet_whole _ _ _ _ _ c.alloc.ensures.step refl c.self.invariant) (quiet_now _ _ _ _ _ _ c.alloc.ensures.step refl c.self.view_is c.self.invariant)
+
+pub returns-clause-made : goal.returns-clause-made
+returns-clause-made c = subst (λ (v : CacheView). Makes v.world c.args.client_data c.register.new.self) c.self.view_is (_, _, _, c.in_ok-alloc.ensures.step, c.in_ok-register.ensures.step)
