@@ -4,23 +4,29 @@
  * process. A runtime keeps its objects there, or stands objects there for its own.
  *
  * A world has a heap of blocks of 64 words, and frames of 16 slots. A word and a slot hold a uint64_t, which may be any
- * number. Where it is an address of the heap, it points to the object in whose extent it lies; else to nothing. The
+ * number. Where it is an address that lies inside an object, it points to that object; else it points to nothing. The
  * slots are the roots: an object is kept as long as a slot leads to it, or the client data of a registration, or an
  * entry that isn't finished.
  *
  * Units: sizes and offsets are in words, not in bytes. Frames, slots, births, the numbers of registrations and the
  * places of the queue are counted from 0, passes from 1. Addresses are numbers of words, not C pointers: the heap begins
- * at FZ_HEAP_START, and 0 points to nothing.
+ * at FZ_HEAP_START, the next word has the next number, and 0 points to nothing.
  *
- * Every call but fz_destroy and fz_sample answers an fz_code: FZ_OK, or why it was refused. A refused call changes
- * nothing, and leaves the places for its results as they were. Where several causes stand, it answers the first in the
- * order of the call's comment.
+ * A collection is a cycle that ends with a pass. The cycle marks what the roots lead to. The pass then queues an entry
+ * for each registered object that wasn't marked and doesn't wait for another, sets links to 0, and reclaims all other
+ * objects that weren't marked, unless a registered one leads to them. The address of a reclaimed object may be used
+ * again. An object with an entry is kept, with all that it leads to, until fz_finish.
+ *
+ * Every call but fz_sample and those named destroy answers an fz_code: FZ_OK, or why it was refused. A refused call
+ * changes nothing, and leaves the places for its results as they were. Where several causes stand, it answers the first
+ * in the order of the call's comment. What a code means stands beside it below.
  *
  * What the caller owes, since nothing checks C:
  * - A pointer points to a value of its type, which no other thread and no other argument of the call uses. None is null.
- * - An fz_world starts as {0}, changes by these calls alone, and isn't copied (as in fz_world b = a).
+ * - An fz_world, fz_line or fz_seat starts as {0}, changes by these calls alone, and isn't copied (as in fz_world b = a).
  * - A bool is true or false.
- * - One thread at a time uses a world, and what one did is visible to the next, as behind one mutex.
+ * - One thread at a time uses a world, a line or a seat, and what one did is visible to the next, as behind one mutex.
+ *   A line and its seats may be used by different threads at the same time.
  * - No call comes from a signal handler, nor in the forked child of a process with threads.
  *
  * docs/C.md of the repository says how to link, what is proved, and what becomes of each call of gc.h.
@@ -52,28 +58,31 @@ typedef uint8_t fz_code;
 enum {
     FZ_OK = 0,
     FZ_BAD_SLOT = 1,       /* no such frame, or no such slot of its sixteen */
-    FZ_NOT_POINTER = 2,    /* the word points to no object */
-    FZ_OUTSIDE_OBJECT = 3, /* the word plus the offset lies outside the object to which the word points */
+    FZ_NOT_POINTER = 2,    /* the slot's word, or `word`, points to no object */
+    FZ_OUTSIDE_OBJECT = 3, /* that word plus the offset lies outside the object to which the word points */
     FZ_BAD_SIZE = 4,       /* the size isn't from 1 to FZ_MAX_SIZE */
-    FZ_NO_SPACE = 5,       /* no block has room for the object: collect, and try again */
-    FZ_NOT_START = 6,      /* the word isn't the start of an object */
+    FZ_NO_SPACE = 5,       /* no block of the heap has room for the object: collect, and try again */
+    FZ_NOT_START = 6,      /* the slot's word points into an object, but not to its first word */
     FZ_BAD_COUNT = 7,      /* a count is outside its limits, or a budget is 0 */
-    FZ_CYCLE_OPEN = 8,     /* a cycle is open */
+    FZ_CYCLE_OPEN = 8,     /* a cycle is open: fz_begin came, and its fz_pause didn't */
     FZ_NO_CYCLE = 9,       /* no cycle is open */
-    FZ_NOT_HELD = 10,      /* the entry isn't held: it was finished, or none of the world's is the same in all fields */
-    FZ_CLOSED = 11,        /* the world is closed */
-    FZ_NO_MEMORY = 12,     /* malloc failed */
-    FZ_EXHAUSTED = 13,     /* births, registrations or passes have come to their end, 2^48 */
+    FZ_NOT_HELD = 10,      /* the entry was finished, or none of the world's entries is the same in all fields */
+    FZ_CLOSED = 11,        /* the world is closed already */
+    FZ_NO_MEMORY = 12,     /* malloc or realloc failed: try again when the process has memory */
+    FZ_EXHAUSTED = 13,     /* the world's births, registrations or passes, whichever the call counts, have come to 2^48 */
     FZ_TABLE_FULL = 14,    /* FZ_MAX_TABLE registrations, or links of this kind, and this would be a new one */
-    FZ_NO_WORLD = 64,      /* the world isn't open: it never was, or it is destroyed */
-    FZ_HAS_WORLD = 65,     /* the world is open already */
-    FZ_EMPTY = 66          /* nothing is left of what was asked for */
+    FZ_NO_WORLD = 64,      /* the world (line, seat) isn't open: it never was, or it is destroyed */
+    FZ_HAS_WORLD = 65,     /* the world (line, seat) is open already */
+    FZ_EMPTY = 66,         /* there is none, or no further one, of what was asked for */
+    FZ_BUSY = 67,          /* another thread was in the way: try again */
+    FZ_IN_HAND = 68,       /* the seat has an entry in hand */
+    FZ_NOT_NEXT = 69       /* the entry isn't the next by its place in the queue */
 };
 
 /* The answers about links: gc.h's GC_SUCCESS, GC_DUPLICATE and GC_NOT_FOUND. */
 enum { FZ_SUCCESS = 0, FZ_DUPLICATE = 1, FZ_NOT_FOUND = 4 };
 
-/* The kinds of registrations, as fz_next_registration tells them. */
+/* The kinds of registrations, as fz_next_registration tells them: of fz_register, .._ignore_self and .._no_order. */
 enum { FZ_NORMAL = 0, FZ_IGNORE_SELF = 1, FZ_NO_ORDER = 2 };
 
 #define FZ_HEAP_START UINT64_C(65536) /* the address of the heap's first word */
@@ -82,6 +91,7 @@ enum { FZ_NORMAL = 0, FZ_IGNORE_SELF = 1, FZ_NO_ORDER = 2 };
 #define FZ_MAX_FRAMES 8               /* frames of a world */
 #define FZ_SLOTS 16                   /* slots of a frame */
 #define FZ_MAX_SIZE 1024              /* words of an object */
+#define FZ_MAX_SEATS 8                /* seats of a line */
 #define FZ_MAX_TABLE 65536            /* registrations, and links of each kind, at one time */
 
 /* ---- types */
@@ -90,6 +100,16 @@ enum { FZ_NORMAL = 0, FZ_IGNORE_SELF = 1, FZ_NO_ORDER = 2 };
 typedef struct fz_world {
     void *inside;
 } fz_world;
+
+/* A line: the end at which entries are published. Start it as {0}. */
+typedef struct fz_line {
+    void *inside;
+} fz_line;
+
+/* A worker's seat at a line. Start it as {0}. */
+typedef struct fz_seat {
+    void *inside;
+} fz_seat;
 
 /* A slot of a frame. */
 typedef struct fz_slot {
@@ -101,20 +121,21 @@ typedef struct fz_made {
     uint64_t address, birth;
 } fz_made;
 
-/* A registration that went away, if there was one: else proc and cd are 0. */
+/* The procedure and the client data of a registration that went away, and whether there was one: else both are 0. */
 typedef struct fz_old {
     uint64_t proc, cd;
     bool was;
 } fz_old;
 
-/* A registration: its number, what it replaced, and whether it was made (else the number is 0, and nothing was replaced). */
+/* A registration: its number, which no other of the world has; what it replaced; and whether it was made (else the
+ * number is 0, and nothing was replaced). */
 typedef struct fz_registered {
     uint64_t number;
     fz_old replaced;
     bool made;
 } fz_registered;
 
-/* What a pass did: its number; how many entries it put into the queue; how many objects it reclaimed. */
+/* What a pass did: its number; how many entries it put into the queue; how many objects (not words) it reclaimed. */
 typedef struct fz_passed {
     uint64_t pass, picked, reclaimed;
 } fz_passed;
@@ -137,7 +158,7 @@ typedef struct fz_registration {
     uint8_t kind, rank;
 } fz_registration;
 
-/* A link that stands: the address of its word, and that of its target. */
+/* A link that stands: the address of its word, and the address where its target starts. */
 typedef struct fz_linked {
     uint64_t place, target;
 } fz_linked;
@@ -172,22 +193,24 @@ static inline fz_slot fz_at(uint64_t frame, uint64_t slot)
 /* ---- worlds */
 
 /* Opens a world of a number of blocks (1 to FZ_MAX_BLOCKS) and a number of frames (1 to FZ_MAX_FRAMES): GC_INIT. All
- * slots are 0.
- * Refused: FZ_HAS_WORLD, FZ_BAD_COUNT, FZ_NO_MEMORY. */
+ * slots are 0, and there is no object.
+ * Refused: FZ_HAS_WORLD, FZ_BAD_COUNT (of the blocks or of the frames), FZ_NO_MEMORY. */
 fz_code fz_open(fz_world *world, uint64_t blocks, uint64_t frames) FZ_NONNULL;
 
 /* Frees all that the world has, and leaves it as {0}. No finalizer runs. Does nothing where the world isn't open. */
 void fz_destroy(fz_world *world) FZ_NONNULL;
 
-/* Closes the world: every registered object is a root from now on, so that no pass queues anything more. All other calls
- * go on as before.
+/* Closes the world: every registered object is a root from now on, so that no pass queues anything more. What is queued
+ * stays, and all other calls go on as before. It frees nothing: fz_destroy does.
  * Refused: FZ_NO_WORLD, FZ_CLOSED. */
 fz_code fz_close(fz_world *world) FZ_NONNULL;
 
 /* ---- objects and slots */
 
-/* Makes an object of `size` words (1 to FZ_MAX_SIZE), all of them 0, and puts its address into the slot: GC_malloc; or if
- * `atomic`, GC_malloc_atomic, whose words keep nothing. It doesn't collect.
+/* Makes an object of `size` words (1 to FZ_MAX_SIZE), all of them 0, and puts its address into the slot and into *made:
+ * GC_malloc; or if `atomic`, GC_malloc_atomic, whose words keep nothing. It doesn't collect. One of up to
+ * FZ_BLOCK_WORDS lies within a block, beside others of its size and of the same `atomic`; a larger one takes blocks of
+ * its own, one after another.
  * Refused: FZ_NO_WORLD, FZ_BAD_SLOT, FZ_BAD_SIZE, FZ_EXHAUSTED, FZ_NO_SPACE, FZ_NO_MEMORY. */
 fz_code fz_alloc(fz_world *world, fz_slot slot, uint64_t size, bool atomic, fz_made *made) FZ_NONNULL;
 
@@ -199,20 +222,21 @@ fz_code fz_set(fz_world *world, fz_slot slot, uint64_t word) FZ_NONNULL;
  * Refused: FZ_NO_WORLD, FZ_BAD_SLOT. */
 fz_code fz_get(fz_world *world, fz_slot slot, uint64_t *word) FZ_NONNULL;
 
-/* Puts the word of `slot` into `to`.
+/* Puts the word of `slot` into the slot `to`.
  * Refused: FZ_NO_WORLD, FZ_BAD_SLOT. */
 fz_code fz_copy(fz_world *world, fz_slot slot, fz_slot to) FZ_NONNULL;
 
-/* Reads the word of the heap at the slot's word plus the offset, into *word and into `to`, so that what it points to is
- * kept.
+/* Reads the word of the heap at the slot's word plus the offset, into *word and into the slot `to`, which so keeps what
+ * it points to. The slot's word may point anywhere into an object, and the offset is from there.
  * Refused: FZ_NO_WORLD, FZ_BAD_SLOT, FZ_NOT_POINTER, FZ_OUTSIDE_OBJECT. */
 fz_code fz_load(fz_world *world, fz_slot slot, uint64_t offset, fz_slot to, uint64_t *word) FZ_NONNULL;
 
-/* Writes the word of `from` into the heap, at the slot's word plus the offset.
+/* Writes the word of the slot `from` into the heap, at the slot's word plus the offset.
  * Refused: FZ_NO_WORLD, FZ_BAD_SLOT, FZ_NOT_POINTER, FZ_OUTSIDE_OBJECT. */
 fz_code fz_store(fz_world *world, fz_slot slot, uint64_t offset, fz_slot from) FZ_NONNULL;
 
-/* Reads the word of the heap at `word` plus the offset. As no slot gets it, nothing keeps what it points to.
+/* Reads the word of the heap at `word` plus the offset into *value. As no slot gets it, nothing more keeps what it
+ * points to.
  * Refused: FZ_NO_WORLD, FZ_NOT_POINTER, FZ_OUTSIDE_OBJECT. */
 fz_code fz_read(fz_world *world, uint64_t word, uint64_t offset, uint64_t *value) FZ_NONNULL;
 
@@ -220,9 +244,14 @@ fz_code fz_read(fz_world *world, uint64_t word, uint64_t offset, uint64_t *value
 
 /* Registers a finalizer of the object that starts at the slot's word: GC_register_finalizer, .._ignore_self, .._no_order.
  * `proc` is a number of the caller's, as an index into a table of procedures. `cd` is a word of client data; where it
- * points to an object, that is kept until the entry is finished. Of what one pass queues, lower ranks come first, and
- * within a rank lower addresses. An object has one finalizer: a new one replaces the old. Where the slot's word is 0 or
- * outside the heap, none is made.
+ * points to an object, that is kept until the entry is finished: the registered object too, which then is never ready.
+ * An object has one finalizer: a new one, of whichever kind, replaces the old. Where the slot's word is 0 or outside the
+ * heap, none is made: the call answers FZ_OK, and registered->made is false.
+ *
+ * A pass queues the registered objects that it didn't find, but for those to which one of them leads: those wait for a
+ * later pass. So an object on a ring waits for itself, for good. By .._ignore_self the object's words that point to
+ * itself don't count, and by .._no_order no word of it does, so that nothing waits for this object. Of what one pass
+ * queues, lower ranks (0 to 255) come first, and within a rank lower addresses.
  * Refused: FZ_NO_WORLD, FZ_BAD_SLOT, FZ_NOT_POINTER, FZ_NOT_START, FZ_EXHAUSTED, FZ_TABLE_FULL, FZ_NO_MEMORY. */
 fz_code fz_register(fz_world *world, fz_slot slot, uint64_t proc, uint64_t cd, uint8_t rank,
                     fz_registered *registered) FZ_NONNULL;
@@ -231,28 +260,32 @@ fz_code fz_register_ignore_self(fz_world *world, fz_slot slot, uint64_t proc, ui
 fz_code fz_register_no_order(fz_world *world, fz_slot slot, uint64_t proc, uint64_t cd, uint8_t rank,
                              fz_registered *registered) FZ_NONNULL;
 
-/* Removes the finalizer of the object that starts at the slot's word, if it has one: GC_register_finalizer with no
- * procedure. Where the slot's word is 0 or outside the heap, there is none.
+/* Removes the finalizer of the object that starts at the slot's word, if it has one, and tells what it was, in *old:
+ * GC_register_finalizer with no procedure. Where the slot's word is 0 or outside the heap, there is none: the call
+ * answers FZ_OK, and old->was is false. What is in the queue stays there.
  * Refused: FZ_NO_WORLD, FZ_BAD_SLOT, FZ_NOT_POINTER, FZ_NOT_START. */
 fz_code fz_unregister(fz_world *world, fz_slot slot, fz_old *old) FZ_NONNULL;
 
 /* ---- disappearing links */
 
-/* Makes the word at the slot's word plus the offset a link to the object that starts at the word of `target`: a short
- * one, as GC_general_register_disappearing_link, or a long one, as GC_register_long_link. The word itself stays as it
- * is: store the address there. A pass sets it to 0 when nothing reaches the target (short), or when not even a finalizer
- * that is still to run keeps it (long). Put links into atomic objects, which don't keep their targets. Answers
- * FZ_SUCCESS; or FZ_DUPLICATE where the word was a link of this kind, whose target is replaced.
+/* Makes the word at the slot's word plus the offset a link to the object that starts at the word of the slot `target`: a
+ * short one, as GC_general_register_disappearing_link, or if `is_long` a long one, as GC_register_long_link. The word
+ * itself stays as it is: store the address there. A pass sets it to 0 and removes the link: a short one when no root
+ * leads to the target, a long one when not even a finalizer that is still to run keeps it. Put links into atomic
+ * objects, which don't keep their targets. *answer is FZ_SUCCESS; or FZ_DUPLICATE where the word was a link of this kind
+ * already, whose target is replaced.
  * Refused: FZ_NO_WORLD, FZ_BAD_SLOT; of the place FZ_NOT_POINTER, FZ_OUTSIDE_OBJECT; of the target FZ_NOT_POINTER,
  * FZ_NOT_START; FZ_TABLE_FULL, FZ_NO_MEMORY. */
 fz_code fz_link(fz_world *world, bool is_long, fz_slot slot, uint64_t offset, fz_slot target, uint8_t *answer) FZ_NONNULL;
 
-/* Removes the link of this kind at the place, and tells whether there was one. No word changes.
+/* Removes the link of this kind at the slot's word plus the offset, and tells in *was whether there was one. No word
+ * changes.
  * Refused: FZ_NO_WORLD, FZ_BAD_SLOT, FZ_NOT_POINTER, FZ_OUTSIDE_OBJECT. */
 fz_code fz_unlink(fz_world *world, bool is_long, fz_slot slot, uint64_t offset, bool *was) FZ_NONNULL;
 
-/* Moves the link of this kind to another place. No word changes. Answers FZ_SUCCESS; or, and then nothing changed,
- * FZ_NOT_FOUND where there is no link to move, FZ_DUPLICATE where another stands at the new place.
+/* Moves the link of this kind from the slot's word plus the offset to the word of the slot `to` plus `to_offset`. No word
+ * changes. *answer is FZ_SUCCESS, also where both places are the same; or, and then nothing changed, FZ_NOT_FOUND where
+ * there is no link to move, FZ_DUPLICATE where another link of this kind stands at the new place.
  * Refused: FZ_NO_WORLD, FZ_BAD_SLOT; of the old place FZ_NOT_POINTER, FZ_OUTSIDE_OBJECT; the same of the new one;
  * FZ_NO_MEMORY. */
 fz_code fz_move_link(fz_world *world, bool is_long, fz_slot slot, uint64_t offset, fz_slot to, uint64_t to_offset,
@@ -265,8 +298,8 @@ fz_code fz_move_link(fz_world *world, bool is_long, fz_slot slot, uint64_t offse
 fz_code fz_collect(fz_world *world, fz_passed *passed) FZ_NONNULL;
 
 /* The same in steps, as GC_collect_a_little. fz_begin opens a cycle. fz_mark scans at most `budget` marked objects, and
- * tells whether none is left to scan. fz_pause ends the cycle with a pass, whether or not the marking was done. All calls
- * but fz_begin and fz_collect may come between.
+ * tells in *done whether none is left to scan. fz_pause marks the rest and ends the cycle with a pass. All calls but
+ * fz_begin and fz_collect may come between; what was dropped after fz_begin may stay until the next cycle.
  * Refused: fz_begin FZ_NO_WORLD, FZ_CYCLE_OPEN, FZ_EXHAUSTED; fz_mark FZ_NO_WORLD, FZ_BAD_COUNT (the budget is 0),
  * FZ_NO_CYCLE; fz_pause FZ_NO_WORLD, FZ_NO_CYCLE. */
 fz_code fz_begin(fz_world *world) FZ_NONNULL;
@@ -275,25 +308,64 @@ fz_code fz_pause(fz_world *world, fz_passed *passed) FZ_NONNULL;
 
 /* ---- the queue of finalizers that are ready */
 
-/* Takes the next entry of the queue: each entry once, in the queue's order. The entry holds its object until fz_finish.
+/* Takes the next entry of the queue into *entry: each entry once, in the queue's order. The entry holds its object, and
+ * what its client data points to, until fz_finish.
  * Refused: FZ_NO_WORLD, FZ_EMPTY. */
 fz_code fz_take(fz_world *world, fz_entry *entry) FZ_NONNULL;
 
-/* Tells whether the queue has an entry that wasn't taken: GC_should_invoke_finalizers.
+/* Tells in *waiting whether the queue has an entry that wasn't taken: GC_should_invoke_finalizers.
  * Refused: FZ_NO_WORLD. */
 fz_code fz_waiting(fz_world *world, bool *waiting) FZ_NONNULL;
 
-/* Counts the entries that aren't finished, taken or not.
+/* Tells in *count how many entries aren't finished, taken or not.
  * Refused: FZ_NO_WORLD. */
 fz_code fz_outstanding(fz_world *world, uint64_t *count) FZ_NONNULL;
 
-/* Puts the address of the entry's object into a slot: to use the object, or to keep it.
+/* Puts the address of the entry's object into the slot: to use the object, or to keep it also after fz_finish. The entry
+ * may be taken or not.
  * Refused: FZ_NO_WORLD, FZ_BAD_SLOT, FZ_NOT_HELD. */
 fz_code fz_hold(fz_world *world, fz_slot slot, const fz_entry *entry) FZ_NONNULL;
 
-/* Ends the holding of the entry: its finalizer has run. An entry that is never finished keeps its object for good.
+/* Ends the holding of the entry, taken or not: its finalizer has run. An entry that is never finished keeps its object
+ * for good.
  * Refused: FZ_NO_WORLD, FZ_NOT_HELD. */
 fz_code fz_finish(fz_world *world, const fz_entry *entry) FZ_NONNULL;
+
+/* ---- a line, from which workers take entries without a lock
+ *
+ * Who has the world takes its entries by fz_take, and publishes each on a line. Each worker has a seat: it takes entries
+ * from the line by fz_seat_take, which neither locks nor waits, runs their procedures, and says fz_seat_done. Then
+ * fz_finish, by who has the world, ends the holding. Over all seats each entry is taken once, and each seat takes its
+ * entries in the queue's order. A line has no part in a world: it may be destroyed before or after.
+ */
+
+/* Opens a line with a number of seats, 1 to FZ_MAX_SEATS, none of which is handed out.
+ * Refused: FZ_HAS_WORLD, FZ_BAD_COUNT, FZ_NO_MEMORY. */
+fz_code fz_line_open(fz_line *line, uint64_t seats) FZ_NONNULL;
+
+/* Frees the line's end, with the seats that weren't handed out, and leaves it as {0}. Seats that were handed out may
+ * still be used, and take what was published. Does nothing where the line isn't open. */
+void fz_line_destroy(fz_line *line) FZ_NONNULL;
+
+/* Hands out one of the line's seats: *seat is to be {0}.
+ * Refused: FZ_HAS_WORLD (of the seat), FZ_NO_WORLD (of the line), FZ_NO_MEMORY, FZ_EMPTY (no seat is left). */
+fz_code fz_line_seat(fz_line *line, fz_seat *seat) FZ_NONNULL;
+
+/* Publishes a copy of the entry, whose place in the queue, `seq`, has to be the number of those that were published
+ * before: so all entries of a world's queue from the first on, in their order.
+ * Refused: FZ_NO_WORLD, FZ_EXHAUSTED (2^62 were published), FZ_NOT_NEXT, FZ_NO_MEMORY (but not of the first 64). */
+fz_code fz_line_publish(fz_line *line, const fz_entry *entry) FZ_NONNULL;
+
+/* Takes the next entry of the line into *entry, and into the seat's hand until fz_seat_done.
+ * Refused: FZ_NO_WORLD; FZ_IN_HAND; FZ_EMPTY where the line was empty at one moment of the call; FZ_BUSY. */
+fz_code fz_seat_take(fz_seat *seat, fz_entry *entry) FZ_NONNULL;
+
+/* Puts the entry in hand away: its procedure has run.
+ * Refused: FZ_NO_WORLD; FZ_EMPTY where no entry is in hand. */
+fz_code fz_seat_done(fz_seat *seat) FZ_NONNULL;
+
+/* Frees the seat, and leaves it as {0}; an entry in hand is given up. Does nothing where the seat isn't open. */
+void fz_seat_destroy(fz_seat *seat) FZ_NONNULL;
 
 /* ---- what a world shows; nothing changes by it
  *
@@ -337,8 +409,8 @@ void fz_sample(fz_samples *samples) FZ_NONNULL;
 typedef void (*fz_proc)(fz_world *world, const fz_entry *entry, void *data);
 
 /* Takes entries until none is left, calls for each the procedure of its number, and finishes it: GC_invoke_finalizers.
- * Where the table of `count` procedures has no such number, or NULL there, nothing is called. Returns how many entries it
- * took. */
+ * Where the table of `count` procedures has no such number, or NULL there, nothing is called, and the entry is finished
+ * all the same. Returns how many entries it took: none where the world isn't open. */
 static inline uint64_t fz_invoke_finalizers(fz_world *world, const fz_proc *procs, size_t count, void *data) FZ_NONNULL_1;
 
 static inline uint64_t fz_invoke_finalizers(fz_world *world, const fz_proc *procs, size_t count, void *data)
@@ -377,6 +449,9 @@ static inline const char *fz_name(fz_code code)
     case FZ_NO_WORLD: return "NoWorld";
     case FZ_HAS_WORLD: return "HasWorld";
     case FZ_EMPTY: return "Empty";
+    case FZ_BUSY: return "Busy";
+    case FZ_IN_HAND: return "InHand";
+    case FZ_NOT_NEXT: return "NotNext";
     default: return "?";
     }
 }

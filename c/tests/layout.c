@@ -4,6 +4,8 @@
 _Static_assert(sizeof(fz_code) == 1, "fz_code");
 _Static_assert(sizeof(bool) == 1, "bool");
 _Static_assert(sizeof(fz_world) == sizeof(void *), "fz_world");
+_Static_assert(sizeof(fz_line) == sizeof(void *), "fz_line");
+_Static_assert(sizeof(fz_seat) == sizeof(void *), "fz_seat");
 _Static_assert(sizeof(fz_slot) == 16 && offsetof(fz_slot, slot) == 8, "fz_slot");
 _Static_assert(sizeof(fz_made) == 16 && offsetof(fz_made, birth) == 8, "fz_made");
 _Static_assert(sizeof(fz_old) == 24 && offsetof(fz_old, cd) == 8 && offsetof(fz_old, was) == 16, "fz_old");

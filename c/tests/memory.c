@@ -143,6 +143,50 @@ static void without_memory(uint64_t objects)
     granted = -1;
 }
 
+/* Opens a line with fewer allocations than it wants, hands its seat out, and publishes entries, each first without memory. Returns how many
+ * of these were refused. */
+static unsigned publishing(void)
+{
+    fz_line line = {0};
+    fz_seat seat = {0};
+    fz_entry entry = {0, 0, 0, 0, 0, 0, 0}, taken;
+    fz_code code;
+    unsigned refusals = 0;
+
+    for (granted = 0; (code = fz_line_open(&line, 1)) != FZ_OK; refusals++) {
+        IS(code, FZ_NO_MEMORY);
+        IS(line.inside == NULL, true);
+        granted = refusals + 1;
+    }
+    IS(refusals > 0, true);
+    granted = 0;
+    IS(fz_line_seat(&line, &seat), FZ_NO_MEMORY);
+    IS(seat.inside == NULL, true);
+    granted = -1;
+    OK(fz_line_seat(&line, &seat));
+    for (refusals = 0; entry.seq < 1000; entry.seq++) {
+        granted = 0;
+        code = fz_line_publish(&line, &entry);
+        granted = -1;
+        if (code == FZ_OK)
+            continue;
+        IS(code, FZ_NO_MEMORY);
+        IS(entry.seq >= 64, true);
+        OK(fz_line_publish(&line, &entry));
+        refusals++;
+    }
+    granted = 0;
+    for (uint64_t n = 0; n < 1000; n++) {
+        OK(fz_seat_take(&seat, &taken));
+        IS(taken.seq, n);
+        OK(fz_seat_done(&seat));
+    }
+    fz_line_destroy(&line);
+    fz_seat_destroy(&seat);
+    granted = -1;
+    return refusals;
+}
+
 int main(void)
 {
     unsigned refusals = 0;
@@ -152,6 +196,7 @@ int main(void)
     IS(wanted > 0, true);
     IS(refusals > 0, true);
     without_memory(objects);
+    IS(publishing() > 0, true);
     printf("an open wants %ld allocations; %u refusals in %llu objects\n", wanted, refusals, (unsigned long long)objects);
     return told();
 }

@@ -2,12 +2,12 @@
 #include "lisp.h"
 #include <string.h>
 
-enum { MOST_ARGUMENTS = 3, MANY = 100, MOST_FILES = 16 };
+enum { ANY_NUMBER = 100, MOST_FILES = 16 };
 
-/* ---- files: a port has the place of one in this table; each is closed once, by hand or by the finalizer of its port */
+/* ---- files: a port has a place in this table, and its file is closed once, by hand or by its finalizer */
 
 static FILE *files[MOST_FILES];
-static int64_t opened, closed, most_open;
+static uint64_t opened, closed, most_open;
 
 void close_file(uint64_t file)
 {
@@ -18,204 +18,154 @@ void close_file(uint64_t file)
 
 bool are_files_closed(void) { return opened == closed; }
 
-/* A free place of the table; where there is none, a collection may find ports that are gone. */
-static uint64_t free_place(void)
+static uint64_t file_of(value port)
 {
-    for (int tries = 0; tries < 2; tries++) {
-        for (uint64_t n = 0; n < MOST_FILES; n++)
-            if (!files[n])
-                return n;
+    value file = field(port, PORT, 1);
+
+    if (file == FALSE)
+        fail("the port is closed", "");
+    return (uint64_t)number(file);
+}
+
+/* If there is no place, a collection may find ports that are gone. */
+static value open_port(value arguments)
+{
+    char name[MOST_TEXT];
+    uint64_t file = 0;
+
+    copy_text(car(arguments), name);
+    if (opened - closed == MOST_FILES)
         collect();
-    }
-    fail("too many open files");
-}
-
-/* ---- arguments */
-
-static int64_t to_number(value v)
-{
-    if (!is_integer(v))
-        fail("not a number");
-    return number(v);
-}
-
-static const char *to_text(value v, char *text)
-{
-    if (!has_type(v, STRING))
-        fail("not a string");
-    copy_text(v, text);
-    return text;
-}
-
-static uint64_t to_file(value v)
-{
-    if (!has_type(v, PORT))
-        fail("not a port");
-    if (!is_integer(field(v, 1)))
-        fail("the port is closed");
-    return (uint64_t)number(field(v, 1));
-}
-
-/* ---- builtins: v has the arguments; they are kept by the register ARGS meanwhile */
-
-static value add(const value *v) { return integer(to_number(v[0]) + to_number(v[1])); }
-static value subtract(const value *v) { return integer(to_number(v[0]) - to_number(v[1])); }
-static value is_less(const value *v) { return truth(to_number(v[0]) < to_number(v[1])); }
-static value is_same(const value *v) { return truth(v[0] == v[1]); }
-static value is_nil(const value *v) { return truth(v[0] == NIL); }
-static value has_two(const value *v) { return truth(is_pair(v[0])); }
-static value negate(const value *v) { return truth(v[0] == FALSE); }
-static value pair_of(const value *v) { return cons(v[0], v[1]); }
-static value first_of(const value *v) { return car(v[0]); }
-static value rest_of(const value *v) { return cdr(v[0]); }
-static value list_of(const value *v) { (void)v; return cdr(get(ARGS)); }
-
-static value multiply(const value *v)
-{
-    return integer((int64_t)((uint64_t)to_number(v[0]) * (uint64_t)to_number(v[1])));
-}
-
-static value change_first(const value *v)
-{
-    set_car(v[0], v[1]);
-    return VOID;
-}
-
-static value change_rest(const value *v)
-{
-    set_cdr(v[0], v[1]);
-    return VOID;
-}
-
-static value print(const value *v)
-{
-    (void)v;
-    for (value list = cdr(get(ARGS)); is_pair(list); list = cdr(list))
-        print_value(stdout, car(list));
-    putchar('\n');
-    return VOID;
-}
-
-static value raise(const value *v)
-{
-    char text[MOST_TEXT + 1];
-
-    fail("%s", to_text(v[0], text));
-}
-
-static value weak_box(const value *v) { return make_weak_box(v[0]); }
-
-static value weak_value(const value *v)
-{
-    if (!has_type(v[0], WEAK_BOX))
-        fail("not a weak box");
-    return field(v[0], 1) == NOTHING ? FALSE : field(v[0], 1);
-}
-
-static value finalize(const value *v)
-{
-    if (!is_object(v[0]) || has_type(v[0], PORT))
-        fail("on-collect wants an object that is no port");
-    on_collect(v[0], v[1]);
-    return VOID;
-}
-
-static value collect_all(const value *v)
-{
-    (void)v;
-    collect();
-    return VOID;
-}
-
-static value open_port(const value *v)
-{
-    char text[MOST_TEXT + 1];
-    const char *name = to_text(v[0], text);
-    uint64_t file = free_place();
-    value port = make_port(file); /* before the file: where this fails, no open file is left behind */
-
+    if (opened - closed == MOST_FILES)
+        fail("too many open files", "");
+    while (files[file])
+        file++;
+    value port = make(PORT, 1, (value[]){integer(file)});
+    on_collect(port, CLOSE_FILE, file); /* before the file: where this fails, no open file is left behind */
     files[file] = fopen(name, "r");
     if (!files[file]) {
-        let_port_go(port);
-        fail("can't open %s", name);
+        never_mind(port);
+        fail("can't open ", name);
     }
     opened++;
-    if (opened - closed > most_open)
-        most_open = opened - closed;
+    most_open = opened - closed > most_open ? opened - closed : most_open;
     return port;
 }
 
-static value read_line(const value *v)
+static value read_line(value arguments)
 {
-    char line[MOST_TEXT + 1];
+    char line[MOST_TEXT];
 
-    if (!fgets(line, sizeof line, files[to_file(v[0])]))
+    if (!fgets(line, sizeof line, files[file_of(car(arguments))]))
         return FALSE;
-    return make_string(line, strcspn(line, "\n"));
+    line[strcspn(line, "\n")] = 0;
+    return make_string(line);
 }
 
-static value close_port(const value *v)
+static value close_port(value arguments)
 {
-    uint64_t file = to_file(v[0]);
+    uint64_t file = file_of(car(arguments));
 
-    let_port_go(v[0]);
+    set_field(car(arguments), PORT, 1, FALSE);
+    never_mind(car(arguments));
     close_file(file);
     return VOID;
 }
 
 /* How many files were opened, how many of them are closed, and how many were open at one time. */
-static value count_files(const value *v)
+static value count_files(value arguments)
 {
-    (void)v;
-    push(integer(opened));
-    push(integer(closed));
-    push(integer(most_open));
-    return make_list(3);
+    (void)arguments;
+    return cons(integer(opened), cons(integer(closed), cons(integer(most_open), NIL)));
 }
 
-static const struct builtin {
-    const char *name;
-    uint64_t least, most; /* of its arguments */
-    value (*call)(const value *v);
-} builtins[] = {
-    {"+", 2, 2, add},                       {"-", 2, 2, subtract},
-    {"*", 2, 2, multiply},                  {"<", 2, 2, is_less},
-    {"=", 2, 2, is_same},                   {"not", 1, 1, negate},
-    {"null?", 1, 1, is_nil},                {"pair?", 1, 1, has_two},
-    {"cons", 2, 2, pair_of},                {"list", 0, MANY, list_of},
-    {"car", 1, 1, first_of},                {"cdr", 1, 1, rest_of},
-    {"set-car!", 2, 2, change_first},       {"set-cdr!", 2, 2, change_rest},
-    {"print", 0, MANY, print},              {"error", 1, 1, raise},
-    {"weak-box", 1, 1, weak_box},           {"weak-value", 1, 1, weak_value},
-    {"on-collect", 2, 2, finalize},         {"collect", 0, 0, collect_all},
-    {"open", 1, 1, open_port},              {"read-line", 1, 1, read_line},
-    {"close", 1, 1, close_port},            {"files", 0, 0, count_files},
+/* ---- the other builtins: each gets the list of its arguments, which the register ARGS keeps meanwhile */
+
+/* The bits of a number, with which C reckons without overflow. */
+static uint64_t bits(value v)
+{
+    if (!is_integer(v))
+        fail("not a number", "");
+    return (uint64_t)number(v);
+}
+
+static value add(value list) { return integer(bits(car(list)) + bits(second(list))); }
+static value subtract(value list) { return integer(bits(car(list)) - bits(second(list))); }
+static value multiply(value list) { return integer(bits(car(list)) * bits(second(list))); }
+static value is_less(value list) { return truth((int64_t)bits(car(list)) < (int64_t)bits(second(list))); }
+static value is_same(value list) { return truth(car(list) == second(list)); }
+static value is_false(value list) { return truth(car(list) == FALSE); }
+static value is_nil(value list) { return truth(car(list) == NIL); }
+static value has_rest(value list) { return truth(is_pair(car(list))); }
+static value all_of(value list) { return list; }
+static value pair_of(value list) { return cons(car(list), second(list)); }
+static value first_of(value list) { return car(car(list)); }
+static value rest_of(value list) { return cdr(car(list)); }
+static value set_first(value list) { return set_field(car(list), PAIR, 1, second(list)); }
+static value set_rest(value list) { return set_field(car(list), PAIR, 2, second(list)); }
+static value weak_box(value list) { return make_weak_box(car(list)); }
+static value error(value list) { fail("", copy_text(car(list), (char[MOST_TEXT]){0})); }
+
+static value weak_value(value list)
+{
+    value v = field(car(list), WEAK_BOX, 1);
+
+    return v == NOTHING ? FALSE : v;
+}
+
+static value print(value list)
+{
+    for (; list != NIL; list = cdr(list))
+        print_value(car(list), 0);
+    putchar('\n');
+    return VOID;
+}
+
+static value call_on_collect(value list)
+{
+    if (!is_object(car(list)) || type_of(car(list)) == PORT)
+        fail("on-collect wants an object that is no port", "");
+    on_collect(car(list), CALL_LISP, second(list));
+    return VOID;
+}
+
+static value collect_all(value list)
+{
+    (void)list;
+    collect();
+    return VOID;
+}
+
+static const struct { const char *name; uint64_t arguments; value (*call)(value list); } builtins[] = {
+    {"+", 2, add},                      {"-", 2, subtract},
+    {"*", 2, multiply},                 {"<", 2, is_less},
+    {"=", 2, is_same},                  {"not", 1, is_false},
+    {"null?", 1, is_nil},               {"pair?", 1, has_rest},
+    {"cons", 2, pair_of},               {"list", ANY_NUMBER, all_of},
+    {"car", 1, first_of},               {"cdr", 1, rest_of},
+    {"set-car!", 2, set_first},         {"set-cdr!", 2, set_rest},
+    {"weak-box", 1, weak_box},          {"weak-value", 1, weak_value},
+    {"on-collect", 2, call_on_collect}, {"collect", 0, collect_all},
+    {"print", ANY_NUMBER, print},       {"error", 1, error},
+    {"open", 1, open_port},             {"read-line", 1, read_line},
+    {"close", 1, close_port},           {"files", 0, count_files},
 };
 
 enum { BUILTINS = sizeof builtins / sizeof *builtins };
 
 void name_builtins(void)
 {
-    for (value n = 0; n < BUILTINS; n++)
-        set_global(intern(builtins[n].name), FIRST_BUILTIN + n);
+    for (value n = 0; n < BUILTINS; n++) {
+        set(VAL, FIRST_BUILTIN + n);
+        assign(intern(builtins[n].name));
+    }
 }
 
-/* NULL for a value that is no builtin. */
-const char *name_of_builtin(value v)
+value call_builtin(value builtin, value arguments)
 {
-    return v >= FIRST_BUILTIN && v < FIRST_BUILTIN + BUILTINS ? builtins[v - FIRST_BUILTIN].name : NULL;
-}
+    uint64_t n = builtin - FIRST_BUILTIN;
 
-value call_builtin(value v, value arguments)
-{
-    const struct builtin *builtin = &builtins[v - FIRST_BUILTIN];
-    value items[MOST_ARGUMENTS] = {NOTHING};
-    uint64_t count = 0;
-
-    for (; is_pair(arguments); arguments = cdr(arguments), count++)
-        if (count < MOST_ARGUMENTS)
-            items[count] = car(arguments);
-    if (count < builtin->least || count > builtin->most)
-        fail("%s has %d arguments", builtin->name, (int)count);
-    return builtin->call(items);
+    if (builtins[n].arguments != ANY_NUMBER && builtins[n].arguments != length(arguments))
+        fail("another number of arguments is wanted by ", builtins[n].name);
+    return builtins[n].call(arguments);
 }

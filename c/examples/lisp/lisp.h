@@ -1,12 +1,13 @@
 /* A small Lisp whose data lives in a world of derrimas.h, as a runtime's author would write it.
  *
  *   heap.c      objects, the stack, collections and finalizers: all calls of the library stand there
- *   text.c      values become text, and text becomes values
- *   eval.c      the evaluator: a machine whose registers are slots, and whose stack is an object of the heap
+ *   text.c      text becomes values, and values become text
+ *   eval.c      the evaluator: a machine without recursion, whose registers are slots
  *   builtins.c  the procedures that C has for Lisp, and the table of open files
  *
- * C keeps no value across a call that may collect but in a register or on the stack. A collection looks at nothing else: not at the stack of
- * C, so that what a program lets go of goes at the next collection, and always at the same one.
+ * A collection looks at the slots alone, and not at the stack of C. So a value that C works with is kept by a
+ * register, or by the stack of Lisp, while an object is made. What a program lets go of goes at the next
+ * collection.
  */
 #ifndef LISP_H
 #define LISP_H
@@ -14,107 +15,100 @@
 #include "derrimas.h"
 #include <stdio.h>
 
-/* A value is a word. Below FZ_HEAP_START it needs no memory: the empty list, a truth, a builtin, a symbol. With the highest bit set it is an
- * integer of 63 bits. Else it is an address. All objects have an even number of words, so that they start at even addresses: an even value is
- * the start of an object whose first word tells its type, and an odd one the second word of a pair, which has no such word. The collector takes
- * an address inside of an object for one of the object. */
+/* A value is a word. With the highest bit set it is an integer of 63 bits. From FZ_HEAP_START on it is the
+ * address of an object, whose first word is its type. Below that it is a constant, a symbol or a builtin. */
 typedef uint64_t value;
 
-enum {
-    NOTHING = 0, /* what a new word holds: no value of Lisp */
-    NIL = 1,
+/* The constants, and the types of objects with the fields that follow. */
+enum type {
+    NOTHING, /* what a new word holds: no value of Lisp */
+    NIL,
     TRUE,
     FALSE,
     VOID,
-    /* the types of objects; see heap.c */
-    CLOSURE = 8,
-    STRING,
-    PORT,
-    WEAK_BOX,
-    /* what is to be done with a value when it is there; see eval.c */
-    THEN_READ = 16,
-    THEN_IF,
-    THEN_SEQUENCE,
-    THEN_DEFINE,
-    THEN_SET,
-    THEN_ARGUMENTS,
-    THEN_TRIED,
-    THEN_HANDLE,
-    THEN_FINALIZED,
-    FIRST_BUILTIN = 256,
-    FIRST_SYMBOL = 1024,
-    MOST_SYMBOLS = 1024,
-    MOST_TEXT = 1000 /* bytes of a string */
+    PAIR,     /* first, rest */
+    CLOSURE,  /* pair of names and body, environment */
+    STRING,   /* bytes, up to a 0 */
+    PORT,     /* place in the table of files, or FALSE since it was closed */
+    WEAK_BOX, /* the value, or NOTHING since that is gone */
+    PART,     /* the part of the stack below it, or NIL; values */
+    GLOBAL    /* for each symbol a pair, whose first is the value where the environment has none */
 };
 
-#define INTEGER (UINT64_C(1) << 63)
+/* Those before PART stand in a table of names, and then the symbols: the forms' first, then the builtins'. A
+ * builtin is its symbol and MOST_SYMBOLS. A string has at most MOST_TEXT bytes, with the 0 at its end. */
+enum { FIRST_SYMBOL = PART, FORMS = 8, MOST_SYMBOLS = 1000, MOST_TEXT = 1024 };
+enum { FIRST_BUILTIN = FIRST_SYMBOL + FORMS + MOST_SYMBOLS };
 
-static inline bool is_object(value v) { return v >= FZ_HEAP_START && v < INTEGER; }
-static inline bool is_pair(value v) { return is_object(v) && v % 2 == 1; }
-static inline bool is_integer(value v) { return v >= INTEGER; }
-static inline bool is_symbol(value v) { return v >= FIRST_SYMBOL && v < FIRST_SYMBOL + MOST_SYMBOLS; }
-static inline value integer(int64_t n) { return (uint64_t)n | INTEGER; }
-static inline int64_t number(value v) { return (int64_t)(v << 1) / 2; }
-static inline value truth(bool is) { return is ? TRUE : FALSE; }
+/* The registers are slots of the world's one frame. Those from NEW on are heap.c's own. */
+enum reg { EXPR, VAL, ARGS, ENV, STACK, GLOBALS, NEW, HOLDER, WORD, FIELDS, REGISTERS = FIELDS + 2 };
 
-/* The registers: slots of the world's one frame. The last four are heap.c's own. */
-enum reg { STACK, GLOBALS, EXPR, ENV, VAL, ARGS, NEW, FIRST, SECOND, HOLDER };
+/* The procedures of finalizers: a file's, by its place in the table, and Lisp's. */
+enum { CLOSE_FILE, CALL_LISP };
 
 /* ---- heap.c */
 
 value get(enum reg reg);
 void set(enum reg reg, value v);
 
+enum type type_of(value v); /* NOTHING if it is no object */
+
+/* A field of an object, counted from 1. It is an error of Lisp if the value isn't of the type. */
+value field(value object, enum type type, uint64_t number);
+value set_field(value object, enum type type, uint64_t number, value v); /* returns v */
+
+/* These keep the values that they are given. It is an error of Lisp if memory is short. */
+value make(enum type type, uint64_t count, const value *fields);
+value make_string(const char *text);
+value make_weak_box(value v);
+const char *copy_text(value string, char *text);
+
 void push(value v);
 value pop(void);
 
-/* These keep their arguments while they make an object. They fail where memory is short, also after a collection. */
-value cons(value first, value rest);
-value make_list(uint64_t count); /* of the uppermost values of the stack, which go from there */
-value make_closure(value names, value body);
-value make_string(const char *text, uint64_t length);
-value make_port(uint64_t file);
-value make_weak_box(value v);
+uint64_t collect(void); /* returns how many objects it freed */
+void on_collect(value object, uint64_t procedure, value data);
+void never_mind(value object);
+const fz_entry *next_finalizer(void); /* NULL if there is none */
+void finish_finalizer(void);
 
-bool has_type(value v, value type);
-value car(value pair);
-value cdr(value pair);
-void set_car(value pair, value v);
-void set_cdr(value pair, value v);
-value field(value object, uint64_t offset);
-value global(value symbol);
-void set_global(value symbol, value v);
-void copy_text(value string, char *text);
-
-void let_port_go(value port);
-void on_collect(value object, value procedure);
-void let_go(void);
-void collect(void);
-bool next_finalizer(uint64_t *entry, value *procedure, value *object);
-void finish_finalizer(uint64_t entry);
-
-void open_heap(uint64_t blocks);
+void open_heap(uint64_t blocks, bool stress);
 void close_heap(void);
 
 /* ---- text.c */
 
 value intern(const char *name);
-const char *name_of_symbol(value symbol);
-bool read_value(FILE *from, value *v); /* false at the end of the file */
-void print_value(FILE *to, value v);
+const char *name_of(value v); /* of a constant, a type, a symbol or a builtin */
+bool read_value(void);        /* from standard input into EXPR; false at its end */
+void print_value(value v, int depth);
 
 /* ---- eval.c */
 
-_Noreturn void fail(const char *format, ...);
-void name_forms(void);
-void run(FILE *program); /* an error is told, and the next expression comes */
+_Noreturn void fail(const char *what, const char *which); /* an error of Lisp, whose text is both */
+void assign(value name); /* gives the name the value in VAL */
+uint64_t length(value list);
 
 /* ---- builtins.c */
 
 void name_builtins(void);
-const char *name_of_builtin(value v);
 value call_builtin(value builtin, value arguments);
 void close_file(uint64_t file);
 bool are_files_closed(void);
+
+/* ---- values */
+
+static inline value truth(bool is) { return is ? TRUE : FALSE; }
+static inline value integer(uint64_t n) { return n | UINT64_C(1) << 63; }
+static inline int64_t number(value v) { return (int64_t)(v << 1) / 2; }
+static inline bool is_integer(value v) { return v >> 63; }
+static inline bool is_object(value v) { return v >= FZ_HEAP_START && !is_integer(v); }
+static inline bool is_symbol(value v) { return v >= FIRST_SYMBOL && v < MOST_SYMBOLS; }
+static inline bool is_builtin(value v) { return v >= FIRST_BUILTIN && v < FZ_HEAP_START; }
+static inline bool is_pair(value v) { return type_of(v) == PAIR; }
+
+static inline value cons(value first, value rest) { return make(PAIR, 2, (value[]){first, rest}); }
+static inline value car(value pair) { return field(pair, PAIR, 1); }
+static inline value cdr(value pair) { return field(pair, PAIR, 2); }
+static inline value second(value list) { return car(cdr(list)); }
 
 #endif

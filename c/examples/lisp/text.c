@@ -1,174 +1,125 @@
-/* Values become text, and text becomes values. Symbols are numbers of a table of C, which keeps their names for good. */
+/* Text becomes values, and values become text. */
 #include "lisp.h"
 #include <ctype.h>
-#include <errno.h>
 #include <stdlib.h>
 #include <string.h>
 
 enum { MOST_NAME = 40, DEEPEST = 200, LONGEST = 1000 };
 
-static char names[MOST_SYMBOLS][MOST_NAME + 1];
+/* The names of constants, types and symbols. A symbol stays for good. */
+static char names[MOST_SYMBOLS][MOST_NAME + 1] = {
+    "no value", "()", "#t", "#f", "nothing", "a pair", "a procedure", "a string", "a port", "a weak box",
+};
 
 value intern(const char *name)
 {
     value n = 0;
 
-    if (strlen(name) > MOST_NAME)
-        fail("a name is too long");
     while (n < MOST_SYMBOLS && names[n][0] && strcmp(names[n], name))
         n++;
-    if (n == MOST_SYMBOLS)
-        fail("too many names");
+    if (n == MOST_SYMBOLS || strlen(name) > MOST_NAME)
+        fail("too many names, or one that is too long: ", name);
     strcpy(names[n], name);
-    return FIRST_SYMBOL + n;
+    return n;
 }
 
-const char *name_of_symbol(value symbol) { return names[symbol - FIRST_SYMBOL]; }
+const char *name_of(value v) { return names[v % MOST_SYMBOLS]; }
 
 /* ---- reading */
 
 /* The next byte that is neither blank nor of a comment. */
-static int next_byte(FILE *from)
+static int next_byte(void)
 {
     int c;
 
-    while ((c = getc(from)) != EOF)
+    while ((c = getchar()) == ';' || isspace(c))
         if (c == ';')
             while (c != '\n' && c != EOF)
-                c = getc(from);
-        else if (!isspace(c))
-            return c;
-    return EOF;
+                c = getchar();
+    return c;
 }
 
-static value read_string(FILE *from)
+static value read_string(void)
 {
-    char text[MOST_TEXT];
-    uint64_t length = 0;
-    int c;
+    char text[MOST_TEXT] = "";
 
-    while ((c = getc(from)) != '"') {
-        if (c == EOF || length == MOST_TEXT)
-            fail("a string has no end");
-        text[length++] = (char)c;
-    }
-    return make_string(text, length);
+    if (scanf("%1023[^\"]", text) == EOF || getchar() != '"')
+        fail("a string has no end", "");
+    return make_string(text);
 }
 
-/* A number, a truth, or else a symbol. */
-static value read_word(FILE *from, int c)
+/* A number of at most 18 bytes, or else a name. */
+static value read_word(int c)
 {
     char word[MOST_NAME + 2], *end;
-    size_t length = 0;
-    int64_t n;
 
-    for (; c != EOF && !isspace(c) && !strchr("()\"';", c); c = getc(from))
-        if (length <= MOST_NAME)
-            word[length++] = (char)c;
-    ungetc(c, from);
-    word[length] = 0;
-    errno = 0;
-    n = strtoll(word, &end, 10);
-    if (*end == 0 && errno == 0)
-        return integer(n);
-    return strcmp(word, "#t") == 0 ? TRUE : strcmp(word, "#f") == 0 ? FALSE : intern(word);
+    ungetc(c, stdin);
+    if (scanf("%41[^()\"'; \t\n\v\f\r]", word) != 1)
+        fail("a list has no end", "");
+    value n = integer((uint64_t)strtoll(word, &end, 10));
+    return *end == 0 && strlen(word) <= 18 ? n : intern(word);
 }
 
-static value read_from(FILE *from, int c, int depth);
-
-static value read_list(FILE *from, int depth)
-{
-    uint64_t count = 0;
-    int c;
-
-    while ((c = next_byte(from)) != ')') {
-        if (c == EOF)
-            fail("a list has no end");
-        push(read_from(from, c, depth + 1));
-        count++;
-    }
-    return make_list(count);
-}
-
-/* The value whose first byte is c. */
-static value read_from(FILE *from, int c, int depth)
+/* Reads the value whose first byte is c into a word of a pair, which keeps what is read of it. */
+static void read_into(value pair, uint64_t number, int c, int depth)
 {
     if (depth > DEEPEST)
-        fail("too many lists in lists");
-    switch (c) {
-    case '(':
-        return read_list(from, depth);
-    case ')':
-        fail("a list has no beginning");
-    case '"':
-        return read_string(from);
-    case '\'':
-        push(intern("quote"));
-        push(read_from(from, next_byte(from), depth + 1));
-        return make_list(2);
-    default:
-        return read_word(from, c);
-    }
+        fail("too many lists in lists", "");
+    if (c == ')')
+        fail("a list has no beginning", "");
+    if (c == '(') {
+        for (; (c = next_byte()) != ')'; number = 2) {
+            set_field(pair, PAIR, number, cons(NIL, NIL));
+            pair = field(pair, PAIR, number);
+            read_into(pair, 1, c, depth + 1);
+        }
+    } else if (c == '\'') {
+        set_field(pair, PAIR, number, cons(intern("quote"), cons(NIL, NIL)));
+        read_into(cdr(field(pair, PAIR, number)), 1, next_byte(), depth + 1);
+    } else
+        set_field(pair, PAIR, number, c == '"' ? read_string() : read_word(c));
 }
 
-bool read_value(FILE *from, value *v)
+bool read_value(void)
 {
-    int c = next_byte(from);
+    int c = next_byte();
 
     if (c == EOF)
         return false;
-    *v = read_from(from, c, 0);
+    set(EXPR, cons(NIL, NIL));
+    read_into(get(EXPR), 1, c, 0);
+    set(EXPR, car(get(EXPR)));
     return true;
 }
 
 /* ---- printing: of a list in lists, and of a long one, no more than a limit, since either may be a ring */
 
-static void print_at(FILE *to, value v, int depth);
-
-static void print_list(FILE *to, value list, int depth)
+static void print_list(value list, int depth)
 {
-    int count = 0;
-
-    putc('(', to);
-    for (; is_pair(list) && count < LONGEST; list = cdr(list)) {
-        if (count++ > 0)
-            putc(' ', to);
-        print_at(to, car(list), depth + 1);
+    for (int count = 0; is_pair(list) && count < LONGEST; count++) {
+        putchar(count > 0 ? ' ' : '(');
+        print_value(car(list), depth + 1);
+        list = cdr(list);
     }
-    if (list != NIL) {
-        fputs(is_pair(list) ? " .." : " . ", to);
-        if (!is_pair(list))
-            print_at(to, list, depth + 1);
+    if (is_pair(list))
+        fputs(" ..", stdout);
+    else if (list != NIL) {
+        fputs(" . ", stdout);
+        print_value(list, depth + 1);
     }
-    putc(')', to);
+    putchar(')');
 }
 
-static void print_at(FILE *to, value v, int depth)
+void print_value(value v, int depth)
 {
-    char text[MOST_TEXT + 1];
-
     if (depth > DEEPEST)
-        fputs("..", to);
-    else if (is_pair(v))
-        print_list(to, v, depth);
+        fputs("..", stdout);
     else if (is_integer(v))
-        fprintf(to, "%lld", (long long)number(v));
-    else if (is_symbol(v))
-        fputs(name_of_symbol(v), to);
-    else if (has_type(v, STRING)) {
-        copy_text(v, text);
-        fputs(text, to);
-    } else if (name_of_builtin(v))
-        fputs(name_of_builtin(v), to);
+        printf("%lld", (long long)number(v));
+    else if (is_pair(v))
+        print_list(v, depth);
+    else if (type_of(v) == STRING)
+        fputs(copy_text(v, (char[MOST_TEXT]){0}), stdout);
     else
-        fputs(v == NIL                 ? "()"
-              : v == TRUE              ? "#t"
-              : v == FALSE             ? "#f"
-              : has_type(v, CLOSURE)   ? "a procedure"
-              : has_type(v, PORT)      ? "a port"
-              : has_type(v, WEAK_BOX)  ? "a weak box"
-                                       : "nothing",
-              to);
+        fputs(name_of(is_object(v) ? type_of(v) : v), stdout);
 }
-
-void print_value(FILE *to, value v) { print_at(to, v, 0); }

@@ -16,7 +16,6 @@ use close::CloseFile;
 use files::OpenFiles;
 use fz_service::{Proc, Service, procedures};
 use fz_world::Config;
-use mutator::refused;
 use session::run;
 use std::env;
 use std::marker::Brand;
@@ -41,6 +40,6 @@ fn main(rt: HostRuntime) -> Result<()> {
         files: Arc::try_clone(&files)?,
         rt,
     });
-    let prepared = Service::prepare(rt.alloc(), CONFIG, WORKERS).map_err(refused)?;
+    let prepared = Service::prepare(rt.alloc(), CONFIG, WORKERS)?;
     run::<Brand, HostRuntime>(&rt, prepared, procs, &files, names.as_slice())
 }

@@ -3,19 +3,12 @@
 use crate::files::OpenFiles;
 use crate::owners;
 use crate::owners::CACHE;
-use anyhow::{Context, Error, Result, anyhow};
-use fz_model::Refusal;
+use anyhow::{Context, Result};
 use fz_service::{Opening, Service};
 use std::fs;
 use std::fs::{File, OpenFile};
 use std::rt::Files;
 use std::sync::{Mutex, Wait};
-
-/// A refused call as the program's error.
-pub(crate) fn refused(refusal: Refusal) -> Error {
-    let name = refusal.name();
-    anyhow!("refused: {name}")
-}
 
 /// Opens the files, lets go of every second one, collects, lets go of the others, and collects again.
 pub(crate) fn mutate<O: Opening, R: Files<File = File> + Print + Wait>(
@@ -26,8 +19,7 @@ pub(crate) fn mutate<O: Opening, R: Files<File = File> + Print + Wait>(
 ) -> Result<()> {
     service
         .enter(rt)
-        .with_world(|world| owners::make_lists(world, names.len() as u64))
-        .map_err(refused)?;
+        .with_world(|world| owners::make_lists(world, names.len() as u64))?;
     for name in names {
         open(rt, service, files, name)?;
     }
@@ -36,11 +28,10 @@ pub(crate) fn mutate<O: Opening, R: Files<File = File> + Print + Wait>(
             if file % 2 == turn {
                 service
                     .enter(rt)
-                    .with_world(|world| owners::let_go(world, file))
-                    .map_err(refused)?;
+                    .with_world(|world| owners::let_go(world, file))?;
             }
         }
-        let passed = service.enter(rt).collect().map_err(refused)?;
+        let passed = service.enter(rt).collect()?;
         println!(rt;
             "pass {}: {} finalizers are ready",
             passed.pass, passed.picked
@@ -61,8 +52,7 @@ fn open<O: Opening, R: Files<File = File> + Print + Wait>(
     let file = files.lock(rt).insert(opened)?;
     service
         .enter(rt)
-        .with_world(|world| owners::make_owner(world, file))
-        .map_err(refused)?;
+        .with_world(|world| owners::make_owner(world, file))?;
     println!(rt; "{name}: opened")?;
     Ok(())
 }
@@ -79,7 +69,7 @@ fn show<O: Opening, R: Print + Wait>(
         let cached = service
             .enter(rt)
             .with_world(|world| owners::has(world, CACHE, file));
-        if cached.map_err(refused)? {
+        if cached? {
             let bytes = size(rt, files, file)?;
             println!(rt; "{name}: cached, {bytes} bytes")?;
         } else {

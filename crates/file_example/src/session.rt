@@ -3,7 +3,7 @@
 ghost use Rattle.std.specs.Prelude.{◌≡◌};
 
 use crate::files::OpenFiles;
-use crate::mutator::{mutate, refused};
+use crate::mutator::mutate;
 use crate::owners;
 use crate::owners::{CACHE, CLOSED};
 use anyhow::Result;
@@ -26,12 +26,12 @@ pub(crate) fn run<O: Opening + Send + Sync, R: Files<File = File> + Print + Thre
 ) -> Result<()>
     requires { prepared ≡ O.origin }
 {
-    let (service, seats) = Service::<O>::open(prepared).map_err(refused)?;
+    let (service, seats) = Service::<O>::open(prepared)?;
     let (seats, mutated) = service.run_beside(seats, procs.as_mut_slice(), &OpenGate, rt, || {
         mutate(rt, &service, files, names)
     });
     let printed = mutated.and_then(|()| print_files(rt, &service, files, names.len() as u64));
-    let end = service.conclude(seats).map_err(refused);
+    let end = service.conclude(seats);
     printed?;
     print_end(rt, &end?)
 }
@@ -44,15 +44,14 @@ fn print_files<O: Opening, R: Print + Wait>(
     opened: u64,
 ) -> Result<()> {
     let mut locked = service.enter(rt);
-    locked.collect().map_err(refused)?;
+    locked.collect()?;
     let cached = locked.with_world(|world| owners::count(world, CACHE, opened));
     let noted = locked.with_world(|world| owners::count(world, CLOSED, opened));
     drop(locked);
     let closed = files.lock(rt).removed();
     println!(rt;
         "opened {opened}, still cached {}, closed {closed}, noted {}",
-        cached.map_err(refused)?,
-        noted.map_err(refused)?
+        cached?, noted?
     )?;
     Ok(())
 }

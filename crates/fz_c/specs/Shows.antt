@@ -6,6 +6,7 @@ use Rattle.fz_model.specs.declared.answers.Entry.{Entry}
 use Rattle.fz_model.specs.declared.answers.Registration.{Registration}
 use Rattle.fz_model.specs.declared.kinds.LinkKind.{LinkKind}
 use Rattle.fz_model.specs.declared.refusal.Refusal.{Refusal}
+use Rattle.fz_model.specs.Places.{slot_at}
 use Rattle.fz_model.specs.Memory.{slot_word, word_at}
 use Rattle.fz_model.specs.Causes.{IsJudgedBy, slot_causes, place_causes}
 use Rattle.fz_model.specs.Events.{links_of}
@@ -16,7 +17,7 @@ use Rattle.fz_world.specs.Shown.{shown_object, HasNoneFrom, IsFirstFrom}
 use Rattle.fz_c.specs.declared.shown.Counts.{Counts}
 
 abbrev pub IsWordOfSlot : WorldView → ℕ → ℕ → Result ℕ Refusal → Type 0
-IsWordOfSlot w frame slot reply = IsJudgedBy (slot_causes w.frames frame slot) reply × IfOk reply (λ word. word ≡ slot_word w.frames frame slot)
+IsWordOfSlot w frame slot reply = IsJudgedBy (slot_causes w.frames (slot_at frame slot)) reply × IfOk reply (λ word. word ≡ slot_word w.frames (slot_at frame slot))
 
 abbrev pub IsWordAt : WorldView → ℕ → ℕ → Result ℕ Refusal → Type 0
 IsWordAt w word offset reply = IsJudgedBy (place_causes w.objects word offset) reply × IfOk reply (λ read. read ≡ word_at w.objects (word + offset))

@@ -1,7 +1,8 @@
 //! Cycles and passes.
 
 ghost use Rattle.std.specs.Prelude.{◌≡◌};
-ghost use Rattle.fz_model.specs.Events.{Begin, Mark, Pause, Collect};
+ghost use Rattle.fz_model.specs.declared.call.Call.TheVariants.{Begin, Mark, Pause, Collect};
+ghost use Rattle.fz_model.specs.Events.{Make};
 ghost use Rattle.fz_c.specs.Told.{Calls, IsTold};
 ghost use Rattle.fz_c.specs.Places.{TellsDone, TellsPassed};
 
@@ -54,7 +55,7 @@ fn tell_passed(reply: Result<fz_model::Passed, Refusal>, passed: &mut Passed) ->
 #[tactic(auto, using(crate::proofs::Told::not_called, crate::proofs::Told::called, crate::proofs::Told::none_taken))]
 #[unsafe(no_mangle)]
 pub extern "C" fn fz_begin(alloc: Global, world: &mut Handle) -> Code
-    ensures { Calls world.old.value Begin world.new.value result (λ _. Unit {0}) (Unit {0}) }
+    ensures { Calls world.old.value (Make Begin) world.new.value result (λ _. Unit {0}) (Unit {0}) }
 {
     let Some(mut session) = world.take(alloc) else {
         return NO_WORLD;
@@ -68,7 +69,7 @@ pub extern "C" fn fz_begin(alloc: Global, world: &mut Handle) -> Code
 #[tactic(auto, using(crate::proofs::Told::not_called, crate::proofs::Told::called, crate::proofs::Told::none_taken))]
 #[unsafe(no_mangle)]
 pub extern "C" fn fz_mark(alloc: Global, world: &mut Handle, budget: u64, done: &mut bool) -> Code
-    ensures { Calls world.old.value (Mark budget) world.new.value result (TellsDone done.new) (done.new ≡ done.old) }
+    ensures { Calls world.old.value (Make (Mark budget)) world.new.value result (TellsDone done.new) (done.new ≡ done.old) }
 {
     let Some(mut session) = world.take(alloc) else {
         return NO_WORLD;
@@ -82,7 +83,7 @@ pub extern "C" fn fz_mark(alloc: Global, world: &mut Handle, budget: u64, done: 
 #[tactic(auto, using(crate::proofs::Told::not_called, crate::proofs::Told::called, crate::proofs::Told::none_taken))]
 #[unsafe(no_mangle)]
 pub extern "C" fn fz_pause(alloc: Global, world: &mut Handle, passed: &mut Passed) -> Code
-    ensures { Calls world.old.value Pause world.new.value result (TellsPassed passed.new) (passed.new ≡ passed.old) }
+    ensures { Calls world.old.value (Make Pause) world.new.value result (TellsPassed passed.new) (passed.new ≡ passed.old) }
 {
     let Some(mut session) = world.take(alloc) else {
         return NO_WORLD;
@@ -96,7 +97,7 @@ pub extern "C" fn fz_pause(alloc: Global, world: &mut Handle, passed: &mut Passe
 #[tactic(auto, using(crate::proofs::Told::not_called, crate::proofs::Told::called, crate::proofs::Told::none_taken))]
 #[unsafe(no_mangle)]
 pub extern "C" fn fz_collect(alloc: Global, world: &mut Handle, passed: &mut Passed) -> Code
-    ensures { Calls world.old.value Collect world.new.value result (TellsPassed passed.new) (passed.new ≡ passed.old) }
+    ensures { Calls world.old.value (Make Collect) world.new.value result (TellsPassed passed.new) (passed.new ≡ passed.old) }
 {
     let Some(mut session) = world.take(alloc) else {
         return NO_WORLD;

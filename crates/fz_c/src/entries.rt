@@ -1,7 +1,9 @@
 //! Entries of the queue, which a program takes, runs and finishes.
 
 ghost use Rattle.std.specs.Prelude.{◌≡◌, length, nat_lt};
-ghost use Rattle.fz_model.specs.Events.{Hold, Finish, Outstanding};
+ghost use Rattle.fz_model.specs.declared.call.Call.TheVariants.{Outstanding};
+ghost use Rattle.fz_model.specs.Places.{slot_at};
+ghost use Rattle.fz_model.specs.Events.{Make, Hold, Finish};
 ghost use Rattle.fz_c.specs.declared.codes.TheConstants as codes;
 ghost use Rattle.fz_c.specs.Told.{Calls, Looks, IsFound};
 ghost use Rattle.fz_c.specs.Places.{entry_of, TellsEntry, TellsWord};
@@ -98,7 +100,7 @@ pub extern "C" fn fz_waiting(alloc: Global, world: &mut Handle, waiting: &mut bo
 #[tactic(auto, using(crate::proofs::Told::not_called, crate::proofs::Told::called, crate::proofs::Told::none_taken))]
 #[unsafe(no_mangle)]
 pub extern "C" fn fz_outstanding(alloc: Global, world: &mut Handle, count: &mut u64) -> Code
-    ensures { Calls world.old.value Outstanding world.new.value result (TellsWord count.new) (count.new ≡ count.old) }
+    ensures { Calls world.old.value (Make Outstanding) world.new.value result (TellsWord count.new) (count.new ≡ count.old) }
 {
     let Some(session) = world.take(alloc) else {
         return NO_WORLD;
@@ -112,7 +114,7 @@ pub extern "C" fn fz_outstanding(alloc: Global, world: &mut Handle, count: &mut 
 #[tactic(auto, using(crate::proofs::Told::not_called, crate::proofs::Told::called, crate::proofs::Told::none_taken))]
 #[unsafe(no_mangle)]
 pub extern "C" fn fz_hold(alloc: Global, world: &mut Handle, slot: Slot, entry: &Entry) -> Code
-    ensures { Calls world.old.value (Hold slot.frame slot.slot (entry_of entry.now)) world.new.value result (λ _. Unit {0}) (Unit {0}) }
+    ensures { Calls world.old.value (Hold (slot_at slot.frame slot.slot) (entry_of entry.now)) world.new.value result (λ _. Unit {0}) (Unit {0}) }
 {
     let Some(mut session) = world.take(alloc) else {
         return NO_WORLD;

@@ -1,7 +1,9 @@
 //! Registrations of finalizers.
 
-ghost use Rattle.std.specs.Prelude.{◌≡◌};
-ghost use Rattle.fz_model.specs.Events.{Register, Unregister};
+ghost use Rattle.std.specs.Prelude.{◌≡◌, Some};
+ghost use Rattle.fz_model.specs.declared.call.Call.TheVariants.{Register, Unregister};
+ghost use Rattle.fz_model.specs.Places.{slot_at};
+ghost use Rattle.fz_model.specs.Events.{Make};
 ghost use Rattle.fz_model.specs.declared.kinds.RegKind.TheVariants.{Normal, IgnoreSelf, NoOrder};
 ghost use Rattle.fz_c.specs.Told.{Calls, IsTold};
 ghost use Rattle.fz_c.specs.Places.{TellsRegistered, TellsOld};
@@ -92,7 +94,7 @@ fn register(
     finalizer: (u64, Word, u8),
     registered: &mut Registered,
 ) -> Code
-    ensures { Calls world.old.value (Register slot.frame slot.slot kind finalizer.0 finalizer.1 finalizer.2) world.new.value result (TellsRegistered registered.new) (registered.new ≡ registered.old) }
+    ensures { Calls world.old.value (Make (Register (slot_at slot.frame slot.slot) kind finalizer.0 finalizer.1 (Some finalizer.2))) world.new.value result (TellsRegistered registered.new) (registered.new ≡ registered.old) }
 {
     let Some(mut session) = world.take(alloc) else {
         return NO_WORLD;
@@ -116,7 +118,7 @@ pub extern "C" fn fz_register(
     rank: u8,
     registered: &mut Registered,
 ) -> Code
-    ensures { Calls world.old.value (Register slot.frame slot.slot Normal proc cd rank) world.new.value result (TellsRegistered registered.new) (registered.new ≡ registered.old) }
+    ensures { Calls world.old.value (Make (Register (slot_at slot.frame slot.slot) Normal proc cd (Some rank))) world.new.value result (TellsRegistered registered.new) (registered.new ≡ registered.old) }
 {
     register(
         alloc,
@@ -139,7 +141,7 @@ pub extern "C" fn fz_register_ignore_self(
     rank: u8,
     registered: &mut Registered,
 ) -> Code
-    ensures { Calls world.old.value (Register slot.frame slot.slot IgnoreSelf proc cd rank) world.new.value result (TellsRegistered registered.new) (registered.new ≡ registered.old) }
+    ensures { Calls world.old.value (Make (Register (slot_at slot.frame slot.slot) IgnoreSelf proc cd (Some rank))) world.new.value result (TellsRegistered registered.new) (registered.new ≡ registered.old) }
 {
     register(
         alloc,
@@ -162,7 +164,7 @@ pub extern "C" fn fz_register_no_order(
     rank: u8,
     registered: &mut Registered,
 ) -> Code
-    ensures { Calls world.old.value (Register slot.frame slot.slot NoOrder proc cd rank) world.new.value result (TellsRegistered registered.new) (registered.new ≡ registered.old) }
+    ensures { Calls world.old.value (Make (Register (slot_at slot.frame slot.slot) NoOrder proc cd (Some rank))) world.new.value result (TellsRegistered registered.new) (registered.new ≡ registered.old) }
 {
     register(
         alloc,
@@ -183,7 +185,7 @@ pub extern "C" fn fz_unregister(
     slot: Slot,
     old: &mut Old,
 ) -> Code
-    ensures { Calls world.old.value (Unregister slot.frame slot.slot) world.new.value result (TellsOld old.new) (old.new ≡ old.old) }
+    ensures { Calls world.old.value (Make (Unregister (slot_at slot.frame slot.slot))) world.new.value result (TellsOld old.new) (old.new ≡ old.old) }
 {
     let Some(mut session) = world.take(alloc) else {
         return NO_WORLD;

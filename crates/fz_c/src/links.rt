@@ -1,7 +1,9 @@
 //! Disappearing links.
 
 ghost use Rattle.std.specs.Prelude.{◌≡◌};
-ghost use Rattle.fz_model.specs.Events.{Link, Unlink, MoveLink};
+ghost use Rattle.fz_model.specs.declared.call.Call.TheVariants.{Link, Unlink, Move};
+ghost use Rattle.fz_model.specs.Places.{slot_at, place_at};
+ghost use Rattle.fz_model.specs.Events.{Make};
 ghost use Rattle.fz_c.specs.Told.{Calls, IsTold};
 ghost use Rattle.fz_c.specs.Places.{link_kind_of, TellsLinkAnswer, TellsUnlinked, TellsMoved};
 
@@ -85,7 +87,7 @@ pub extern "C" fn fz_link(
     target: Slot,
     answer: &mut u8,
 ) -> Code
-    ensures { Calls world.old.value (Link (link_kind_of is_long) slot.frame slot.slot offset target.frame target.slot) world.new.value result (TellsLinkAnswer answer.new) (answer.new ≡ answer.old) }
+    ensures { Calls world.old.value (Make (Link (link_kind_of is_long) (place_at slot.frame slot.slot offset) (slot_at target.frame target.slot))) world.new.value result (TellsLinkAnswer answer.new) (answer.new ≡ answer.old) }
 {
     let Some(mut session) = world.take(alloc) else {
         return NO_WORLD;
@@ -113,7 +115,7 @@ pub extern "C" fn fz_unlink(
     offset: u64,
     was: &mut bool,
 ) -> Code
-    ensures { Calls world.old.value (Unlink (link_kind_of is_long) slot.frame slot.slot offset) world.new.value result (TellsUnlinked was.new) (was.new ≡ was.old) }
+    ensures { Calls world.old.value (Make (Unlink (link_kind_of is_long) (place_at slot.frame slot.slot offset))) world.new.value result (TellsUnlinked was.new) (was.new ≡ was.old) }
 {
     let Some(mut session) = world.take(alloc) else {
         return NO_WORLD;
@@ -138,7 +140,7 @@ pub extern "C" fn fz_move_link(
     to_offset: u64,
     answer: &mut u8,
 ) -> Code
-    ensures { Calls world.old.value (MoveLink (link_kind_of is_long) slot.frame slot.slot offset to.frame to.slot to_offset) world.new.value result (TellsMoved answer.new) (answer.new ≡ answer.old) }
+    ensures { Calls world.old.value (Make (Move (link_kind_of is_long) (place_at slot.frame slot.slot offset) (place_at to.frame to.slot to_offset))) world.new.value result (TellsMoved answer.new) (answer.new ≡ answer.old) }
 {
     let Some(mut session) = world.take(alloc) else {
         return NO_WORLD;

@@ -1,7 +1,9 @@
 //! Objects and their words.
 
 ghost use Rattle.std.specs.Prelude.{◌≡◌};
-ghost use Rattle.fz_model.specs.Events.{Alloc, Load, Store};
+ghost use Rattle.fz_model.specs.declared.call.Call.TheVariants.{Alloc, Load, Store};
+ghost use Rattle.fz_model.specs.Places.{slot_at, place_at};
+ghost use Rattle.fz_model.specs.Events.{Make};
 ghost use Rattle.fz_c.specs.Told.{Calls, IsTold, Reads};
 ghost use Rattle.fz_c.specs.Places.{kind_of, TellsMade, TellsWord};
 ghost use Rattle.fz_c.specs.Shows.{IsWordAt};
@@ -53,7 +55,7 @@ pub extern "C" fn fz_alloc(
     atomic: bool,
     made: &mut Made,
 ) -> Code
-    ensures { Calls world.old.value (Alloc slot.frame slot.slot size (kind_of atomic)) world.new.value result (TellsMade made.new) (made.new ≡ made.old) }
+    ensures { Calls world.old.value (Make (Alloc (slot_at slot.frame slot.slot) size (kind_of atomic))) world.new.value result (TellsMade made.new) (made.new ≡ made.old) }
 {
     let Some(mut session) = world.take(alloc) else {
         return NO_WORLD;
@@ -76,7 +78,7 @@ pub extern "C" fn fz_load(
     to: Slot,
     word: &mut u64,
 ) -> Code
-    ensures { Calls world.old.value (Load slot.frame slot.slot offset to.frame to.slot) world.new.value result (TellsWord word.new) (word.new ≡ word.old) }
+    ensures { Calls world.old.value (Make (Load (place_at slot.frame slot.slot offset) (slot_at to.frame to.slot))) world.new.value result (TellsWord word.new) (word.new ≡ word.old) }
 {
     let Some(mut session) = world.take(alloc) else {
         return NO_WORLD;
@@ -98,7 +100,7 @@ pub extern "C" fn fz_store(
     offset: u64,
     from: Slot,
 ) -> Code
-    ensures { Calls world.old.value (Store slot.frame slot.slot offset from.frame from.slot) world.new.value result (λ _. Unit {0}) (Unit {0}) }
+    ensures { Calls world.old.value (Make (Store (place_at slot.frame slot.slot offset) (slot_at from.frame from.slot))) world.new.value result (λ _. Unit {0}) (Unit {0}) }
 {
     let Some(mut session) = world.take(alloc) else {
         return NO_WORLD;

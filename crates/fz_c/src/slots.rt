@@ -1,7 +1,9 @@
 //! Slots, which are the roots that a program sets.
 
 ghost use Rattle.std.specs.Prelude.{◌≡◌};
-ghost use Rattle.fz_model.specs.Events.{Set, Copy};
+ghost use Rattle.fz_model.specs.declared.call.Call.TheVariants.{Set, Copy};
+ghost use Rattle.fz_model.specs.Places.{slot_at};
+ghost use Rattle.fz_model.specs.Events.{Make};
 ghost use Rattle.fz_c.specs.Told.{Calls, Reads};
 ghost use Rattle.fz_c.specs.Places.{TellsWord};
 ghost use Rattle.fz_c.specs.Shows.{IsWordOfSlot};
@@ -22,7 +24,7 @@ pub struct Slot {
 #[tactic(auto, using(crate::proofs::Told::not_called, crate::proofs::Told::called, crate::proofs::Told::none_taken))]
 #[unsafe(no_mangle)]
 pub extern "C" fn fz_set(alloc: Global, world: &mut Handle, slot: Slot, word: u64) -> Code
-    ensures { Calls world.old.value (Set slot.frame slot.slot word) world.new.value result (λ _. Unit {0}) (Unit {0}) }
+    ensures { Calls world.old.value (Make (Set (slot_at slot.frame slot.slot) word)) world.new.value result (λ _. Unit {0}) (Unit {0}) }
 {
     let Some(mut session) = world.take(alloc) else {
         return NO_WORLD;
@@ -50,7 +52,7 @@ pub extern "C" fn fz_get(alloc: Global, world: &mut Handle, slot: Slot, word: &m
 #[tactic(auto, using(crate::proofs::Told::not_called, crate::proofs::Told::called, crate::proofs::Told::none_taken))]
 #[unsafe(no_mangle)]
 pub extern "C" fn fz_copy(alloc: Global, world: &mut Handle, slot: Slot, to: Slot) -> Code
-    ensures { Calls world.old.value (Copy slot.frame slot.slot to.frame to.slot) world.new.value result (λ _. Unit {0}) (Unit {0}) }
+    ensures { Calls world.old.value (Make (Copy (slot_at slot.frame slot.slot) (slot_at to.frame to.slot))) world.new.value result (λ _. Unit {0}) (Unit {0}) }
 {
     let Some(mut session) = world.take(alloc) else {
         return NO_WORLD;

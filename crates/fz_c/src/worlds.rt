@@ -1,7 +1,8 @@
 //! Worlds come and go.
 
 ghost use Rattle.std.specs.Prelude.{◌≡◌, None, IfOk};
-ghost use Rattle.fz_model.specs.Events.{Close};
+ghost use Rattle.fz_model.specs.declared.call.Call.TheVariants.{Close};
+ghost use Rattle.fz_model.specs.Events.{Make};
 ghost use Rattle.fz_model.specs.Causes.{IsJudgedOrLacks};
 ghost use Rattle.fz_world.specs.Does.{open_causes};
 ghost use Rattle.fz_c.specs.Told.{Calls};
@@ -61,7 +62,7 @@ pub extern "C" fn fz_destroy(alloc: Global, world: &mut Handle)
 #[tactic(auto, using(crate::proofs::Told::not_called, crate::proofs::Told::called, crate::proofs::Told::none_taken))]
 #[unsafe(no_mangle)]
 pub extern "C" fn fz_close(alloc: Global, world: &mut Handle) -> Code
-    ensures { Calls world.old.value Close world.new.value result (λ _. Unit {0}) (Unit {0}) }
+    ensures { Calls world.old.value (Make Close) world.new.value result (λ _. Unit {0}) (Unit {0}) }
 {
     let Some(mut session) = world.take(alloc) else {
         return NO_WORLD;

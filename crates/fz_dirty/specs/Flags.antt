@@ -45,7 +45,15 @@ abbrev pub members_left : ℕ → Flagged → Option ℕ → List ℕ
 members_left first f None = []
 members_left first f (Some next) = members_from first f next
 
--- The rest is for proofs alone: what a walk over the words keeps.
+-- The rest is for proofs alone: what two levels of bits keep, and what a walk over the words does.
+
+-- a second set has the words of the first that have members, and has room for all its words
+pub record AreWordsOf (flags words : Flagged) : Type 0 where
+  pub fits : flags.size ≤ 2 ^ 64
+  pub room : flags.size ≤ 64 * words.size
+  pub within : (n : ℕ) → IsTrue (contains flags.members n) → n < flags.size
+  pub noted : (n : ℕ) → IsTrue (contains flags.members n) → IsTrue (contains words.members (n / 64))
+  pub some : (word : ℕ) → IsTrue (contains words.members word) → (n : ℕ) × (n / 64 ≡ word) × IsTrue (contains flags.members n)
 
 -- members are from the first number on, where there is room
 pub record HasRoom (first : ℕ) (f : Flagged) : Type 0 where

@@ -1,6 +1,6 @@
 //! A set of numbers, a bit for each.
 
-ghost use Rattle.std.specs.Prelude.{◌≡◌, ◌≤◌, ◌<◌, ◌+◌, ◌*◌, ◌==◌, ◌&&◌, ◌^◌, not, slice_index, filter, ℕ, IsFalse, IfOk, IfErr, OnOk, OnErr, IfSome, MatchOption};
+ghost use Rattle.std.specs.Prelude.{◌≡◌, ◌≤◌, ◌<◌, ◌+◌, ◌*◌, ◌==◌, ◌&&◌, ◌^◌, not, max, slice_index, filter, ℕ, IsFalse, IfOk, IfErr, OnOk, OnErr, IfSome, MatchOption};
 ghost use Rattle.std.specs.List.{range_with_len};
 ghost use Rattle.std.specs.FinSet.{contains, insert, remove, empty, len};
 ghost use Rattle.fz_dirty.specs.Flags.{IsNext, IsRest, HasRoom, word_of};
@@ -55,6 +55,7 @@ impl<const FIRST: u64> Flags<FIRST> {
         ensures members { self.new.members ≡ self.old.members }
         ensures room { OnOk result (64 * words ≤ self.new.size) }
         ensures kept { self.old.size ≤ self.new.size }
+        ensures more { self.new.size ≤ max self.old.size (64 * words) }
     {
         if words > self.words.len() as u64 {
             self.words.resize(words as usize, 0)?;

@@ -4,9 +4,11 @@
 mod dirty;
 mod flags;
 mod members;
+mod sparse_flags;
 #[cfg(test)]
 mod tests;
 
 pub use dirty::Dirty;
 pub use flags::Flags;
 pub use members::Members;
+pub use sparse_flags::SparseFlags;

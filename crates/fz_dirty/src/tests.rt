@@ -1,6 +1,6 @@
 //! What no clause says: that memory for the flags can be had, and examples of each call.
 
-use crate::{Dirty, Flags};
+use crate::{Dirty, Flags, SparseFlags};
 use fz_model::{HEAP_START, MAX_BLOCKS};
 use std::fmt::Debug;
 use std::process::Abort;
@@ -112,5 +112,31 @@ fn holds_addresses(rt: HostRuntime) -> Result<(), Fail> {
     copy.clear();
     must_be(&rt, copy.next(0), None, "none in the end");
     must_be(&rt, flags.contains(HEAP_START + 63), true, "still in");
+    Ok(())
+}
+
+#[test]
+fn finds_members_far_apart(rt: HostRuntime) -> Result<(), Fail> {
+    let mut flags = SparseFlags::new(rt.alloc(), 2)?;
+    must_be(&rt, flags.next(0), None, "none at first");
+    must_be(&rt, flags.insert(3), true, "one in the first word");
+    must_be(&rt, flags.insert(3), false, "once more");
+    flags.extend_to(1 << 20)?;
+    must_be(&rt, flags.insert((1 << 26) - 1), true, "the last");
+    must_be(&rt, flags.contains(3), true, "a member");
+    must_be(&rt, flags.contains(1 << 26), false, "none from outside");
+    must_be(&rt, flags.next(3), Some(3), "from a member");
+    must_be(&rt, flags.next(4), Some((1 << 26) - 1), "from behind it");
+    must_be(&rt, flags.next(1 << 26), None, "from behind the end");
+    must_be(&rt, flags.next(u64::MAX), None, "from the greatest number");
+    must_be(&rt, flags.remove(3), true, "a member out");
+    must_be(&rt, flags.remove(3), false, "no member");
+    must_be(
+        &rt,
+        flags.next(0),
+        Some((1 << 26) - 1),
+        "the least that is left",
+    );
+    must_be(&rt, flags.remove(u64::MAX), false, "what has no room");
     Ok(())
 }

@@ -64,7 +64,7 @@ acted j (Take w) reply new none a =
     let own = own_none j w _ _ _ none in
     let t = taking j w (slice_get j.state.queue j.taken) own.0 own.1 in
     subst (IsBalanced j 0) (sym a.1) (omega (arith, t))
-acted j (HoldOwn w frame slot) reply new none a = same_balance j new (ap (λ (x : Joint). x.workers) a.3) (ap (λ (x : Joint). x.taken) a.3)
+acted j (HoldOwn w slot) reply new none a = same_balance j new (ap (λ (x : Joint). x.workers) a.3) (ap (λ (x : Joint). x.taken) a.3)
 acted j (FinishOwn w) (Ok answer) new none a =
     let own = own_none j w _ _ _ none in
     let m = one_less j w (record (worker_at j w) { hand = None }) own.0 (some_hand _ a.0 a.1) refl in
@@ -82,7 +82,7 @@ acted j (Forfeit w) (Err r) new none a = absurd a
 refused_ended : (e : JointEvent) (r : Refusal) → ended e (Err r) ≡ 0
 refused_ended (Call e) r = refl
 refused_ended (Take w) r = refl
-refused_ended (HoldOwn w frame slot) r = refl
+refused_ended (HoldOwn w slot) r = refl
 refused_ended (FinishOwn w) r = refl
 refused_ended (Forfeit w) r = refl
 

@@ -10,6 +10,7 @@ use Rattle.fz_model.specs.declared.answers.Entry.{Entry}
 use Rattle.fz_model.specs.declared.refusal.Refusal.{Refusal}
 use Rattle.fz_model.specs.declared.refusal.Refusal.TheVariants.{NotHeld, SeatsMissing}
 use Rattle.fz_model.specs.Causes.{first_cause}
+use Rattle.fz_model.specs.declared.places.Slot.{Slot}
 use Rattle.fz_model.specs.Events.{Event, Hold, Finish, Answer}
 use Rattle.fz_model.specs.Joint.{Worker, Joint, idle, JointEvent, Call, Take, HoldOwn, FinishOwn, Forfeit, JointAnswer, is_finish, worker_at, taken_by, own_causes, Acts, JointStep}
 use Rattle.fz_world.specs.Does.{StandsFor, Does}
@@ -100,13 +101,13 @@ take_busy m w h e busy j s =
     let at = at_hand m j w h s e in
     (j, refused_step j (Take w) SeatsMissing (the_second _ _ _ _ (is_worker j w at.0) (ap is_some at.1 ∙ busy)), s)
 
-pub hold_missing : (m : Machine) (w frame slot : ℕ) → length m.hands.items ≤ w → JointDoes m (HoldOwn w frame slot) (Err SeatsMissing) m
-hold_missing m w frame slot l j s = (j, refused_step j (HoldOwn w frame slot) SeatsMissing (the_first _ _ _ _ (no_such m j w s l)), s)
+pub hold_missing : (m : Machine) (w : ℕ) (slot : Slot) → length m.hands.items ≤ w → JointDoes m (HoldOwn w slot) (Err SeatsMissing) m
+hold_missing m w slot l j s = (j, refused_step j (HoldOwn w slot) SeatsMissing (the_first _ _ _ _ (no_such m j w s l)), s)
 
-pub hold_idle : (m : Machine) (w frame slot : ℕ) → slice_get m.hands.items w ≡ Some None → JointDoes m (HoldOwn w frame slot) (Err NotHeld) m
-hold_idle m w frame slot e j s =
+pub hold_idle : (m : Machine) (w : ℕ) (slot : Slot) → slice_get m.hands.items w ≡ Some None → JointDoes m (HoldOwn w slot) (Err NotHeld) m
+hold_idle m w slot e j s =
     let at = at_hand m j w None s e in
-    (j, refused_step j (HoldOwn w frame slot) NotHeld (the_second _ _ _ _ (is_worker j w at.0) (ap is_none at.1)), s)
+    (j, refused_step j (HoldOwn w slot) NotHeld (the_second _ _ _ _ (is_worker j w at.0) (ap is_none at.1)), s)
 
 pub finish_idle : (m : Machine) (w : ℕ) → slice_get m.hands.items w ≡ Some None → JointDoes m (FinishOwn w) (Err NotHeld) m
 finish_idle m w e j s =
@@ -141,13 +142,13 @@ took old new w None o is idle given world line hands j s =
     (taken_by j w o, acting_step j (Take w) (Ok o) (taken_by j w o) (neither _ _ _ _ (is_worker j w at.0) (ap is_some at.1)) (ap Ok (sym next), ap (taken_by j w) (sym next)), hand_over old new j w o s is world line hands)
 
 -- the world's call for the entry in the worker's hand
-pub held : (old new : Machine) (w frame slot : ℕ) (e : Entry) (reply : Result (Unit {0}) Refusal) → slice_get old.hands.items w ≡ Some (Some e) → Does old.world (Hold frame slot e) reply new.world → new.line ≡ old.line → new.hands ≡ old.hands
-    → JointDoes old (HoldOwn w frame slot) reply new
+pub held : (old new : Machine) (w : ℕ) (slot : Slot) (e : Entry) (reply : Result (Unit {0}) Refusal) → slice_get old.hands.items w ≡ Some (Some e) → Does old.world (Hold slot e) reply new.world → new.line ≡ old.line → new.hands ≡ old.hands
+    → JointDoes old (HoldOwn w slot) reply new
 unfolding Does
-held old new w frame slot e reply is does line hands j s =
+held old new w slot e reply is does line hands j s =
     let at = at_hand old j w (Some e) s is in
     let d = does j.state s.world in
-    (record j { state = d.0 }, acting_step j (HoldOwn w frame slot) reply (record j { state = d.0 }) (neither _ _ _ _ (is_worker j w at.0) (ap is_none at.1)) (e, at.1, d.1, refl), record { world = d.2; line = line ∙ s.line; hands = ap (λ (h : _). h.items) hands ∙ s.hands })
+    (record j { state = d.0 }, acting_step j (HoldOwn w slot) reply (record j { state = d.0 }) (neither _ _ _ _ (is_worker j w at.0) (ap is_none at.1)) (e, at.1, d.1, refl), record { world = d.2; line = line ∙ s.line; hands = ap (λ (h : _). h.items) hands ∙ s.hands })
 
 pub finish_refused : (old new : Machine) (w : ℕ) (e : Entry) (r : Refusal) → slice_get old.hands.items w ≡ Some (Some e) → Does old.world (Finish e) (Err r) new.world → new.line ≡ old.line → new.hands ≡ old.hands → JointDoes old (FinishOwn w) (Err r) new
 unfolding Does
@@ -199,14 +200,14 @@ refused old new step e r asked does = record { event = e; reply = Err r; asked =
     no_finish : (e : JointEvent) → false ≡ finishes e (Err r)
     no_finish (Call e) = refl
     no_finish (Take w) = refl
-    no_finish (HoldOwn w frame slot) = refl
+    no_finish (HoldOwn w slot) = refl
     no_finish (FinishOwn w) = refl
     no_finish (Forfeit w) = refl
 
     no_forfeit : (e : JointEvent) → false ≡ forfeits e (Err r)
     no_forfeit (Call e) = refl
     no_forfeit (Take w) = refl
-    no_forfeit (HoldOwn w frame slot) = refl
+    no_forfeit (HoldOwn w slot) = refl
     no_forfeit (FinishOwn w) = refl
     no_forfeit (Forfeit w) = refl
 

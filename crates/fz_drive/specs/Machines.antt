@@ -9,8 +9,6 @@ use Rattle.fz_script.specs.declared.step.Step.{Step}
 use Rattle.fz_script.specs.declared.step.Step.TheVariants.{Open}
 use Rattle.fz_script.specs.Spelling.{Token, Number, Text, spelling, Fits}
 use Rattle.fz_drive.specs.declared.machine.Machine.{Machine}
-use Rattle.fz_model.specs.declared.call.Reply.{Reply}
-use Rattle.fz_model.specs.declared.call.Reply.TheVariants as replies
 use Rattle.fz_drive.specs.declared.reply.StepReply.{StepReply}
 use Rattle.fz_drive.specs.declared.reply.StepReply.TheVariants.{Called, Taken, Held, Finished, Forfeited}
 use Rattle.fz_drive.specs.declared.answer.Answer.{Answer}
@@ -24,7 +22,7 @@ use Rattle.std.specs.Io.KnownBytes.{Appends}
 use Rattle.fz_text.specs.Devices.{IsPart}
 use Rattle.fz_drive.specs.Script.{max_lines, may_come, event_of}
 use Rattle.fz_text.specs.Lines.{is_kept}
-use Rattle.fz_drive.specs.Replies.{registered_words, unregistered_words, linked_words, unlinked_words, moved_words, marked_words, passed_words, taken_words, reply_words, end_words}
+use Rattle.fz_drive.specs.Replies.{called_words, taken_words, reply_words, end_words}
 use Rattle.fz_text.specs.Written.{text_line, done, refused_words, malformed_words}
 use Rattle.fz_drive.specs.Report.{Course, opening_causes, AsksFor, IsRefusedOpening, finishes, forfeits}
 
@@ -37,19 +35,6 @@ pub record StandsForJoint (machine : Machine) (j : Joint) : Type 0 where
 -- from each joint state in which the old machine is there is a step with this reply, to one in which the new machine is
 abbrev pub JointDoes : Machine → (e : JointEvent) → Result (JointAnswer e) Refusal → Machine → Type 0
 JointDoes old e reply new = (j : Joint) → StandsForJoint old j → (t : Joint) × JointStep j e reply t × StandsForJoint new t
-
-abbrev pub called_words : Reply → List Token
-called_words replies.Done = done
-called_words (replies.Allocated address birth) = Text (codes "new") ∷ Number address ∷ Number birth ∷ []
-called_words (replies.Word word) = Text (codes "word") ∷ Number word ∷ []
-called_words (replies.Registered answer) = registered_words answer
-called_words (replies.Unregistered old) = unregistered_words old
-called_words (replies.Linked answer) = linked_words answer
-called_words (replies.Unlinked there) = unlinked_words there
-called_words (replies.Moved answer) = moved_words answer
-called_words (replies.Marked progress) = marked_words progress
-called_words (replies.Passed passed) = passed_words passed
-called_words (replies.Outstanding count) = Text (codes "outstanding") ∷ Number count ∷ []
 
 abbrev pub words_of : StepReply → List Token
 words_of (Called reply) = called_words reply

@@ -12,7 +12,10 @@ use Rattle.fz_model.specs.declared.answers.LinkAnswer.TheVariants as linking
 use Rattle.fz_model.specs.declared.answers.MoveAnswer.{MoveAnswer}
 use Rattle.fz_model.specs.declared.answers.MoveAnswer.TheVariants as moving
 use Rattle.fz_model.specs.declared.refusal.Refusal.{Refusal}
-use Rattle.fz_model.specs.Events.{Event, Alloc, Load, Store, Set, Copy, Register, Unregister, Link, Unlink, MoveLink, Begin, Mark, Pause, Collect, Hold, Finish, Close, Outstanding, Queue, Answer}
+use Rattle.fz_model.specs.declared.call.Reply.{Reply}
+use Rattle.fz_model.specs.declared.call.Reply.TheVariants as replies
+use Rattle.fz_model.specs.Events.{Event, Make, Queue, Answer}
+use Rattle.fz_model.specs.Calls.{reply_of}
 use Rattle.fz_model.specs.Joint.{JointEvent, Call, Take, HoldOwn, FinishOwn, Forfeit, JointAnswer, Move}
 use Rattle.fz_script.specs.Spelling.{Token, Number, Text}
 use Rattle.fz_text.specs.Written.{text_line, done, refused_words}
@@ -56,32 +59,29 @@ taken_words None = Text (codes "empty") ∷ []
 taken_words (Some entry) =
     Text (codes "entry") ∷ Number entry.seq ∷ Number entry.pass ∷ Number entry.reg ∷ Number entry.obj ∷ Number entry.birth ∷ Number entry.proc ∷ Number entry.cd ∷ []
 
--- No step of a script asks for the queue.
-abbrev pub call_words : (e : Event) → Answer e → List Token
-call_words (Alloc frame slot size kind) answer = Text (codes "new") ∷ Number answer.0 ∷ Number answer.1 ∷ []
-call_words (Load frame slot offset to_frame to_slot) answer = Text (codes "word") ∷ Number answer ∷ []
-call_words (Store frame slot offset from_frame from_slot) answer = done
-call_words (Set frame slot word) answer = done
-call_words (Copy frame slot to_frame to_slot) answer = done
-call_words (Register frame slot kind proc cd rank) answer = registered_words answer
-call_words (Unregister frame slot) answer = unregistered_words answer
-call_words (Link which frame slot offset to_frame to_slot) answer = linked_words answer
-call_words (Unlink which frame slot offset) answer = unlinked_words answer
-call_words (MoveLink which frame slot offset to_frame to_slot to_offset) answer = moved_words answer
-call_words Begin answer = done
-call_words (Mark budget) answer = marked_words answer
-call_words Pause answer = passed_words answer
-call_words Collect answer = passed_words answer
-call_words (Hold frame slot entry) answer = done
-call_words (Finish entry) answer = done
-call_words Close answer = done
-call_words Outstanding answer = Text (codes "outstanding") ∷ Number answer ∷ []
-call_words Queue answer = []
+abbrev pub called_words : Reply → List Token
+called_words replies.Done = done
+called_words (replies.Allocated address birth) = Text (codes "new") ∷ Number address ∷ Number birth ∷ []
+called_words (replies.Word word) = Text (codes "word") ∷ Number word ∷ []
+called_words (replies.Registered answer) = registered_words answer
+called_words (replies.Unregistered old) = unregistered_words old
+called_words (replies.Linked answer) = linked_words answer
+called_words (replies.Unlinked there) = unlinked_words there
+called_words (replies.Moved answer) = moved_words answer
+called_words (replies.Marked progress) = marked_words progress
+called_words (replies.Passed passed) = passed_words passed
+called_words (replies.Outstanding count) = Text (codes "outstanding") ∷ Number count ∷ []
+
+-- no step of a script asks for the queue
+abbrev pub event_words : (e : Event) → Answer e → List Token
+event_words (Make call) answer = called_words (reply_of call answer)
+event_words Queue answer = []
+event_words _ answer = done
 
 abbrev pub answer_words : (e : JointEvent) → JointAnswer e → List Token
-answer_words (Call e) answer = call_words e answer
+answer_words (Call e) answer = event_words e answer
 answer_words (Take worker) answer = taken_words answer
-answer_words (HoldOwn worker frame slot) answer = done
+answer_words (HoldOwn worker slot) answer = done
 answer_words (FinishOwn worker) answer = done
 answer_words (Forfeit worker) answer = done
 

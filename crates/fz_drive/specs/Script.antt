@@ -1,7 +1,7 @@
 -- A script: the lines of its bytes, and the steps that they ask for.
 use Rattle.std.specs.Prelude.{◌≡◌, ℕ, ◌≤◌, ◌<◌, ◌^◌, Bool, true, false, not, if◌then◌else◌, ◌⊎◌, List, length, map, filter, Option, Some, None, IsTrue, IsFalse}
 use Rattle.std.specs.List.{All}
-use Rattle.fz_model.specs.Calls.{event}
+use Rattle.fz_model.specs.Events.{Make}
 use Rattle.fz_model.specs.Joint.{JointEvent}
 use Rattle.fz_model.specs.Joint as joint
 use Rattle.fz_script.specs.declared.step.Step.{Step}
@@ -36,8 +36,8 @@ IsMalformed opened number line =
 -- the event of a joint run for which a step asks; the opening is none
 abbrev pub event_of : Step → Option JointEvent
 event_of (Open blocks frames workers) = None
-event_of (Call call) = Some (joint.Call (event call))
+event_of (Call call) = Some (joint.Call (Make call))
 event_of (Take worker) = Some (joint.Take worker)
-event_of (Hold worker slot) = Some (joint.HoldOwn worker slot.frame slot.slot)
+event_of (Hold worker slot) = Some (joint.HoldOwn worker slot)
 event_of (Finish worker) = Some (joint.FinishOwn worker)
 event_of (Forfeit worker) = Some (joint.Forfeit worker)

@@ -4,10 +4,6 @@
 mod answer;
 mod machine;
 mod reply;
-#[cfg(test)]
-mod rows;
 mod run;
-#[cfg(test)]
-mod tests;
 
 pub use run::{Summary, drive};

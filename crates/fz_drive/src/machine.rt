@@ -77,7 +77,7 @@ impl Machine {
 
     /// The object of the entry in the worker's hand goes into the slot.
     fn hold(&mut self, worker: u64, slot: Slot) -> Result<(), Refusal>
-        ensures { JointDoes self.old (HoldOwn worker slot.frame slot.slot) result self.new }
+        ensures { JointDoes self.old (HoldOwn worker slot) result self.new }
     {
         let Some(entry) = self.hand(worker)? else {
             return Err(Refusal::NotHeld);

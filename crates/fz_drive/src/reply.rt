@@ -2,10 +2,10 @@
 
 ghost use Rattle.std.specs.Prelude.{◌≡◌};
 ghost use Rattle.fz_text.specs.Devices.{Emits};
-ghost use Rattle.fz_drive.specs.Replies.{registered_words, unregistered_words, linked_words, unlinked_words, moved_words, marked_words, passed_words, taken_words, end_words};
+ghost use Rattle.fz_drive.specs.Replies.{called_words, registered_words, unregistered_words, linked_words, unlinked_words, moved_words, marked_words, passed_words, taken_words, end_words};
 ghost use Rattle.fz_text.specs.Written.{text_line, done, refused_words, malformed_words};
 ghost use Rattle.fz_model.specs.declared.call.Reply.TheVariants as replies;
-ghost use Rattle.fz_drive.specs.Machines.{called_words, words_of, result_words};
+ghost use Rattle.fz_drive.specs.Machines.{words_of, result_words};
 
 use crate::run::Summary;
 use fz_model::{

@@ -5,7 +5,7 @@ use Rattle.crossbeam_deque.specs.declared.handles.Worker.{Worker}
 use Rattle.fz_model.specs.declared.answers.Entry.{Entry}
 use Rattle.fz_line.specs.declared.protocol.View.{View}
 use Rattle.fz_line.specs.Numbers.{Rises}
-use Rattle.fz_line.specs.Views.{sent_limit, first_room, view_of, seat_view, first_list}
+use Rattle.fz_line.specs.Views.{sent_limit, view_of, seat_view, first_list}
 use Rattle.fz_model.specs.declared.limits.TheConstants.{MAX_WORKERS}
 
 module _ {A : Type 0} where
@@ -18,21 +18,21 @@ module _ {A : Type 0} where
   IsSeatPass deque p = IsPassOf deque p × (view p ≡ seat_view (took_by p)) × Rises (took_by p) × (length (took_by p) ≤ sent_limit)
 
 module _ {A P : Type 0} where
-  -- a first-in first-out end whose ring was never smaller than at first, and which was pushed to at most as often as entries were sent
-  abbrev pub HasRoom : Worker Entry A View P → Type 0
-  HasRoom w = (worker_flavor w ≡ 0) × (worker_index w ≤ length (worker_view w).sent) × (first_room ≤ worker_capacity w)
+  -- a first-in first-out end, which was pushed to at most as often as entries were sent
+  abbrev pub IsFifo : Worker Entry A View P → Type 0
+  IsFifo w = (worker_flavor w ≡ 0) × (worker_index w ≤ length (worker_view w).sent)
 
   -- it is the owner's, with the empty lists of the seats that didn't open
   abbrev pub IsOwnerEnd : ℕ → Worker Entry A View P → Type 0
-  IsOwnerEnd seats w = HasRoom w × (worker_view w ≡ view_of true (worker_view w).sent (worker_view w).popped (replicate (MAX_WORKERS - seats) [])) × (seats ≤ MAX_WORKERS)
+  IsOwnerEnd seats w = IsFifo w × (worker_view w ≡ view_of true (worker_view w).sent (worker_view w).popped (replicate (MAX_WORKERS - seats) [])) × (seats ≤ MAX_WORKERS)
 
   -- it is the owner's, which has popped nothing
   abbrev pub HasPoppedNothing : Worker Entry A View P → Type 0
-  HasPoppedNothing w = HasRoom w × (worker_view w ≡ view_of true (worker_view w).sent [] (worker_view w).lists)
+  HasPoppedNothing w = IsFifo w × (worker_view w ≡ view_of true (worker_view w).sent [] (worker_view w).lists)
 
-  -- the same end of the same deque
+  -- the same end of the same deque, in no smaller a ring
   abbrev pub IsKept : Worker Entry A View P → Worker Entry A View P → Type 0
-  IsKept old new = (worker_deque new ≡ worker_deque old) × HasRoom new
+  IsKept old new = (worker_deque new ≡ worker_deque old) × IsFifo new × (worker_capacity old ≤ worker_capacity new)
 
   abbrev pub HasPopped : Worker Entry A View P → List Entry → Worker Entry A View P → Type 0
   HasPopped old popped new = worker_view new ≡ view_of true (worker_view old).sent popped (worker_view old).lists

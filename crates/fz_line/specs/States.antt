@@ -11,6 +11,7 @@ Line = ℕ × ℕ
 pub record OwnerState : Type 0 where
   pub line : Line
   pub seats : ℕ  -- how many
+  pub room : ℕ  -- so many entries it is sent without asking for memory
   pub sent : List Entry  -- all entries ever sent
   pub popped : List Entry  -- those that a drain took out
 
@@ -26,8 +27,8 @@ pub record DutyState : Type 0 where
   pub seat : SeatState
   pub entry : Entry
 
-abbrev pub owner_state : Line → ℕ → List Entry → List Entry → OwnerState
-owner_state line seats sent popped = record { line = line; seats = seats; sent = sent; popped = popped }
+abbrev pub owner_state : Line → ℕ → ℕ → List Entry → List Entry → OwnerState
+owner_state line seats room sent popped = record { line = line; seats = seats; room = room; sent = sent; popped = popped }
 
 abbrev pub seat_state : Line → ℕ → List Entry → ℕ → ℕ → SeatState
 seat_state line index took finished forfeited = record { line = line; index = index; took = took; finished = finished; forfeited = forfeited }

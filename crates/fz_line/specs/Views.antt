@@ -14,10 +14,6 @@ total f (x ∷ xs) = f x + total f xs
 abbrev pub sent_limit : ℕ
 sent_limit = 2 ^ 62
 
--- for how many entries a new line has room
-abbrev pub first_room : ℕ
-first_room = 64
-
 abbrev pub view_of : Bool → List Entry → List Entry → List (List Entry) → View
 view_of owner sent popped lists = record { owner = owner; sent = sent; popped = popped; lists = lists }
 

@@ -12,8 +12,6 @@ mod place;
 mod plain_line;
 mod protocol;
 mod seat;
-#[cfg(test)]
-mod tests;
 
 pub use duty::Duty;
 pub use opening::{line, retire_all};

@@ -1,7 +1,7 @@
 //! How a line is made, and how its seats end.
 
-ghost use Rattle.std.specs.Prelude.{◌≡◌, ◌+◌, ◌<◌, [], ◌∷◌, true, None, IfOk, IfErr, IfSome};
-ghost use Rattle.crossbeam_deque.specs.Handles.{worker_deque, worker_view};
+ghost use Rattle.std.specs.Prelude.{◌≡◌, ◌+◌, ◌<◌, ◌≤◌, [], ◌∷◌, true, None, IfOk, IfErr, IfSome};
+ghost use Rattle.crossbeam_deque.specs.Handles.{worker_deque, worker_view, worker_capacity};
 ghost use Rattle.fz_model.specs.Causes.{IsJudgedOrLacks, bad_count};
 ghost use Rattle.fz_model.specs.declared.limits.TheConstants.{MAX_WORKERS};
 ghost use Rattle.fz_line.specs.Passes.{IsOwnerEnd};
@@ -14,22 +14,19 @@ use crate::seat::Seat;
 use fz_model::{MAX_WORKERS, Refusal};
 use std::alloc::Global;
 
-/// The entries for which a line has room from the first.
-const FIRST_ROOM: usize = 64;
-
-/// An empty line with 1 to 8 seats, by index from 0.
+/// An empty line with 1 to 8 seats, by index from 0, and room for so many entries from the first, some 80 bytes each.
 ///
 /// `BadCount` for any other number of seats, and `NoMemory` where an allocation for the line or for its seats failed.
-pub fn line(alloc: Global, workers: u64) -> Result<(Owner, Vec<Seat>), Refusal>
+pub fn line(alloc: Global, workers: u64, room: usize) -> Result<(Owner, Vec<Seat>), Refusal>
     ensures judged { IsJudgedOrLacks (bad_count MAX_WORKERS workers ∷ []) result }
-    ensures owner { IfOk result (λ made. made.0 ≡ owner_state made.0.line workers [] []) }
+    ensures owner { IfOk result (λ made. made.0 ≡ owner_state made.0.line workers room [] []) }
     ensures seats { IfOk result (λ made. made.1.items ≡ new_seats made.0.line workers) }
 {
     if workers == 0 || workers > MAX_WORKERS {
         return Err(Refusal::BadCount);
     }
     let count = workers as usize;
-    let mut worker = LineWorker::fifo_as(alloc, FIRST_ROOM)?;
+    let mut worker = LineWorker::fifo_as(alloc, room)?;
     let mut seats = Vec::with_capacity(alloc, count)?;
     for index in 0..count {
         match new_seat(&mut worker, index) {
@@ -43,6 +40,7 @@ pub fn line(alloc: Global, workers: u64) -> Result<(Owner, Vec<Seat>), Refusal>
     let owner = Owner {
         worker,
         seats: count,
+        room,
     };
     Ok((owner, seats))
 }
@@ -51,6 +49,7 @@ pub fn line(alloc: Global, workers: u64) -> Result<(Owner, Vec<Seat>), Refusal>
 fn new_seat(worker: &mut LineWorker, index: usize) -> Option<Seat>
     requires end { IsOwnerEnd index worker.old × (index < MAX_WORKERS) }
     ensures same { worker_deque worker.new ≡ worker_deque worker.old }
+    ensures room { worker_capacity worker.old ≤ worker_capacity worker.new }
     ensures seat { IfSome result (λ seat. seat ≡ seat_state (worker_deque worker.old).0 index [] 0 0) }
     ensures end { IfSome result (λ _. IsOwnerEnd (index + 1) worker.new × ((worker_view worker.new).sent ≡ (worker_view worker.old).sent) × ((worker_view worker.new).popped ≡ (worker_view worker.old).popped)) }
 {

@@ -1,7 +1,7 @@
 //! The owner's end of the line.
 
 ghost use Rattle.std.specs.Prelude.{◌≡◌, ◌+◌, ◌<◌, ◌≤◌, [], ◌++◌, length, take, drop, vec_capacity, All, IsPermutation};
-ghost use Rattle.fz_line.specs.Views.{sent_limit, first_room};
+ghost use Rattle.fz_line.specs.Views.{sent_limit};
 ghost use Rattle.fz_line.specs.Numbers.{AreNumberedFrom};
 ghost use Rattle.fz_line.specs.States.{IsIdle, taken_by};
 
@@ -13,11 +13,12 @@ use std::marker::Model;
 
 /// The end of a line at which entries are sent.
 ///
-/// A contract sees which line it is, how many seats it has, all that was sent, and what `drain` took out. An owner that is dropped takes
+/// A contract sees which line it is, how many seats it has, for how many entries it has room from the first, all that was sent, and what `drain` took out. An owner that is dropped takes
 /// the entries that wait in the line with it.
 pub struct Owner {
     pub(crate) worker: LineWorker,
     pub(crate) seats: usize,
+    pub(crate) room: usize,
 }
 
 // Written out: who owns an owner then drops it by one call that is proved here, not field by field at each way out of a function.
@@ -26,20 +27,22 @@ impl Drop for Owner {
         let Owner {
             worker: _,
             seats: _,
+            room: _,
         } = self;
     }
 }
 
 impl Model for Owner {
-    ghost use Rattle.crossbeam_deque.specs.Handles.{worker_deque, worker_view};
+    ghost use Rattle.std.specs.Prelude.{◌≤◌};
+    ghost use Rattle.crossbeam_deque.specs.Handles.{worker_deque, worker_view, worker_capacity};
     ghost use Rattle.fz_line.specs.Passes.{IsOwnerEnd};
     ghost use Rattle.fz_line.specs.States.{OwnerState, owner_state};
 
     ghost Value = { OwnerState };
 
-    ghost view = { λ o. owner_state (worker_deque o.worker).0 o.seats (worker_view o.worker).sent (worker_view o.worker).popped };
+    ghost view = { λ o. owner_state (worker_deque o.worker).0 o.seats o.room (worker_view o.worker).sent (worker_view o.worker).popped };
 
-    ghost invariant = { λ o. IsOwnerEnd o.seats o.worker };
+    ghost invariant = { λ o. IsOwnerEnd o.seats o.worker × (o.room ≤ worker_capacity o.worker) };
 }
 
 impl Owner {
@@ -52,14 +55,14 @@ impl Owner {
 
     /// Sends the entries of the outbox in order; returns how many were sent.
     ///
-    /// It stops early only where there was no memory for the next entry, which is then, with all after it, not sent; the first 64 entries of a
-    /// line always find room. The entries are numbered on from what was sent before, and 2^62 is the most that a line is ever sent.
+    /// It stops early only where there was no memory for the next entry, which is then, with all after it, not sent. As many entries as the
+    /// line was made with room for always find it. The entries are numbered on from what was sent before, and 2^62 is the most that a line is ever sent.
     pub fn publish(&mut self, outbox: &[Entry]) -> usize
         requires numbers { AreNumberedFrom (length self.old.sent) outbox.now }
         requires limit { length self.old.sent + length outbox.now ≤ sent_limit }
         ensures sent { self.new ≡ record self.old { sent = self.old.sent ++ take result outbox.now } }
         ensures within { result ≤ length outbox.now }
-        ensures room { result < length outbox.now → first_room ≤ length self.new.sent }
+        ensures room { result < length outbox.now → self.old.room ≤ length self.new.sent }
     {
         let worker = &mut self.worker;
         for (count, &entry) in outbox.iter().enumerate() {

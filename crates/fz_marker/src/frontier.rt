@@ -1,12 +1,13 @@
 //! A set of objects that grows, with its members that wait to be read.
 
-ghost use Rattle.std.specs.Prelude.{◌∷◌, [], ◌++◌, ◌≡◌, ◌≤◌, ◌<◌, ◌+◌, ◌*◌, ℕ, length, vec_capacity, Some, IsTrue, IsFalse, IfOk, IfErr, IsSome, IfSome, MatchOption};
+ghost use Rattle.std.specs.Prelude.{◌∷◌, [], ◌++◌, ◌≡◌, ◌≤◌, ◌<◌, ◌+◌, ◌*◌, ◌↔◌, ◌⊎◌, not, ℕ, length, vec_capacity, Some, IsTrue, IsFalse, IfOk, IfErr, IsSome, IfSome, MatchOption};
 ghost use Rattle.std.specs.FinSet.{contains, insert, empty, len};
 ghost use Rattle.fz_model.specs.declared.limits.TheConstants.{HEAP_START, BLOCK_WORDS, MAX_BLOCKS};
-ghost use Rattle.fz_model.specs.Reachability.{Child};
+ghost use Rattle.fz_model.specs.Reachability.{Child, Leads};
 ghost use Rattle.fz_model.specs.Allocation.{block_of};
 ghost use Rattle.fz_dirty.specs.Flags.{IsNext};
 ghost use Rattle.fz_marker.specs.Frontiers.{Gains, IsAmong, IsPointedAt, IsTracing};
+ghost use Rattle.fz_marker.specs.Marking.{IsClosed};
 
 use fz_dirty::Flags;
 use fz_heap::Heap;
@@ -157,8 +158,37 @@ impl Frontier {
         self.add_targets(heap, heap.pointers(start));
     }
 
+    /// Makes the object a member, which then doesn't wait. Returns whether it is new.
+    fn enter(&mut self, object: Addr) -> bool
+        requires { IsAmong self.old.size object }
+        ensures new { result ≡ not (contains self.old.members object) }
+        ensures entered { self.new ≡ record self.old { members = insert self.old.members object } }
+        ensures room { len self.new.members ≤ self.new.size }
+    {
+        self.set.insert(object)
+    }
+
+    /// Adds the object and all that it leads to. Asked only where nothing waits, and all children of members are members.
+    // The object has no turn on the work list: most objects of a pass lead to nothing that is new.
+    pub(crate) fn add_closed(&mut self, heap: &Heap, object: Addr)
+        requires size { self.old.size ≡ BLOCK_WORDS * heap.now.blocks }
+        requires among { IsAmong self.old.size object }
+        requires few { len self.old.members ≤ self.old.size }
+        requires idle { self.old.waiting ≡ [] }
+        requires closed { IsClosed heap.now.objects self.old.members }
+        ensures size { self.new.size ≡ self.old.size }
+        ensures few { len self.new.members ≤ self.new.size }
+        ensures idle { self.new.waiting ≡ [] }
+        ensures members { (a : ℕ) → IsTrue (contains self.new.members a) ↔ (IsTrue (contains self.old.members a) ⊎ Leads heap.now.objects object a) }
+    {
+        if self.enter(object) {
+            self.add_children(heap, object);
+            self.close(heap);
+        }
+    }
+
     /// Adds all that those lead to that wait.
-    pub(crate) fn close(&mut self, heap: &Heap)
+    fn close(&mut self, heap: &Heap)
         requires size { self.old.size ≡ BLOCK_WORDS * heap.now.blocks }
         requires traced { IsTracing heap.now.objects self.old self.old }
         ensures traced { IsTracing heap.now.objects self.old self.new }

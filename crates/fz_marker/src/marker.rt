@@ -191,8 +191,7 @@ impl Marker {
         ensures same { self.new ≡ record self.old { traced = self.new.traced } }
         ensures traced { (a : ℕ) → IsTrue (contains self.new.traced a) ↔ (IsTrue (contains self.old.traced a) ⊎ Leads heap.now.objects start a) }
     {
-        self.traces.add(start);
-        self.traces.close(heap);
+        self.traces.add_closed(heap, start);
     }
 
     /// Whether the object is in the second set.

@@ -268,7 +268,7 @@ pass_laid c found passed new h p =
 
 effect_laid : (c : Core) (e : Event) (new : Core) → IsAllowed c e → Laid c → Effect c e new → Laid new
 unfolding written
-effect_laid c e new allowed h (Made frame slot size a kind here none place) =
+effect_laid c e new allowed h (Made slot size a kind here none place) =
     let v = new_object kind c.next_birth size in
     let n : length {A = ℕ} (replicate size 0) ≡ size = length-replicate {A = ℕ} size 0 in
     let some = some_words size (none allowed).0 in

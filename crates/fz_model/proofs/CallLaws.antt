@@ -12,6 +12,8 @@ use Rattle.fz_model.specs.declared.answers.MoveAnswer.{MoveAnswer}
 use Rattle.fz_model.specs.declared.answers.MoveAnswer.TheVariants as moving
 use Rattle.fz_model.specs.State.{Map, Core, State}
 use Rattle.fz_model.specs.Memory.{slot_word, with_slot, lacks_slot}
+use Rattle.fz_model.specs.declared.places.Slot.{Slot}
+use Rattle.fz_model.specs.declared.places.Place.{Place}
 use Rattle.fz_model.specs.Events.{Hold, same_entry, causes}
 use Rattle.fz_model.specs.Steps.{IsReached, move_answer, moved_to}
 use Rattle.fz_model.specs.CallLaws.{HasLink, IsLinked, LinksAreMade, IsUnlinked, LinksAreUnlinked, IsAnswered, IsMoved, LinksAreMoved, HoldGivesTheObject}
@@ -44,8 +46,8 @@ linked_as : (old new : Map ℕ) (place target : ℕ) (answer : LinkAnswer) → a
 linked_as old new place target answer is becomes =
     subst (IsLinked old place target answer) (sym becomes) (subst (λ r. IsLinked old place target r (insert old place target)) (sym is) (made old place target))
 
-pub links_are_made : (s : State) (frame slot offset to_frame to_slot : ℕ) → LinksAreMade s frame slot offset to_frame to_slot
-links_are_made s frame slot offset to_frame to_slot = record {
+pub links_are_made : (s : State) (place : Place) (target : Slot) → LinksAreMade s place target
+links_are_made s place target = record {
   short = λ answer new step. (linked_as s.short new.short _ _ answer step.1.0 (ap (λ (c : Core). c.short) step.1.1), ap (λ (c : Core). c.long) step.1.1);
   long = λ answer new step. (linked_as s.long new.long _ _ answer step.1.0 (ap (λ (c : Core). c.long) step.1.1), ap (λ (c : Core). c.short) step.1.1);
 }
@@ -67,8 +69,8 @@ unlinked_as : (old new : Map ℕ) (place : ℕ) (answer : Bool) → answer ≡ c
 unlinked_as old new place answer is becomes =
     subst (IsUnlinked old place answer) (sym becomes) (subst (λ r. IsUnlinked old place r (remove old place)) (sym is) (unlinked old place))
 
-pub links_are_unlinked : (s : State) (frame slot offset : ℕ) → LinksAreUnlinked s frame slot offset
-links_are_unlinked s frame slot offset = record {
+pub links_are_unlinked : (s : State) (place : Place) → LinksAreUnlinked s place
+links_are_unlinked s place = record {
   short = λ answer new step. (unlinked_as s.short new.short _ answer step.1.0 (ap (λ (c : Core). c.short) step.1.1), ap (λ (c : Core). c.long) step.1.1);
   long = λ answer new step. (unlinked_as s.long new.long _ answer step.1.0 (ap (λ (c : Core). c.long) step.1.1), ap (λ (c : Core). c.short) step.1.1);
 }
@@ -190,8 +192,8 @@ answers old from to = at (get old from) refl (from == to) refl (get old to) refl
 answered_as : (old : Map ℕ) (from to : ℕ) (answer : MoveAnswer) → answer ≡ move_answer old from to → IsAnswered old from to answer
 answered_as old from to answer is = subst (IsAnswered old from to) (sym is) (answers old from to)
 
-pub links_are_moved : (s : State) (frame slot offset to_frame to_slot to_offset : ℕ) → LinksAreMoved s frame slot offset to_frame to_slot to_offset
-links_are_moved s frame slot offset to_frame to_slot to_offset = record {
+pub links_are_moved : (s : State) (from to : Place) → LinksAreMoved s from to
+links_are_moved s from to = record {
   short = λ answer new step. (moved_as s.short new.short _ _ answer step.1.0 (ap (λ (c : Core). c.short) step.1.1), answered_as s.short _ _ answer step.1.0, ap (λ (c : Core). c.long) step.1.1);
   long = λ answer new step. (moved_as s.long new.long _ _ answer step.1.0 (ap (λ (c : Core). c.long) step.1.1), answered_as s.long _ _ answer step.1.0, ap (λ (c : Core). c.short) step.1.1);
 }
@@ -204,21 +206,21 @@ held_one held e h =
     subst (Contains held) (sym (one_entry e some.1 some.3)) (contains_at held some.0 some.1 some.2)
 
 -- a slot that isn't lacking has what was put into it
-slot_gets : (frames : List (List ℕ)) (frame slot word : ℕ) → All (λ (f : List ℕ). length f ≡ 16) frames → lacks_slot frames frame slot ≡ false → slot_word (with_slot frames frame slot word) frame slot ≡ word
-slot_gets frames frame slot word whole good =
-    let both = and_parts (nat_lt frame (length frames)) (nat_lt slot 16) (not-false (nat_lt frame (length frames) && nat_lt slot 16) good) in
-    let in_frames = ltb-true frame (length frames) both.0 in
-    let below = ltb-true slot 16 both.1 in
-    let old = get_or frames frame [] in
-    let size : length old ≡ 16 = whole frame [] in_frames in
-    ap (λ f. get_or f slot 0) (get_or-set_same frames frame (set old slot word) [] in_frames) ∙ get_or-set_same old slot word 0 (omega (arith, below, size))
+slot_gets : (frames : List (List ℕ)) (slot : Slot) (word : ℕ) → All (λ (f : List ℕ). length f ≡ 16) frames → lacks_slot frames slot ≡ false → slot_word (with_slot frames slot word) slot ≡ word
+slot_gets frames slot word whole good =
+    let both = and_parts (nat_lt slot.frame (length frames)) (nat_lt slot.slot 16) (not-false (nat_lt slot.frame (length frames) && nat_lt slot.slot 16) good) in
+    let in_frames = ltb-true slot.frame (length frames) both.0 in
+    let below = ltb-true slot.slot 16 both.1 in
+    let old = get_or frames slot.frame [] in
+    let size : length old ≡ 16 = whole slot.frame [] in_frames in
+    ap (λ f. get_or f slot.slot 0) (get_or-set_same frames slot.frame (set old slot.slot word) [] in_frames) ∙ get_or-set_same old slot.slot word 0 (omega (arith, below, size))
 
 pub hold_gives_the_object : (s : State) → IsReached s → HoldGivesTheObject s
-hold_gives_the_object s r frame slot e answer new step =
-    let none = none_stands (causes s.core (Hold frame slot e)) step.0 in
+hold_gives_the_object s r slot e answer new step =
+    let none = none_stands (causes s.core (Hold slot e)) step.0 in
     let held = held_one s.held e (not-false _ none.1.0) in
     let stands = (reached_sound s r).held_object e held in (
       held,
-      ap (λ (c : Core). slot_word c.frames frame slot) step.1 ∙ slot_gets s.frames frame slot e.obj (reached_standing s r).whole none.0,
+      ap (λ (c : Core). slot_word c.frames slot) step.1 ∙ slot_gets s.frames slot e.obj (reached_standing s r).whole none.0,
       (stands.0, ap (λ (c : Core). get c.objects e.obj) step.1 ∙ stands.1, stands.2),
     )

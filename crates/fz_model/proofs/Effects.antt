@@ -1,8 +1,9 @@
 -- What an accepted call leaves, in classes: each call names its class once, and what all calls keep is proved of each class.
-use Rattle.std.proofs.Common.{◌≡◌, ℕ, ◌+◌, ◌≤◌, ◌<◌, Bool, true, false, not, if◌then◌else◌, [], ◌∷◌, ◌++◌, length, replicate, filter, Some, None, Result, Ok, Err, refl, sym, subst, arith, IsTrue, nat_le, true≢false}
+use Rattle.std.proofs.Common.{◌≡◌, ℕ, ◌+◌, ◌≤◌, ◌<◌, unwrap_or, Bool, true, false, not, if◌then◌else◌, [], ◌∷◌, ◌++◌, length, replicate, filter, Some, None, Result, Ok, Err, refl, sym, subst, arith, IsTrue, nat_le, true≢false}
 use Rattle.std.proofs.lemmas.Bool.{not-false, leb-true, and_parts}
 use Rattle.std.proofs.lemmas.List.{length-replicate}
 use Rattle.std.specs.FinMap.{get, insert, remove}
+use Rattle.fz_model.specs.declared.places.Slot.{Slot}
 use Rattle.fz_model.specs.declared.kinds.ObjKind.{ObjKind}
 use Rattle.fz_model.specs.declared.kinds.LinkKind.{LinkKind}
 use Rattle.fz_model.specs.declared.kinds.LinkKind.TheVariants.{Short, Long}
@@ -11,12 +12,13 @@ use Rattle.fz_model.specs.declared.answers.Passed.{Passed}
 use Rattle.fz_model.specs.declared.answers.Registration.{Registration}
 use Rattle.fz_model.specs.declared.refusal.Refusal.{Refusal}
 use Rattle.fz_model.specs.State.{Map, Core, State, opening}
-use Rattle.fz_model.specs.Memory.{new_object, written, slot_word, with_slot}
+use Rattle.fz_model.specs.Memory.{new_object, written, slot_word, with_slot, address_of}
 use Rattle.fz_model.specs.Reachability.{IsReachable}
 use Rattle.fz_model.specs.Allocation.{place_for}
 use Rattle.fz_model.specs.Pass.{Passes}
 use Rattle.fz_model.specs.Causes.{Causes, first_cause, slot_causes, place_causes, start_causes, register_causes, alloc_causes, bad_size, full, is_off_heap}
-use Rattle.fz_model.specs.Events.{Event, Alloc, Load, Store, Set, Copy, Register, Unregister, Link, Unlink, MoveLink, Begin, Mark, Pause, Collect, Hold, Finish, Close, Outstanding, Queue, Answer, same_entry, links_of, causes}
+use Rattle.fz_model.specs.declared.call.Call.TheVariants.{Alloc, Load, Store, Set, Copy, Register, Unregister, Link, Unlink, Move, Begin, Mark, Pause, Collect, Close, Outstanding}
+use Rattle.fz_model.specs.Events.{Event, Make, Hold, Finish, Queue, Answer, same_entry, links_of, causes}
 use Rattle.fz_model.specs.Steps.{Accepts, Step, StepsTo, NoStep, OneMore, any_call, IsReached, with_links, moved_to}
 use Rattle.fz_model.specs.Joint.{is_finish}
 use Rattle.fz_model.specs.Headline.{is_pass}
@@ -47,8 +49,8 @@ some_words size good =
 -- ---- the classes
 
 abbrev pub writes : Event → Bool
-writes (Alloc _ _ _ _) = true
-writes (Store _ _ _ _ _) = true
+writes (Make (Alloc _ _ _)) = true
+writes (Make (Store _ _)) = true
 writes _ = false
 
 -- a pass whose set has all that is reachable
@@ -67,8 +69,8 @@ pub data Relinks (c : Core) (e : Event) (old : Map ℕ) : Map ℕ → Type 0 whe
 -- what the call leaves of the core
 pub data Effect (c : Core) (e : Event) : Core → Type 0 where
   Nothing : Effect c e c
-  Slot : (frame slot word : ℕ) → Effect c e (record c { frames = with_slot c.frames frame slot word })
-  Made : (frame slot size a : ℕ) (kind : ObjKind) → IsTrue (writes e) → (IsAllowed c e → NoneStands (alloc_causes c.objects c.blocks c.next_birth size kind)) → place_for c.objects c.blocks size kind ≡ Some a → Effect c e (record c { objects = insert c.objects a (new_object kind c.next_birth size); next_birth = c.next_birth + 1; frames = with_slot c.frames frame slot a })
+  Put : (slot : Slot) (word : ℕ) → Effect c e (record c { frames = with_slot c.frames slot word })
+  Made : (slot : Slot) (size a : ℕ) (kind : ObjKind) → IsTrue (writes e) → (IsAllowed c e → NoneStands (alloc_causes c.objects c.blocks c.next_birth size kind)) → place_for c.objects c.blocks size kind ≡ Some a → Effect c e (record c { objects = insert c.objects a (new_object kind c.next_birth size); next_birth = c.next_birth + 1; frames = with_slot c.frames slot a })
   Wrote : (place word : ℕ) → IsTrue (writes e) → Effect c e (record c { objects = written place word c.objects })
   Entered : (word : ℕ) (r : Registration) → r.number ≡ c.next_number → (IsAllowed c e → NoneStands (start_causes c.objects word ++ register_causes c.registrations c.next_number word)) → Effect c e (record c { registrations = insert c.registrations word r; next_number = c.next_number + 1 })
   Dropped : (word : ℕ) → Effect c e (record c { registrations = remove c.registrations word })
@@ -97,37 +99,35 @@ relinked Short is r = becomes is (Shorts r)
 relinked Long is r = becomes is (Longs r)
 
 pub accepted_pass : (s : State) (e : Event) (answer : Answer e) (new : Core) → IsTrue (is_pass e) → Accepts s e answer new → PassOf s.core new
-accepted_pass s Pause answer new here a = record { found = a.0; passed = answer; reachable = a.1.reachable; passes = a.2 }
-accepted_pass s Collect answer new here a = record { found = a.0; passed = answer; reachable = λ x r. (a.1 x).1 r; passes = a.2 }
+accepted_pass s (Make Pause) answer new here a = record { found = a.0; passed = answer; reachable = a.1.reachable; passes = a.2 }
+accepted_pass s (Make Collect) answer new here a = record { found = a.0; passed = answer; reachable = λ x r. (a.1 x).1 r; passes = a.2 }
 accepted_pass s e answer new here a = absurd (true≢false (sym here))
 
 pub effect : (s : State) (e : Event) (answer : Answer e) (new : Core) → Accepts s e answer new → Effect s.core e new
-effect s (Alloc frame slot size kind) answer new a = becomes a.3 (Made frame slot size a.0 kind refl (λ none. (none_stands (causes s.core (Alloc frame slot size kind)) none).1) a.1)
-effect s (Load frame slot offset to_frame to_slot) answer new a = becomes a.1 (Slot to_frame to_slot answer)
-effect s (Store frame slot offset from_frame from_slot) answer new a = becomes a (Wrote (slot_word s.frames frame slot + offset) (slot_word s.frames from_frame from_slot) refl)
-effect s (Set frame slot word) answer new a = becomes a (Slot frame slot word)
-effect s (Copy frame slot to_frame to_slot) answer new a = becomes a (Slot to_frame to_slot (slot_word s.frames frame slot))
-effect s (Register frame slot kind proc cd rank) answer new a =
-    let w = slot_word s.frames frame slot in
-    let all = λ (b : Bool). slot_causes s.frames frame slot ++ (if b then [] else (start_causes s.objects w ++ register_causes s.registrations s.next_number w)) in
-    entered s.core new (Register frame slot kind proc cd rank) (is_off_heap s.blocks w) w (record { number = s.next_number; kind = kind; proc = proc; cd = cd; rank = rank }) refl a.1
+effect s (Make (Alloc slot size kind)) answer new a = becomes a.3 (Made slot size a.0 kind refl (λ none. (none_stands (causes s.core (Make (Alloc slot size kind))) none).1) a.1)
+effect s (Make (Copy slot to)) answer new a = becomes a (Put to (slot_word s.frames slot))
+effect s (Make (Load place to)) answer new a = becomes a.1 (Put to answer)
+effect s (Make (Store place from)) answer new a = becomes a (Wrote (address_of s.frames place) (slot_word s.frames from) refl)
+effect s (Make (Set slot word)) answer new a = becomes a (Put slot word)
+effect s (Make (Register slot kind procedure client_data rank)) answer new a =
+    let w = slot_word s.frames slot in
+    let all = λ (b : Bool). slot_causes s.frames slot ++ (if b then [] else (start_causes s.objects w ++ register_causes s.registrations s.next_number w)) in
+    entered s.core new (Make (Register slot kind procedure client_data rank)) (is_off_heap s.blocks w) w (record { number = s.next_number; kind = kind; proc = procedure; cd = client_data; rank = unwrap_or rank 0 }) refl a.1
     (λ within none. (none_stands (all false) (subst (λ b. first_cause (all b) ≡ None) within none)).1)
-effect s (Unregister frame slot) answer new a = let w = slot_word s.frames frame slot in dropped s.core new (Unregister frame slot) (is_off_heap s.blocks w) w a.1
-effect s (Link which frame slot offset to_frame to_slot) answer new a =
-    relinked which a.1 (More (slot_word s.frames frame slot) offset (slot_word s.frames to_frame to_slot) (λ none. (none_stands (causes s.core (Link which frame slot offset to_frame to_slot)) none).1.1))
-effect s (Unlink which frame slot offset) answer new a = relinked which a.1 (Fewer (slot_word s.frames frame slot + offset))
-effect s (MoveLink which frame slot offset to_frame to_slot to_offset) answer new a =
-    relinked which a.1
-    (Moved (slot_word s.frames frame slot + offset) (slot_word s.frames to_frame to_slot) to_offset
-    (λ none. (none_stands (causes s.core (MoveLink which frame slot offset to_frame to_slot to_offset)) none).1.1.1.1))
-effect s Begin answer new a = becomes a (Began (λ none. (none_stands (causes s.core Begin) none).0))
-effect s (Mark budget) answer new a = becomes a.1 Nothing
-effect s Pause answer new a = Ended refl (accepted_pass s Pause answer new refl a)
-effect s Collect answer new a = Ended refl (accepted_pass s Collect answer new refl a)
-effect s (Hold frame slot entry) answer new a = becomes a (Slot frame slot entry.obj)
+effect s (Make (Unregister slot)) answer new a = let w = slot_word s.frames slot in dropped s.core new (Make (Unregister slot)) (is_off_heap s.blocks w) w a.1
+effect s (Make (Link which place target)) answer new a =
+    relinked which a.1 (More (slot_word s.frames place.slot) place.offset (slot_word s.frames target) (λ none. (none_stands (causes s.core (Make (Link which place target))) none).1.1))
+effect s (Make (Unlink which place)) answer new a = relinked which a.1 (Fewer (address_of s.frames place))
+effect s (Make (Move which place to)) answer new a =
+    relinked which a.1 (Moved (address_of s.frames place) (slot_word s.frames to.slot) to.offset (λ none. (none_stands (causes s.core (Make (Move which place to))) none).1.1.1.1))
+effect s (Make Begin) answer new a = becomes a (Began (λ none. (none_stands (causes s.core (Make Begin)) none).0))
+effect s (Make (Mark budget)) answer new a = becomes a.1 Nothing
+effect s (Make Pause) answer new a = Ended refl (accepted_pass s (Make Pause) answer new refl a)
+effect s (Make Collect) answer new a = Ended refl (accepted_pass s (Make Collect) answer new refl a)
+effect s (Make Close) answer new a = becomes a Shut
+effect s (Make Outstanding) answer new a = becomes a.1 Nothing
+effect s (Hold slot entry) answer new a = becomes a (Put slot entry.obj)
 effect s (Finish entry) answer new a = becomes a (Finished (λ h. not (same_entry entry h)) refl)
-effect s Close answer new a = becomes a Shut
-effect s Outstanding answer new a = becomes a.1 Nothing
 effect s Queue answer new a = becomes a.1 Nothing
 
 -- ---- what each class keeps, each step keeps

@@ -14,7 +14,10 @@ use Rattle.fz_model.specs.Reachability.{Child, OneMore, IsReachable}
 use Rattle.fz_model.specs.Allocation.{place_for}
 use Rattle.fz_model.specs.Pass.{IsFinding, remaining_objects, links_within, without_picks, entries_of, Decision, Passes}
 use Rattle.fz_model.specs.Causes.{first_cause}
-use Rattle.fz_model.specs.Events.{Event, Alloc, Load, Register, Unregister, Link, Unlink, MoveLink, Mark, Pause, Collect, Hold, Finish, Outstanding, Queue, Answer, causes}
+use Rattle.fz_model.specs.declared.call.Call.TheVariants.{Alloc, Load, Register, Unregister, Link, Unlink, Mark, Pause, Collect, Outstanding}
+use Rattle.fz_model.specs.declared.places.Slot.{Slot}
+use Rattle.fz_model.specs.declared.call.Call.TheVariants as calls
+use Rattle.fz_model.specs.Events.{Event, Make, Hold, Finish, Queue, Answer, causes}
 use Rattle.fz_model.specs.Steps.{Accepts, Step, StepsTo, IsReached, moments_after}
 use Rattle.fz_model.specs.Joint.{Joint, JointEvent, Call, Take, HoldOwn, FinishOwn, Forfeit, JointAnswer, worker_at, taken_by, no_worker, own_causes, Acts, JointStep, Move, MovesTo, IsRun, joint_opening}
 use Rattle.fz_model.specs.CallLaws.{EachCallHasStep, EachJointEventHasStep, is_free_finish}
@@ -62,31 +65,31 @@ finds s head = record {
 abbrev CanAccept : State → Event → Type 0
 CanAccept s e = (answer : Answer e) × (new : Core) × Accepts s e answer new
 
-place_there : (s : State) (frame slot size : ℕ) (kind : ObjKind) → first_cause (causes s.core (Alloc frame slot size kind)) ≡ None → (a : ℕ) × (place_for s.objects s.blocks size kind ≡ Some a)
-place_there s frame slot size kind none = is_some_of (place_for s.objects s.blocks size kind) (none_stands (causes s.core (Alloc frame slot size kind)) none).1.1.1.0
+place_there : (s : State) (slot : Slot) (size : ℕ) (kind : ObjKind) → first_cause (causes s.core (Make (Alloc slot size kind))) ≡ None → (a : ℕ) × (place_for s.objects s.blocks size kind ≡ Some a)
+place_there s slot size kind none = is_some_of (place_for s.objects s.blocks size kind) (none_stands (causes s.core (Make (Alloc slot size kind))) none).1.1.1.0
 
 can_accept : (s : State) → IsReached s → (e : Event) → first_cause (causes s.core e) ≡ None → CanAccept s e
-can_accept s r (Alloc frame slot size kind) none = let at = place_there s frame slot size kind none in ((at.0, s.next_birth), _, (at.0, at.1, refl, refl))
-can_accept s r (Load frame slot offset to_frame to_slot) none = (_, _, (refl, refl))
-can_accept s r (Register frame slot kind proc cd rank) none = (_, _, (refl, refl))
-can_accept s r (Unregister frame slot) none = (_, _, (refl, refl))
-can_accept s r (Link which frame slot offset to_frame to_slot) none = (_, _, (refl, refl))
-can_accept s r (Unlink which frame slot offset) none = (_, _, (refl, refl))
-can_accept s r (MoveLink which frame slot offset to_frame to_slot to_offset) none = (_, _, (refl, refl))
-can_accept s r (Mark budget) none = (Done, s.core, (λ more. absurd (true≢false (sym (ap is_more more))), refl))
+can_accept s r (Make (Alloc slot size kind)) none = let at = place_there s slot size kind none in ((at.0, s.next_birth), _, (at.0, at.1, refl, refl))
+can_accept s r (Make (Load place to)) none = (_, _, (refl, refl))
+can_accept s r (Make (Register slot kind procedure client_data rank)) none = (_, _, (refl, refl))
+can_accept s r (Make (Unregister slot)) none = (_, _, (refl, refl))
+can_accept s r (Make (Link which place target)) none = (_, _, (refl, refl))
+can_accept s r (Make (Unlink which place)) none = (_, _, (refl, refl))
+can_accept s r (Make (calls.Move which place to)) none = (_, _, (refl, refl))
+can_accept s r (Make (Mark budget)) none = (Done, s.core, (λ more. absurd (true≢false (sym (ap is_more more))), refl))
   where
     is_more : Progress → Bool
     is_more More = true
     is_more Done = false
-can_accept s r Pause none =
+can_accept s r (Make Pause) none =
     let on = not-false s.cycle (first_none (not s.cycle, NoCycle) [] none).0 in
     let f = finds s (newest (opening r.0 r.1) s refl r.2 on) in
     let p = passing s.core (reachable s.core) (decides s.core (reachable s.core) (reached_standing s r) (reachable_closed s.core)) in
     (p.0, p.1, (reachable s.core, f, p.2))
-can_accept s r Collect none =
+can_accept s r (Make Collect) none =
     let p = passing s.core (reachable s.core) (decides s.core (reachable s.core) (reached_standing s r) (reachable_closed s.core)) in
     (p.0, p.1, (reachable s.core, reachable_is s.core, p.2))
-can_accept s r Outstanding none = (_, _, (refl, refl))
+can_accept s r (Make Outstanding) none = (_, _, (refl, refl))
 can_accept s r Queue none = (_, _, (refl, refl))
 can_accept s r e none = (tt, _, refl)
 
@@ -114,9 +117,9 @@ in_hand j w none =
 acts : (j : Joint) → EachCallHasStep j.state → (e : JointEvent) → IsFalse (is_free_finish e) → first_cause (own_causes j e) ≡ None → (reply : Result (JointAnswer e) Refusal) × (new : Joint) × Acts j e reply new
 acts j h (Call e) not_finish none = let s = any_step j.state h e in (s.0, record j { state = s.1 }, (not_finish, s.2, refl))
 acts j h (Take w) other none = (Ok (slice_get j.state.queue j.taken), taken_by j w (slice_get j.state.queue j.taken), (refl, refl))
-acts j h (HoldOwn w frame slot) other none =
+acts j h (HoldOwn w slot) other none =
     let e = in_hand j w none in
-    let s = any_step j.state h (Hold frame slot e.0) in
+    let s = any_step j.state h (Hold slot e.0) in
     (s.0, record j { state = s.1 }, (e.0, e.1, s.2, refl))
 acts j h (FinishOwn w) other none = let e = in_hand j w none in finish e.0 e.1 (any_step j.state h (Finish e.0))
   where
@@ -146,7 +149,7 @@ acts_reached j (Take w) reply new r a = subst (λ (x : Joint). IsReached x.state
     takes : (o : Option Entry) → IsReached (taken_by j w o).state
     takes None = r
     takes (Some e) = r
-acts_reached j (HoldOwn w frame slot) reply new r a = one_more j.state (Hold frame slot a.0) reply new.state r a.2
+acts_reached j (HoldOwn w slot) reply new r a = one_more j.state (Hold slot a.0) reply new.state r a.2
 acts_reached j (FinishOwn w) (Ok answer) new r a = one_more j.state (Finish a.0) (Ok answer) new.state r a.2
 acts_reached j (FinishOwn w) (Err refusal) new r a = one_more j.state (Finish a.0) (Err refusal) new.state r a.2
 acts_reached j (Forfeit w) (Ok answer) new r a = subst (λ (x : Joint). IsReached x.state) (sym a.2) r

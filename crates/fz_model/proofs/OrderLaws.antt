@@ -5,6 +5,10 @@ use Rattle.std.proofs.lemmas.Option.{same_Some, none-some}
 use Rattle.std.specs.Option.{option_map_or}
 use Rattle.std.specs.FinMap.{get}
 use Rattle.fz_model.specs.declared.extent.Extent.{Extent}
+use Rattle.fz_model.specs.declared.call.Call.{Call}
+use Rattle.fz_model.specs.declared.call.Call.TheVariants.{Alloc, Load, Store, Set, Copy, Register, Unregister, Link, Unlink, Move, Begin, Mark, Collect}
+use Rattle.fz_model.specs.declared.places.Slot.{Slot}
+use Rattle.fz_model.specs.declared.places.Place.{Place}
 use Rattle.fz_model.specs.declared.kinds.ObjKind.{ObjKind}
 use Rattle.fz_model.specs.declared.kinds.RegKind.{RegKind}
 use Rattle.fz_model.specs.declared.refusal.Refusal.{Refusal}
@@ -12,10 +16,10 @@ use Rattle.fz_model.specs.declared.refusal.Refusal.TheVariants.{BadSlot, NotPoin
 use Rattle.fz_model.specs.declared.limits.TheConstants.{MAX_OBJECT_WORDS, COUNT_LIMIT, HEAP_START}
 use Rattle.fz_model.specs.State.{Map, Object, State}
 use Rattle.fz_model.specs.Extents.{covers, extents, extent_of, heap_end}
-use Rattle.fz_model.specs.Memory.{points, slot_word, lacks_slot}
+use Rattle.fz_model.specs.Memory.{points, slot_word, lacks_slot, address_of}
 use Rattle.fz_model.specs.Causes.{Causes, first_cause, slot_causes, no_object, other_extent, no_start, start_causes, register_causes, exhausted, bad_size, no_space, is_off_heap}
-use Rattle.fz_model.specs.Events.{Event, Alloc, Load, Store, Set, Copy, Register, Unregister, Link, Unlink, MoveLink, Begin, Mark, Collect, Hold, causes}
-use Rattle.fz_model.specs.OrderLaws.{AlwaysRefuses, HasSlot, LacksSlot, PointsNowhere, EndsBefore, HasPlace, SlotsComeFirst, PlacesComeFirst, SizesComeFirst, ObjectsComeFirst, CyclesComeFirst, FirstIsTold, AlwaysRefusesEvent, WorkersComeFirst}
+use Rattle.fz_model.specs.Events.{Event, Make, Hold, causes}
+use Rattle.fz_model.specs.OrderLaws.{AlwaysRefuses, AlwaysRefusesCall, HasSlot, LacksSlot, PointsNowhere, EndsBefore, HasPlace, SlotsComeFirst, PlacesComeFirst, SizesComeFirst, ObjectsComeFirst, CyclesComeFirst, FirstIsTold, AlwaysRefusesEvent, WorkersComeFirst}
 use Rattle.fz_model.specs.Joint.{Joint, JointEvent, Take, HoldOwn, FinishOwn, Forfeit, no_worker, own_causes, Acts}
 use Rattle.fz_model.proofs.Maps.{get-extents}
 use Rattle.fz_model.proofs.Objects.{from_covers, to_covers}
@@ -28,6 +32,9 @@ told s e r first (Ok answer) new step = absurd (none-some r (sym step.0 ∙ firs
 told s e r first (Err q) new step =
     ⊎_elim (λ same. ap (λ x. Err x) (same_Some q r (sym same ∙ first))) (λ none. absurd (none-some r (sym none.0 ∙ first))) step.0
 
+told_call : (s : State) (call : Call) (r : Refusal) → first_cause (causes s.core (Make call)) ≡ Some r → AlwaysRefusesCall s call r
+told_call s call r first = told s (Make call) r first
+
 stands : (cause : Bool × Refusal) (later : Option Refusal) → cause.0 ≡ true → (if cause.0 then Some cause.1 else later) ≡ Some cause.1
 stands cause later on = ap (λ b. if b then Some cause.1 else later) on
 
@@ -36,51 +43,54 @@ passes cause later off = ap (λ b. if b then Some cause.1 else later) off
 
 -- ---- slots
 
-lacking : (frames : List (List ℕ)) (frame slot : ℕ) → ((frame < length frames) × (slot < 16) → ⊥) → lacks_slot frames frame slot ≡ true
-lacking frames frame slot none = at (nat_lt frame (length frames) && nat_lt slot 16) refl
+lacking : (frames : List (List ℕ)) (slot : Slot) → ((slot.frame < length frames) × (slot.slot < 16) → ⊥) → lacks_slot frames slot ≡ true
+lacking frames slot none = at (nat_lt slot.frame (length frames) && nat_lt slot.slot 16) refl
   where
-    at : (b : Bool) → (nat_lt frame (length frames) && nat_lt slot 16) ≡ b → not b ≡ true
+    at : (b : Bool) → (nat_lt slot.frame (length frames) && nat_lt slot.slot 16) ≡ b → not b ≡ true
     at true is =
-        let both = and_parts (nat_lt frame (length frames)) (nat_lt slot 16) is in
-        absurd (none (ltb-true frame (length frames) both.0, ltb-true slot 16 both.1))
+        let both = and_parts (nat_lt slot.frame (length frames)) (nat_lt slot.slot 16) is in
+        absurd (none (ltb-true slot.frame (length frames) both.0, ltb-true slot.slot 16 both.1))
     at false is = refl
 
-having : (frames : List (List ℕ)) (frame slot : ℕ) → (frame < length frames) × (slot < 16) → lacks_slot frames frame slot ≡ false
-having frames frame slot has = ap not (and_from _ _ (lt-ltb frame (length frames) has.0) (lt-ltb slot 16 has.1))
+having : (frames : List (List ℕ)) (slot : Slot) → (slot.frame < length frames) × (slot.slot < 16) → lacks_slot frames slot ≡ false
+having frames slot has = ap not (and_from _ _ (lt-ltb slot.frame (length frames) has.0) (lt-ltb slot.slot 16 has.1))
 
 -- whether the first slot is missing too or not
 second_lacks : (first second : Bool) (later : Option Refusal) → second ≡ true → (if first then Some BadSlot else (if second then Some BadSlot else later)) ≡ Some BadSlot
 second_lacks true second later on = refl
 second_lacks false second later on = stands (second, BadSlot) later on
 
-slots_come_first : (s : State) (frame slot : ℕ) (lacks : LacksSlot s frame slot) → SlotsComeFirst s frame slot lacks
-slots_come_first s frame slot lacks = record {
-  alloc = λ size kind. told s (Alloc frame slot size kind) BadSlot (first _);
-  load = λ offset to_frame to_slot. told s (Load frame slot offset to_frame to_slot) BadSlot (first _);
-  load_to = λ first_frame first_slot offset. told s (Load first_frame first_slot offset frame slot) BadSlot (second first_frame first_slot _);
-  store = λ offset from_frame from_slot. told s (Store frame slot offset from_frame from_slot) BadSlot (first _);
-  store_from = λ first_frame first_slot offset. told s (Store first_frame first_slot offset frame slot) BadSlot (second first_frame first_slot _);
-  set = λ word. told s (Set frame slot word) BadSlot (first _);
-  copy = λ to_frame to_slot. told s (Copy frame slot to_frame to_slot) BadSlot (first _);
-  copy_to = λ first_frame first_slot. told s (Copy first_frame first_slot frame slot) BadSlot (second first_frame first_slot _);
-  register = λ kind proc cd rank. told s (Register frame slot kind proc cd rank) BadSlot (first _);
-  unregister = told s (Unregister frame slot) BadSlot (first _);
-  link = λ which offset to_frame to_slot. told s (Link which frame slot offset to_frame to_slot) BadSlot (first _);
-  link_to = λ which first_frame first_slot offset. told s (Link which first_frame first_slot offset frame slot) BadSlot (second first_frame first_slot _);
-  unlink = λ which offset. told s (Unlink which frame slot offset) BadSlot (first _);
-  move = λ which offset to_frame to_slot to_offset. told s (MoveLink which frame slot offset to_frame to_slot to_offset) BadSlot (first _);
-  move_to = λ which first_frame first_slot offset to_offset. told s (MoveLink which first_frame first_slot offset frame slot to_offset) BadSlot (second first_frame first_slot _);
-  hold = λ entry. told s (Hold frame slot entry) BadSlot (first _);
+slots_come_first : (s : State) (slot : Slot) (lacks : LacksSlot s slot) → SlotsComeFirst s slot lacks
+slots_come_first s slot lacks = record {
+  alloc = λ size kind. told_call s (Alloc slot size kind) BadSlot (first _);
+  load = λ offset to. told_call s (Load (at offset) to) BadSlot (first _);
+  load_to = λ place. told_call s (Load place slot) BadSlot (second place.slot _);
+  store = λ offset from. told_call s (Store (at offset) from) BadSlot (first _);
+  store_from = λ place. told_call s (Store place slot) BadSlot (second place.slot _);
+  set = λ word. told_call s (Set slot word) BadSlot (first _);
+  copy = λ to. told_call s (Copy slot to) BadSlot (first _);
+  copy_to = λ from. told_call s (Copy from slot) BadSlot (second from _);
+  register = λ kind procedure client_data rank. told_call s (Register slot kind procedure client_data rank) BadSlot (first _);
+  unregister = told_call s (Unregister slot) BadSlot (first _);
+  link = λ which offset target. told_call s (Link which (at offset) target) BadSlot (first _);
+  link_to = λ which place. told_call s (Link which place slot) BadSlot (second place.slot _);
+  unlink = λ which offset. told_call s (Unlink which (at offset)) BadSlot (first _);
+  move = λ which offset to. told_call s (Move which (at offset) to) BadSlot (first _);
+  move_to = λ which place offset. told_call s (Move which place (at offset)) BadSlot (second place.slot _);
+  hold = λ entry. told s (Hold slot entry) BadSlot (first _);
 }
   where
-    lacks_it : lacks_slot s.frames frame slot ≡ true
-    lacks_it = lacking s.frames frame slot lacks
+    at : ℕ → Place
+    at offset = record { slot = slot; offset = offset }
 
-    first : (later : Option Refusal) → (if lacks_slot s.frames frame slot then Some BadSlot else later) ≡ Some BadSlot
-    first later = stands (lacks_slot s.frames frame slot, BadSlot) later lacks_it
+    lacks_it : lacks_slot s.frames slot ≡ true
+    lacks_it = lacking s.frames slot lacks
 
-    second : (first_frame first_slot : ℕ) (later : Option Refusal) → (if lacks_slot s.frames first_frame first_slot then Some BadSlot else (if lacks_slot s.frames frame slot then Some BadSlot else later)) ≡ Some BadSlot
-    second first_frame first_slot later = second_lacks (lacks_slot s.frames first_frame first_slot) (lacks_slot s.frames frame slot) later lacks_it
+    first : (later : Option Refusal) → (if lacks_slot s.frames slot then Some BadSlot else later) ≡ Some BadSlot
+    first later = stands (lacks_slot s.frames slot, BadSlot) later lacks_it
+
+    second : (before : Slot) (later : Option Refusal) → (if lacks_slot s.frames before then Some BadSlot else (if lacks_slot s.frames slot then Some BadSlot else later)) ≡ Some BadSlot
+    second before later = second_lacks (lacks_slot s.frames before) (lacks_slot s.frames slot) later lacks_it
 
 -- ---- places
 
@@ -118,45 +128,45 @@ module _ (objects : Map Object) (word offset : ℕ) (later : Option Refusal) (st
       passes (no_object objects word) _ (ap is_none points_there)
       ∙ passes (other_extent (extents objects) word (word + offset)) later (is_outside ∙ ap not (to_covers start (word + offset) (extent_of o) (omega (arith, low)) within))
 
-places_come_first : (s : State) (frame slot to_frame to_slot : ℕ) (here : HasSlot s frame slot) (there : HasSlot s to_frame to_slot) → PlacesComeFirst s frame slot to_frame to_slot here there
-places_come_first s frame slot to_frame to_slot here there = record {
-  load_nowhere = λ offset none. told s (Load frame slot offset to_frame to_slot) NotPointer (both _ ∙ no_place offset none _);
-  load_outside = λ offset ends. told s (Load frame slot offset to_frame to_slot) OutsideObject (both _ ∙ past offset ends _);
-  store_nowhere = λ offset none. told s (Store frame slot offset to_frame to_slot) NotPointer (both _ ∙ no_place offset none _);
-  store_outside = λ offset ends. told s (Store frame slot offset to_frame to_slot) OutsideObject (both _ ∙ past offset ends _);
-  unlink_nowhere = λ which offset none. told s (Unlink which frame slot offset) NotPointer (one _ ∙ no_place offset none _);
-  unlink_outside = λ which offset ends. told s (Unlink which frame slot offset) OutsideObject (one _ ∙ past offset ends _);
-  link_nowhere = λ which offset none. told s (Link which frame slot offset to_frame to_slot) NotPointer (both _ ∙ no_place offset none _);
-  link_outside = λ which offset ends. told s (Link which frame slot offset to_frame to_slot) OutsideObject (both _ ∙ past offset ends _);
-  link_to_nowhere = λ which offset has none. told s (Link which frame slot offset to_frame to_slot) NotPointer (both _ ∙ there_is offset has _ ∙ nowhere s.objects target _ none);
-  link_to_inside = λ which offset has within. told s (Link which frame slot offset to_frame to_slot) NotStart (both _ ∙ there_is offset has _ ∙ inside s.objects target _ within.0 within.1 within.2);
-  move_nowhere = λ which offset to_offset none. told s (MoveLink which frame slot offset to_frame to_slot to_offset) NotPointer (both _ ∙ no_place offset none _);
-  move_outside = λ which offset to_offset ends. told s (MoveLink which frame slot offset to_frame to_slot to_offset) OutsideObject (both _ ∙ past offset ends _);
-  move_to_nowhere = λ which offset to_offset has none. told s (MoveLink which frame slot offset to_frame to_slot to_offset) NotPointer (both _ ∙ there_is offset has _ ∙ nowhere s.objects target _ none);
-  move_to_outside = λ which offset to_offset has ends. told s (MoveLink which frame slot offset to_frame to_slot to_offset) OutsideObject (both _ ∙ there_is offset has _ ∙ outside s.objects target to_offset _ ends.0 ends.1 ends.2 ends.3 ends.4);
+places_come_first : (s : State) (place to : Place) (here : HasSlot s place.slot) (there : HasSlot s to.slot) → PlacesComeFirst s place to here there
+places_come_first s place to here there = record {
+  load_nowhere = λ none. told_call s (Load place to.slot) NotPointer (both _ ∙ no_place none _);
+  load_outside = λ ends. told_call s (Load place to.slot) OutsideObject (both _ ∙ past ends _);
+  store_nowhere = λ none. told_call s (Store place to.slot) NotPointer (both _ ∙ no_place none _);
+  store_outside = λ ends. told_call s (Store place to.slot) OutsideObject (both _ ∙ past ends _);
+  unlink_nowhere = λ which none. told_call s (Unlink which place) NotPointer (one _ ∙ no_place none _);
+  unlink_outside = λ which ends. told_call s (Unlink which place) OutsideObject (one _ ∙ past ends _);
+  link_nowhere = λ which none. told_call s (Link which place to.slot) NotPointer (both _ ∙ no_place none _);
+  link_outside = λ which ends. told_call s (Link which place to.slot) OutsideObject (both _ ∙ past ends _);
+  link_to_nowhere = λ which has none. told_call s (Link which place to.slot) NotPointer (both _ ∙ there_is has _ ∙ nowhere s.objects target _ none);
+  link_to_inside = λ which has within. told_call s (Link which place to.slot) NotStart (both _ ∙ there_is has _ ∙ inside s.objects target _ within.0 within.1 within.2);
+  move_nowhere = λ which none. told_call s (Move which place to) NotPointer (both _ ∙ no_place none _);
+  move_outside = λ which ends. told_call s (Move which place to) OutsideObject (both _ ∙ past ends _);
+  move_to_nowhere = λ which has none. told_call s (Move which place to) NotPointer (both _ ∙ there_is has _ ∙ nowhere s.objects target _ none);
+  move_to_outside = λ which has ends. told_call s (Move which place to) OutsideObject (both _ ∙ there_is has _ ∙ outside s.objects target to.offset _ ends.0 ends.1 ends.2 ends.3 ends.4);
 }
   where
     word : ℕ
-    word = slot_word s.frames frame slot
+    word = slot_word s.frames place.slot
 
     target : ℕ
-    target = slot_word s.frames to_frame to_slot
+    target = slot_word s.frames to.slot
 
     -- slots that are there are passed over
-    one : (later : Option Refusal) → (if lacks_slot s.frames frame slot then Some BadSlot else later) ≡ later
-    one later = passes (lacks_slot s.frames frame slot, BadSlot) later (having s.frames frame slot here)
+    one : (later : Option Refusal) → (if lacks_slot s.frames place.slot then Some BadSlot else later) ≡ later
+    one later = passes (lacks_slot s.frames place.slot, BadSlot) later (having s.frames place.slot here)
 
-    both : (later : Option Refusal) → (if lacks_slot s.frames frame slot then Some BadSlot else (if lacks_slot s.frames to_frame to_slot then Some BadSlot else later)) ≡ later
-    both later = one _ ∙ passes (lacks_slot s.frames to_frame to_slot, BadSlot) later (having s.frames to_frame to_slot there)
+    both : (later : Option Refusal) → (if lacks_slot s.frames place.slot then Some BadSlot else (if lacks_slot s.frames to.slot then Some BadSlot else later)) ≡ later
+    both later = one _ ∙ passes (lacks_slot s.frames to.slot, BadSlot) later (having s.frames to.slot there)
 
-    no_place : (offset : ℕ) → PointsNowhere s frame slot → (later : Option Refusal) → placing s.objects word offset later ≡ Some NotPointer
-    no_place offset none later = nowhere s.objects word _ none
+    no_place : PointsNowhere s place.slot → (later : Option Refusal) → placing s.objects word place.offset later ≡ Some NotPointer
+    no_place none later = nowhere s.objects word _ none
 
-    past : (offset : ℕ) → EndsBefore s frame slot offset → (later : Option Refusal) → placing s.objects word offset later ≡ Some OutsideObject
-    past offset ends later = outside s.objects word offset later ends.0 ends.1 ends.2 ends.3 ends.4
+    past : EndsBefore s place → (later : Option Refusal) → placing s.objects word place.offset later ≡ Some OutsideObject
+    past ends later = outside s.objects word place.offset later ends.0 ends.1 ends.2 ends.3 ends.4
 
-    there_is : (offset : ℕ) → HasPlace s frame slot offset → (later : Option Refusal) → placing s.objects word offset later ≡ later
-    there_is offset has later = placed s.objects word offset later has.0 has.1 has.2 has.3 has.4
+    there_is : HasPlace s place → (later : Option Refusal) → placing s.objects word place.offset later ≡ later
+    there_is has later = placed s.objects word place.offset later has.0 has.1 has.2 has.3 has.4
 
 -- ---- sizes and births
 
@@ -167,31 +177,31 @@ wrong_size size wrong =
 right_size : (size : ℕ) → 1 ≤ size → size ≤ MAX_OBJECT_WORDS → (bad_size size).0 ≡ false
 right_size size low high = ap not (and_from (nat_le 1 size) (nat_le size 1024) (le-leb 1 size low) (le-leb size 1024 high))
 
-sizes_come_first : (s : State) (frame slot size : ℕ) (kind : ObjKind) (here : HasSlot s frame slot) → SizesComeFirst s frame slot size kind here
-sizes_come_first s frame slot size kind here = record {
-  wrong = λ wrong. told s (Alloc frame slot size kind) BadSize (there ∙ stands (bad_size size) _ (wrong_size size wrong));
-  births = λ low high used. told s (Alloc frame slot size kind) Exhausted (there ∙ passes (bad_size size) _ (right_size size low high) ∙ stands (exhausted s.next_birth) _ (le-leb COUNT_LIMIT s.next_birth used));
+sizes_come_first : (s : State) (slot : Slot) (size : ℕ) (kind : ObjKind) (here : HasSlot s slot) → SizesComeFirst s slot size kind here
+sizes_come_first s slot size kind here = record {
+  wrong = λ wrong. told_call s (Alloc slot size kind) BadSize (there ∙ stands (bad_size size) _ (wrong_size size wrong));
+  births = λ low high used. told_call s (Alloc slot size kind) Exhausted (there ∙ passes (bad_size size) _ (right_size size low high) ∙ stands (exhausted s.next_birth) _ (le-leb COUNT_LIMIT s.next_birth used));
 }
   where
-    there : first_cause (causes s.core (Alloc frame slot size kind)) ≡ first_cause (bad_size size ∷ exhausted s.next_birth ∷ no_space (extents s.objects) s.blocks size kind ∷ [])
-    there = passes (lacks_slot s.frames frame slot, BadSlot) _ (having s.frames frame slot here)
+    there : first_cause (causes s.core (Make (Alloc slot size kind))) ≡ first_cause (bad_size size ∷ exhausted s.next_birth ∷ no_space (extents s.objects) s.blocks size kind ∷ [])
+    there = passes (lacks_slot s.frames slot, BadSlot) _ (having s.frames slot here)
 
 -- ---- objects and numbers
 
-objects_come_first : (s : State) (frame slot : ℕ) (kind : RegKind) (proc cd rank : ℕ) (here : HasSlot s frame slot) (low : HEAP_START ≤ slot_word s.frames frame slot) (high : slot_word s.frames frame slot < heap_end s.blocks) → ObjectsComeFirst s frame slot kind proc cd rank here low high
-objects_come_first s frame slot kind proc cd rank here low high = record {
-  nowhere = λ none. told s event NotPointer (there (others ++ more) ∙ nowhere s.objects word _ none);
-  inside = λ within. told s event NotStart (there (others ++ more) ∙ inside s.objects word _ within.0 within.1 within.2);
-  numbers = λ start o points_there here used. told s event Exhausted (there (others ++ more) ∙ passes (no_object s.objects word) _ (ap is_none points_there) ∙ passes (no_start s.objects word) _ (ap is_none here) ∙ stands (exhausted s.next_number) _ (le-leb COUNT_LIMIT s.next_number used));
-  unregister_nowhere = λ none. told s (Unregister frame slot) NotPointer (there others ∙ nowhere s.objects word _ none);
-  unregister_inside = λ within. told s (Unregister frame slot) NotStart (there others ∙ inside s.objects word _ within.0 within.1 within.2);
+objects_come_first : (s : State) (slot : Slot) (kind : RegKind) (procedure client_data : ℕ) (rank : Option ℕ) (here : HasSlot s slot) (low : HEAP_START ≤ slot_word s.frames slot) (high : slot_word s.frames slot < heap_end s.blocks) → ObjectsComeFirst s slot kind procedure client_data rank here low high
+objects_come_first s slot kind procedure client_data rank here low high = record {
+  nowhere = λ none. told_call s call NotPointer (there (others ++ more) ∙ nowhere s.objects word _ none);
+  inside = λ within. told_call s call NotStart (there (others ++ more) ∙ inside s.objects word _ within.0 within.1 within.2);
+  numbers = λ start o points_there here used. told_call s call Exhausted (there (others ++ more) ∙ passes (no_object s.objects word) _ (ap is_none points_there) ∙ passes (no_start s.objects word) _ (ap is_none here) ∙ stands (exhausted s.next_number) _ (le-leb COUNT_LIMIT s.next_number used));
+  unregister_nowhere = λ none. told_call s (Unregister slot) NotPointer (there others ∙ nowhere s.objects word _ none);
+  unregister_inside = λ within. told_call s (Unregister slot) NotStart (there others ∙ inside s.objects word _ within.0 within.1 within.2);
 }
   where
     word : ℕ
-    word = slot_word s.frames frame slot
+    word = slot_word s.frames slot
 
-    event : Event
-    event = Register frame slot kind proc cd rank
+    call : Call
+    call = Register slot kind procedure client_data rank
 
     others : Causes
     others = start_causes s.objects word
@@ -202,18 +212,18 @@ objects_come_first s frame slot kind proc cd rank here low high = record {
     on_heap : is_off_heap s.blocks word ≡ false
     on_heap = ap (λ b. b || nat_le (heap_end s.blocks) word) (le-ltb _ _ low) ∙ lt-leb _ _ high
 
-    there : (all : Causes) → first_cause (slot_causes s.frames frame slot ++ (if is_off_heap s.blocks word then [] else all)) ≡ first_cause all
+    there : (all : Causes) → first_cause (slot_causes s.frames slot ++ (if is_off_heap s.blocks word then [] else all)) ≡ first_cause all
     there all =
-        passes (lacks_slot s.frames frame slot, BadSlot) (first_cause (if is_off_heap s.blocks word then [] else all)) (having s.frames frame slot here)
+        passes (lacks_slot s.frames slot, BadSlot) (first_cause (if is_off_heap s.blocks word then [] else all)) (having s.frames slot here)
         ∙ ap (λ b. first_cause (if b then [] else all)) on_heap
 
 -- ---- cycles
 
 cycles_come_first : (s : State) → CyclesComeFirst s
 cycles_come_first s = record {
-  mark = told s (Mark 0) BadCount refl;
-  begin = λ is_open. told s Begin CycleOpen (stands (s.cycle, CycleOpen) _ is_open);
-  collect = λ is_open. told s Collect CycleOpen (stands (s.cycle, CycleOpen) _ is_open);
+  mark = told_call s (Mark 0) BadCount refl;
+  begin = λ is_open. told_call s Begin CycleOpen (stands (s.cycle, CycleOpen) _ is_open);
+  collect = λ is_open. told_call s Collect CycleOpen (stands (s.cycle, CycleOpen) _ is_open);
 }
 
 pub first_is_told : (s : State) → FirstIsTold s
@@ -233,7 +243,7 @@ event_told j e r first reply new step = (subst (λ o. MatchOption o (Acts j e re
 pub workers_come_first : (j : Joint) (w : ℕ) (missing : length j.workers ≤ w) → WorkersComeFirst j w missing
 workers_come_first j w missing = record {
   take = event_told j (Take w) SeatsMissing (none _);
-  hold = λ frame slot. event_told j (HoldOwn w frame slot) SeatsMissing (none _);
+  hold = λ slot. event_told j (HoldOwn w slot) SeatsMissing (none _);
   finish = event_told j (FinishOwn w) SeatsMissing (none _);
   forfeit = event_told j (Forfeit w) SeatsMissing (none _);
 }

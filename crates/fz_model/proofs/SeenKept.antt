@@ -11,11 +11,14 @@ use Rattle.std.specs.FinMap.{get, insert, entries, entries-insert, get-entries}
 use Rattle.fz_model.specs.State.{Map, Object, Core, State}
 use Rattle.fz_model.specs.declared.extent.Extent.{Extent}
 use Rattle.fz_model.specs.Extents.{covers, points_in, extents, extent_of}
-use Rattle.fz_model.specs.Memory.{written, points, fill, filled, lacks_slot, slot_word, with_slot}
+use Rattle.fz_model.specs.Memory.{written, points, fill, filled, lacks_slot, slot_word, with_slot, address_of}
 use Rattle.fz_model.specs.Reachability.{IsRoot, Itself, Child, OneMore, IsReachable, WasSeen}
 use Rattle.fz_model.specs.Seen.{SeenIsClosed}
 use Rattle.fz_model.specs.declared.kinds.ObjKind.{ObjKind}
-use Rattle.fz_model.specs.Events.{Store, Alloc, Begin}
+use Rattle.fz_model.specs.declared.call.Call.TheVariants.{Store, Alloc, Begin}
+use Rattle.fz_model.specs.declared.places.Slot.{Slot}
+use Rattle.fz_model.specs.declared.places.Place.{Place}
+use Rattle.fz_model.specs.Events.{Make}
 use Rattle.fz_model.specs.Steps.{moments_after, Accepts}
 use Rattle.std.proofs.lemmas.List.Elements.{Contains-get_or}
 use Rattle.fz_model.proofs.Maps.{free_place, extents-filled, extents-insert, get-extents, filled_back, get-insert_other}
@@ -125,36 +128,38 @@ seen_kept s t h moments edges opened = record {
 abbrev pub FramesWhole : Core → Type 0
 FramesWhole c = All (λ (f : List ℕ). length f ≡ 16) c.frames
 
-module _ (c : Core) (frame slot : ℕ) (whole : All (λ (f : List ℕ). length f ≡ 16) c.frames) (good : lacks_slot c.frames frame slot ≡ false) where
-  within : (nat_lt frame (length c.frames) ≡ true) × (nat_lt slot 16 ≡ true)
-  within = and_parts (nat_lt frame (length c.frames)) (nat_lt slot 16) (not-false (nat_lt frame (length c.frames) && nat_lt slot 16) good)
+module _ (c : Core) (slot : Slot) (whole : All (λ (f : List ℕ). length f ≡ 16) c.frames) (good : lacks_slot c.frames slot ≡ false) where
+  within : (nat_lt slot.frame (length c.frames) ≡ true) × (nat_lt slot.slot 16 ≡ true)
+  within = and_parts (nat_lt slot.frame (length c.frames)) (nat_lt slot.slot 16) (not-false (nat_lt slot.frame (length c.frames) && nat_lt slot.slot 16) good)
 
-  in_frames : frame < length c.frames
-  in_frames = ltb-true frame (length c.frames) within.0
+  in_frames : slot.frame < length c.frames
+  in_frames = ltb-true slot.frame (length c.frames) within.0
 
-  row_size : length (get_or c.frames frame []) ≡ 16
-  row_size = whole frame [] in_frames
+  row_size : length (get_or c.frames slot.frame []) ≡ 16
+  row_size = whole slot.frame [] in_frames
 
-  in_row : slot < length (get_or c.frames frame [])
-  in_row = let lt = ltb-true slot 16 within.1 in omega (arith, lt, row_size)
+  in_row : slot.slot < length (get_or c.frames slot.frame [])
+  in_row = let lt = ltb-true slot.slot 16 within.1 in omega (arith, lt, row_size)
 
   -- what a slot's word points to is a root
-  slot_root : (b : ℕ) (objects : Map Object) → points objects (slot_word c.frames frame slot) ≡ Some b → IsReachable (record c { objects = objects }) b
+  slot_root : (b : ℕ) (objects : Map Object) → points objects (slot_word c.frames slot) ≡ Some b → IsReachable (record c { objects = objects }) b
   slot_root b objects is =
+      let row = get_or c.frames slot.frame [] in
       record {
         root = b;
-        is_root = IsRoot.Slot (get_or c.frames frame []) (slot_word c.frames frame slot) (Contains-get_or c.frames frame [] in_frames) (Contains-get_or (get_or c.frames frame []) slot 0 in_row) is;
+        is_root = IsRoot.Slot row (slot_word c.frames slot) (Contains-get_or c.frames slot.frame [] in_frames) (Contains-get_or row slot.slot 0 in_row) is;
         leads = Itself;
       }
 
   -- and so is what a word points to that was put into it
-  pub put_root : (a b : ℕ) (new : Core) → new.frames ≡ with_slot c.frames frame slot a → points new.objects a ≡ Some b → IsReachable new b
+  pub put_root : (a b : ℕ) (new : Core) → new.frames ≡ with_slot c.frames slot a → points new.objects a ≡ Some b → IsReachable new b
   put_root a b new frames is =
-      let row = set (get_or c.frames frame []) slot a in
-      let lt = length-set c.frames frame row in
-      let lr = length-set (get_or c.frames frame []) slot a in
-      let in_new : Contains (with_slot c.frames frame slot a) row = (frame, omega (arith, in_frames, lt), get_or-set_same c.frames frame row row in_frames) in
-      let in_new_row : Contains row a = (slot, omega (arith, in_row, lr), get_or-set_same (get_or c.frames frame []) slot a a in_row) in
+      let old = get_or c.frames slot.frame [] in
+      let row = set old slot.slot a in
+      let lt = length-set c.frames slot.frame row in
+      let lr = length-set old slot.slot a in
+      let in_new : Contains (with_slot c.frames slot a) row = (slot.frame, omega (arith, in_frames, lt), get_or-set_same c.frames slot.frame row row in_frames) in
+      let in_new_row : Contains row a = (slot.slot, omega (arith, in_row, lr), get_or-set_same old slot.slot a a in_row) in
       record { root = b; is_root = IsRoot.Slot row a (subst (λ f. Contains f row) (sym frames) in_new) in_new_row is; leads = Itself }
 
 pub same_heap : (s t : State) → SeenIsClosed s → t.objects ≡ s.objects → t.cycle ≡ s.cycle → t.moments ≡ moments_after s t.core → SeenIsClosed t
@@ -168,24 +173,24 @@ ended s t off moments = record {
   closed = λ on. absurd (both_ways t.cycle off on);
 }
 
-pub store_seen : (s t : State) (frame slot offset from_frame from_slot : ℕ) → SeenIsClosed s → FramesWhole s.core → lacks_slot s.frames from_frame from_slot ≡ false → Accepts s (Store frame slot offset from_frame from_slot) tt t.core → t.moments ≡ moments_after s t.core → SeenIsClosed t
+pub store_seen : (s t : State) (place : Place) (from : Slot) → SeenIsClosed s → FramesWhole s.core → lacks_slot s.frames from ≡ false → Accepts s (Make (Store place from)) tt t.core → t.moments ≡ moments_after s t.core → SeenIsClosed t
 unfolding written
-store_seen s t frame slot offset from_frame from_slot h whole good a moments =
-    let word = slot_word s.frames from_frame from_slot in
-    let at = λ (x : ℕ). x == slot_word s.frames frame slot + offset in
+store_seen s t place from h whole good a moments =
+    let word = slot_word s.frames from in
+    let at = λ (x : ℕ). x == address_of s.frames place in
     let after = filled at word s.objects in
     seen_kept s t h moments
     (λ x b c.
     ⊎_elim inl
-    (λ is. inr (inr (subst (λ k. IsReachable k b) (sym a) (slot_root s.core from_frame from_slot whole good b after (points-filled at word s.objects word ∙ is)))))
+    (λ is. inr (inr (subst (λ k. IsReachable k b) (sym a) (slot_root s.core from whole good b after (points-filled at word s.objects word ∙ is)))))
     (Child-filled at word s.objects x b (subst (λ (k : Core). Child k.objects x b) a c)))
     (λ on. inl (sym (ap (λ (k : Core). k.cycle) a) ∙ on))
 
-pub alloc_seen : (s t : State) (frame slot size : ℕ) (kind : ObjKind) (answer : ℕ × ℕ) → SeenIsClosed s → FramesWhole s.core → lacks_slot s.frames frame slot ≡ false → points t.objects answer.0 ≡ Some answer.0 → Accepts s (Alloc frame slot size kind) answer t.core → t.moments ≡ moments_after s t.core → SeenIsClosed t
-alloc_seen s t frame slot size kind answer h whole good start a moments =
+pub alloc_seen : (s t : State) (slot : Slot) (size : ℕ) (kind : ObjKind) (answer : ℕ × ℕ) → SeenIsClosed s → FramesWhole s.core → lacks_slot s.frames slot ≡ false → points t.objects answer.0 ≡ Some answer.0 → Accepts s (Make (Alloc slot size kind)) answer t.core → t.moments ≡ moments_after s t.core → SeenIsClosed t
+alloc_seen s t slot size kind answer h whole good start a moments =
     let new = a.0 in
     let is_new : answer.0 ≡ new = ap (λ (p : ℕ × ℕ). p.0) a.2 in
-    let reached = put_root s.core frame slot whole good new new t.core (ap (λ (k : Core). k.frames) a.3) (subst (λ n. points t.objects n ≡ Some n) is_new start) in
+    let reached = put_root s.core slot whole good new new t.core (ap (λ (k : Core). k.frames) a.3) (subst (λ n. points t.objects n ≡ Some n) is_new start) in
     seen_kept s t h moments
     (λ x b c.
     ⊎_elim inl
@@ -193,6 +198,6 @@ alloc_seen s t frame slot size kind answer h whole good start a moments =
     (Child-insert s.objects new (record { kind = kind; birth = s.next_birth; words = replicate size 0 }) x b (free_place s.objects s.blocks size new kind a.1) (subst (λ (k : Core). Child k.objects x b) a.3 c)))
     (λ on. inl (sym (ap (λ (k : Core). k.cycle) a.3) ∙ on))
 
-pub begin_seen : (s t : State) → SeenIsClosed s → s.cycle ≡ false → Accepts s Begin tt t.core → t.moments ≡ moments_after s t.core → SeenIsClosed t
+pub begin_seen : (s t : State) → SeenIsClosed s → s.cycle ≡ false → Accepts s (Make Begin) tt t.core → t.moments ≡ moments_after s t.core → SeenIsClosed t
 begin_seen s t h off a moments =
     seen_kept s t h moments (λ x b c. inl (subst (λ (k : Core). Child k.objects x b) a c)) (λ _. inr (h.outside off))

@@ -19,6 +19,7 @@ use Rattle.fz_model.specs.Memory.{new_object, points, fill, filled, written, wit
 use Rattle.fz_model.specs.Allocation.{place_in, is_free, cells, has_class, has_run, blocks_for, block_start}
 use Rattle.fz_model.specs.Pass.{is_dead, cleared, links_within, remaining_objects, FoundItself, Passes}
 use Rattle.fz_model.specs.Causes.{other_extent}
+use Rattle.fz_model.specs.declared.places.Slot.{Slot}
 use Rattle.fz_model.specs.Events.{Event}
 use Rattle.fz_model.specs.Steps.{IsReached, moved_to}
 use Rattle.fz_model.specs.CallLaws.{Stands, LinksStand}
@@ -27,7 +28,7 @@ use Rattle.fz_model.proofs.MapEntries.{place_of_key}
 use Rattle.fz_model.proofs.Maps.{get-insert_same, get-insert_other, get-retain, retained_back, filled_here, filled_back, length-fill, get-extents, free_place}
 use Rattle.fz_model.proofs.Objects.{points_target, from_covers}
 use Rattle.fz_model.proofs.Sound.{is_some_of, removed_back}
-use Rattle.fz_model.proofs.Effects.{IsAllowed, Relinks, More, Fewer, Moved, Effect, Made, Wrote, Slot, Shorts, Longs, Ended, reached_keeps}
+use Rattle.fz_model.proofs.Effects.{IsAllowed, Relinks, More, Fewer, Moved, Effect, Made, Wrote, Put, Shorts, Longs, Ended, reached_keeps}
 
 -- ---- what lies where
 
@@ -125,15 +126,16 @@ place_lies objects word offset none = start (points_in (extents objects) word) (
 
 -- ---- frames
 
-pub whole_with : (frames : List (List ℕ)) (frame slot word : ℕ) → All (λ (f : List ℕ). length f ≡ 16) frames → All (λ (f : List ℕ). length f ≡ 16) (with_slot frames frame slot word)
-whole_with frames frame slot word h i d lt =
+pub whole_with : (frames : List (List ℕ)) (slot : Slot) (word : ℕ) → All (λ (f : List ℕ). length f ≡ 16) frames → All (λ (f : List ℕ). length f ≡ 16) (with_slot frames slot word)
+whole_with frames slot word h i d lt =
+    let frame = slot.frame in
     let old = get_or frames frame [] in
-    let row = set old slot word in
+    let row = set old slot.slot word in
     let n = length-set frames frame row in
     ⊎_elim
     (λ (same : i ≡ frame).
     let there : frame < length frames = omega (arith, lt, n, same) in
-    ap (λ j. length (get_or (set frames frame row) j d)) same ∙ ap length (get_or-set_same frames frame row d there) ∙ length-set old slot word ∙ h frame [] there)
+    ap (λ j. length (get_or (set frames frame row) j d)) same ∙ ap length (get_or-set_same frames frame row d there) ∙ length-set old slot.slot word ∙ h frame [] there)
     (λ (ne : i ≢ frame). ap length (get_or-set_other frames frame i row d ne) ∙ h i d (omega (arith, lt, n)))
     (cases_eq i frame)
 
@@ -257,14 +259,14 @@ relinked_lie c e old links allowed h (Moved from word offset none) = link_moved 
 
 effect_standing : (c : Core) (e : Event) (new : Core) → IsAllowed c e → Standing c → Effect c e new → Standing new
 unfolding written
-effect_standing c e new allowed h (Made frame slot size a kind here none place) =
+effect_standing c e new allowed h (Made slot size a kind here none place) =
     let v = new_object kind c.next_birth size in
     let keeps = inserted_keeps c.objects a v (free_place c.objects c.blocks size a kind place) in
     record {
       low = inserted_low c.objects a v (place_low (extents c.objects) c.blocks size a kind place) h.low;
       short = links_kept c.objects _ c.short keeps h.short;
       long = links_kept c.objects _ c.long keeps h.long;
-      whole = whole_with c.frames frame slot a h.whole;
+      whole = whole_with c.frames slot a h.whole;
     }
 effect_standing c e new allowed h (Wrote place word here) =
     let test = λ (x : ℕ). x == place in
@@ -275,7 +277,7 @@ effect_standing c e new allowed h (Wrote place word here) =
       long = links_kept c.objects _ c.long keeps h.long;
       whole = h.whole;
     }
-effect_standing c e new allowed h (Slot frame slot word) = record { low = h.low; short = h.short; long = h.long; whole = whole_with c.frames frame slot word h.whole }
+effect_standing c e new allowed h (Put slot word) = record { low = h.low; short = h.short; long = h.long; whole = whole_with c.frames slot word h.whole }
 effect_standing c e new allowed h (Shorts {links = links} r) = record { low = h.low; short = relinked_lie c e c.short links allowed h.short r; long = h.long; whole = h.whole }
 effect_standing c e new allowed h (Longs {links = links} r) = record { low = h.low; short = h.short; long = relinked_lie c e c.long links allowed h.long r; whole = h.whole }
 effect_standing c e new allowed h (Ended here p) = pass_standing c p.found p.passed new h p.passes

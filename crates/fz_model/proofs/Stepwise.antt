@@ -23,7 +23,7 @@ pass_keeps c found passed new h roots p = subst Sound (sym p.is) (pass_sound c f
 
 pub effect_sound : (c : Core) (e : Event) (new : Core) → IsAllowed c e → Sound c → Effect c e new → Sound new
 unfolding written
-effect_sound c e new allowed h (Made frame slot size a kind here none place) =
+effect_sound c e new allowed h (Made slot size a kind here none place) =
     let v = new_object kind c.next_birth size in
     other_objects _ _ _ _ _ _ h (new_sized c.objects a v (some_words size (none allowed).0) h.sized) (sound.new_object c.objects a v (free_place c.objects c.blocks size a kind place))
 effect_sound c e new allowed h (Wrote place word here) = other_objects _ _ _ _ _ _ h (written_sized (λ x. x == place) word c.objects h.sized) (written_object (λ x. x == place) word c.objects)

@@ -1,6 +1,9 @@
 -- Laws that test the definitions of the calls: what is expected of each, in words that don't repeat how it is defined.
 use Rattle.std.specs.Prelude.{◌≡◌, ◌≢◌, ℕ, ◌+◌, ◌<◌, ◌≤◌, ◌⊎◌, Bool, false, length, None, Some, Contains, Result, Ok, Err, IsTrue, IsFalse, ◌↔◌}
 use Rattle.std.specs.FinMap.{get, len}
+use Rattle.fz_model.specs.declared.call.Call.TheVariants.{Link, Unlink, Move, Close}
+use Rattle.fz_model.specs.declared.places.Slot.{Slot}
+use Rattle.fz_model.specs.declared.places.Place.{Place}
 use Rattle.fz_model.specs.declared.kinds.LinkKind.TheVariants.{Short, Long}
 use Rattle.fz_model.specs.declared.answers.Entry.{Entry}
 use Rattle.fz_model.specs.declared.answers.LinkAnswer.{LinkAnswer}
@@ -12,8 +15,8 @@ use Rattle.fz_model.specs.declared.limits.TheConstants.{TABLE_LIMIT}
 use Rattle.fz_model.specs.declared.refusal.Refusal.{Refusal}
 use Rattle.fz_model.specs.declared.refusal.Refusal.TheVariants.{NotHeld, Closed}
 use Rattle.fz_model.specs.State.{Map, Object, State}
-use Rattle.fz_model.specs.Memory.{points, slot_word}
-use Rattle.fz_model.specs.Events.{Event, Link, Unlink, MoveLink, Hold, Close, Answer, causes}
+use Rattle.fz_model.specs.Memory.{points, slot_word, address_of}
+use Rattle.fz_model.specs.Events.{Event, Make, Hold, Answer, causes}
 use Rattle.fz_model.specs.Causes.{first_cause}
 use Rattle.fz_model.specs.Steps.{Step}
 use Rattle.fz_model.specs.Joint.{Joint, JointEvent, Call, HoldOwn, JointAnswer, worker_at, is_finish, JointStep}
@@ -56,9 +59,9 @@ pub record IsLinked (old : Map ℕ) (place target : ℕ) (answer : LinkAnswer) (
   pub duplicate : answer ≡ Duplicate ↔ HasLink old place
 
 -- each kind goes into its own table
-pub record LinksAreMade (s : State) (frame slot offset to_frame to_slot : ℕ) : Type 0 where
-  pub short : (answer : LinkAnswer) (new : State) → Step s (Link Short frame slot offset to_frame to_slot) (Ok answer) new → IsLinked s.short (slot_word s.frames frame slot + offset) (slot_word s.frames to_frame to_slot) answer new.short × (new.long ≡ s.long)
-  pub long : (answer : LinkAnswer) (new : State) → Step s (Link Long frame slot offset to_frame to_slot) (Ok answer) new → IsLinked s.long (slot_word s.frames frame slot + offset) (slot_word s.frames to_frame to_slot) answer new.long × (new.short ≡ s.short)
+pub record LinksAreMade (s : State) (place : Place) (target : Slot) : Type 0 where
+  pub short : (answer : LinkAnswer) (new : State) → Step s (Make (Link Short place target)) (Ok answer) new → IsLinked s.short (address_of s.frames place) (slot_word s.frames target) answer new.short × (new.long ≡ s.long)
+  pub long : (answer : LinkAnswer) (new : State) → Step s (Make (Link Long place target)) (Ok answer) new → IsLinked s.long (address_of s.frames place) (slot_word s.frames target) answer new.long × (new.short ≡ s.short)
 
 -- the answer tells whether a link was there; none is left there, and no other changes
 pub record IsUnlinked (old : Map ℕ) (place : ℕ) (answer : Bool) (new : Map ℕ) : Type 0 where
@@ -66,9 +69,9 @@ pub record IsUnlinked (old : Map ℕ) (place : ℕ) (answer : Bool) (new : Map �
   pub gone : get new place ≡ None
   pub others : (p : ℕ) → p ≢ place → get new p ≡ get old p
 
-pub record LinksAreUnlinked (s : State) (frame slot offset : ℕ) : Type 0 where
-  pub short : (answer : Bool) (new : State) → Step s (Unlink Short frame slot offset) (Ok answer) new → IsUnlinked s.short (slot_word s.frames frame slot + offset) answer new.short × (new.long ≡ s.long)
-  pub long : (answer : Bool) (new : State) → Step s (Unlink Long frame slot offset) (Ok answer) new → IsUnlinked s.long (slot_word s.frames frame slot + offset) answer new.long × (new.short ≡ s.short)
+pub record LinksAreUnlinked (s : State) (place : Place) : Type 0 where
+  pub short : (answer : Bool) (new : State) → Step s (Make (Unlink Short place)) (Ok answer) new → IsUnlinked s.short (address_of s.frames place) answer new.short × (new.long ≡ s.long)
+  pub long : (answer : Bool) (new : State) → Step s (Make (Unlink Long place)) (Ok answer) new → IsUnlinked s.long (address_of s.frames place) answer new.long × (new.short ≡ s.short)
 
 -- when a move gives each of its three answers
 pub record IsAnswered (old : Map ℕ) (from to : ℕ) (answer : MoveAnswer) : Type 0 where
@@ -83,9 +86,9 @@ pub record IsMoved (old : Map ℕ) (from to : ℕ) (answer : MoveAnswer) (new : 
   pub others : (p : ℕ) → p ≢ from → p ≢ to → get new p ≡ get old p
   pub unmoved : answer ≢ Success → new ≡ old
 
-pub record LinksAreMoved (s : State) (frame slot offset to_frame to_slot to_offset : ℕ) : Type 0 where
-  pub short : (answer : MoveAnswer) (new : State) → Step s (MoveLink Short frame slot offset to_frame to_slot to_offset) (Ok answer) new → IsMoved s.short (slot_word s.frames frame slot + offset) (slot_word s.frames to_frame to_slot + to_offset) answer new.short × IsAnswered s.short (slot_word s.frames frame slot + offset) (slot_word s.frames to_frame to_slot + to_offset) answer × (new.long ≡ s.long)
-  pub long : (answer : MoveAnswer) (new : State) → Step s (MoveLink Long frame slot offset to_frame to_slot to_offset) (Ok answer) new → IsMoved s.long (slot_word s.frames frame slot + offset) (slot_word s.frames to_frame to_slot + to_offset) answer new.long × IsAnswered s.long (slot_word s.frames frame slot + offset) (slot_word s.frames to_frame to_slot + to_offset) answer × (new.short ≡ s.short)
+pub record LinksAreMoved (s : State) (from to : Place) : Type 0 where
+  pub short : (answer : MoveAnswer) (new : State) → Step s (Make (Move Short from to)) (Ok answer) new → IsMoved s.short (address_of s.frames from) (address_of s.frames to) answer new.short × IsAnswered s.short (address_of s.frames from) (address_of s.frames to) answer × (new.long ≡ s.long)
+  pub long : (answer : MoveAnswer) (new : State) → Step s (Make (Move Long from to)) (Ok answer) new → IsMoved s.long (address_of s.frames from) (address_of s.frames to) answer new.long × IsAnswered s.long (address_of s.frames from) (address_of s.frames to) answer × (new.short ≡ s.short)
 
 -- no table is larger than its limit
 pub record TablesAreWithin (s : State) : Type 0 where
@@ -102,19 +105,19 @@ StandsAsHeld s e = (o : Object) × (get s.objects e.obj ≡ Some o) × (o.birth 
 -- only a held entry can be held on to, and the slot gets its object
 abbrev pub HoldGivesTheObject : State → Type 0
 HoldGivesTheObject s =
-    (frame slot : ℕ) (e : Entry) (answer : Unit {0}) (new : State) → Step s (Hold frame slot e) (Ok answer) new
-    → Contains s.held e × (slot_word new.frames frame slot ≡ e.obj) × StandsAsHeld new e
+    (slot : Slot) (e : Entry) (answer : Unit {0}) (new : State) → Step s (Hold slot e) (Ok answer) new
+    → Contains s.held e × (slot_word new.frames slot ≡ e.obj) × StandsAsHeld new e
 
 -- a worker whose hand is empty is refused, and nothing changes
 abbrev pub EmptyHandIsRefused : Joint → Type 0
 EmptyHandIsRefused j =
-    (w frame slot : ℕ) (reply : Result (Unit {0}) Refusal) (new : Joint) → w < length j.workers → (worker_at j w).hand ≡ None
-    → JointStep j (HoldOwn w frame slot) reply new ↔ (reply ≡ Err NotHeld) × (new ≡ j)
+    (w : ℕ) (slot : Slot) (reply : Result (Unit {0}) Refusal) (new : Joint) → w < length j.workers → (worker_at j w).hand ≡ None
+    → JointStep j (HoldOwn w slot) reply new ↔ (reply ≡ Err NotHeld) × (new ≡ j)
 
 -- ---- close
 
 -- once closed, a world stays closed, and is closed no second time
 pub record ClosesOnce (s : State) : Type 0 where
-  pub second : (reply : Result (Unit {0}) Refusal) (new : State) → IsTrue s.closed → Step s Close reply new → reply ≡ Err Closed
+  pub second : (reply : Result (Unit {0}) Refusal) (new : State) → IsTrue s.closed → Step s (Make Close) reply new → reply ≡ Err Closed
   pub stays : (e : Event) (reply : Result (Answer e) Refusal) (new : State) → IsTrue s.closed → Step s e reply new → IsTrue new.closed
-  pub closes : (answer : Unit {0}) (new : State) → Step s Close (Ok answer) new → IsTrue new.closed
+  pub closes : (answer : Unit {0}) (new : State) → Step s (Make Close) (Ok answer) new → IsTrue new.closed

@@ -7,6 +7,7 @@ use Rattle.fz_model.specs.declared.answers.Registration.{Registration}
 use Rattle.fz_model.specs.declared.refusal.Refusal.{Refusal}
 use Rattle.fz_model.specs.declared.refusal.Refusal.TheVariants.{BadSlot, NotPointer, OutsideObject, BadSize, NoSpace, NotStart, BadCount, NoMemory, Exhausted, TableFull}
 use Rattle.fz_model.specs.declared.limits.TheConstants.{HEAP_START, MAX_OBJECT_WORDS, TABLE_LIMIT, COUNT_LIMIT}
+use Rattle.fz_model.specs.declared.places.Slot.{Slot}
 use Rattle.fz_model.specs.State.{Map, Object}
 use Rattle.fz_model.specs.declared.extent.Extent.{Extent}
 use Rattle.fz_model.specs.Extents.{heap_end, covers, extents, points_in}
@@ -38,8 +39,8 @@ IsJudgedOrLacks causes (Ok x) = first_cause causes ≡ None
 IsJudgedOrLacks causes (Err r) = IsRefusedFor causes true r
 
 -- a slot that has to be there
-abbrev pub slot_causes : List (List ℕ) → ℕ → ℕ → Causes
-slot_causes frames frame slot = (lacks_slot frames frame slot, BadSlot) ∷ []
+abbrev pub slot_causes : List (List ℕ) → Slot → Causes
+slot_causes frames slot = (lacks_slot frames slot, BadSlot) ∷ []
 
 -- a count that has come to its end
 abbrev pub exhausted : ℕ → Bool × Refusal

@@ -1,5 +1,6 @@
 -- the model
 pub mod State
+pub mod Places
 pub mod Extents
 pub mod Memory
 pub mod Reachability

@@ -3,6 +3,8 @@ use Rattle.std.specs.Prelude.{replicate, ℕ, ◌==◌, ◌+◌, ◌-◌, Bool, 
 use Rattle.std.specs.FinMap.{get}
 use Rattle.fz_model.specs.declared.kinds.ObjKind.{ObjKind}
 use Rattle.fz_model.specs.declared.limits.TheConstants.{SLOTS}
+use Rattle.fz_model.specs.declared.places.Slot.{Slot}
+use Rattle.fz_model.specs.declared.places.Place.{Place}
 use Rattle.fz_model.specs.State.{Map, Object}
 use Rattle.fz_model.specs.Extents.{mapped, extents, points_in}
 
@@ -33,12 +35,16 @@ word_at objects address =
     unwrap_or (option_and_then (λ start. option_map (λ (o : Object). slice_index o.words (address - start)) (get objects start)) (points objects address)) 0
 
 -- there is no such frame, or no such slot in a frame
-abbrev pub lacks_slot : List (List ℕ) → ℕ → ℕ → Bool
-lacks_slot frames frame slot = not (nat_lt frame (length frames) && nat_lt slot SLOTS)
+abbrev pub lacks_slot : List (List ℕ) → Slot → Bool
+lacks_slot frames slot = not (nat_lt slot.frame (length frames) && nat_lt slot.slot SLOTS)
 
 -- the word of a slot, and the frames after a write to it
-abbrev pub slot_word : List (List ℕ) → ℕ → ℕ → ℕ
-slot_word frames frame slot = slice_index (slice_index_or frames frame []) slot
+abbrev pub slot_word : List (List ℕ) → Slot → ℕ
+slot_word frames slot = slice_index (slice_index_or frames slot.frame []) slot.slot
 
-abbrev pub with_slot : List (List ℕ) → ℕ → ℕ → ℕ → List (List ℕ)
-with_slot frames frame slot word = slice_set frames frame (slice_set (slice_index_or frames frame []) slot word)
+abbrev pub with_slot : List (List ℕ) → Slot → ℕ → List (List ℕ)
+with_slot frames slot word = slice_set frames slot.frame (slice_set (slice_index_or frames slot.frame []) slot.slot word)
+
+-- the address of a place
+abbrev pub address_of : List (List ℕ) → Place → ℕ
+address_of frames place = slot_word frames place.slot + place.offset

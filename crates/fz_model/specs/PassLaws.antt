@@ -9,7 +9,8 @@ use Rattle.fz_model.specs.declared.answers.Registration.{Registration}
 use Rattle.fz_model.specs.State.{Map, Object, State}
 use Rattle.fz_model.specs.Memory.{points}
 use Rattle.fz_model.specs.Reachability.{IsReachable, WasSeen}
-use Rattle.fz_model.specs.Events.{Pause, Collect}
+use Rattle.fz_model.specs.declared.call.Call.TheVariants.{Pause, Collect}
+use Rattle.fz_model.specs.Events.{Make}
 use Rattle.fz_model.specs.Steps.{Step}
 use Rattle.fz_model.specs.CallLaws.{Stands, HasLink}
 
@@ -131,5 +132,5 @@ pub record IsLawful (old : State) (seen : ℕ → Type 0) (passed : Passed) (new
 
 -- of a pause, what was seen is what the cycle has seen, and of a collect what is reachable
 pub record EachPassIsLawful (s : State) : Type 0 where
-  pub pause : (passed : Passed) (new : State) → Step s Pause (Ok passed) new → IsLawful s (WasSeen s) passed new
-  pub collect : (passed : Passed) (new : State) → Step s Collect (Ok passed) new → IsLawful s (IsReachable s.core) passed new
+  pub pause : (passed : Passed) (new : State) → Step s (Make Pause) (Ok passed) new → IsLawful s (WasSeen s) passed new
+  pub collect : (passed : Passed) (new : State) → Step s (Make Collect) (Ok passed) new → IsLawful s (IsReachable s.core) passed new

@@ -1,6 +1,8 @@
 //! Laws that test the definitions.
 
 ghost use Rattle.std.specs.Prelude.{ℕ, ◌≤◌, List, length};
+ghost use Rattle.fz_model.specs.declared.places.Slot.{Slot};
+ghost use Rattle.fz_model.specs.declared.places.Place.{Place};
 ghost use Rattle.fz_model.specs.State.{State};
 ghost use Rattle.fz_model.specs.Extents.{extents, AreApart, AreWithin};
 ghost use Rattle.fz_model.specs.Seen.{SeenIsClosed};
@@ -29,9 +31,9 @@ pub fn every_call()
     // No table is larger than its limit.
     ensures tables_are_within { (s : State) → IsReached s → TablesAreWithin s }
     // A link has the target that was named last; one that is removed is gone; a move keeps the target, and the number of links.
-    ensures links_are_made { (s : State) → IsReached s → (frame slot offset to_frame to_slot : ℕ) → LinksAreMade s frame slot offset to_frame to_slot }
-    ensures links_are_unlinked { (s : State) → IsReached s → (frame slot offset : ℕ) → LinksAreUnlinked s frame slot offset }
-    ensures links_are_moved { (s : State) → IsReached s → (frame slot offset to_frame to_slot to_offset : ℕ) → LinksAreMoved s frame slot offset to_frame to_slot to_offset }
+    ensures links_are_made { (s : State) → IsReached s → (place : Place) (target : Slot) → LinksAreMade s place target }
+    ensures links_are_unlinked { (s : State) → IsReached s → (place : Place) → LinksAreUnlinked s place }
+    ensures links_are_moved { (s : State) → IsReached s → (from to : Place) → LinksAreMoved s from to }
     // A pass keeps all that is reachable and all that is registered, as it was but for the words of lost links; it keeps no more than what was seen and
     // what registered objects lead to; no word that stays leads to what went; each link that stays leads to an object that stays, from one that
     // stays; what is queued stands by rank, then address; the answer counts the entries that the queue gained and the starts that went; and no

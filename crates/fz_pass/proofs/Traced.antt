@@ -1,6 +1,6 @@
 -- How the second set grows.
 use Rattle.std.proofs.Common.{if◌then◌else◌, not, ◌&&◌, ◌||◌, cond, is_some, ◌≡◌, ◌≢◌, ℕ, ◌+◌, ◌<◌, ◌≤◌, ◌↔◌, ◌⊎◌, ◌++◌, ◌∷◌, [], List, Option, Some, None, Bool, true, false, take, length, get_or, refl, sym, ap, ◌∙◌, subst, inl, inr, ⊎_elim, arith, IsTrue, Contains, nat_cmp, nat_eq}
-use Rattle.std.proofs.lemmas.Bool.{both_ways, cases_lt, true≢false, eqb-true, eq-eqb}
+use Rattle.std.proofs.lemmas.Bool.{both_ways, and_parts, and_from, cases_lt, true≢false, eqb-true, eq-eqb}
 use Rattle.std.proofs.lemmas.Option.{same_Some, none-some}
 use Rattle.std.proofs.lemmas.List.{take_more}
 use Rattle.std.proofs.lemmas.List.Elements.{Contains-append_left, Contains-push, Contains-push_cases}
@@ -46,6 +46,10 @@ module _ (objects : Map Object) where
     closed = p.closed;
     members = λ a. (λ h. ⊎_elim inl (λ x. inr ((same a).0 x)) ((p.members a).0 h), ⊎_elim (λ h. (p.members a).1 (inl h)) (λ y. (p.members a).1 (inr ((same a).1 y))));
   }
+
+  -- whatever else is listed
+  pub traces_listed : (old new : Marking) (P : ℕ → Type 0) (list : Set) → Traces objects old new P → Traces objects (record old { listed = list }) (record new { listed = list }) P
+  traces_listed old new P list p = record { same = ap (λ (m : Marking). record m { listed = list }) p.same; closed = p.closed; members = p.members }
 
   -- what one object leads to
   pub traces_one : (old new : Marking) (start : ℕ) → IsClosed objects old.traced → new ≡ record old { traced = new.traced } → ((a : ℕ) → IsTrue (contains new.traced a) ↔ (IsTrue (contains old.traced a) ⊎ Leads objects start a)) → Traces objects old new (Leads objects start)
@@ -101,6 +105,20 @@ leading_entries objects test es once a = (
   λ (e, is_in, (on, leads)). (e.0, e.1, got es e.0 e.1 once is_in, on, leads),
   λ (o, r, here, on, leads). ((o, r), listed es o r here, (on, leads)),
 )
+
+-- the listed ones are those of the table that pass a test
+pub leading_listed : (objects : Map Object) (registrations : Map Registration) (test listed : ℕ → Bool) → ((a : ℕ) → listed a ≡ (contains_key registrations a && test a)) → (a : ℕ) → AreLeading objects registrations test a ↔ AreLeading objects registrations listed a
+leading_listed objects registrations test listed is a = (
+  λ (o, r, here, on, leads). (o, r, here, is o ∙ and_from (contains_key registrations o) (test o) (ap is_some here) on, leads),
+  λ (o, r, here, on, leads). (o, r, here, (and_parts (contains_key registrations o) (test o) (sym (is o) ∙ on)).1, leads),
+)
+
+-- what comes where a test holds
+pub only_if : (b : Bool) → b ≡ true → (P : ℕ → Type 0) (a : ℕ) → P a ↔ (IsTrue b × P a)
+only_if b on P a = (λ p. (on, p), λ (_, p). p)
+
+pub never_if : (b : Bool) → b ≡ false → (P : ℕ → Type 0) (a : ℕ) → (IsTrue b × P a) → ⊥
+never_if b off P a (on, _) = both_ways b off on
 
 -- ---- the members of a set, by rising address
 

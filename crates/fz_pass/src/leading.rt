@@ -13,29 +13,6 @@ use fz_marker::Marker;
 use fz_model::{Addr, RegKind, Registration, Word};
 use fz_table::Table;
 
-/// Lists an object, if it isn't marked.
-fn list_if_outside(heap: &Heap, marker: &mut Marker, object: Addr)
-    requires size { marker.old.size ≡ BLOCK_WORDS * heap.now.blocks }
-    ensures same { marker.new ≡ record marker.old { listed = marker.new.listed } }
-    ensures listed { (a : ℕ) → contains marker.new.listed a ≡ (contains marker.old.listed a || (nat_eq a object && is_outside heap.now.objects (contains marker.old.marked) object)) }
-{
-    if is_outside(heap, marker.found(), object) {
-        marker.list(object);
-    }
-}
-
-/// Lists the registered objects that aren't marked, and no other.
-pub(crate) fn list_unreachable(heap: &Heap, marker: &mut Marker, table: &Table)
-    requires size { marker.old.size ≡ BLOCK_WORDS * heap.now.blocks }
-    ensures same { marker.new ≡ record marker.old { listed = marker.new.listed } }
-    ensures listed { (a : ℕ) → contains marker.new.listed a ≡ is_unreachable heap.now.objects table.now.registrations (contains marker.old.marked) a }
-{
-    marker.clear_list();
-    for (object, _) in table.iter() {
-        list_if_outside(heap, marker, object);
-    }
-}
-
 /// Traces what a word points to, but for an object that is left out.
 fn trace_target(heap: &Heap, marker: &mut Marker, word: Word, left_out: Option<Addr>)
     requires size { marker.old.size ≡ BLOCK_WORDS * heap.now.blocks }
@@ -74,25 +51,29 @@ fn trace_first(heap: &Heap, marker: &mut Marker, object: Addr, kind: RegKind)
     }
 }
 
-/// Traces what a registration leads to, if its object is listed.
-fn trace_if_listed(heap: &Heap, marker: &mut Marker, object: Addr, registration: Registration)
+/// Lists a registered object and traces what it leads to, if it isn't marked.
+fn list_if_outside(heap: &Heap, marker: &mut Marker, object: Addr, registration: Registration)
     requires size { marker.old.size ≡ BLOCK_WORDS * heap.now.blocks }
     requires closed { IsClosed heap.now.objects marker.old.traced }
-    ensures { Traces heap.now.objects marker.old marker.new (λ a. IsTrue (contains marker.old.listed object) × IsLeading heap.now.objects object registration.kind a) }
+    ensures listed { (a : ℕ) → contains marker.new.listed a ≡ (contains marker.old.listed a || (nat_eq a object && is_outside heap.now.objects (contains marker.old.marked) object)) }
+    ensures led { Traces heap.now.objects (record marker.old { listed = marker.new.listed }) marker.new (λ a. IsTrue (is_outside heap.now.objects (contains marker.old.marked) object) × IsLeading heap.now.objects object registration.kind a) }
 {
-    if marker.listed().contains(object) {
+    if is_outside(heap, marker.found(), object) {
+        marker.list(object);
         trace_first(heap, marker, object, registration.kind);
     }
 }
 
-/// Traces what the listed registrations lead to.
-pub(crate) fn trace_led(heap: &Heap, marker: &mut Marker, table: &Table)
+/// Lists the registered objects that aren't marked, and no other, and traces what they lead to.
+pub(crate) fn list_unreachable(heap: &Heap, marker: &mut Marker, table: &Table)
     requires size { marker.old.size ≡ BLOCK_WORDS * heap.now.blocks }
     requires closed { IsClosed heap.now.objects marker.old.traced }
-    ensures { Traces heap.now.objects marker.old marker.new (AreLeading heap.now.objects table.now.registrations (contains marker.old.listed)) }
+    ensures listed { (a : ℕ) → contains marker.new.listed a ≡ is_unreachable heap.now.objects table.now.registrations (contains marker.old.marked) a }
+    ensures led { Traces heap.now.objects (record marker.old { listed = marker.new.listed }) marker.new (AreLeading heap.now.objects table.now.registrations (contains marker.new.listed)) }
 {
+    marker.clear_list();
     for (object, registration) in table.iter() {
-        trace_if_listed(heap, marker, object, registration);
+        list_if_outside(heap, marker, object, registration);
     }
 }
 

@@ -9,8 +9,6 @@ mod pass;
 mod picking;
 mod ranking;
 mod reclaiming;
-#[cfg(test)]
-mod tests;
 
 pub use law::decisions_pass;
 pub use pass::decide;

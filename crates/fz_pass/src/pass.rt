@@ -11,7 +11,7 @@ ghost use Rattle.fz_pass.specs.Decides.{Decides, parts};
 
 use crate::clearing::clear_dead;
 use crate::keeping::keep_within;
-use crate::leading::{list_unreachable, trace_led, trace_listed};
+use crate::leading::{list_unreachable, trace_listed};
 use crate::picking::pick_free;
 use crate::reclaiming::condemn_outside;
 use fz_heap::Heap;
@@ -51,7 +51,6 @@ pub fn decide(
     clear_dead(heap, short, marker.found());
     marker.trace_found();
     list_unreachable(heap, marker, table);
-    trace_led(heap, marker, table);
     pick_free(heap, table, marker.listed(), marker.kept(), out);
     trace_listed(heap, marker);
     let found = marker.found();

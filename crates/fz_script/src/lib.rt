@@ -10,8 +10,6 @@ mod fields;
 mod job;
 mod reading;
 mod step;
-#[cfg(test)]
-mod tests;
 mod words;
 
 pub use job::{Job, MAX_COLLECTIONS, MAX_TURNS, job_of};

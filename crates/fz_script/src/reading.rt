@@ -48,25 +48,35 @@ fn next_step(words: &mut Words<'_>) -> Option<Step>
         "load" => read_load(words),
         "store" => read_store(words),
         "register" => read_register(words),
-        "unregister" => read_unregister(words),
+        "unregister" => Some(Step::Call(Call::Unregister {
+            slot: words.read()?,
+        })),
         "link" => read_link(words),
         "unlink" => read_unlink(words),
         "move" => read_move(words),
         "begin" => Some(Step::Call(Call::Begin)),
-        "mark" => read_mark(words),
+        "mark" => Some(Step::Call(Call::Mark {
+            budget: words.read()?,
+        })),
         "pause" => Some(Step::Call(Call::Pause)),
         "collect" => Some(Step::Call(Call::Collect)),
-        "take" => read_take(words),
+        "take" => Some(Step::Take {
+            worker: words.read()?,
+        }),
         "hold" => read_hold(words),
-        "finish" => read_finish(words),
-        "forfeit" => read_forfeit(words),
+        "finish" => Some(Step::Finish {
+            worker: words.read()?,
+        }),
+        "forfeit" => Some(Step::Forfeit {
+            worker: words.read()?,
+        }),
         "close" => Some(Step::Call(Call::Close)),
         "outstanding" => Some(Step::Call(Call::Outstanding)),
         _ => None,
     }
 }
 
-// For each verb with fields: reads them, as one tuple of their types, and makes the step.
+// For each verb with several fields: reads them, as one tuple of their types, and makes the step.
 
 #[tactic(auto, unfolding(crate::specs::Reading::named_at))]
 fn read_open(words: &mut Words<'_>) -> Option<Step>
@@ -135,15 +145,6 @@ fn read_register(words: &mut Words<'_>) -> Option<Step>
 }
 
 #[tactic(auto, unfolding(crate::specs::Reading::named_at))]
-fn read_unregister(words: &mut Words<'_>) -> Option<Step>
-    ensures { named_at (codes "unregister") (words_left words.old) ≡ with_rest result (words_left words.new) }
-{
-    Some(Step::Call(Call::Unregister {
-        slot: words.read()?,
-    }))
-}
-
-#[tactic(auto, unfolding(crate::specs::Reading::named_at))]
 fn read_link(words: &mut Words<'_>) -> Option<Step>
     ensures { named_at (codes "link") (words_left words.old) ≡ with_rest result (words_left words.new) }
 {
@@ -172,45 +173,9 @@ fn read_move(words: &mut Words<'_>) -> Option<Step>
 }
 
 #[tactic(auto, unfolding(crate::specs::Reading::named_at))]
-fn read_mark(words: &mut Words<'_>) -> Option<Step>
-    ensures { named_at (codes "mark") (words_left words.old) ≡ with_rest result (words_left words.new) }
-{
-    Some(Step::Call(Call::Mark {
-        budget: words.read()?,
-    }))
-}
-
-#[tactic(auto, unfolding(crate::specs::Reading::named_at))]
-fn read_take(words: &mut Words<'_>) -> Option<Step>
-    ensures { named_at (codes "take") (words_left words.old) ≡ with_rest result (words_left words.new) }
-{
-    Some(Step::Take {
-        worker: words.read()?,
-    })
-}
-
-#[tactic(auto, unfolding(crate::specs::Reading::named_at))]
 fn read_hold(words: &mut Words<'_>) -> Option<Step>
     ensures { named_at (codes "hold") (words_left words.old) ≡ with_rest result (words_left words.new) }
 {
     let (worker, slot) = words.read()?;
     Some(Step::Hold { worker, slot })
-}
-
-#[tactic(auto, unfolding(crate::specs::Reading::named_at))]
-fn read_finish(words: &mut Words<'_>) -> Option<Step>
-    ensures { named_at (codes "finish") (words_left words.old) ≡ with_rest result (words_left words.new) }
-{
-    Some(Step::Finish {
-        worker: words.read()?,
-    })
-}
-
-#[tactic(auto, unfolding(crate::specs::Reading::named_at))]
-fn read_forfeit(words: &mut Words<'_>) -> Option<Step>
-    ensures { named_at (codes "forfeit") (words_left words.old) ≡ with_rest result (words_left words.new) }
-{
-    Some(Step::Forfeit {
-        worker: words.read()?,
-    })
 }

@@ -19,7 +19,7 @@ use Rattle.fz_line.proofs.Numbers.{numbered_rest}
 use Rattle.fz_world.specs.World.{WorldView, KeepsMarks}
 use Rattle.fz_world.specs.Does.{StandsFor, Does}
 use Rattle.fz_line.specs.States.{OwnerState, owner_state}
-use Rattle.fz_service.specs.States.{Origin, locked_state, IsReachedFrom, IsInOrder, IsReady, LetsGo, RunsCalls}
+use Rattle.fz_service.specs.States.{Origin, line_room, locked_state, IsReachedFrom, IsInOrder, IsReady, LetsGo, RunsCalls}
 use Rattle.fz_service.proofs.Growing.{IsLonger, step_longer, steps_longer, steps_on}
 use Rattle.fz_service.proofs.Finishing.{held_one, one_less}
 
@@ -159,7 +159,7 @@ pub sent_more : (origin : Origin) (old new : OwnerState) (parts amount : ℕ) (m
 sent_more origin old new parts amount more ready is = record {
   owner_is =
       let sent : new.sent ≡ old.sent ++ more = ap (λ (o : OwnerState). o.sent) is in
-      is ∙ ap (λ (o : OwnerState). record o { sent = old.sent ++ more }) ready.owner_is ∙ ap (λ (es : List Entry). owner_state origin.line origin.workers es []) (sym sent);
+      is ∙ ap (λ (o : OwnerState). record o { sent = old.sent ++ more }) ready.owner_is ∙ ap (λ (es : List Entry). owner_state origin.line origin.workers (line_room origin.blocks) es []) (sym sent);
   no_parts = ready.no_parts;
   no_amount = ready.no_amount;
 }

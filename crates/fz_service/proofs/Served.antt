@@ -1,5 +1,5 @@
 -- What a served duty leaves under the lock.
-use Rattle.std.proofs.Common.{◌≡◌, ◌<◌, ◌≤◌, Bool, true, false, true≢false, cond, not, None, Some, List, length, filter, slice_index_or, Contains, Ok, Err, sym, ap, ◌∙◌, subst, ⊎_elim}
+use Rattle.std.proofs.Common.{◌≡◌, ℕ, ◌<◌, ◌≤◌, Bool, true, false, true≢false, cond, not, None, Some, List, length, filter, slice_index_or, Contains, Ok, Err, sym, ap, ◌∙◌, subst, ⊎_elim}
 use Rattle.std.proofs.lemmas.Bool.{both_ways, not-true}
 use Rattle.std.proofs.lemmas.Option.{none-some}
 use Rattle.std.proofs.lemmas.List.Elements.{filter_passes}
@@ -11,7 +11,6 @@ use Rattle.fz_model.specs.declared.refusal.Refusal.TheVariants.{NotHeld}
 use Rattle.fz_model.specs.State.{Core, State}
 use Rattle.fz_model.specs.Events.{Finish, same_entry}
 use Rattle.fz_model.proofs.Events.{same_itself}
-use Rattle.fz_line.specs.Views.{first_room}
 use Rattle.fz_world.specs.World.{WorldView}
 use Rattle.fz_world.specs.Does.{Does}
 use Rattle.fz_service.specs.States.{Origin, LockedState, IsReachedFrom, LetsGo}
@@ -46,6 +45,6 @@ same_queue origin old new e does reached =
     ap (λ (c : Core). c.queue) next.2.core ∙ ap (λ (c : Core). c.queue) next.1.1 ∙ ap (λ (c : Core). c.queue) (sym reached.stands.core)
 
 -- where the queue and what was sent of it stay, what is unsent stays
-pub still_sent : (old new : LockedState) → new.published ≡ old.published → new.world.queue ≡ old.world.queue → (old.published < length old.world.queue → first_room ≤ old.published)
+pub still_sent : (first_room : ℕ) (old new : LockedState) → new.published ≡ old.published → new.world.queue ≡ old.world.queue → (old.published < length old.world.queue → first_room ≤ old.published)
     → new.published < length new.world.queue → first_room ≤ new.published
-still_sent old new same queue room unsent = subst (λ n. first_room ≤ n) (sym same) (room (subst (λ n. n < length old.world.queue) same (subst (λ (es : List Entry). new.published < length es) queue unsent)))
+still_sent first_room old new same queue room unsent = subst (λ n. first_room ≤ n) (sym same) (room (subst (λ n. n < length old.world.queue) same (subst (λ (es : List Entry). new.published < length es) queue unsent)))

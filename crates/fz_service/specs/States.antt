@@ -1,17 +1,17 @@
 -- What a service opened with, and what contracts see under its lock.
-use Rattle.std.specs.Prelude.{◌≡◌, ℕ, ◌+◌, ◌<◌, ◌≤◌, Bool, true, false, not, List, [], length, take, filter, Some, Contains, refl}
+use Rattle.std.specs.Prelude.{◌≡◌, ℕ, ◌+◌, ◌*◌, ◌<◌, ◌≤◌, min, Bool, true, false, not, List, [], length, take, filter, Some, Contains, refl}
 use Rattle.std.specs.Coded.{Coded, code_by, coded×, coded_ℕ, coded_list}
 use Rattle.std.specs.FinMap.{get}
 use Rattle.fz_model.specs.declared.answers.Entry.{Entry}
 use Rattle.fz_model.specs.declared.call.Call.{Call}
 use Rattle.fz_model.specs.declared.call.Call.TheVariants.{Pause, Collect}
+use Rattle.fz_model.specs.declared.limits.TheConstants.{BLOCK_WORDS, TABLE_LIMIT}
 use Rattle.fz_model.specs.Codes.{entry_code}
 use Rattle.fz_model.specs.State.{Object, State, opening}
 use Rattle.fz_model.specs.Events.{Event, same_entry}
 use Rattle.fz_model.specs.Steps.{StepsTo, any_call}
 use Rattle.fz_model.specs.Joint.{is_finish}
 use Rattle.fz_line.specs.States.{Line, SeatState, OwnerState, owner_state}
-use Rattle.fz_line.specs.Views.{first_room}
 use Rattle.fz_world.specs.World.{WorldView, world_code}
 use Rattle.fz_world.specs.Does.{StandsFor}
 
@@ -22,6 +22,10 @@ pub record Origin : Type 0 where
   pub finishes : ℕ  -- the name of its book of finished duties
   pub blocks : ℕ
   pub frames : ℕ
+
+-- for how many entries the line has room from the first: as many as one pass can queue, since each object has a word
+abbrev pub line_room : ℕ → ℕ
+line_room blocks = min TABLE_LIMIT (BLOCK_WORDS * blocks)
 
 pub record LockedState : Type 0 where
   pub world : WorldView
@@ -54,7 +58,7 @@ pub record IsInOrder (origin : Origin) (s : LockedState) : Type 0 where
 
 -- the owner sends to the service's line and has popped nothing, and every share of the book was given away. Means only.
 pub record IsReady (origin : Origin) (owner : OwnerState) (parts amount : ℕ) : Type 0 where
-  pub owner_is : owner ≡ owner_state origin.line origin.workers owner.sent []
+  pub owner_is : owner ≡ owner_state origin.line origin.workers (line_room origin.blocks) owner.sent []
   pub no_parts : parts ≡ 0
   pub no_amount : amount ≡ 0
 
@@ -68,11 +72,11 @@ ends_cycle Pause = true
 ends_cycle Collect = true
 ends_cycle _ = false
 
--- more may be sent, and nothing else differs but the world; where entries are left in the outbox a push was refused, as none of the first 64 is
-pub record SendsMore (old new : LockedState) : Type 0 where
+-- more may be sent, and nothing else differs but the world; where entries are left in the outbox a push was refused, as none is for which the line has room
+pub record SendsMore (origin : Origin) (old new : LockedState) : Type 0 where
   pub same : new ≡ record old { world = new.world; sent = new.sent; published = new.published }
   pub more : old.published ≤ new.published
-  pub room : new.published < length new.world.queue → first_room ≤ new.published
+  pub room : new.published < length new.world.queue → line_room origin.blocks ≤ new.published
 
 -- the entry was held, and its object had its birth; now it is held no more
 pub record LetsGo (old new : WorldView) (entry : Entry) : Type 0 where

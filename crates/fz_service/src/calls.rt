@@ -1,6 +1,6 @@
 //! The calls of a world, under the lock.
 
-ghost use Rattle.std.specs.Prelude.{◌≡◌, ◌≤◌, ◌+◌, ◌*◌, ◌↔◌, ℕ, IsTrue, IsFalse, IfOk, IfErr, IsSome, OnOk, OnErr, length};
+ghost use Rattle.std.specs.Prelude.{Some, ◌≡◌, ◌≤◌, ◌+◌, ◌*◌, ◌↔◌, ℕ, IsTrue, IsFalse, IfOk, IfErr, IsSome, OnOk, OnErr, length};
 ghost use Rattle.std.specs.Option.{IsNone};
 ghost use Rattle.std.specs.FinMap.{get, len};
 ghost use Rattle.std.specs.FinSet.{contains};
@@ -8,9 +8,11 @@ ghost use Rattle.std.specs.FinSet as sets;
 ghost use Rattle.std.specs.declared.result.Result.TheVariants.{Ok};
 ghost use Rattle.fz_model.specs.declared.limits.TheConstants.{BLOCK_WORDS};
 ghost use Rattle.fz_model.specs.Allocation.{block_of};
-ghost use Rattle.fz_model.specs.Memory.{slot_word};
+ghost use Rattle.fz_model.specs.Memory.{slot_word, address_of};
 ghost use Rattle.fz_model.specs.Causes.{IsJudgedBy, is_off_heap};
-ghost use Rattle.fz_model.specs.Events.{Alloc, Load, Store, Set, Copy, Register, Unregister, Link, Unlink, MoveLink, Begin, Mark, Pause, Collect, Hold, Close, Outstanding, Queue, causes, links_of};
+ghost use Rattle.fz_model.specs.declared.call.Call.TheVariants.{Alloc, Load, Store, Set, Copy, Register, Unregister, Link, Unlink, Move, Begin, Mark, Pause, Collect, Close, Outstanding};
+ghost use Rattle.fz_model.specs.Places.{slot_at, place_at};
+ghost use Rattle.fz_model.specs.Events.{Make, Hold, Queue, causes, links_of};
 ghost use Rattle.fz_world.specs.Cycles.{IsBegun, AreScanned};
 ghost use Rattle.fz_world.specs.Does.{Does};
 ghost use Rattle.fz_world.specs.Replies.{Replies};
@@ -42,7 +44,7 @@ impl<O: Opening> Locked<O> {
     pub fn carry_out(&mut self, call: Call) -> Result<Reply, Refusal>
         ensures step { Replies self.old.world call result self.new.world }
         ensures line { IsFalse (ends_cycle call) → KeepsLine self.old self.new }
-        ensures sent { IsTrue (ends_cycle call) → OnOk result (SendsMore self.old self.new) }
+        ensures sent { IsTrue (ends_cycle call) → OnOk result (SendsMore O.origin self.old self.new) }
         ensures refused { OnErr result (self.new ≡ self.old) }
     {
         let reply = self.world.carry_out(call)?;
@@ -62,9 +64,9 @@ impl<O: Opening> Locked<O> {
         size: u64,
         kind: ObjKind,
     ) -> Result<(Addr, u64), Refusal>
-        ensures step { Does self.old.world (Alloc frame slot size kind) result self.new.world }
+        ensures step { Does self.old.world (Make (Alloc (slot_at frame slot) size kind)) result self.new.world }
         ensures line { KeepsLine self.old self.new }
-        ensures caused { IsJudgedBy (causes self.old.world.core (Alloc frame slot size kind)) result }
+        ensures caused { IsJudgedBy (causes self.old.world.core (Make (Alloc (slot_at frame slot) size kind))) result }
         ensures refused { OnErr result (self.new ≡ self.old) }
         ensures marks { IfOk result (λ made. self.new.world ≡ record self.old.world { core = self.new.world.core; marked = with_in_cycle self.old.world.cycle self.old.world.marked made.0; noted = with_in_cycle self.old.world.cycle self.old.world.noted (block_of made.0) }) }
     {
@@ -82,7 +84,7 @@ impl<O: Opening> Locked<O> {
         to_frame: u64,
         to_slot: u64,
     ) -> Result<Word, Refusal>
-        ensures step { Does self.old.world (Load frame slot offset to_frame to_slot) result self.new.world }
+        ensures step { Does self.old.world (Make (Load (place_at frame slot offset) (slot_at to_frame to_slot))) result self.new.world }
         ensures line { KeepsLine self.old self.new }
         ensures marks { KeepsMarks self.old.world self.new.world }
     {
@@ -100,10 +102,10 @@ impl<O: Opening> Locked<O> {
         from_frame: u64,
         from_slot: u64,
     ) -> Result<(), Refusal>
-        ensures step { Does self.old.world (Store frame slot offset from_frame from_slot) result self.new.world }
+        ensures step { Does self.old.world (Make (Store (place_at frame slot offset) (slot_at from_frame from_slot))) result self.new.world }
         ensures line { KeepsLine self.old self.new }
         ensures refused { OnErr result (self.new ≡ self.old) }
-        ensures marks { OnOk result (self.new.world ≡ record self.old.world { core = self.new.world.core; noted = with_in_cycle self.old.world.cycle self.old.world.noted (block_of (slot_word self.old.world.frames frame slot + offset)) }) }
+        ensures marks { OnOk result (self.new.world ≡ record self.old.world { core = self.new.world.core; noted = with_in_cycle self.old.world.cycle self.old.world.noted (block_of (address_of self.old.world.frames (place_at frame slot offset))) }) }
     {
         self.world.store(frame, slot, offset, from_frame, from_slot)
     }
@@ -112,7 +114,7 @@ impl<O: Opening> Locked<O> {
     ///
     /// Refused `BadSlot` where there is no such slot.
     pub fn set(&mut self, frame: u64, slot: u64, word: Word) -> Result<(), Refusal>
-        ensures step { Does self.old.world (Set frame slot word) result self.new.world }
+        ensures step { Does self.old.world (Make (Set (slot_at frame slot) word)) result self.new.world }
         ensures line { KeepsLine self.old self.new }
         ensures marks { KeepsMarks self.old.world self.new.world }
     {
@@ -129,7 +131,7 @@ impl<O: Opening> Locked<O> {
         to_frame: u64,
         to_slot: u64,
     ) -> Result<(), Refusal>
-        ensures step { Does self.old.world (Copy frame slot to_frame to_slot) result self.new.world }
+        ensures step { Does self.old.world (Make (Copy (slot_at frame slot) (slot_at to_frame to_slot))) result self.new.world }
         ensures line { KeepsLine self.old self.new }
         ensures marks { KeepsMarks self.old.world self.new.world }
     {
@@ -148,10 +150,10 @@ impl<O: Opening> Locked<O> {
         cd: Word,
         rank: u8,
     ) -> Result<RegAnswer, Refusal>
-        ensures step { Does self.old.world (Register frame slot kind proc cd rank) result self.new.world }
+        ensures step { Does self.old.world (Make (Register (slot_at frame slot) kind proc cd (Some rank))) result self.new.world }
         ensures line { KeepsLine self.old self.new }
-        ensures inside { IfErr result (λ r. r ≡ Refusal.NoMemory → IsFalse (is_off_heap self.old.world.blocks (slot_word self.old.world.frames frame slot))) }
-        ensures growth { IfErr result (λ r. r ≡ Refusal.NoMemory → IsNone (get self.old.world.registrations (slot_word self.old.world.frames frame slot))) }
+        ensures inside { IfErr result (λ r. r ≡ Refusal.NoMemory → IsFalse (is_off_heap self.old.world.blocks (slot_word self.old.world.frames (slot_at frame slot)))) }
+        ensures growth { IfErr result (λ r. r ≡ Refusal.NoMemory → IsNone (get self.old.world.registrations (slot_word self.old.world.frames (slot_at frame slot)))) }
         ensures marks { KeepsMarks self.old.world self.new.world }
     {
         self.world.register(frame, slot, kind, proc, cd, rank)
@@ -161,7 +163,7 @@ impl<O: Opening> Locked<O> {
     ///
     /// Refusals, in their order: `BadSlot`, `NotPointer`, `NotStart`.
     pub fn unregister(&mut self, frame: u64, slot: u64) -> Result<Option<Old>, Refusal>
-        ensures step { Does self.old.world (Unregister frame slot) result self.new.world }
+        ensures step { Does self.old.world (Make (Unregister (slot_at frame slot))) result self.new.world }
         ensures line { KeepsLine self.old self.new }
         ensures marks { KeepsMarks self.old.world self.new.world }
     {
@@ -181,9 +183,9 @@ impl<O: Opening> Locked<O> {
         target_frame: u64,
         target_slot: u64,
     ) -> Result<LinkAnswer, Refusal>
-        ensures step { Does self.old.world (Link which frame slot offset target_frame target_slot) result self.new.world }
+        ensures step { Does self.old.world (Make (Link which (place_at frame slot offset) (slot_at target_frame target_slot))) result self.new.world }
         ensures line { KeepsLine self.old self.new }
-        ensures growth { IfErr result (λ r. r ≡ Refusal.NoMemory → IsNone (get (links_of self.old.world.core which) (slot_word self.old.world.frames frame slot + offset))) }
+        ensures growth { IfErr result (λ r. r ≡ Refusal.NoMemory → IsNone (get (links_of self.old.world.core which) (address_of self.old.world.frames (place_at frame slot offset)))) }
         ensures marks { KeepsMarks self.old.world self.new.world }
     {
         self.world
@@ -200,7 +202,7 @@ impl<O: Opening> Locked<O> {
         slot: u64,
         offset: u64,
     ) -> Result<bool, Refusal>
-        ensures step { Does self.old.world (Unlink which frame slot offset) result self.new.world }
+        ensures step { Does self.old.world (Make (Unlink which (place_at frame slot offset))) result self.new.world }
         ensures line { KeepsLine self.old self.new }
         ensures marks { KeepsMarks self.old.world self.new.world }
     {
@@ -220,9 +222,9 @@ impl<O: Opening> Locked<O> {
         to_slot: u64,
         to_offset: u64,
     ) -> Result<MoveAnswer, Refusal>
-        ensures step { Does self.old.world (MoveLink which frame slot offset to_frame to_slot to_offset) result self.new.world }
+        ensures step { Does self.old.world (Make (Move which (place_at frame slot offset) (place_at to_frame to_slot to_offset))) result self.new.world }
         ensures line { KeepsLine self.old self.new }
-        ensures growth { IfErr result (λ r. r ≡ Refusal.NoMemory → IsSome (get (links_of self.old.world.core which) (slot_word self.old.world.frames frame slot + offset)) × IsNone (get (links_of self.old.world.core which) (slot_word self.old.world.frames to_frame to_slot + to_offset))) }
+        ensures growth { IfErr result (λ r. r ≡ Refusal.NoMemory → IsSome (get (links_of self.old.world.core which) (address_of self.old.world.frames (place_at frame slot offset))) × IsNone (get (links_of self.old.world.core which) (address_of self.old.world.frames (place_at to_frame to_slot to_offset)))) }
         ensures marks { KeepsMarks self.old.world self.new.world }
     {
         self.world
@@ -233,8 +235,8 @@ impl<O: Opening> Locked<O> {
     ///
     /// Refusals, in their order: `CycleOpen`, `Exhausted` at the 2^48th pass.
     pub fn begin(&mut self) -> Result<(), Refusal>
-        ensures step { Does self.old.world Begin result self.new.world }
-        ensures caused { IsJudgedBy (causes self.old.world.core Begin) result }
+        ensures step { Does self.old.world (Make Begin) result self.new.world }
+        ensures caused { IsJudgedBy (causes self.old.world.core (Make Begin)) result }
         ensures line { KeepsLine self.old self.new }
         ensures refused { OnErr result (self.new ≡ self.old) }
         ensures begun { OnOk result (IsBegun self.old.world self.new.world) }
@@ -246,8 +248,8 @@ impl<O: Opening> Locked<O> {
     ///
     /// Refusals, in their order: `BadCount` where the budget is 0, `NoCycle`.
     pub fn mark(&mut self, budget: u64) -> Result<Progress, Refusal>
-        ensures step { Does self.old.world (Mark budget) result self.new.world }
-        ensures caused { IsJudgedBy (causes self.old.world.core (Mark budget)) result }
+        ensures step { Does self.old.world (Make (Mark budget)) result self.new.world }
+        ensures caused { IsJudgedBy (causes self.old.world.core (Make (Mark budget))) result }
         ensures line { KeepsLine self.old self.new }
         ensures refused { OnErr result (self.new ≡ self.old) }
         ensures same { self.new.world ≡ record self.old.world { marked = self.new.world.marked; scanned = self.new.world.scanned; scans = self.new.world.scans } }
@@ -263,7 +265,7 @@ impl<O: Opening> Locked<O> {
     ///
     /// Refusals, in their order: `BadSlot`, `NotHeld` where no held entry is the same in all its fields.
     pub fn hold(&mut self, frame: u64, slot: u64, entry: &Entry) -> Result<(), Refusal>
-        ensures step { Does self.old.world (Hold frame slot entry.now) result self.new.world }
+        ensures step { Does self.old.world (Hold (slot_at frame slot) entry.now) result self.new.world }
         ensures line { KeepsLine self.old self.new }
         ensures marks { KeepsMarks self.old.world self.new.world }
     {
@@ -274,7 +276,7 @@ impl<O: Opening> Locked<O> {
     ///
     /// Refused `Closed` where the world is closed.
     pub fn close(&mut self) -> Result<(), Refusal>
-        ensures step { Does self.old.world Close result self.new.world }
+        ensures step { Does self.old.world (Make Close) result self.new.world }
         ensures line { KeepsLine self.old self.new }
         ensures marks { KeepsMarks self.old.world self.new.world }
     {
@@ -285,9 +287,9 @@ impl<O: Opening> Locked<O> {
     ///
     /// Refused `NoCycle` where no cycle is open.
     pub fn pause(&mut self) -> Result<Passed, Refusal>
-        ensures step { Does self.old.world Pause result self.new.world }
-        ensures caused { IsJudgedBy (causes self.old.world.core Pause) result }
-        ensures sent { OnOk result (SendsMore self.old self.new) }
+        ensures step { Does self.old.world (Make Pause) result self.new.world }
+        ensures caused { IsJudgedBy (causes self.old.world.core (Make Pause)) result }
+        ensures sent { OnOk result (SendsMore O.origin self.old self.new) }
         ensures refused { OnErr result (self.new ≡ self.old) }
         ensures scans { self.old.world.scans ≤ self.new.world.scans }
         ensures few { OnOk result (self.new.world.scans ≤ len self.old.world.objects + BLOCK_WORDS * sets.len self.old.world.noted) }
@@ -302,9 +304,9 @@ impl<O: Opening> Locked<O> {
     ///
     /// Refusals, in their order: `CycleOpen`, `Exhausted` at the 2^48th pass.
     pub fn collect(&mut self) -> Result<Passed, Refusal>
-        ensures step { Does self.old.world Collect result self.new.world }
-        ensures caused { IsJudgedBy (causes self.old.world.core Collect) result }
-        ensures sent { OnOk result (SendsMore self.old self.new) }
+        ensures step { Does self.old.world (Make Collect) result self.new.world }
+        ensures caused { IsJudgedBy (causes self.old.world.core (Make Collect)) result }
+        ensures sent { OnOk result (SendsMore O.origin self.old self.new) }
         ensures refused { OnErr result (self.new ≡ self.old) }
         ensures few { OnOk result (self.new.world.scans ≤ len self.old.world.objects) }
         ensures noted { OnOk result (self.new.world.noted ≡ sets.empty) }
@@ -316,7 +318,7 @@ impl<O: Opening> Locked<O> {
 
     /// The number of held entries.
     pub fn outstanding(&self) -> u64
-        ensures step { Does self.now.world Outstanding (Ok result) self.now.world }
+        ensures step { Does self.now.world (Make Outstanding) (Ok result) self.now.world }
         ensures count { result ≡ length self.now.world.held }
     {
         self.world.outstanding()

@@ -4,10 +4,9 @@ ghost use Rattle.std.specs.Prelude.{◌≡◌, ◌+◌, ◌<◌, ◌≤◌, [], 
 ghost use Rattle.fz_model.specs.Events.{Finish};
 ghost use Rattle.fz_model.specs.State.{opening};
 ghost use Rattle.fz_line.specs.States.{owner_state};
-ghost use Rattle.fz_line.specs.Views.{first_room};
 ghost use Rattle.fz_world.specs.Does.{Does, StandsFor};
 ghost use Rattle.fz_world.specs.World.{WorldView, KeepsMarks};
-ghost use Rattle.fz_service.specs.States.{locked_state, LetsGo, RunsCalls, KeepsLine, SendsMore};
+ghost use Rattle.fz_service.specs.States.{locked_state, line_room, LetsGo, RunsCalls, KeepsLine, SendsMore};
 ghost use Rattle.std.specs.Fn.{FnOnceReturnsAtMut};
 ghost use Rattle.fz_service.specs.Takes.{reply_of};
 
@@ -56,7 +55,7 @@ impl<O: Opening> Locked<O> {
         rest: Share<Finishes<O>>,
     ) -> Locked<O>
         requires world { StandsFor world (opening O.origin.blocks O.origin.frames) }
-        requires owner { owner ≡ owner_state O.origin.line O.origin.workers [] [] }
+        requires owner { owner ≡ owner_state O.origin.line O.origin.workers (line_room O.origin.blocks) [] [] }
         requires book { (book.total ≡ 0) × (rest.parts ≡ 0) × (rest.amount ≡ 0) }
     {
         Locked {
@@ -78,11 +77,12 @@ impl<O: Opening> Locked<O> {
 
     /// Sends the entries of the outbox, the oldest first; returns how many were sent.
     ///
-    /// It stops early only where a push found no memory, as none of the first 64 entries does. What isn't sent stays in the outbox.
+    /// It stops early only where a push found no memory, as no entry does for which the line has room from the first: min(65,536,
+    /// 64 * blocks) entries. What isn't sent stays in the outbox.
     pub fn publish(&mut self) -> usize
         ensures sent { self.new ≡ record self.old { sent = self.old.sent ++ take result (drop self.old.published self.old.world.queue); published = self.old.published + result } }
         ensures within { self.new.published ≤ length self.old.world.queue }
-        ensures room { self.new.published < length self.old.world.queue → first_room ≤ self.new.published }
+        ensures room { self.new.published < length self.old.world.queue → line_room O.origin.blocks ≤ self.new.published }
     {
         let outbox = &self.world.queue()[self.published..];
         let count = self.owner.publish(outbox);
@@ -96,7 +96,7 @@ impl<O: Opening> Locked<O> {
         requires calls { (old : WorldView) (answer : T) (new : WorldView) → FnOnceReturnsAtMut F.FnOnce work old answer new → RunsCalls old new }
         ensures answer { FnOnceReturnsAtMut F.FnOnce work self.old.world result self.new.world }
         ensures calls { RunsCalls self.old.world self.new.world }
-        ensures sent { SendsMore self.old self.new }
+        ensures sent { SendsMore O.origin self.old self.new }
     {
         let answer = work(&mut self.world);
         self.publish();

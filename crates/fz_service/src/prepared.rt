@@ -33,13 +33,13 @@ impl Model for Prepared {
     ghost use Rattle.fz_model.specs.State.{opening};
     ghost use Rattle.fz_line.specs.States.{owner_state, new_seats};
     ghost use Rattle.fz_world.specs.Does.{StandsFor};
-    ghost use Rattle.fz_service.specs.States.{Origin};
+    ghost use Rattle.fz_service.specs.States.{Origin, line_room};
 
     ghost Value = { Origin };
 
     ghost view = { λ p. record { line = p.owner.line; workers = p.owner.seats; finishes = p.blank.name; blocks = p.config.blocks; frames = p.config.frames } };
 
-    ghost invariant = { λ p. (p.owner ≡ owner_state p.owner.line p.owner.seats [] []) × (p.seats.items ≡ new_seats p.owner.line p.owner.seats) × (p.blank.parts ≡ p.owner.seats) × StandsFor p.world (opening p.config.blocks p.config.frames) };
+    ghost invariant = { λ p. (p.owner ≡ owner_state p.owner.line p.owner.seats (line_room p.config.blocks) [] []) × (p.seats.items ≡ new_seats p.owner.line p.owner.seats) × (p.blank.parts ≡ p.owner.seats) × StandsFor p.world (opening p.config.blocks p.config.frames) };
 }
 
 /// What isn't opened goes, and its seats are retired.

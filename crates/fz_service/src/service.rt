@@ -1,12 +1,12 @@
 //! The lock, and how a service opens.
 
-ghost use Rattle.std.specs.Prelude.{◌≡◌, ◌++◌, ◌∷◌, [], IfOk, IfErr};
+ghost use Rattle.std.specs.Prelude.{◌≡◌, ◌≤◌, ◌++◌, ◌∷◌, [], IfOk, IfErr};
 ghost use Rattle.std.specs.Sync.Mutex.{mutex_guard_value};
 ghost use Rattle.fz_model.specs.Causes.{IsJudgedBy, IsJudgedOrLacks, bad_count};
-ghost use Rattle.fz_model.specs.declared.limits.TheConstants.{MAX_WORKERS};
+ghost use Rattle.fz_model.specs.declared.limits.TheConstants.{MAX_BLOCKS, MAX_WORKERS};
 ghost use Rattle.fz_line.specs.States.{new_seats};
 ghost use Rattle.fz_world.specs.Does.{open_causes};
-ghost use Rattle.fz_service.specs.States.{IsInOrder};
+ghost use Rattle.fz_service.specs.States.{IsInOrder, line_room};
 ghost use Rattle.fz_service.specs.Ends.{IsEndOfRun, IsEachOnce, IsRefusedEnd};
 
 use crate::ending::Final;
@@ -16,7 +16,7 @@ use crate::prepared::Prepared;
 use crate::seat;
 use crate::seat::Seat;
 use fz_line::{line, retire_all};
-use fz_model::{MAX_BLOCKS, MAX_FRAMES, Refusal};
+use fz_model::{BLOCK_WORDS, MAX_BLOCKS, MAX_FRAMES, Refusal, TABLE_LIMIT};
 use fz_world::{Config, World};
 use std::alloc::Global;
 use std::marker::Brand;
@@ -51,8 +51,19 @@ fn check_config(config: Config) -> Result<(), Refusal>
     Ok(())
 }
 
+/// For how many entries a line has room from the first, by the heap's blocks: as many as one pass can queue.
+fn line_room(blocks: u64) -> usize
+    requires { blocks ≤ MAX_BLOCKS }
+    ensures { result ≡ line_room blocks }
+{
+    (BLOCK_WORDS * blocks).min(TABLE_LIMIT) as usize
+}
+
 impl Service<Brand> {
     /// Makes what a service needs: a world of this size, and a line with a seat for each worker.
+    ///
+    /// The line has room for as many entries as one pass can queue, min(65,536, 64 * blocks), so that none of them asks for memory. A place of it
+    /// takes some 80 bytes, that is 5.2 MB and some 4 ms for a heap of 1,024 blocks or more.
     ///
     /// Refusals, in their order: `BadCount` where blocks, frames or workers are outside their limits, `NoMemory` where an allocation failed.
     pub fn prepare(alloc: Global, config: Config, workers: u64) -> Result<Prepared, Refusal>
@@ -60,7 +71,7 @@ impl Service<Brand> {
         ensures prepared { IfOk result (λ made. (made.blocks ≡ config.blocks) × (made.frames ≡ config.frames) × (made.workers ≡ workers)) }
     {
         check_config(config)?;
-        let (owner, seats) = line(alloc, workers)?;
+        let (owner, seats) = line(alloc, workers, line_room(config.blocks))?;
         let blank = Blank::new(workers);
         match World::open(alloc, config) {
             Ok(world) => Ok(Prepared {

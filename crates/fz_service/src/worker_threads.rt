@@ -16,15 +16,22 @@ use std::thread::{Parker, Threads};
 use std::time::Duration;
 use std::{hint, mem, thread};
 
-/// How often in a row a worker yields where the line is empty, before it begins to sleep.
+/// How often in a row a worker spins where the line is empty, before it begins to yield: for some 10 microseconds in all.
+const SPINS: u32 = 16;
+
+/// How often it tells the processor so at a time.
+const HINTS: u32 = 16;
+
+/// How often in a row it yields, before it begins to sleep.
 const YIELDS: u32 = 64;
 
 /// For how many microseconds it sleeps at a time.
 const SLEEP: u64 = 100;
 
-/// What a worker does while the line is empty: it yields at first, and then sleeps for a moment at a time, since nothing wakes it.
+/// What a worker does while the line is empty: it spins at first, then yields, and then sleeps for a moment at a time, since nothing wakes it.
 #[derive(Drop)]
 struct Pause {
+    spins: u32,
     yields: u32,
     parker: Parker,
 }
@@ -32,18 +39,34 @@ struct Pause {
 impl Pause {
     fn new() -> Pause {
         Pause {
+            spins: 0,
             yields: 0,
             parker: Parker::new(),
         }
     }
 
+    /// The line had an entry, so that the next pause is a first one.
+    fn end(&mut self) {
+        self.spins = 0;
+        self.yields = 0;
+    }
+
     fn once<R: Wait>(&mut self, rt: &R) {
-        if self.yields < YIELDS {
+        if self.spins < SPINS {
+            self.spins += 1;
+            spin();
+        } else if self.yields < YIELDS {
             self.yields += 1;
             thread::yield_now();
         } else {
             self.parker.park_timeout(rt, Duration::from_micros(SLEEP));
         }
+    }
+}
+
+fn spin() {
+    for _ in 0..HINTS {
+        hint::spin_loop();
     }
 }
 
@@ -164,7 +187,7 @@ impl<O: Opening> Service<O> {
             let (same, turn) = self.turn(seat, procs, gate, rt);
             seat = same;
             match turn {
-                Turn::Served(_) => pause = Pause::new(),
+                Turn::Served(_) => pause.end(),
                 Turn::Busy => hint::spin_loop(),
                 Turn::Empty => pause.once(rt),
             }
@@ -243,8 +266,8 @@ impl<O: Opening> Service<O> {
     ///
     /// The worker of the seat at a place in `seats` runs the procedures of the list at that place in `procs`, and none where `procs` is shorter.
     /// It does with each entry as `invoke_finalizers` does, and ends when it finds the line empty in a take that began after it had read
-    /// `stop` as true. So what was published before `stop` was set is taken. While the line is empty and `stop` is false, it yields, and later
-    /// sleeps for a moment at a time. The calling thread is one of the workers: whoever sets `stop` runs in another.
+    /// `stop` as true. So what was published before `stop` was set is taken. While the line is empty and `stop` is false, it spins, then yields,
+    /// and later sleeps for a moment at a time. The calling thread is one of the workers: whoever sets `stop` runs in another.
     ///
     /// Where a thread can't be started, another one serves its seat too. Without the memory for the threads' slots, all seats come back unused.
     pub fn run_workers<G: Gate + Sync, R: Threads + Wait + Sync>(

@@ -1,8 +1,7 @@
 //! Workers, which take entries and run their procedures.
 
 ghost use Rattle.std.specs.Prelude.{◌≡◌, ◌+◌, ◌<◌, ◌≤◌, Contains, length};
-ghost use Rattle.fz_line.specs.Views.{first_room};
-ghost use Rattle.fz_service.specs.States.{RunsCalls};
+ghost use Rattle.fz_service.specs.States.{line_room, RunsCalls};
 ghost use Rattle.fz_service.specs.Workers.{Extends, Serves};
 ghost use Rattle.fz_service.specs.Turns.{IsAnswered, Turns, UsesUp};
 
@@ -90,7 +89,7 @@ impl<O: Opening> Locked<O> {
     fn serve(&mut self, duty: Duty<O>, procs: &mut [Box<dyn Proc + Send>]) -> (Seat<O>, bool)
         ensures seat { Serves duty result.0 result.1 }
         ensures answer { ¬ Contains self.new.world.held duty.entry }
-        ensures sent { self.new.published < length self.new.world.queue → first_room ≤ self.new.published }
+        ensures sent { self.new.published < length self.new.world.queue → line_room O.origin.blocks ≤ self.new.published }
     {
         run(procs, duty.entry(), &mut self.world);
         self.publish();

@@ -1,2 +1,3 @@
 pub mod Registered
 pub mod Tabled
+pub mod Ranked

@@ -1,6 +1,6 @@
 //! The table and its calls.
 
-ghost use Rattle.std.specs.Prelude.{◌≡◌, ◌+◌, ◌≤◌, ◌<◌, ◌↔◌, nat_eq, length, IsTrue, IsFalse, IfSome, IfOk, IfErr, OnOk, OnErr};
+ghost use Rattle.std.specs.Prelude.{◌≡◌, ◌+◌, ◌≤◌, ◌<◌, ◌↔◌, cond, nat_eq, length, IsTrue, IsFalse, IfSome, IfOk, IfErr, OnOk, OnErr};
 ghost use Rattle.std.specs.Option.{IsNone};
 ghost use Rattle.std.specs.FinMap.{get, insert, remove, len, empty, from_entries};
 ghost use Rattle.std.specs.List.{IsDistinct};
@@ -9,6 +9,7 @@ ghost use Rattle.fz_model.specs.declared.limits.TheConstants.{TABLE_LIMIT, COUNT
 ghost use Rattle.fz_model.specs.declared.refusal.Refusal.TheVariants.{NoMemory};
 ghost use Rattle.fz_model.specs.Causes.{IsJudgedBy, IsJudgedOrLacks, full, register_causes};
 ghost use Rattle.fz_model.specs.Steps.{old_of};
+ghost use Rattle.fz_table.specs.Ranked.{ranked, has_rank};
 
 use fz_model::{Addr, COUNT_LIMIT, Old, Refusal, RegKind, Registration, TABLE_LIMIT, Word};
 use fz_pairs::Pairs;
@@ -20,6 +21,8 @@ use std::marker::Model;
 pub struct Table {
     entries: IndexMap<Addr, Registration>,
     next_number: u64,
+    /// How many registrations have a rank other than 0.
+    ranked_count: usize,
 }
 
 // Written out: who owns a table then drops it by one call that is proved here, not field by field at each way out of a function.
@@ -28,17 +31,19 @@ impl Drop for Table {
         let Table {
             entries: _,
             next_number: _,
+            ranked_count: _,
         } = self;
     }
 }
 
 impl Model for Table {
-    ghost use Rattle.std.specs.Prelude.{◌≤◌};
+    ghost use Rattle.std.specs.Prelude.{◌≤◌, ◌≡◌};
     ghost use Rattle.std.specs.Ordering.{nat_cmp};
     ghost use Rattle.std.specs.FinMap.{len, from_entries};
     ghost use Rattle.indexmap.specs.IndexMap.{spare};
     ghost use Rattle.fz_model.specs.declared.limits.TheConstants.{TABLE_LIMIT};
     ghost use Rattle.fz_table.specs.Tabled.{Tabled, tabled_code};
+    ghost use Rattle.fz_table.specs.Ranked.{ranked};
 
     ghost Value = { Tabled };
 
@@ -46,7 +51,7 @@ impl Model for Table {
 
     ghost view = { λ t. record { registered = record { registrations = from_entries t.entries.entries; next_number = t.next_number }; room = spare t.entries } };
 
-    ghost invariant = { λ t. len (from_entries {R = nat_cmp} t.entries.entries) ≤ TABLE_LIMIT };
+    ghost invariant = { λ t. (len (from_entries {R = nat_cmp} t.entries.entries) ≤ TABLE_LIMIT) × (t.ranked_count ≡ len (ranked (from_entries t.entries.entries))) };
 }
 
 impl Table {
@@ -57,6 +62,7 @@ impl Table {
         Table {
             entries: IndexMap::new(alloc),
             next_number: 0,
+            ranked_count: 0,
         }
     }
 
@@ -143,6 +149,7 @@ impl Table {
         // A refused insertion leaves the entries as they were.
         let replaced = self.entries.insert(object, registration)?;
         self.next_number = number + 1;
+        self.ranked_count = self.ranked_count + ranked_in(Some(registration)) - ranked_in(replaced);
         Ok((number, replaced.map(pair_of)))
     }
 
@@ -154,7 +161,9 @@ impl Table {
         ensures room { self.old.room ≤ self.new.room }
         ensures count { IfSome result (λ _. len self.new.registrations + 1 ≡ len self.old.registrations) }
     {
-        self.entries.swap_remove(&object)
+        let taken = self.entries.swap_remove(&object);
+        self.ranked_count -= ranked_in(taken);
+        taken
     }
 
     /// Removes the object's registration; returns its procedure and client data.
@@ -172,6 +181,13 @@ impl Table {
         ensures limit { result ≤ TABLE_LIMIT }
     {
         self.entries.len()
+    }
+
+    /// How many registrations have a rank other than 0.
+    pub fn ranked(&self) -> usize
+        ensures { result ≡ len (ranked self.now.registrations) }
+    {
+        self.ranked_count
     }
 
     /// Whether no object is registered.
@@ -203,6 +219,16 @@ impl Table {
         ensures { result ≡ (full self.now.registrations object).0 }
     {
         self.len() as u64 >= TABLE_LIMIT && self.get(object).is_none()
+    }
+}
+
+/// 1 where there is a registration, and its rank isn't 0.
+fn ranked_in(registration: Option<Registration>) -> usize
+    ensures { result ≡ cond (has_rank registration) 1 0 }
+{
+    match registration {
+        Some(registration) => (registration.rank != 0) as usize,
+        None => 0,
     }
 }
 

@@ -6,7 +6,6 @@ mod device;
 mod failures;
 mod fault;
 mod input;
-mod memory;
 mod output;
 mod refusals;
 
@@ -15,6 +14,5 @@ pub use device::{Sink, Source};
 pub use failures::Failures;
 pub use fault::DriveFault;
 pub use input::{Ending, MAX_LINE, ReadFailed, is_kept, next_line};
-pub use memory::{Limits, MemorySink, MemorySource, Pieces, WHOLE, bytewise};
 pub use output::{Word, WriteFailed, write_all, write_line};
 pub use refusals::{write_malformed, write_refused};

@@ -4,26 +4,26 @@ use Rattle.std.proofs.lemmas.List.{map-append, replicate-append-replicate, drop_
 use Rattle.std.proofs.lemmas.List.Sums.{sum_by-append, sum_by-cons}
 use mir.Val.{bool_byte}
 use Rattle.fz_model.specs.declared.refusal.Refusal.{Refusal}
-use Rattle.fz_model.specs.Events.{Event, Answer}
+use Rattle.fz_model.specs.declared.call.Call.TheVariants as calls
+use Rattle.fz_model.specs.Events.{Event, Make, CallAnswer}
 use Rattle.fz_world.specs.World.{WorldView}
 use Rattle.fz_world.specs.Does.{Does}
 use Rattle.fz_service.specs.States.{Origin, LockedState, IsInOrder}
-use Rattle.fz_model.specs.Events as events
 use Rattle.fz_model.specs.declared.call.Call.{Call}
 use Rattle.fz_model.specs.declared.call.Reply.{Reply}
-use Rattle.fz_model.specs.Calls.{event, result_of}
+use Rattle.fz_model.specs.Calls.{result_of}
 use Rattle.fz_world.specs.Replies.{Replies}
 use Rattle.fz_script.specs.declared.job.Job.{Job}
 use Rattle.fz_script.specs.declared.job.Job.TheVariants as jobs
 use Rattle.fz_threads.specs.Holds.{Hold, event_in, is_refused, Held, HasRefused, IsTurn, AreTurns, NoTurn, OneTurn, Carries, Works, NoWork, OneJob, begins_section, own_from, own_jobs, Settles, settling}
 
-same_refused : (call : Call) (answer : Result (Answer (event call)) Refusal) → is_err (result_of call answer) ≡ is_err answer
+same_refused : (call : Call) (answer : Result (CallAnswer call) Refusal) → is_err (result_of call answer) ≡ is_err answer
 same_refused call (Ok answer) = refl
 same_refused call (Err refusal) = refl
 
-pub held : (origin : Origin) (old : LockedState) (call : Call) (result : Result Reply Refusal) (refused : Bool) (new : WorldView) → IsInOrder origin old → Replies old.world call result new → refused ≡ is_err result → Held origin (event call) refused
+pub held : (origin : Origin) (old : LockedState) (call : Call) (result : Result Reply Refusal) (refused : Bool) (new : WorldView) → IsInOrder origin old → Replies old.world call result new → refused ≡ is_err result → Held origin (Make call) refused
 held origin old call result refused new ordered replies is =
-    (record { old = old; in_order = ordered; event = event call; reply = replies.answer; new = new; does = replies.does }, refl, sym (is ∙ ap is_err replies.told ∙ same_refused call replies.answer))
+    (record { old = old; in_order = ordered; event = Make call; reply = replies.answer; new = new; does = replies.does }, refl, sym (is ∙ ap is_err replies.told ∙ same_refused call replies.answer))
 
 -- ---- sums of refused holds
 
@@ -61,7 +61,7 @@ pub turns_more : (origin : Origin) (new register drop : Event) (n x y : ℕ) →
 turns_more origin new register drop n x y h t = (h.0 ++ t.0, OneTurn n h.0 t.0 h.1 t.1, counts_add h.0 t.0 x y h.2 t.2)
 
 -- one call in a hold of its own is a job
-pub one_call : (origin : Origin) (call : Call) (b : Bool) → Held origin (event call) b → HasRefused origin (Carries (jobs.Call call)) (bool_byte b)
+pub one_call : (origin : Origin) (call : Call) (b : Bool) → Held origin (Make call) b → HasRefused origin (Carries (jobs.Call call)) (bool_byte b)
 one_call origin call b h =
     let one : count_by is_refused (h.0 ∷ []) ≡ bool_byte b + 0 = counted h.0 [] b h.2 in (h.0 ∷ [], ap (λ e. e ∷ []) h.1, omega (arith, one))
 
@@ -120,8 +120,8 @@ doing_last origin number jobs begun refused d = subst (λ js. HasRefused origin 
 
 -- ---- the end of a run
 
-pub settles_first : (origin : Origin) (b : Bool) → Held origin events.Pause b → Settles origin 0
+pub settles_first : (origin : Origin) (b : Bool) → Held origin (Make calls.Pause) b → Settles origin 0
 settles_first origin b h = (h.0 ∷ [], ap (λ e. e ∷ []) h.1)
 
-pub settles_more : (origin : Origin) (n : ℕ) (b : Bool) → Settles origin n → Held origin events.Collect b → Settles origin (n + 1)
-settles_more origin n b s h = (s.0 ++ h.0 ∷ [], map-append event_in s.0 (h.0 ∷ []) ∙ ap (λ l. l ++ h.0.event ∷ []) s.1 ∙ ap (λ e. settling n ++ e ∷ []) h.1 ∙ ap (λ l. events.Pause ∷ l) (replicate-append-replicate n 1 events.Collect))
+pub settles_more : (origin : Origin) (n : ℕ) (b : Bool) → Settles origin n → Held origin (Make calls.Collect) b → Settles origin (n + 1)
+settles_more origin n b s h = (s.0 ++ h.0 ∷ [], map-append event_in s.0 (h.0 ∷ []) ∙ ap (λ l. l ++ h.0.event ∷ []) s.1 ∙ ap (λ e. settling n ++ e ∷ []) h.1 ∙ ap (λ l. Make calls.Pause ∷ l) (replicate-append-replicate n 1 (Make calls.Collect)))

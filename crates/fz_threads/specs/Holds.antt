@@ -1,11 +1,10 @@
 -- What a thread does, one hold of the lock after another.
-use Rattle.std.specs.Prelude.{◌≡◌, ℕ, ◌+◌, ◌==◌, ◌<◌, Bool, true, false, if◌then◌else◌, List, [], ◌∷◌, ◌++◌, map, replicate, count_by, length, sum, slice_index, is_err, Result}
+use Rattle.std.specs.Prelude.{◌≡◌, ℕ, ◌+◌, ◌==◌, ◌<◌, Bool, true, false, if◌then◌else◌, List, [], ◌∷◌, ◌++◌, map, replicate, count_by, length, sum, None, slice_index, is_err, Result}
 use Rattle.fz_model.specs.declared.refusal.Refusal.{Refusal}
-use Rattle.fz_model.specs.Events as events
-use Rattle.fz_model.specs.Events.{Event, Answer}
+use Rattle.fz_model.specs.declared.call.Call.TheVariants as calls
+use Rattle.fz_model.specs.Events.{Event, Make, Answer}
 use Rattle.fz_world.specs.World.{WorldView}
 use Rattle.fz_world.specs.Does.{Does}
-use Rattle.fz_model.specs.Calls.{event}
 use Rattle.fz_script.specs.declared.job.Job.{Job}
 use Rattle.fz_script.specs.declared.job.Job.TheVariants.{Mutator, Collector, Churn, Call}
 use Rattle.fz_service.specs.States.{Origin, LockedState, IsInOrder}
@@ -42,9 +41,9 @@ pub data AreTurns {origin : Origin} (new register drop : Event) : ℕ → List (
 
 -- the holds of one job
 abbrev pub Carries : {origin : Origin} → Job → List (Hold origin) → Type 0
-Carries (Call call) holds = map event_in holds ≡ event call ∷ []
+Carries (Call call) holds = map event_in holds ≡ Make call ∷ []
 Carries (Churn count slot size kind finalizer_kind procedure) holds =
-    AreTurns (events.Alloc slot.frame slot.slot size kind) (events.Register slot.frame slot.slot finalizer_kind procedure 0 0) (events.Set slot.frame slot.slot 0) count holds
+    AreTurns (Make (calls.Alloc slot size kind)) (Make (calls.Register slot finalizer_kind procedure 0 None)) (Make (calls.Set slot 0)) count holds
 Carries _ holds = holds ≡ []
 
 -- the holds of these jobs, one after another
@@ -78,7 +77,7 @@ HasRefused origin P refused = (holds : List (Hold origin)) × P holds × (refuse
 
 -- how a run ends: a pause, and then collections
 abbrev pub settling : ℕ → List Event
-settling collections = events.Pause ∷ replicate collections events.Collect
+settling collections = Make calls.Pause ∷ replicate collections (Make calls.Collect)
 
 -- a hold in which this call was refused, or not. Means only.
 abbrev pub Held : Origin → Event → Bool → Type 0

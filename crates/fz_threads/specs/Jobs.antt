@@ -2,7 +2,7 @@
 use Rattle.std.specs.Prelude.{◌≡◌, ℕ, ◌+◌, ◌==◌, ◌≤◌, ◌<◌, Bool, true, false, nat_lt, if◌then◌else◌, ◌⊎◌, List, [], ◌∷◌, ◌++◌, length, map, filter, flat_map, fold, Option, IsTrue}
 use Rattle.std.specs.List.{All}
 use Rattle.fz_model.specs.declared.call.Call.{Call as WorldCall}
-use Rattle.fz_model.specs.declared.call.Call.TheVariants.{Alloc, Copy, Load, Store, Set, Register, Unregister, Link, Unlink, Move, Begin, Mark, Pause, Collect, Close, Outstanding}
+use Rattle.fz_model.specs.declared.call.Call.TheVariants.{Begin, Mark, Pause, Collect, Close, Outstanding}
 use Rattle.fz_script.specs.declared.job.Job.{Job}
 use Rattle.fz_script.specs.declared.job.Job.TheVariants.{Open, Settle, Mutator, Collector, Churn, Call}
 use Rattle.fz_script.specs.Jobs.{spelling, Fits}
@@ -25,24 +25,15 @@ abbrev pub is_settle : Job → Bool
 is_settle (Settle collections) = true
 is_settle _ = false
 
--- whose call it is; nobody makes the last two, since the world closes at the end, and nothing is reported meanwhile
+-- whose call it is; nobody closes the world, which is done at the end, or asks how many entries are held, since nothing is reported meanwhile
 abbrev pub maker : WorldCall → Actor
-maker (Alloc slot size kind) = actor.Mutator
-maker (Copy slot to) = actor.Mutator
-maker (Load place to) = actor.Mutator
-maker (Store place from) = actor.Mutator
-maker (Set slot word) = actor.Mutator
-maker (Register slot kind procedure client_data rank) = actor.Mutator
-maker (Unregister slot) = actor.Mutator
-maker (Link which place target) = actor.Mutator
-maker (Unlink which place) = actor.Mutator
-maker (Move which place to) = actor.Mutator
 maker Begin = actor.Collector
 maker (Mark budget) = actor.Collector
 maker Pause = actor.Collector
 maker Collect = actor.Collector
 maker Close = actor.Nobody
 maker Outstanding = actor.Nobody
+maker _ = actor.Mutator
 
 abbrev pub is_same : Actor → Actor → Bool
 is_same actor.Mutator actor.Mutator = true

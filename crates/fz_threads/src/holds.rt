@@ -1,6 +1,6 @@
 //! Calls, each under a hold of the lock of its own.
 
-ghost use Rattle.fz_model.specs.Calls.{event};
+ghost use Rattle.fz_model.specs.Events.{Make};
 ghost use Rattle.fz_threads.specs.Holds.{Held};
 
 use fz_model::Call;
@@ -9,7 +9,7 @@ use std::sync::Wait;
 
 /// Carries out a call in a hold of its own; returns whether it was refused.
 pub(crate) fn hold_for<O: Opening, R: Wait>(service: &Service<O>, call: Call, rt: &R) -> bool
-    ensures { Held O.origin (event call) result }
+    ensures { Held O.origin (Make call) result }
 {
     let mut locked = service.enter(rt);
     locked.carry_out(call).is_err()

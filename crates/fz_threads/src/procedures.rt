@@ -1,6 +1,7 @@
 //! The procedures of a threads file's finalizers.
 
 ghost use Rattle.std.specs.Prelude.{◌≡◌};
+ghost use Rattle.fz_model.specs.Places.{slot_at};
 ghost use Rattle.fz_model.specs.Events.{Hold};
 ghost use Rattle.fz_service.specs.States.{RunsCalls};
 ghost use Rattle.fz_threads.specs.Holds.{Makes};
@@ -29,7 +30,7 @@ impl Proc for Keep {
     #[tactic(auto, using(fz_service::proofs::Running::runs_calls))]
     fn run(&mut self, entry: &Entry, world: &mut World)
         ensures calls { RunsCalls world.old world.new }
-        ensures holds { Makes (Hold 0 15 entry.now) world.old world.new }
+        ensures holds { Makes (Hold (slot_at 0 15) entry.now) world.old world.new }
     {
         let _not_held = world.hold(0, 15, entry);
     }

@@ -2,7 +2,7 @@
 
 ghost use Rattle.std.specs.Prelude.{◌≡◌, ◌≤◌, ◌*◌, length};
 ghost use Rattle.std.specs.List.{All};
-ghost use Rattle.fz_model.specs.Calls.{event};
+ghost use Rattle.fz_model.specs.Events.{Make};
 ghost use Rattle.fz_script.specs.declared.job.TheConstants.{MAX_TURNS};
 ghost use Rattle.fz_threads.specs.declared.limits.TheConstants.{MAX_LINES, MAX_REFUSED_OF_LINE, MAX_REFUSED};
 ghost use Rattle.fz_threads.specs.Holds.{HasRefused, IsTurn, AreTurns, Carries, Works, own_jobs, begins_section, turns_of};
@@ -22,7 +22,7 @@ fn turn<O: Opening, R: Wait>(
     let_go: Call,
     rt: &R,
 ) -> u64
-    ensures refused { HasRefused O.origin (IsTurn (event new) (event register) (event let_go)) result }
+    ensures refused { HasRefused O.origin (IsTurn (Make new) (Make register) (Make let_go)) result }
     ensures few { result ≤ 2 }
 {
     if hold_for(service, new, rt) {
@@ -43,7 +43,7 @@ fn turns<O: Opening, R: Wait>(
     rt: &R,
 ) -> u64
     requires { count ≤ MAX_TURNS }
-    ensures refused { HasRefused O.origin (AreTurns (event new) (event register) (event let_go) count) result }
+    ensures refused { HasRefused O.origin (AreTurns (Make new) (Make register) (Make let_go) count) result }
     ensures few { result ≤ MAX_REFUSED_OF_LINE }
 {
     let mut refused = 0;

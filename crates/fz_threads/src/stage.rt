@@ -24,23 +24,14 @@ pub(crate) struct Stage {
     pub(crate) collectors: u64,
 }
 
-/// Whose call it is. Nobody makes the last two: the world closes at the end, and nothing is reported meanwhile.
+/// Whose call it is. Nobody closes the world, which is done at the end, or counts what is held, since nothing is reported meanwhile.
 fn maker(call: Call) -> Actor
     ensures { result ≡ maker call }
 {
     match call {
-        Call::Alloc { .. }
-        | Call::Copy { .. }
-        | Call::Load { .. }
-        | Call::Store { .. }
-        | Call::Set { .. }
-        | Call::Register { .. }
-        | Call::Unregister { .. }
-        | Call::Link { .. }
-        | Call::Unlink { .. }
-        | Call::Move { .. } => Actor::Mutator,
         Call::Begin | Call::Mark { .. } | Call::Pause | Call::Collect => Actor::Collector,
         Call::Close | Call::Outstanding => Actor::Nobody,
+        _ => Actor::Mutator,
     }
 }
 

@@ -1,5 +1,5 @@
 -- A reply of a world is a step of the model from each state that the world stands for.
-use Rattle.std.proofs.Common.{◌≡◌, ◌⊎◌, ◌||◌, ◌==◌, ◌+◌, ◌++◌, append_assoc, ℕ, Bool, true, false, cond, if◌then◌else◌, [], ◌∷◌, None, Some, Result, Ok, Err, IsErrAnd, refl, sym, ap, subst, ◌∙◌, inl, inr, ⊎_elim, suc, arith, IsTrue, IsFalse, Any, Contains}
+use Rattle.std.proofs.Common.{◌≡◌, ◌⊎◌, ◌||◌, ◌==◌, ◌+◌, ◌++◌, append_assoc, ℕ, Bool, true, false, cond, if◌then◌else◌, [], ◌∷◌, Option, None, Some, Result, Ok, Err, IsErrAnd, refl, sym, ap, subst, ◌∙◌, inl, inr, ⊎_elim, suc, arith, IsTrue, IsFalse, Any, Contains}
 use Rattle.std.proofs.lemmas.Bool.{cond-true, cases_eq, ne_eqb, both_ways}
 use Rattle.std.specs.FinSet.{contains, insert}
 use Rattle.fz_model.specs.declared.kinds.ObjKind.{ObjKind}
@@ -14,12 +14,15 @@ use Rattle.fz_model.specs.Causes.{Causes, IsJudgedBy, first_cause, slot_causes, 
 use Rattle.fz_model.proofs.Judged.{judged_more, judged_err}
 use Rattle.fz_model.specs.declared.kinds.LinkKind.{LinkKind}
 use Rattle.fz_model.specs.declared.kinds.RegKind.{RegKind}
-use Rattle.fz_model.specs.Events.{Event, Alloc, Register, Link, links_of, Begin, Mark, Pause, Collect, Answer, causes}
+use Rattle.fz_model.specs.declared.call.Call.TheVariants.{Alloc, Register, Link, Begin, Mark, Pause}
+use Rattle.fz_model.specs.declared.places.Slot as places
+use Rattle.fz_model.specs.Places.{slot_at, place_at}
+use Rattle.fz_model.specs.Events.{Event, Make, links_of, causes_at, Answer, causes}
 use Rattle.fz_model.specs.Steps.{Accepts, IsRefusedAs, moments_after}
 use Rattle.fz_model.proofs.SeenAfter.{IsShown, accepted_seen, is_pause, whatever_seen}
 use Rattle.fz_model.proofs.SeenKept.{FramesWhole, still_seen, now_seen, put_root}
 use Rattle.fz_model.proofs.Parts.{none_stands}
-use Rattle.fz_model.specs.Memory.{points, slot_word, with_slot}
+use Rattle.fz_model.specs.Memory.{points, slot_word, with_slot, address_of}
 use Rattle.fz_dirty.specs.Flags.{Set}
 use Rattle.fz_model.proofs.Sets.{has_inserted}
 use Rattle.fz_marker.specs.Marking.{IsLedFrom, IsClosed}
@@ -78,9 +81,9 @@ does_ended old new e answer other shown none accepts off =
     does_marking old new e answer other shown none accepts (λ s stands on a t. absurd (both_ways new.core.cycle off on))
 
 -- the marks of a cycle that begins are the roots
-pub does_begin : (old new : WorldView) → first_cause (causes old.core Begin) ≡ None → new.core ≡ record old.core { cycle = true } → ((a : ℕ) → IsTrue (contains new.marked a) → IsRoot old.core a) → Does old Begin (Ok tt) new
+pub does_begin : (old new : WorldView) → first_cause (causes old.core (Make Begin)) ≡ None → new.core ≡ record old.core { cycle = true } → ((a : ℕ) → IsTrue (contains new.marked a) → IsRoot old.core a) → Does old (Make Begin) (Ok tt) new
 does_begin old new none is marks =
-    does_marking old new Begin tt refl tt none is (λ s stands on a t. inr (subst (λ c. IsReachable c a) (sym is) (record { root = a; is_root = same_root a (marks a t); leads = Itself })))
+    does_marking old new (Make Begin) tt refl tt none is (λ s stands on a t. inr (subst (λ c. IsReachable c a) (sym is) (record { root = a; is_root = same_root a (marks a t); leads = Itself })))
   where
     same_root : (a : ℕ) → IsRoot old.core a → IsRoot (record old.core { cycle = true }) a
     same_root a (Slot frame word in_frames in_frame points) = Slot frame word in_frames in_frame points
@@ -90,8 +93,8 @@ does_begin old new none is marks =
     same_root a (Registered r closed here) = Registered r closed here
 
 -- marks that come are led to from marks
-pub does_mark : (old new : WorldView) (budget : ℕ) (answer : Progress) → first_cause (causes old.core (Mark budget)) ≡ None → Accepts (record { core = old.core; moments = [] }) (Mark budget) answer new.core → ((a : ℕ) → IsTrue (contains new.marked a) → IsLedFrom old.core.objects old.marked a) → Does old (Mark budget) (Ok answer) new
-does_mark old new budget answer none accepts led = does_marking old new (Mark budget) answer refl tt none accepts (λ s stands on a t. inl (was s stands on a t))
+pub does_mark : (old new : WorldView) (budget : ℕ) (answer : Progress) → first_cause (causes old.core (Make (Mark budget))) ≡ None → Accepts (record { core = old.core; moments = [] }) (Make (Mark budget)) answer new.core → ((a : ℕ) → IsTrue (contains new.marked a) → IsLedFrom old.core.objects old.marked a) → Does old (Make (Mark budget)) (Ok answer) new
+does_mark old new budget answer none accepts led = does_marking old new (Make (Mark budget)) answer refl tt none accepts (λ s stands on a t. inl (was s stands on a t))
   where
     was : (s : State) → StandsFor old s → IsTrue new.core.cycle → (a : ℕ) → IsTrue (contains new.marked a) → WasSeen s a
     was s stands on a t = let from = led a t in follow from.0 a (stands.marks open_ from.0 from.1) (subst (λ (c : Core). Leads c.objects from.0 a) stands.core from.2)
@@ -104,9 +107,9 @@ does_mark old new budget answer none accepts led = does_marking old new (Mark bu
         follow from a h (OneMore {b = b} leads child) = stands.seen.closed open_ b a (follow from b h leads) child
 
 -- in an open cycle a new object is marked
-pub does_alloc : (old new : WorldView) (frame slot size : ℕ) (kind : ObjKind) (answer : ℕ × ℕ) → FramesWhole old.core → points new.core.objects answer.0 ≡ Some answer.0 → first_cause (causes old.core (Alloc frame slot size kind)) ≡ None → Accepts (record { core = old.core; moments = [] }) (Alloc frame slot size kind) answer new.core → new.marked ≡ with_in_cycle old.core.cycle old.marked answer.0 → Does old (Alloc frame slot size kind) (Ok answer) new
-does_alloc old new frame slot size kind answer whole start none accepts marked =
-    does_marking old new (Alloc frame slot size kind) answer refl (whole, start) none accepts (λ s stands on a t.
+pub does_alloc : (old new : WorldView) (slot : places.Slot) (size : ℕ) (kind : ObjKind) (answer : ℕ × ℕ) → FramesWhole old.core → points new.core.objects answer.0 ≡ Some answer.0 → first_cause (causes old.core (Make (Alloc slot size kind))) ≡ None → Accepts (record { core = old.core; moments = [] }) (Make (Alloc slot size kind)) answer new.core → new.marked ≡ with_in_cycle old.core.cycle old.marked answer.0 → Does old (Make (Alloc slot size kind)) (Ok answer) new
+does_alloc old new slot size kind answer whole start none accepts marked =
+    does_marking old new (Make (Alloc slot size kind)) answer refl (whole, start) none accepts (λ s stands on a t.
     ⊎_elim
     (λ same. inr (subst (λ n. IsReachable new.core n) (sym same) reached))
     (λ other. inl (stands.marks (sym (ap (λ (c : Core). c.cycle) accepts.3 ∙ ap (λ (c : Core). c.cycle) stands.core) ∙ on) a (was a other t)))
@@ -119,7 +122,7 @@ does_alloc old new frame slot size kind answer whole start none accepts marked =
     is_new = ap (λ (p : ℕ × ℕ). p.0) accepts.2
 
     reached : IsReachable new.core answer.0
-    reached = put_root old.core frame slot whole (none_stands (causes old.core (Alloc frame slot size kind)) none).0 answer.0 answer.0 new.core (ap (λ (k : Core). k.frames) accepts.3 ∙ ap (λ n. with_slot old.core.frames frame slot n) (sym is_new)) start
+    reached = put_root old.core slot whole (none_stands (causes old.core (Make (Alloc slot size kind))) none).0 answer.0 answer.0 new.core (ap (λ (k : Core). k.frames) accepts.3 ∙ ap (λ n. with_slot old.core.frames slot n) (sym is_new)) start
 
     was : (a : ℕ) → (a ≡ answer.0 → ⊥) → IsTrue (contains new.marked a) → IsTrue (contains old.marked a)
     was a other t = from old.core.cycle (sym (ap (λ (m : Set). contains m a) marked) ∙ t)
@@ -129,17 +132,17 @@ does_alloc old new frame slot size kind answer whole start none accepts marked =
         from false h = h
 
 -- closed marks that have all roots are a finding
-pub does_pause : (old new : WorldView) (marked : Set) (passed : Passed) → first_cause (causes old.core Pause) ≡ None → IsTrue old.core.cycle → ((a : ℕ) → IsRoot old.core a → IsTrue (contains marked a)) → IsClosed old.core.objects marked → ((a : ℕ) → IsTrue (contains marked a) → (from : ℕ) × (IsTrue (contains old.marked from) ⊎ IsRoot old.core from) × Leads old.core.objects from a) → Passes old.core (contains marked) passed new.core → new.core.cycle ≡ false → Does old Pause (Ok passed) new
+pub does_pause : (old new : WorldView) (marked : Set) (passed : Passed) → first_cause (causes old.core (Make Pause)) ≡ None → IsTrue old.core.cycle → ((a : ℕ) → IsRoot old.core a → IsTrue (contains marked a)) → IsClosed old.core.objects marked → ((a : ℕ) → IsTrue (contains marked a) → (from : ℕ) × (IsTrue (contains old.marked from) ⊎ IsRoot old.core from) × Leads old.core.objects from a) → Passes old.core (contains marked) passed new.core → new.core.cycle ≡ false → Does old (Make Pause) (Ok passed) new
 unfolding Does
 does_pause old new marked passed none on roots closed led passes off s stands =
-    let Here = λ (c : Core). (first_cause (causes c Pause) ≡ None) × IsTrue c.cycle × ((a : ℕ) → IsRoot c a → IsTrue (contains marked a)) × IsClosed c.objects marked × ((a : ℕ) → IsTrue (contains marked a) → (from : ℕ) × (IsTrue (contains old.marked from) ⊎ IsRoot c from) × Leads c.objects from a) × Passes c (contains marked) passed new.core in
+    let Here = λ (c : Core). (first_cause (causes c (Make Pause)) ≡ None) × IsTrue c.cycle × ((a : ℕ) → IsRoot c a → IsTrue (contains marked a)) × IsClosed c.objects marked × ((a : ℕ) → IsTrue (contains marked a) → (from : ℕ) × (IsTrue (contains old.marked from) ⊎ IsRoot c from) × Leads c.objects from a) × Passes c (contains marked) passed new.core in
     let here : Here s.core = subst Here stands.core (none, on, roots, closed, led, passes) in
     let after : State = record { core = new.core; moments = moments_after s new.core } in (
       after,
       (here.0, (contains marked, finding s stands here.1 here.2 here.3 here.4, here.5), refl),
       record {
         core = refl;
-        seen = accepted_seen s after stands.seen refl Pause passed tt here.0 (contains marked, finding s stands here.1 here.2 here.3 here.4, here.5);
+        seen = accepted_seen s after stands.seen refl (Make Pause) passed tt here.0 (contains marked, finding s stands here.1 here.2 here.3 here.4, here.5);
         marks = λ open_. absurd (both_ways new.core.cycle off open_);
       },
     )
@@ -161,35 +164,35 @@ does_pause old new marked passed none on roots closed led passes off s stands =
 
 -- ---- a link's causes: those of its two ends, and a full table
 
-module _ (c : Core) (which : LinkKind) (frame slot offset to_frame to_slot : ℕ) where
+module _ (c : Core) (which : LinkKind) (frame slot offset target_frame target_slot : ℕ) where
   of_ends : Causes
-  of_ends = slot_causes c.frames frame slot ++ (slot_causes c.frames to_frame to_slot ++ (place_causes c.objects (slot_word c.frames frame slot) offset ++ start_causes c.objects (slot_word c.frames to_frame to_slot)))
+  of_ends = slot_causes c.frames (slot_at frame slot) ++ (slot_causes c.frames (slot_at target_frame target_slot) ++ (causes_at c (place_at frame slot offset) ++ start_causes c.objects (slot_word c.frames (slot_at target_frame target_slot))))
 
   of_table : Causes
-  of_table = full (links_of c which) (slot_word c.frames frame slot + offset) ∷ []
+  of_table = full (links_of c which) (address_of c.frames (place_at frame slot offset)) ∷ []
 
-  all_causes : of_ends ++ of_table ≡ causes c (Link which frame slot offset to_frame to_slot)
+  all_causes : of_ends ++ of_table ≡ causes c (Make (Link which (place_at frame slot offset) (slot_at target_frame target_slot)))
   unfolding of_ends of_table
   all_causes =
-      let first = slot_causes c.frames frame slot in
-      let second = slot_causes c.frames to_frame to_slot in
-      let place = place_causes c.objects (slot_word c.frames frame slot) offset in
-      let start = start_causes c.objects (slot_word c.frames to_frame to_slot) in
-      append_assoc first (second ++ (place ++ start)) of_table ∙ ap (λ rest. first ++ rest) (append_assoc second (place ++ start) of_table ∙ ap (λ rest. second ++ rest) (append_assoc place start of_table))
+      let first = slot_causes c.frames (slot_at frame slot) in
+      let second = slot_causes c.frames (slot_at target_frame target_slot) in
+      let at = causes_at c (place_at frame slot offset) in
+      let start = start_causes c.objects (slot_word c.frames (slot_at target_frame target_slot)) in
+      append_assoc first (second ++ (at ++ start)) of_table ∙ ap (λ rest. first ++ rest) (append_assoc second (at ++ start) of_table ∙ ap (λ rest. second ++ rest) (append_assoc at start of_table))
 
-  pub link_refused : (r : Refusal) → first_cause (slot_causes c.frames frame slot ++ (slot_causes c.frames to_frame to_slot ++ (place_causes c.objects (slot_word c.frames frame slot) offset ++ start_causes c.objects (slot_word c.frames to_frame to_slot)))) ≡ Some r → first_cause (causes c (Link which frame slot offset to_frame to_slot)) ≡ Some r
+  pub link_refused : (r : Refusal) → first_cause (slot_causes c.frames (slot_at frame slot) ++ (slot_causes c.frames (slot_at target_frame target_slot) ++ (causes_at c (place_at frame slot offset) ++ start_causes c.objects (slot_word c.frames (slot_at target_frame target_slot))))) ≡ Some r → first_cause (causes c (Make (Link which (place_at frame slot offset) (slot_at target_frame target_slot)))) ≡ Some r
   unfolding of_ends of_table
   link_refused r h = ap first_cause (sym all_causes) ∙ judged_err of_ends of_table r h
 
-  pub link_judged : first_cause (slot_causes c.frames frame slot ++ (slot_causes c.frames to_frame to_slot ++ (place_causes c.objects (slot_word c.frames frame slot) offset ++ start_causes c.objects (slot_word c.frames to_frame to_slot)))) ≡ None → first_cause (causes c (Link which frame slot offset to_frame to_slot)) ≡ first_cause (full (links_of c which) (slot_word c.frames frame slot + offset) ∷ [])
+  pub link_judged : first_cause (slot_causes c.frames (slot_at frame slot) ++ (slot_causes c.frames (slot_at target_frame target_slot) ++ (causes_at c (place_at frame slot offset) ++ start_causes c.objects (slot_word c.frames (slot_at target_frame target_slot))))) ≡ None → first_cause (causes c (Make (Link which (place_at frame slot offset) (slot_at target_frame target_slot)))) ≡ first_cause (full (links_of c which) (address_of c.frames (place_at frame slot offset)) ∷ [])
   unfolding of_ends of_table
   link_judged h = ap first_cause (sym all_causes) ∙ judged_more of_ends of_table h
 
 -- a word in the heap that isn't the start of an object is refused before the table is asked
-pub start_refused : (c : Core) (frame slot : ℕ) (kind : RegKind) (proc cd rank : ℕ) (r : Refusal) → first_cause (slot_causes c.frames frame slot) ≡ None → is_off_heap c.blocks (slot_word c.frames frame slot) ≡ false → first_cause (start_causes c.objects (slot_word c.frames frame slot)) ≡ Some r → first_cause (causes c (Register frame slot kind proc cd rank)) ≡ Some r
-start_refused c frame slot kind proc cd rank r slots inside h =
-    let word = slot_word c.frames frame slot in
+pub start_refused : (c : Core) (slot : places.Slot) (kind : RegKind) (procedure client_data : ℕ) (rank : Option ℕ) (r : Refusal) → first_cause (slot_causes c.frames slot) ≡ None → is_off_heap c.blocks (slot_word c.frames slot) ≡ false → first_cause (start_causes c.objects (slot_word c.frames slot)) ≡ Some r → first_cause (causes c (Make (Register slot kind procedure client_data rank))) ≡ Some r
+start_refused c slot kind procedure client_data rank r slots inside h =
+    let word = slot_word c.frames slot in
     let rest = start_causes c.objects word ++ register_causes c.registrations c.next_number word in
-    judged_more (slot_causes c.frames frame slot) (if is_off_heap c.blocks word then [] else rest) slots
+    judged_more (slot_causes c.frames slot) (if is_off_heap c.blocks word then [] else rest) slots
     ∙ ap (λ b. first_cause (if b then [] else rest)) inside
     ∙ judged_err (start_causes c.objects word) (register_causes c.registrations c.next_number word) r h

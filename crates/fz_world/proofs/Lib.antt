@@ -8,3 +8,4 @@ pub mod Whole
 pub mod Scans
 pub mod Passing
 pub mod Replying
+pub mod Room

@@ -3,13 +3,13 @@ use Rattle.std.specs.Prelude.{◌≡◌, Result}
 use Rattle.fz_model.specs.declared.call.Call.{Call}
 use Rattle.fz_model.specs.declared.call.Reply.{Reply}
 use Rattle.fz_model.specs.declared.refusal.Refusal.{Refusal}
-use Rattle.fz_model.specs.Events.{Answer}
-use Rattle.fz_model.specs.Calls.{event, result_of}
+use Rattle.fz_model.specs.Events.{Make, CallAnswer}
+use Rattle.fz_model.specs.Calls.{result_of}
 use Rattle.fz_world.specs.World.{WorldView}
 use Rattle.fz_world.specs.Does.{Does}
 
 -- the world made the call, and the result tells its answer
 pub record Replies (old : WorldView) (c : Call) (result : Result Reply Refusal) (new : WorldView) : Type 0 where
-  pub answer : Result (Answer (event c)) Refusal
-  pub does : Does old (event c) answer new
+  pub answer : Result (CallAnswer c) Refusal
+  pub does : Does old (Make c) answer new
   pub told : result ≡ result_of c answer

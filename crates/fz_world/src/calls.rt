@@ -97,7 +97,7 @@ fn set(world: &mut World, slot: Slot, word: Word) -> Result<Reply, Refusal>
     Ok(Reply::Done)
 }
 
-#[tactic(auto, using(crate::proofs::Replying::replies, crate::proofs::Replying::refuses))]
+#[tactic(auto, using(crate::proofs::Replying::registers, crate::proofs::Replying::registers_nothing))]
 #[inline(never)]
 fn register(
     world: &mut World,

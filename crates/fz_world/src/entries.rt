@@ -4,12 +4,14 @@ ghost use Rattle.std.specs.Prelude.{◌≡◌, ◌-◌, length, slice_get, OnErr
 ghost use Rattle.std.specs.FinMap.{len};
 ghost use Rattle.std.specs.declared.result.Result.TheVariants.{Ok};
 ghost use Rattle.fz_model.specs.Causes.{IsJudgedBy};
-ghost use Rattle.fz_model.specs.Events.{Hold, Finish, Close, Outstanding, Queue, causes};
+ghost use Rattle.fz_model.specs.declared.call.Call.TheVariants.{Close, Outstanding};
+ghost use Rattle.fz_model.specs.Places.{slot_at};
+ghost use Rattle.fz_model.specs.Events.{Make, Hold, Finish, Queue, causes};
 ghost use Rattle.fz_world.specs.World.{KeepsMarks};
 ghost use Rattle.fz_world.specs.Does.{Does};
 
 use crate::world::World;
-use fz_model::{Entry, Refusal};
+use fz_model::{Entry, Refusal, Slot};
 
 #[tactic(auto, using(fz_model::proofs::Judged::judged_more, fz_model::proofs::Judged::judged_err, crate::proofs::Whole::world_finished, crate::proofs::Does::does_refused, crate::proofs::Does::does_accepted))]
 impl World {
@@ -17,14 +19,14 @@ impl World {
     ///
     /// Refusals, in their order: `BadSlot`, `NotHeld` where no held entry is the same in all its fields.
     pub fn hold(&mut self, frame: u64, slot: u64, entry: &Entry) -> Result<(), Refusal>
-        ensures step { Does self.old (Hold frame slot entry.now) result self.new }
-        ensures caused { IsJudgedBy (causes self.old.core (Hold frame slot entry.now)) result }
+        ensures step { Does self.old (Hold (slot_at frame slot) entry.now) result self.new }
+        ensures caused { IsJudgedBy (causes self.old.core (Hold (slot_at frame slot) entry.now)) result }
         ensures refused { OnErr result (self.new ≡ self.old) }
         ensures marks { KeepsMarks self.old self.new }
     {
-        self.frames.check(frame, slot)?;
+        self.frames.check(Slot { frame, slot })?;
         self.ready.check_held(entry)?;
-        self.frames.set(frame, slot, entry.obj);
+        self.frames.set(Slot { frame, slot }, entry.obj);
         Ok(())
     }
 
@@ -44,8 +46,8 @@ impl World {
     ///
     /// Refused `Closed` where the world is closed.
     pub fn close(&mut self) -> Result<(), Refusal>
-        ensures step { Does self.old Close result self.new }
-        ensures caused { IsJudgedBy (causes self.old.core Close) result }
+        ensures step { Does self.old (Make Close) result self.new }
+        ensures caused { IsJudgedBy (causes self.old.core (Make Close)) result }
         ensures refused { OnErr result (self.new ≡ self.old) }
         ensures marks { KeepsMarks self.old self.new }
     {
@@ -58,7 +60,7 @@ impl World {
 
     /// The number of held entries.
     pub fn outstanding(&self) -> u64
-        ensures step { Does self.now Outstanding (Ok result) self.now }
+        ensures step { Does self.now (Make Outstanding) (Ok result) self.now }
         ensures count { result ≡ length self.now.held }
     {
         self.ready.outstanding()

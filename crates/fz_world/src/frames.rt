@@ -5,7 +5,7 @@ ghost use Rattle.fz_model.specs.declared.limits.TheConstants.{MAX_FRAMES, SLOTS}
 ghost use Rattle.fz_model.specs.Memory.{lacks_slot, slot_word, with_slot};
 ghost use Rattle.fz_model.specs.Causes.{IsJudgedBy, slot_causes};
 
-use fz_model::{Refusal, SLOTS, Word};
+use fz_model::{Refusal, SLOTS, Slot, Word};
 use std::alloc::{AllocError, Global};
 use std::marker::Model;
 
@@ -43,13 +43,13 @@ impl Frames {
     }
 
     /// Refuses a slot that isn't there: `BadSlot`.
-    pub(crate) fn check(&self, frame: u64, slot: u64) -> Result<(), Refusal>
-        ensures judged { IsJudgedBy (slot_causes self.now frame slot) result }
-        ensures there { OnOk result (lacks_slot self.now frame slot ≡ false) }
+    pub(crate) fn check(&self, slot: Slot) -> Result<(), Refusal>
+        ensures judged { IsJudgedBy (slot_causes self.now slot) result }
+        ensures there { OnOk result (lacks_slot self.now slot ≡ false) }
         // Each frame has all its slots.
         ensures whole { All (λ (row : List ℕ). length row ≡ SLOTS) self.now }
     {
-        if frame >= self.rows.len() as u64 || slot >= SLOTS {
+        if slot.frame >= self.rows.len() as u64 || slot.slot >= SLOTS {
             return Err(Refusal::BadSlot);
         }
         Ok(())
@@ -58,25 +58,25 @@ impl Frames {
     /// The word of a slot.
     ///
     /// Refused `BadSlot` where there is no such slot.
-    pub(crate) fn get(&self, frame: u64, slot: u64) -> Result<Word, Refusal>
-        ensures judged { IsJudgedBy (slot_causes self.now frame slot) result }
-        ensures word { IfOk result (λ word. word ≡ slot_word self.now frame slot) }
-        ensures there { OnOk result (lacks_slot self.now frame slot ≡ false) }
+    pub(crate) fn get(&self, slot: Slot) -> Result<Word, Refusal>
+        ensures judged { IsJudgedBy (slot_causes self.now slot) result }
+        ensures word { IfOk result (λ word. word ≡ slot_word self.now slot) }
+        ensures there { OnOk result (lacks_slot self.now slot ≡ false) }
         // Each frame has all its slots.
         ensures whole { All (λ (row : List ℕ). length row ≡ SLOTS) self.now }
     {
-        self.check(frame, slot)?;
-        let row = &self.rows[frame as usize];
-        Ok(row[slot as usize])
+        self.check(slot)?;
+        let row = &self.rows[slot.frame as usize];
+        Ok(row[slot.slot as usize])
     }
 
     /// Puts the word into a slot. Asked only of a slot that is there.
-    pub(crate) fn set(&mut self, frame: u64, slot: u64, word: Word)
-        requires { lacks_slot self.old frame slot ≡ false }
-        ensures { self.new ≡ with_slot self.old frame slot word }
+    pub(crate) fn set(&mut self, slot: Slot, word: Word)
+        requires { lacks_slot self.old slot ≡ false }
+        ensures { self.new ≡ with_slot self.old slot word }
     {
-        let row = &mut self.rows[frame as usize];
-        row[slot as usize] = word;
+        let row = &mut self.rows[slot.frame as usize];
+        row[slot.slot as usize] = word;
     }
 
     /// All frames.

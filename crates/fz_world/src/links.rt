@@ -3,9 +3,11 @@
 ghost use Rattle.std.specs.Prelude.{◌≡◌, ◌+◌, ◌++◌, IfOk, IfErr, OnErr, IsSome};
 ghost use Rattle.std.specs.Option.{IsNone};
 ghost use Rattle.std.specs.FinMap.{get};
-ghost use Rattle.fz_model.specs.Memory.{slot_word};
+ghost use Rattle.fz_model.specs.Memory.{slot_word, address_of};
 ghost use Rattle.fz_model.specs.Causes.{IsJudgedBy, IsJudgedOrLacks, slot_causes, place_causes, start_causes};
-ghost use Rattle.fz_model.specs.Events.{Link, Unlink, MoveLink, causes, links_of};
+ghost use Rattle.fz_model.specs.declared.call.Call.TheVariants.{Link, Unlink, Move};
+ghost use Rattle.fz_model.specs.Places.{slot_at, place_at};
+ghost use Rattle.fz_model.specs.Events.{Make, causes, links_of};
 ghost use Rattle.fz_world.specs.World.{KeepsMarks};
 ghost use Rattle.fz_world.specs.Does.{Does};
 
@@ -13,44 +15,34 @@ use crate::frames::Frames;
 use crate::registrations::check_start;
 use crate::world::World;
 use fz_heap::Heap;
-use fz_model::{Addr, LinkAnswer, LinkKind, MoveAnswer, Refusal};
+use fz_model::{Addr, LinkAnswer, LinkKind, MoveAnswer, Place, Refusal, Slot};
 
 /// The places at an offset from where two slots point. Refusals, in their order: `BadSlot` of either slot, then `NotPointer` and `OutsideObject` of the
 /// first place, then those of the second.
-fn places(
-    frames: &Frames,
-    heap: &Heap,
-    from: (u64, u64, u64),
-    to: (u64, u64, u64),
-) -> Result<(Addr, Addr), Refusal>
-    ensures judged { IsJudgedBy (slot_causes frames.now from.0 from.1 ++ (slot_causes frames.now to.0 to.1 ++ (place_causes heap.now.objects (slot_word frames.now from.0 from.1) from.2 ++ place_causes heap.now.objects (slot_word frames.now to.0 to.1) to.2))) result }
-    ensures first { IfOk result (λ places. places.0 ≡ slot_word frames.now from.0 from.1 + from.2) }
-    ensures second { IfOk result (λ places. places.1 ≡ slot_word frames.now to.0 to.1 + to.2) }
+fn places(frames: &Frames, heap: &Heap, from: Place, to: Place) -> Result<(Addr, Addr), Refusal>
+    ensures judged { IsJudgedBy (slot_causes frames.now from.slot ++ (slot_causes frames.now to.slot ++ (place_causes heap.now.objects (slot_word frames.now from.slot) from.offset ++ place_causes heap.now.objects (slot_word frames.now to.slot) to.offset))) result }
+    ensures first { IfOk result (λ places. places.0 ≡ address_of frames.now from) }
+    ensures second { IfOk result (λ places. places.1 ≡ address_of frames.now to) }
 {
-    let word = frames.get(from.0, from.1)?;
-    let to_word = frames.get(to.0, to.1)?;
-    let first = heap.place(word, from.2)?;
-    let second = heap.place(to_word, to.2)?;
+    let word = frames.get(from.slot)?;
+    let to_word = frames.get(to.slot)?;
+    let first = heap.place(word, from.offset)?;
+    let second = heap.place(to_word, to.offset)?;
     Ok((first, second))
 }
 
 /// The two ends of a link: the place at an offset from where a slot points, and the start that another slot holds. Refusals, in their order:
 /// `BadSlot` of either slot, then `NotPointer` and `OutsideObject` of the place, then `NotPointer` and `NotStart` of the target.
-fn ends(
-    frames: &Frames,
-    heap: &Heap,
-    from: (u64, u64, u64),
-    target: (u64, u64),
-) -> Result<(Addr, Addr), Refusal>
-    ensures judged { IsJudgedBy (slot_causes frames.now from.0 from.1 ++ (slot_causes frames.now target.0 target.1 ++ (place_causes heap.now.objects (slot_word frames.now from.0 from.1) from.2 ++ start_causes heap.now.objects (slot_word frames.now target.0 target.1)))) result }
-    ensures place { IfOk result (λ ends. ends.0 ≡ slot_word frames.now from.0 from.1 + from.2) }
-    ensures target { IfOk result (λ ends. ends.1 ≡ slot_word frames.now target.0 target.1) }
+fn ends(frames: &Frames, heap: &Heap, place: Place, target: Slot) -> Result<(Addr, Addr), Refusal>
+    ensures judged { IsJudgedBy (slot_causes frames.now place.slot ++ (slot_causes frames.now target ++ (place_causes heap.now.objects (slot_word frames.now place.slot) place.offset ++ start_causes heap.now.objects (slot_word frames.now target)))) result }
+    ensures place { IfOk result (λ ends. ends.0 ≡ address_of frames.now place) }
+    ensures target { IfOk result (λ ends. ends.1 ≡ slot_word frames.now target) }
 {
-    let word = frames.get(from.0, from.1)?;
-    let start = frames.get(target.0, target.1)?;
-    let place = heap.place(word, from.2)?;
+    let word = frames.get(place.slot)?;
+    let start = frames.get(target)?;
+    let link = heap.place(word, place.offset)?;
     check_start(heap, start)?;
-    Ok((place, start))
+    Ok((link, start))
 }
 
 #[tactic(auto, using(fz_model::proofs::Judged::judged_more, fz_model::proofs::Judged::judged_err, crate::proofs::Does::link_refused, crate::proofs::Does::link_judged, crate::proofs::Does::does_refused, crate::proofs::Does::does_accepted))]
@@ -69,15 +61,22 @@ impl World {
         target_frame: u64,
         target_slot: u64,
     ) -> Result<LinkAnswer, Refusal>
-        ensures step { Does self.old (Link which frame slot offset target_frame target_slot) result self.new }
-        ensures caused { IsJudgedOrLacks (causes self.old.core (Link which frame slot offset target_frame target_slot)) result }
+        ensures step { Does self.old (Make (Link which (place_at frame slot offset) (slot_at target_frame target_slot))) result self.new }
+        ensures caused { IsJudgedOrLacks (causes self.old.core (Make (Link which (place_at frame slot offset) (slot_at target_frame target_slot)))) result }
         ensures refused { OnErr result (self.new ≡ self.old) }
         // Only a new link can want memory.
-        ensures growth { IfErr result (λ r. r ≡ Refusal.NoMemory → IsNone (get (links_of self.old.core which) (slot_word self.old.frames frame slot + offset))) }
+        ensures growth { IfErr result (λ r. r ≡ Refusal.NoMemory → IsNone (get (links_of self.old.core which) (address_of self.old.frames (place_at frame slot offset)))) }
         ensures marks { KeepsMarks self.old self.new }
     {
-        let place = (frame, slot, offset);
-        let (link, target) = ends(&self.frames, &self.heap, place, (target_frame, target_slot))?;
+        let place = Place {
+            slot: Slot { frame, slot },
+            offset,
+        };
+        let target = Slot {
+            frame: target_frame,
+            slot: target_slot,
+        };
+        let (link, target) = ends(&self.frames, &self.heap, place, target)?;
         match which {
             LinkKind::Short => self.short.register(link, target),
             LinkKind::Long => self.long.register(link, target),
@@ -95,12 +94,12 @@ impl World {
         slot: u64,
         offset: u64,
     ) -> Result<bool, Refusal>
-        ensures step { Does self.old (Unlink which frame slot offset) result self.new }
-        ensures caused { IsJudgedBy (causes self.old.core (Unlink which frame slot offset)) result }
+        ensures step { Does self.old (Make (Unlink which (place_at frame slot offset))) result self.new }
+        ensures caused { IsJudgedBy (causes self.old.core (Make (Unlink which (place_at frame slot offset)))) result }
         ensures refused { OnErr result (self.new ≡ self.old) }
         ensures marks { KeepsMarks self.old self.new }
     {
-        let word = self.frames.get(frame, slot)?;
+        let word = self.frames.get(Slot { frame, slot })?;
         let link = self.heap.place(word, offset)?;
         Ok(match which {
             LinkKind::Short => self.short.unregister(link),
@@ -121,20 +120,25 @@ impl World {
         to_slot: u64,
         to_offset: u64,
     ) -> Result<MoveAnswer, Refusal>
-        ensures step { Does self.old (MoveLink which frame slot offset to_frame to_slot to_offset) result self.new }
-        ensures caused { IsJudgedOrLacks (causes self.old.core (MoveLink which frame slot offset to_frame to_slot to_offset)) result }
+        ensures step { Does self.old (Make (Move which (place_at frame slot offset) (place_at to_frame to_slot to_offset))) result self.new }
+        ensures caused { IsJudgedOrLacks (causes self.old.core (Make (Move which (place_at frame slot offset) (place_at to_frame to_slot to_offset)))) result }
         ensures refused { OnErr result (self.new ≡ self.old) }
         // Only a link that comes to another place, where none stands, can want memory.
-        ensures growth { IfErr result (λ r. r ≡ Refusal.NoMemory → IsSome (get (links_of self.old.core which) (slot_word self.old.frames frame slot + offset)) × IsNone (get (links_of self.old.core which) (slot_word self.old.frames to_frame to_slot + to_offset))) }
+        ensures growth { IfErr result (λ r. r ≡ Refusal.NoMemory → IsSome (get (links_of self.old.core which) (address_of self.old.frames (place_at frame slot offset))) × IsNone (get (links_of self.old.core which) (address_of self.old.frames (place_at to_frame to_slot to_offset)))) }
         ensures marks { KeepsMarks self.old self.new }
     {
-        let place = (frame, slot, offset);
-        let (old, new) = places(
-            &self.frames,
-            &self.heap,
-            place,
-            (to_frame, to_slot, to_offset),
-        )?;
+        let place = Place {
+            slot: Slot { frame, slot },
+            offset,
+        };
+        let to = Place {
+            slot: Slot {
+                frame: to_frame,
+                slot: to_slot,
+            },
+            offset: to_offset,
+        };
+        let (old, new) = places(&self.frames, &self.heap, place, to)?;
         match which {
             LinkKind::Short => self.short.move_link(old, new),
             LinkKind::Long => self.long.move_link(old, new),

@@ -3,17 +3,19 @@
 ghost use Rattle.std.specs.Prelude.{◌≡◌, ◌+◌, ◌*◌, IfOk, OnOk, OnErr};
 ghost use Rattle.fz_model.specs.declared.limits.TheConstants.{BLOCK_WORDS};
 ghost use Rattle.fz_model.specs.Extents.{IsInHeap};
-ghost use Rattle.fz_model.specs.Memory.{slot_word};
+ghost use Rattle.fz_model.specs.Memory.{address_of};
 ghost use Rattle.fz_model.specs.Allocation.{block_of};
 ghost use Rattle.fz_model.specs.Causes.{IsJudgedBy};
-ghost use Rattle.fz_model.specs.Events.{Alloc, Load, Store, Set, Copy, causes};
+ghost use Rattle.fz_model.specs.declared.call.Call.TheVariants.{Alloc, Load, Store, Set, Copy};
+ghost use Rattle.fz_model.specs.Places.{slot_at, place_at};
+ghost use Rattle.fz_model.specs.Events.{Make, causes};
 ghost use Rattle.fz_world.specs.World.{KeepsMarks, with_in_cycle};
 ghost use Rattle.fz_world.specs.Does.{Does};
 
 use crate::world::World;
 use fz_dirty::Dirty;
 use fz_marker::Marker;
-use fz_model::{Addr, BLOCK_WORDS, HEAP_START, ObjKind, Refusal, Word};
+use fz_model::{Addr, BLOCK_WORDS, HEAP_START, ObjKind, Refusal, Slot, Word};
 
 /// Notes the page of a word that was written in an open cycle.
 fn note_written(dirty: &mut Dirty, cycle: bool, address: Addr)
@@ -49,15 +51,15 @@ impl World {
         size: u64,
         kind: ObjKind,
     ) -> Result<(Addr, u64), Refusal>
-        ensures step { Does self.old (Alloc frame slot size kind) result self.new }
+        ensures step { Does self.old (Make (Alloc (slot_at frame slot) size kind)) result self.new }
         // It takes no memory, since `open` made its room: so each refusal has its cause.
-        ensures caused { IsJudgedBy (causes self.old.core (Alloc frame slot size kind)) result }
+        ensures caused { IsJudgedBy (causes self.old.core (Make (Alloc (slot_at frame slot) size kind))) result }
         ensures refused { OnErr result (self.new ≡ self.old) }
         ensures marks { IfOk result (λ made. self.new ≡ record self.old { core = self.new.core; marked = with_in_cycle self.old.cycle self.old.marked made.0; noted = with_in_cycle self.old.cycle self.old.noted (block_of made.0) }) }
     {
-        self.frames.check(frame, slot)?;
+        self.frames.check(Slot { frame, slot })?;
         let (address, birth) = self.heap.alloc(size, kind)?;
-        self.frames.set(frame, slot, address);
+        self.frames.set(Slot { frame, slot }, address);
         mark_new(&mut self.marker, self.cycle, address, self.heap.blocks());
         note_written(&mut self.dirty, self.cycle, address);
         Ok((address, birth))
@@ -74,15 +76,19 @@ impl World {
         to_frame: u64,
         to_slot: u64,
     ) -> Result<Word, Refusal>
-        ensures step { Does self.old (Load frame slot offset to_frame to_slot) result self.new }
-        ensures caused { IsJudgedBy (causes self.old.core (Load frame slot offset to_frame to_slot)) result }
+        ensures step { Does self.old (Make (Load (place_at frame slot offset) (slot_at to_frame to_slot))) result self.new }
+        ensures caused { IsJudgedBy (causes self.old.core (Make (Load (place_at frame slot offset) (slot_at to_frame to_slot)))) result }
         ensures refused { OnErr result (self.new ≡ self.old) }
         ensures marks { KeepsMarks self.old self.new }
     {
-        let word = self.frames.get(frame, slot)?;
-        self.frames.check(to_frame, to_slot)?;
+        let word = self.frames.get(Slot { frame, slot })?;
+        let to = Slot {
+            frame: to_frame,
+            slot: to_slot,
+        };
+        self.frames.check(to)?;
         let read = self.heap.read(word, offset)?;
-        self.frames.set(to_frame, to_slot, read);
+        self.frames.set(to, read);
         Ok(read)
     }
 
@@ -98,13 +104,16 @@ impl World {
         from_frame: u64,
         from_slot: u64,
     ) -> Result<(), Refusal>
-        ensures step { Does self.old (Store frame slot offset from_frame from_slot) result self.new }
-        ensures caused { IsJudgedBy (causes self.old.core (Store frame slot offset from_frame from_slot)) result }
+        ensures step { Does self.old (Make (Store (place_at frame slot offset) (slot_at from_frame from_slot))) result self.new }
+        ensures caused { IsJudgedBy (causes self.old.core (Make (Store (place_at frame slot offset) (slot_at from_frame from_slot)))) result }
         ensures refused { OnErr result (self.new ≡ self.old) }
-        ensures marks { OnOk result (self.new ≡ record self.old { core = self.new.core; noted = with_in_cycle self.old.cycle self.old.noted (block_of (slot_word self.old.frames frame slot + offset)) }) }
+        ensures marks { OnOk result (self.new ≡ record self.old { core = self.new.core; noted = with_in_cycle self.old.cycle self.old.noted (block_of (address_of self.old.frames (place_at frame slot offset))) }) }
     {
-        let word = self.frames.get(frame, slot)?;
-        let value = self.frames.get(from_frame, from_slot)?;
+        let word = self.frames.get(Slot { frame, slot })?;
+        let value = self.frames.get(Slot {
+            frame: from_frame,
+            slot: from_slot,
+        })?;
         self.heap.write(word, offset, value)?;
         note_written(&mut self.dirty, self.cycle, word + offset);
         Ok(())
@@ -114,13 +123,13 @@ impl World {
     ///
     /// Refused `BadSlot` where there is no such slot.
     pub fn set(&mut self, frame: u64, slot: u64, word: Word) -> Result<(), Refusal>
-        ensures step { Does self.old (Set frame slot word) result self.new }
-        ensures caused { IsJudgedBy (causes self.old.core (Set frame slot word)) result }
+        ensures step { Does self.old (Make (Set (slot_at frame slot) word)) result self.new }
+        ensures caused { IsJudgedBy (causes self.old.core (Make (Set (slot_at frame slot) word))) result }
         ensures refused { OnErr result (self.new ≡ self.old) }
         ensures marks { KeepsMarks self.old self.new }
     {
-        self.frames.check(frame, slot)?;
-        self.frames.set(frame, slot, word);
+        self.frames.check(Slot { frame, slot })?;
+        self.frames.set(Slot { frame, slot }, word);
         Ok(())
     }
 
@@ -134,14 +143,18 @@ impl World {
         to_frame: u64,
         to_slot: u64,
     ) -> Result<(), Refusal>
-        ensures step { Does self.old (Copy frame slot to_frame to_slot) result self.new }
-        ensures caused { IsJudgedBy (causes self.old.core (Copy frame slot to_frame to_slot)) result }
+        ensures step { Does self.old (Make (Copy (slot_at frame slot) (slot_at to_frame to_slot))) result self.new }
+        ensures caused { IsJudgedBy (causes self.old.core (Make (Copy (slot_at frame slot) (slot_at to_frame to_slot)))) result }
         ensures refused { OnErr result (self.new ≡ self.old) }
         ensures marks { KeepsMarks self.old self.new }
     {
-        let word = self.frames.get(frame, slot)?;
-        self.frames.check(to_frame, to_slot)?;
-        self.frames.set(to_frame, to_slot, word);
+        let word = self.frames.get(Slot { frame, slot })?;
+        let to = Slot {
+            frame: to_frame,
+            slot: to_slot,
+        };
+        self.frames.check(to)?;
+        self.frames.set(to, word);
         Ok(())
     }
 }

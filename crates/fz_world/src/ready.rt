@@ -8,7 +8,7 @@ ghost use Rattle.fz_model.specs.Events.{same_entry, not_held};
 ghost use Rattle.fz_model.specs.Pass.{entries_of};
 ghost use Rattle.fz_world.specs.Ready.{IsNextHeld};
 
-use fz_dirty::Flags;
+use fz_dirty::SparseFlags;
 use fz_model::{Entry, Pick, Refusal};
 use std::alloc::Global;
 use std::marker::Model;
@@ -17,8 +17,8 @@ use std::marker::Model;
 #[derive(Drop)]
 pub(crate) struct Ready {
     queue: Vec<Entry>,
-    /// The numbers of the held entries: a bit each, so that a walk over a long past costs next to nothing.
-    held: Flags<0>,
+    /// The numbers of the held entries, as bits in two levels: a walk over a long past takes a step for 4,096 finished entries.
+    held: SparseFlags,
     outstanding: u64,
 }
 
@@ -60,7 +60,7 @@ impl Ready {
         ensures refused { IfErr result (λ r. r ≡ Refusal.NoMemory) }
         ensures empty { IfOk result (λ ready. (ready.queue ≡ []) × (ready.held ≡ [])) }
     {
-        let held = Flags::new(alloc, 0)?;
+        let held = SparseFlags::new(alloc, 0)?;
         Ok(Ready {
             queue: Vec::new(alloc),
             held,

@@ -1,6 +1,6 @@
 //! Registrations of finalizers.
 
-ghost use Rattle.std.specs.Prelude.{◌≡◌, ◌≤◌, ◌+◌, ◌⊎◌, IsFalse, IfOk, IfErr, OnOk, OnErr, vec_capacity, vec_len, ℕ};
+ghost use Rattle.std.specs.Prelude.{Some, ◌≡◌, ◌≤◌, ◌<◌, ◌+◌, ◌⊎◌, IsFalse, IfOk, IfErr, OnOk, OnErr, vec_capacity, vec_len, ℕ};
 ghost use Rattle.std.specs.Option.{IsNone};
 ghost use Rattle.std.specs.FinMap.{get, len, insert};
 ghost use Rattle.fz_model.specs.declared.answers.Registration.{Registration};
@@ -8,14 +8,18 @@ ghost use Rattle.fz_model.specs.declared.limits.TheConstants.{TABLE_LIMIT};
 ghost use Rattle.fz_model.specs.Memory.{slot_word};
 ghost use Rattle.fz_model.specs.Causes.{IsJudgedBy, IsJudgedOrLacks, start_causes, register_causes, is_off_heap, full};
 ghost use Rattle.fz_model.specs.Steps.{old_of};
-ghost use Rattle.fz_model.specs.Events.{Register, Unregister, causes};
+ghost use Rattle.fz_model.specs.declared.call.Call.TheVariants.{Register, Unregister};
+ghost use Rattle.fz_model.specs.Places.{slot_at};
+ghost use Rattle.fz_model.specs.Events.{Make, causes};
 ghost use Rattle.fz_world.specs.World.{KeepsMarks};
 ghost use Rattle.fz_world.specs.Does.{Does};
 
 use crate::ready::Ready;
 use crate::world::World;
 use fz_heap::Heap;
-use fz_model::{Addr, BLOCK_WORDS, HEAP_START, Old, Pick, Refusal, RegAnswer, RegKind, Word};
+use fz_model::{
+    Addr, BLOCK_WORDS, HEAP_START, Old, Pick, Refusal, RegAnswer, RegKind, Slot, TABLE_LIMIT, Word,
+};
 use fz_table::Table;
 
 /// Whether the word is zero, or lies outside the heap.
@@ -39,8 +43,25 @@ pub(crate) fn check_start(heap: &Heap, word: Word) -> Result<(), Refusal>
     Ok(())
 }
 
+/// Makes room for so many further entries, and as many picks. `NoMemory` where an allocation failed.
+fn reserve(ready: &mut Ready, picks: &mut Vec<Pick>, more: usize) -> Result<(), Refusal>
+    requires few { more ≤ TABLE_LIMIT }
+    ensures refused { IfErr result (λ r. r ≡ Refusal.NoMemory) }
+    ensures wanting { 0 < more → OnErr result ((ready.old.room < more) ⊎ (vec_capacity picks.old < vec_len picks.old + more)) }
+    ensures same { (ready.new.queue ≡ ready.old.queue) × (ready.new.held ≡ ready.old.held) }
+    ensures roomier { ready.old.room ≤ ready.new.room }
+    ensures items { picks.new.items ≡ picks.old.items }
+    ensures wider { vec_capacity picks.old ≤ vec_capacity picks.new }
+    ensures room { OnOk result (more ≤ ready.new.room) }
+    ensures pick_room { OnOk result (more ≤ vec_capacity picks.new) }
+{
+    ready.reserve(more)?;
+    picks.reserve(more)?;
+    Ok(())
+}
+
 /// Makes room for the entry and the pick of an object's registration, if the object isn't registered: so no pass needs memory. `NoMemory` where an
-/// allocation failed.
+/// allocation failed. The table is searched for the object only then.
 fn make_room(
     table: &Table,
     ready: &mut Ready,
@@ -60,13 +81,15 @@ fn make_room(
     ensures room { OnOk result ((r : Registration) → len (insert table.now.registrations object r) ≤ ready.new.room) }
     ensures pick_room { OnOk result ((r : Registration) → len (insert table.now.registrations object r) ≤ vec_capacity picks.new) }
 {
+    // Where the table is full, the object is registered.
+    let more = (table.len() + 1).min(TABLE_LIMIT as usize);
+    let Err(refusal) = reserve(ready, picks, more) else {
+        return Ok(());
+    };
     if table.get(object).is_some() {
         return Ok(());
     }
-    let more = table.len() + 1;
-    ready.reserve(more)?;
-    picks.reserve(more)?;
-    Ok(())
+    Err(refusal)
 }
 
 /// Registers an object, once there is room for its entry and its pick; returns the number and what was replaced. Refused as `Table::register` is; a
@@ -119,15 +142,15 @@ impl World {
         cd: Word,
         rank: u8,
     ) -> Result<RegAnswer, Refusal>
-        ensures step { Does self.old (Register frame slot kind proc cd rank) result self.new }
-        ensures caused { IsJudgedOrLacks (causes self.old.core (Register frame slot kind proc cd rank)) result }
+        ensures step { Does self.old (Make (Register (slot_at frame slot) kind proc cd (Some rank))) result self.new }
+        ensures caused { IsJudgedOrLacks (causes self.old.core (Make (Register (slot_at frame slot) kind proc cd (Some rank)))) result }
         ensures refused { OnErr result (self.new ≡ self.old) }
         // Only the first registration of an object can want memory.
-        ensures inside { IfErr result (λ r. r ≡ Refusal.NoMemory → IsFalse (is_off_heap self.old.blocks (slot_word self.old.frames frame slot))) }
-        ensures growth { IfErr result (λ r. r ≡ Refusal.NoMemory → IsNone (get self.old.registrations (slot_word self.old.frames frame slot))) }
+        ensures inside { IfErr result (λ r. r ≡ Refusal.NoMemory → IsFalse (is_off_heap self.old.blocks (slot_word self.old.frames (slot_at frame slot)))) }
+        ensures growth { IfErr result (λ r. r ≡ Refusal.NoMemory → IsNone (get self.old.registrations (slot_word self.old.frames (slot_at frame slot)))) }
         ensures marks { KeepsMarks self.old self.new }
     {
-        let word = self.frames.get(frame, slot)?;
+        let word = self.frames.get(Slot { frame, slot })?;
         if is_off_heap(&self.heap, word) {
             return Ok(RegAnswer::Outside);
         }
@@ -147,12 +170,12 @@ impl World {
     ///
     /// Refusals, in their order: `BadSlot`, `NotPointer`, `NotStart`; a word that is zero or outside the heap has no registration.
     pub fn unregister(&mut self, frame: u64, slot: u64) -> Result<Option<Old>, Refusal>
-        ensures step { Does self.old (Unregister frame slot) result self.new }
-        ensures caused { IsJudgedBy (causes self.old.core (Unregister frame slot)) result }
+        ensures step { Does self.old (Make (Unregister (slot_at frame slot))) result self.new }
+        ensures caused { IsJudgedBy (causes self.old.core (Make (Unregister (slot_at frame slot)))) result }
         ensures refused { OnErr result (self.new ≡ self.old) }
         ensures marks { KeepsMarks self.old self.new }
     {
-        let word = self.frames.get(frame, slot)?;
+        let word = self.frames.get(Slot { frame, slot })?;
         if is_off_heap(&self.heap, word) {
             return Ok(None);
         }

@@ -7,6 +7,7 @@ ghost use Rattle.std.specs.Prelude.{◌≡◌, ◌<◌, ◌+◌, Some, IfOk, IfS
 ghost use Rattle.std.specs.List.{list_any};
 ghost use Rattle.std.specs.FinMap.{get, keys, contains_key};
 ghost use Rattle.fz_model.specs.declared.answers.Entry.{Entry};
+ghost use Rattle.fz_model.specs.Places.{slot_at};
 ghost use Rattle.fz_model.specs.Memory.{slot_word, word_at};
 ghost use Rattle.fz_model.specs.Causes.{IsJudgedBy, slot_causes, place_causes};
 ghost use Rattle.fz_model.specs.Events.{links_of, same_entry};
@@ -16,7 +17,7 @@ ghost use Rattle.fz_world.specs.Shown.{shown_object, has_row, HasNoneFrom, IsFir
 use crate::world::World;
 use fz_heap::Starts;
 use fz_model::{
-    Addr, BLOCK_WORDS, Entry, HEAP_START, LinkKind, ObjKind, Refusal, Registration, Word,
+    Addr, BLOCK_WORDS, Entry, HEAP_START, LinkKind, ObjKind, Refusal, Registration, Slot, Word,
 };
 
 /// An object of the heap.
@@ -44,10 +45,10 @@ impl World {
     ///
     /// Refused `BadSlot` where there is no such slot.
     pub fn slot(&self, frame: u64, slot: u64) -> Result<Word, Refusal>
-        ensures judged { IsJudgedBy (slot_causes self.now.frames frame slot) result }
-        ensures word { IfOk result (λ word. word ≡ slot_word self.now.frames frame slot) }
+        ensures judged { IsJudgedBy (slot_causes self.now.frames (slot_at frame slot)) result }
+        ensures word { IfOk result (λ word. word ≡ slot_word self.now.frames (slot_at frame slot)) }
     {
-        self.frames.get(frame, slot)
+        self.frames.get(Slot { frame, slot })
     }
 
     /// The word at an offset, in words, from where `word` points into an object. Unlike `load` it puts the word nowhere, so it keeps nothing alive.

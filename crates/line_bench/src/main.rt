@@ -21,6 +21,9 @@ use std::time::Instant;
 use std::{env, io, thread};
 use taker::{Taker, take_one};
 
+/// The entries for which the line has room from the first, as a service's has over a heap of 1,024 blocks or more.
+const ROOM: usize = 65_536;
+
 fn main(rt: HostRuntime) -> io::Result<ExitCode> {
     let mut numbers = env::args(&rt)?.skip(1).map(|word| word.parse::<u64>());
     let (Some(Ok(entries)), Some(Ok(takers)), None) = (
@@ -31,7 +34,7 @@ fn main(rt: HostRuntime) -> io::Result<ExitCode> {
         eprintln!(rt; "line_bench: want ENTRIES TAKERS")?;
         return Ok(ExitCode::from(2));
     };
-    let Ok((owner, seats)) = line(rt.alloc(), takers) else {
+    let Ok((owner, seats)) = line(rt.alloc(), takers, ROOM) else {
         eprintln!(rt; "line_bench: no line with {takers} takers")?;
         return Ok(ExitCode::from(1));
     };

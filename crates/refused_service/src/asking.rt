@@ -1,6 +1,6 @@
 //! Calls that may be refused for want of memory, made once more where they are.
 
-use anyhow::{Error, Result, anyhow};
+use anyhow::{Result, anyhow};
 use fz_model::ObjKind::Scanned;
 use fz_model::Refusal;
 use fz_model::RegKind::Normal;
@@ -18,12 +18,6 @@ const CONFIG: Config = Config {
 /// How many seats there are.
 const WORKERS: u64 = 2;
 
-/// A refused call as the program's error.
-pub(crate) fn refused(refusal: Refusal) -> Error {
-    let name = refusal.name();
-    anyhow!("refused: {name}")
-}
-
 /// Tells that a call found no memory.
 pub(crate) fn tell<R: Eprint>(rt: &R, call: &str) -> Result<()> {
     eprintln!(rt; "no memory: {call}")?;
@@ -32,13 +26,12 @@ pub(crate) fn tell<R: Eprint>(rt: &R, call: &str) -> Result<()> {
 
 /// What a service needs.
 pub(crate) fn prepare<R: Eprint>(rt: &R, alloc: Global) -> Result<Prepared> {
-    match Service::prepare(alloc, CONFIG, WORKERS) {
-        Err(Refusal::NoMemory) => {
-            tell(rt, "prepare")?;
-            Service::prepare(alloc, CONFIG, WORKERS).map_err(refused)
-        }
-        answer => answer.map_err(refused),
+    let mut prepared = Service::prepare(alloc, CONFIG, WORKERS);
+    if matches!(prepared, Err(Refusal::NoMemory)) {
+        tell(rt, "prepare")?;
+        prepared = Service::prepare(alloc, CONFIG, WORKERS);
     }
+    Ok(prepared?)
 }
 
 /// Makes an object, registers it with the procedure of this number, and lets go of it.
@@ -52,14 +45,15 @@ pub(crate) fn make_and_drop<O: Opening, R: Eprint>(
         tell(rt, "alloc")?;
         made = locked.alloc(0, 0, 1, Scanned);
     }
-    made.map_err(refused)?;
+    made?;
     let mut registered = locked.register(0, 0, Normal, proc, 0, 0);
     if registered == Err(Refusal::NoMemory) {
         tell(rt, "register")?;
         registered = locked.register(0, 0, Normal, proc, 0, 0);
     }
-    registered.map_err(refused)?;
-    locked.set(0, 0, 0).map_err(refused)
+    registered?;
+    locked.set(0, 0, 0)?;
+    Ok(())
 }
 
 /// Ends the service. Where that is refused, the world is as open or closed as it was.
@@ -79,5 +73,5 @@ pub(crate) fn end<O: Opening, R: Eprint + Wait>(
         retire_all(seats);
         return Err(anyhow!("a refused end changed something"));
     }
-    service.conclude(seats).map_err(refused)
+    Ok(service.conclude(seats)?)
 }

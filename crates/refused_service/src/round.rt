@@ -2,7 +2,7 @@
 
 ghost use Rattle.std.specs.Prelude.{◌≡◌};
 
-use crate::asking::{end, make_and_drop, refused, tell};
+use crate::asking::{end, make_and_drop, tell};
 use crate::checking::{OBJECTS, are_last, is_at, proc_at};
 use anyhow::{Result, bail};
 use fz_model::Entry;
@@ -47,7 +47,7 @@ fn queue_all<O: Opening, R: Print + Eprint>(rt: &R, locked: &mut Locked<O>) -> R
     for place in 0..OBJECTS {
         make_and_drop(rt, locked, proc_at(place))?;
     }
-    let passed = locked.collect().map_err(refused)?;
+    let passed = locked.collect()?;
     println!(rt; "picked {}, reclaimed {}", passed.picked, passed.reclaimed)?;
     if !locked.outbox().is_empty() {
         tell(rt, "collect")?;
@@ -78,7 +78,8 @@ fn serve_all<O: Opening, R: Print + Wait>(
     for seat in seats.as_slice() {
         println!(rt; "seat {}: finished {}", seat.index(), seat.finished())?;
     }
-    service.enter(rt).close().map_err(refused)
+    service.enter(rt).close()?;
+    Ok(())
 }
 
 /// Takes with the first seat, which goes to the end: it has to get the entry at this place.

@@ -5,7 +5,9 @@ use Rattle.std.specs.FinMap.{get}
 use Rattle.fz_model.specs.State.{Object, Core, State}
 use Rattle.fz_model.specs.Extents.{extents, extent_of, AreApart, AreWithin}
 use Rattle.fz_model.specs.Memory.{word_at}
-use Rattle.fz_model.specs.Events.{Load}
+use Rattle.fz_model.specs.declared.call.Call.TheVariants.{Load}
+use Rattle.fz_model.specs.Places.{slot_at, place_at}
+use Rattle.fz_model.specs.Events.{Make}
 use Rattle.fz_model.specs.Steps.{IsReached}
 use Rattle.fz_model.specs.CallLaws.{Stands, LinksStand}
 use Rattle.fz_model.proofs.Standing.{get_extent}
@@ -44,7 +46,7 @@ found c key word within links (Some a) is same =
     }
 
 module _ (apart : (s : State) → IsReached s → AreApart (extents s.objects)) (within : (s : State) → IsReached s → AreWithin s.blocks (extents s.objects)) (links : (s : State) → IsReached s → LinksStand s.objects s.short) where
-  pub got : (keys : ℕ) (cache : CacheView) (old new : WorldView) (key word : ℕ) → record { keys = keys; world = old } ≡ cache → key < cache.keys → Does old (Load 0 LIST key 0 HAND) (Ok word) new → IsWhole keys old → IsFound cache.world.core key word
+  pub got : (keys : ℕ) (cache : CacheView) (old new : WorldView) (key word : ℕ) → record { keys = keys; world = old } ≡ cache → key < cache.keys → Does old (Make (Load (place_at 0 LIST key) (slot_at 0 HAND))) (Ok word) new → IsWhole keys old → IsFound cache.world.core key word
   unfolding Does
   got keys cache old new key word is few does w =
       let s : State = w.state in

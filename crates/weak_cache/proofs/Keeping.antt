@@ -5,10 +5,13 @@ use Rattle.std.proofs.lemmas.Option.{none-some}
 use Rattle.std.specs.FinMap.{get, insert}
 use Rattle.fz_model.specs.declared.refusal.Refusal.{Refusal}
 use Rattle.fz_model.specs.declared.answers.Registration.{Registration}
+use Rattle.fz_model.specs.declared.places.Slot.{Slot}
 use Rattle.fz_model.specs.State.{Map, Core, State}
 use Rattle.fz_model.specs.Memory.{new_object, slot_word, with_slot}
 use Rattle.fz_model.specs.Causes.{is_off_heap}
-use Rattle.fz_model.specs.Events.{Event, Alloc, Load, Set, Register, Finish, Answer}
+use Rattle.fz_model.specs.declared.call.Call.TheVariants.{Alloc, Load, Set, Register}
+use Rattle.fz_model.specs.Places.{slot_at}
+use Rattle.fz_model.specs.Events.{Event, Make, Finish, Answer}
 use Rattle.fz_model.specs.Steps.{Step, IsReached, OneMore, Accepts}
 use Rattle.fz_model.proofs.Maps.{free_place, get-insert_other}
 use Rattle.fz_world.specs.World.{WorldView}
@@ -20,25 +23,28 @@ use Rattle.weak_cache.specs.Cached.{list_in, cached_in, SameIn, KeepsCached, Cac
 abbrev pub Keeps : ℕ → Core → Core → Type 0
 Keeps keys c d = IsCache keys d × SameIn c d
 
+abbrev pub is_hand : Slot → Bool
+is_hand slot = (slot.frame == 0) && (slot.slot == HAND)
+
 -- they change no slot but that of the object in hand, and neither the list nor a link
 abbrev pub is_quiet : Event → Bool
-is_quiet (Alloc frame slot size kind) = (frame == 0) && (slot == HAND)
-is_quiet (Load frame slot offset to_frame to_slot) = (to_frame == 0) && (to_slot == HAND)
-is_quiet (Set frame slot word) = (frame == 0) && (slot == HAND)
-is_quiet (Register frame slot kind proc cd rank) = true
+is_quiet (Make (Alloc slot size kind)) = is_hand slot
+is_quiet (Make (Load place to)) = is_hand to
+is_quiet (Make (Set slot word)) = is_hand slot
+is_quiet (Make (Register slot kind procedure client_data rank)) = true
 is_quiet (Finish entry) = true
 is_quiet _ = false
 
-hand_only : (frames : List (List ℕ)) (word : ℕ) → slot_word (with_slot frames 0 HAND word) 0 LIST ≡ slot_word frames 0 LIST
+hand_only : (frames : List (List ℕ)) (word : ℕ) → slot_word (with_slot frames (slot_at 0 HAND) word) (slot_at 0 LIST) ≡ slot_word frames (slot_at 0 LIST)
 hand_only [] word = refl
 hand_only ([] ∷ rest) word = refl
 hand_only ((first ∷ slots) ∷ rest) word = refl
 
-at_hand : (frames : List (List ℕ)) (frame slot word : ℕ) → IsTrue ((frame == 0) && (slot == HAND)) → slot_word (with_slot frames frame slot word) 0 LIST ≡ slot_word frames 0 LIST
-at_hand frames frame slot word here =
-    let both = and_parts (frame == 0) (slot == HAND) here in
-    ap (λ n. slot_word (with_slot frames n slot word) 0 LIST) (eqb-true frame 0 both.0)
-    ∙ ap (λ n. slot_word (with_slot frames 0 n word) 0 LIST) (eqb-true slot HAND both.1)
+at_hand : (frames : List (List ℕ)) (slot : Slot) (word : ℕ) → IsTrue (is_hand slot) → slot_word (with_slot frames slot word) (slot_at 0 LIST) ≡ slot_word frames (slot_at 0 LIST)
+at_hand frames slot word here =
+    let both = and_parts (slot.frame == 0) (slot.slot == HAND) here in
+    ap (λ n. slot_word (with_slot frames (slot_at n slot.slot) word) (slot_at 0 LIST)) (eqb-true slot.frame 0 both.0)
+    ∙ ap (λ n. slot_word (with_slot frames (slot_at 0 n) word) (slot_at 0 LIST)) (eqb-true slot.slot HAND both.1)
     ∙ hand_only frames word
 
 -- where list and links are the same
@@ -63,18 +69,18 @@ registered keys c new true table next is h = onto keys c c new is (h, λ key. re
 registered keys c new false table next is h = onto keys c _ new is (same_parts keys c (record c { registrations = table; next_number = next }) refl refl refl refl h)
 
 accepted : (keys : ℕ) (s : State) (e : Event) (answer : Answer e) (new : Core) → Accepts s e answer new → IsTrue (is_quiet e) → IsCache keys s.core → Keeps keys s.core new
-accepted keys s (Alloc frame slot size kind) answer new (a, place, told, is) quiet h =
+accepted keys s (Make (Alloc slot size kind)) answer new (a, place, told, is) quiet h =
     let c = s.core in
     let made = new_object kind c.next_birth size in
     let other : list_in c ≡ a → ⊥ = λ same. none-some h.list (sym (free_place c.objects c.blocks size a kind place) ∙ ap (λ q. get c.objects q) (sym same) ∙ h.here) in
     onto keys c _ new is
-    (same_parts keys c (record c { objects = insert c.objects a made; next_birth = c.next_birth + 1; frames = with_slot c.frames frame slot a }) (at_hand c.frames frame slot a quiet) (get-insert_other c.objects a made (list_in c) other) refl refl h)
-accepted keys s (Load frame slot offset to_frame to_slot) answer new (told, is) quiet h =
-    onto keys s.core _ new is (same_parts keys s.core (record s.core { frames = with_slot s.frames to_frame to_slot answer }) (at_hand s.frames to_frame to_slot answer quiet) refl refl refl h)
-accepted keys s (Set frame slot word) answer new is quiet h =
-    onto keys s.core _ new is (same_parts keys s.core (record s.core { frames = with_slot s.frames frame slot word }) (at_hand s.frames frame slot word quiet) refl refl refl h)
-accepted keys s (Register frame slot kind proc cd rank) answer new (told, is) quiet h =
-    registered keys s.core new (is_off_heap s.blocks (slot_word s.frames frame slot)) _ _ is h
+    (same_parts keys c (record c { objects = insert c.objects a made; next_birth = c.next_birth + 1; frames = with_slot c.frames slot a }) (at_hand c.frames slot a quiet) (get-insert_other c.objects a made (list_in c) other) refl refl h)
+accepted keys s (Make (Load place to)) answer new (told, is) quiet h =
+    onto keys s.core _ new is (same_parts keys s.core (record s.core { frames = with_slot s.frames to answer }) (at_hand s.frames to answer quiet) refl refl refl h)
+accepted keys s (Make (Set slot word)) answer new is quiet h =
+    onto keys s.core _ new is (same_parts keys s.core (record s.core { frames = with_slot s.frames slot word }) (at_hand s.frames slot word quiet) refl refl refl h)
+accepted keys s (Make (Register slot kind procedure client_data rank)) answer new (told, is) quiet h =
+    registered keys s.core new (is_off_heap s.blocks (slot_word s.frames slot)) _ _ is h
 accepted keys s (Finish entry) answer new is quiet h = onto keys s.core _ new is (same_parts keys s.core _ refl refl refl refl h)
 accepted keys s e answer new is quiet h = absurd (true≢false (sym quiet))
 

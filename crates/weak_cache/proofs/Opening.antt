@@ -6,7 +6,9 @@ use Rattle.std.specs.Ordering.{nat_cmp}
 use Rattle.fz_model.specs.declared.kinds.ObjKind.TheVariants.{Atomic}
 use Rattle.fz_model.specs.State.{Core, State, opening}
 use Rattle.fz_model.specs.Memory.{new_object, with_slot}
-use Rattle.fz_model.specs.Events.{Alloc}
+use Rattle.fz_model.specs.declared.call.Call.TheVariants.{Alloc}
+use Rattle.fz_model.specs.Places.{slot_at}
+use Rattle.fz_model.specs.Events.{Make}
 use Rattle.fz_model.specs.Steps.{NoStep}
 use Rattle.fz_model.proofs.Maps.{get-insert_same}
 use Rattle.fz_world.specs.World.{WorldView}
@@ -25,7 +27,7 @@ pub record IsOpened (keys : ℕ) (world : WorldView) : Type 0 where
   pub whole : IsWhole keys world
   pub empty : (key : ℕ) → cached_in world.core key ≡ None
 
-pub opened : (blocks keys : ℕ) (old new : WorldView) (a birth : ℕ) → StandsFor old (opening blocks 1) → Does old (Alloc 0 LIST keys Atomic) (Ok (a, birth)) new → IsOpened keys new
+pub opened : (blocks keys : ℕ) (old new : WorldView) (a birth : ℕ) → StandsFor old (opening blocks 1) → Does old (Make (Alloc (slot_at 0 LIST) keys Atomic)) (Ok (a, birth)) new → IsOpened keys new
 unfolding Does
 opened blocks keys old new a birth stands does =
     let s : State = opening blocks 1 in
@@ -33,7 +35,7 @@ opened blocks keys old new a birth stands does =
     let at = next.1.1 in
     let start : ℕ = at.0 in
     let made = new_object Atomic 0 keys in
-    let c : Core = record s.core { objects = insert s.objects start made; next_birth = s.next_birth + 1; frames = with_slot s.frames 0 LIST start } in
+    let c : Core = record s.core { objects = insert s.objects start made; next_birth = s.next_birth + 1; frames = with_slot s.frames (slot_at 0 LIST) start } in
     let none : (place : ℕ) → get {X = ℕ} {R = nat_cmp} s.short place ≡ None = get-empty nat_cmp in
     let whole : IsCache keys c = record {
       list = made;
@@ -45,7 +47,7 @@ opened blocks keys old new a birth stands does =
     record {
       whole = record {
         state = next.0;
-        reached = reached_on s (Alloc 0 LIST keys Atomic) (Ok (a, birth)) next.0 (blocks, 1, NoStep) next.1;
+        reached = reached_on s (Make (Alloc (slot_at 0 LIST) keys Atomic)) (Ok (a, birth)) next.0 (blocks, 1, NoStep) next.1;
         stands = next.2;
         cache = subst (IsCache keys) (sym at.3) whole;
       };

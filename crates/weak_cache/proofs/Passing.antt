@@ -9,7 +9,9 @@ use Rattle.fz_model.specs.State.{Object, Core, State}
 use Rattle.fz_model.specs.Extents.{extents, extent_of, AreApart, AreWithin}
 use Rattle.fz_model.specs.Memory.{points, slot_word}
 use Rattle.fz_model.specs.Reachability.{IsReachable}
-use Rattle.fz_model.specs.Events.{Collect}
+use Rattle.fz_model.specs.declared.call.Call.TheVariants.{Collect}
+use Rattle.fz_model.specs.Places.{slot_at}
+use Rattle.fz_model.specs.Events.{Make}
 use Rattle.fz_model.specs.Steps.{Step, IsReached}
 use Rattle.fz_model.specs.CallLaws.{Stands}
 use Rattle.fz_model.specs.PassLaws.{HasLost, IsLawful, EachPassIsLawful}
@@ -22,7 +24,7 @@ use Rattle.weak_cache.specs.Cached.{CacheView, list_in, cached_in, IsCache, IsWh
 use Rattle.weak_cache.proofs.Keeping.{reached_on}
 
 -- the list's slot is in a frame
-list_root : (frames : List (List ℕ)) → 0 < slot_word frames 0 LIST → (f : List ℕ) × Contains frames f × Contains f (slot_word frames 0 LIST)
+list_root : (frames : List (List ℕ)) → 0 < slot_word frames (slot_at 0 LIST) → (f : List ℕ) × Contains frames f × Contains f (slot_word frames (slot_at 0 LIST))
 list_root [] h = absurd (omega (arith, h))
 list_root ([] ∷ rest) h = absurd (omega (arith, h))
 list_root ((w ∷ ws) ∷ rest) h = (w ∷ ws, Contains-get_or ((w ∷ ws) ∷ rest) 0 [] (omega arith), Contains-get_or (w ∷ ws) 0 0 (omega arith))
@@ -36,7 +38,7 @@ points_here keys c h apart key few =
 
 module _ (keys : ℕ) (s t : State) (passed : Passed) (apart : AreApart (extents s.objects)) (within : AreWithin s.blocks (extents s.objects)) (lawful : IsLawful s (IsReachable s.core) passed t) (frames : t.frames ≡ s.frames) (h : IsCache keys s.core) where
   list_stays : list_in t.core ≡ list_in s.core
-  list_stays = ap (λ (f : List (List ℕ)). slot_word f 0 LIST) frames
+  list_stays = ap (λ (f : List (List ℕ)). slot_word f (slot_at 0 LIST)) frames
 
   stands : Stands t.objects (list_in s.core)
   stands =
@@ -110,7 +112,7 @@ pub record Collected (keys : ℕ) (c d : Core) : Type 0 where
   pub reachable : (key a : ℕ) → key < keys → cached_in c key ≡ Some a → IsReachable c a → cached_in d key ≡ Some a
 
 module _ (apart : (s : State) → IsReached s → AreApart (extents s.objects)) (within : (s : State) → IsReached s → AreWithin s.blocks (extents s.objects)) (laws : (s : State) → IsReached s → EachPassIsLawful s) where
-  pass_step : (keys : ℕ) (s t : State) (reply : Result Passed Refusal) → IsReached s → Step s Collect reply t → IsCache keys s.core → Collected keys s.core t.core
+  pass_step : (keys : ℕ) (s t : State) (reply : Result Passed Refusal) → IsReached s → Step s (Make Collect) reply t → IsCache keys s.core → Collected keys s.core t.core
   pass_step keys s t (Err r) reached step h =
       subst (λ (u : State). Collected keys s.core u.core) (sym step.1) (record { whole = h; kept = λ key a is. is; reachable = λ key a few is _. is })
   pass_step keys s t (Ok passed) reached step h =
@@ -122,13 +124,13 @@ module _ (apart : (s : State) → IsReached s → AreApart (extents s.objects)) 
         reachable = passed_reachable keys s t passed (apart s reached) (within s reached) lawful frames h;
       }
 
-  pub pass_whole : (keys : ℕ) (old new : WorldView) (reply : Result Passed Refusal) → Does old Collect reply new → IsWhole keys old → IsWhole keys new
+  pub pass_whole : (keys : ℕ) (old new : WorldView) (reply : Result Passed Refusal) → Does old (Make Collect) reply new → IsWhole keys old → IsWhole keys new
   unfolding Does
   pass_whole keys old new reply does w =
       let next = does w.state w.stands in
-      record { state = next.0; reached = reached_on w.state Collect reply next.0 w.reached next.1; stands = next.2; cache = (pass_step keys w.state next.0 reply w.reached next.1 w.cache).whole }
+      record { state = next.0; reached = reached_on w.state (Make Collect) reply next.0 w.reached next.1; stands = next.2; cache = (pass_step keys w.state next.0 reply w.reached next.1 w.cache).whole }
 
-  pub pass_kept : (keys : ℕ) (cache : CacheView) (old new : WorldView) (reply : Result Passed Refusal) → record { keys = keys; world = old } ≡ cache → Does old Collect reply new → IsWhole keys old
+  pub pass_kept : (keys : ℕ) (cache : CacheView) (old new : WorldView) (reply : Result Passed Refusal) → record { keys = keys; world = old } ≡ cache → Does old (Make Collect) reply new → IsWhole keys old
       → Collected keys cache.world.core new.core
   unfolding Does
   pass_kept keys cache old new reply is does w =

@@ -11,7 +11,9 @@ use Rattle.fz_model.specs.declared.refusal.Refusal.TheVariants.{BadSlot}
 use Rattle.fz_model.specs.Extents.{extents}
 use Rattle.fz_model.specs.Memory.{fill, written, slot_word, lacks_slot}
 use Rattle.fz_model.specs.Causes.{Causes, first_cause, no_extent, other_extent, start_causes, full}
-use Rattle.fz_model.specs.Events.{Link, Store, causes}
+use Rattle.fz_model.specs.declared.call.Call.TheVariants.{Link, Store}
+use Rattle.fz_model.specs.Places.{slot_at, place_at}
+use Rattle.fz_model.specs.Events.{Make, causes}
 use Rattle.fz_model.specs.Steps.{Step}
 use Rattle.fz_model.proofs.Maps.{filled_here, length-fill, get-insert_same, get-insert_other}
 use Rattle.fz_model.proofs.Sound.{first_none}
@@ -43,15 +45,15 @@ none_from : (cause : Bool × Refusal) (rest : Causes) → cause.0 ≡ false → 
 none_from cause rest is none = ap (λ b. cond b (Some cause.1) (first_cause rest)) is ∙ none
 
 -- where the link is accepted, the store is
-store_fits : (c : Core) (key : ℕ) (links : Map ℕ) → first_cause (causes c (Link Short 0 LIST key 0 HAND)) ≡ None → first_cause (causes (record c { short = links }) (Store 0 LIST key 0 HAND)) ≡ None
+store_fits : (c : Core) (key : ℕ) (links : Map ℕ) → first_cause (causes c (Make (Link Short (place_at 0 LIST key) (slot_at 0 HAND)))) ≡ None → first_cause (causes (record c { short = links }) (Make (Store (place_at 0 LIST key) (slot_at 0 HAND)))) ≡ None
 store_fits c key links none =
     let all = extents c.objects in
-    let word : ℕ = slot_word c.frames 0 LIST in
-    let list : Bool × Refusal = (lacks_slot c.frames 0 LIST, BadSlot) in
-    let hand : Bool × Refusal = (lacks_slot c.frames 0 HAND, BadSlot) in
+    let word : ℕ = slot_word c.frames (slot_at 0 LIST) in
+    let list : Bool × Refusal = (lacks_slot c.frames (slot_at 0 LIST), BadSlot) in
+    let hand : Bool × Refusal = (lacks_slot c.frames (slot_at 0 HAND), BadSlot) in
     let object : Bool × Refusal = no_extent all word in
     let outside : Bool × Refusal = other_extent all word (word + key) in
-    let rest : Causes = start_causes c.objects (slot_word c.frames 0 HAND) ++ full c.short (word + key) ∷ [] in
+    let rest : Causes = start_causes c.objects (slot_word c.frames (slot_at 0 HAND)) ++ full c.short (word + key) ∷ [] in
     let first = first_none list (hand ∷ object ∷ outside ∷ rest) none in
     let second = first_none hand (object ∷ outside ∷ rest) first.1 in
     let third = first_none object (outside ∷ rest) second.1 in
@@ -62,14 +64,14 @@ store_fits c key links none =
 abbrev pub with_put : Core → ℕ → Core
 with_put c key =
     let place = list_in c + key in
-    let target = slot_word c.frames 0 HAND in
+    let target = slot_word c.frames (slot_at 0 HAND) in
     record c { short = insert c.short place target; objects = written place target c.objects }
 
 put_whole : (keys : ℕ) (c : Core) (key : ℕ) → IsCache keys c → IsCache keys (with_put c key)
 unfolding written
 put_whole keys c key h =
     let place = list_in c + key in
-    let target = slot_word c.frames 0 HAND in
+    let target = slot_word c.frames (slot_at 0 HAND) in
     let test : ℕ → Bool = λ a. a == place in
     let size = h.size in
     record {
@@ -92,17 +94,17 @@ put_whole keys c key h =
     }
 
 -- both steps together
-both : (s t u : State) (key : ℕ) (answer : LinkAnswer) (reply : Result (Unit {0}) Refusal) → Step s (Link Short 0 LIST key 0 HAND) (Ok answer) t → Step t (Store 0 LIST key 0 HAND) reply u → u.core ≡ with_put s.core key
-both s t u key answer (Ok done) link store = store.1 ∙ ap (λ (c : Core). record c { objects = written (list_in c + key) (slot_word c.frames 0 HAND) c.objects }) link.1.1
+both : (s t u : State) (key : ℕ) (answer : LinkAnswer) (reply : Result (Unit {0}) Refusal) → Step s (Make (Link Short (place_at 0 LIST key) (slot_at 0 HAND))) (Ok answer) t → Step t (Make (Store (place_at 0 LIST key) (slot_at 0 HAND))) reply u → u.core ≡ with_put s.core key
+both s t u key answer (Ok done) link store = store.1 ∙ ap (λ (c : Core). record c { objects = written (list_in c + key) (slot_word c.frames (slot_at 0 HAND)) c.objects }) link.1.1
 both s t u key answer (Err r) link store =
-    let fits = subst (λ (c : Core). first_cause (causes c (Store 0 LIST key 0 HAND)) ≡ None) (sym link.1.1) (store_fits s.core key (insert s.short (list_in s.core + key) (slot_word s.frames 0 HAND)) link.0) in
+    let fits = subst (λ (c : Core). first_cause (causes c (Make (Store (place_at 0 LIST key) (slot_at 0 HAND)))) ≡ None) (sym link.1.1) (store_fits s.core key (insert s.short (list_in s.core + key) (slot_word s.frames (slot_at 0 HAND))) link.0) in
     ⊎_elim (λ cause. absurd (none-some r (sym fits ∙ cause))) (λ lacks. absurd (true≢false (sym lacks.2))) store.0
 
 pub record IsPut (keys : ℕ) (old new : WorldView) (key : ℕ) : Type 0 where
   pub whole : IsWhole keys new
   pub is : new.core ≡ with_put old.core key
 
-pub puts : (keys : ℕ) (old mid new : WorldView) (key : ℕ) (answer : LinkAnswer) (reply : Result (Unit {0}) Refusal) → Does old (Link Short 0 LIST key 0 HAND) (Ok answer) mid → Does mid (Store 0 LIST key 0 HAND) reply new → IsWhole keys old → IsPut keys old new key
+pub puts : (keys : ℕ) (old mid new : WorldView) (key : ℕ) (answer : LinkAnswer) (reply : Result (Unit {0}) Refusal) → Does old (Make (Link Short (place_at 0 LIST key) (slot_at 0 HAND))) (Ok answer) mid → Does mid (Make (Store (place_at 0 LIST key) (slot_at 0 HAND))) reply new → IsWhole keys old → IsPut keys old new key
 unfolding Does
 puts keys old mid new key answer reply link store w =
     let s : State = w.state in
@@ -112,7 +114,7 @@ puts keys old mid new key answer reply link store w =
     record {
       whole = record {
         state = last.0;
-        reached = reached_on first.0 (Store 0 LIST key 0 HAND) reply last.0 (reached_on s (Link Short 0 LIST key 0 HAND) (Ok answer) first.0 w.reached first.1) last.1;
+        reached = reached_on first.0 (Make (Store (place_at 0 LIST key) (slot_at 0 HAND))) reply last.0 (reached_on s (Make (Link Short (place_at 0 LIST key) (slot_at 0 HAND))) (Ok answer) first.0 w.reached first.1) last.1;
         stands = last.2;
         cache = subst (IsCache keys) (sym is) (put_whole keys s.core key w.cache);
       };
@@ -126,13 +128,13 @@ module _ (keys : ℕ) (cache : CacheView) (old new : WorldView) (key : ℕ) (fir
   pub now_cached : cached_in new.core key ≡ Some (in_hand cache)
   now_cached =
       let c : Core = cache.world.core in
-      ap (λ (d : Core). cached_in d key) put_is ∙ get-insert_same c.short (list_in c + key) (slot_word c.frames 0 HAND)
+      ap (λ (d : Core). cached_in d key) put_is ∙ get-insert_same c.short (list_in c + key) (slot_word c.frames (slot_at 0 HAND))
 
   pub others_same : (other : ℕ) → other ≢ key → cached_in new.core other ≡ cached_in cache.world.core other
   others_same other ne =
       let c : Core = cache.world.core in
       let apart : list_in c + other ≢ list_in c + key = λ same. ne (omega (arith, same)) in
-      ap (λ (d : Core). cached_in d other) put_is ∙ get-insert_other c.short (list_in c + key) (slot_word c.frames 0 HAND) (list_in c + other) apart
+      ap (λ (d : Core). cached_in d other) put_is ∙ get-insert_other c.short (list_in c + key) (slot_word c.frames (slot_at 0 HAND)) (list_in c + other) apart
 
 -- a refused link changes nothing
 pub refused_whole : (keys : ℕ) (old new : WorldView) → new ≡ old → IsWhole keys old → IsWhole keys new

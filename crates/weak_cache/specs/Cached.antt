@@ -5,7 +5,9 @@ use Rattle.std.specs.FinMap.{get}
 use Rattle.fz_model.specs.declared.answers.RegAnswer.{RegAnswer}
 use Rattle.fz_model.specs.declared.kinds.ObjKind.TheVariants.{Atomic}
 use Rattle.fz_model.specs.declared.kinds.RegKind.TheVariants.{Normal}
-use Rattle.fz_model.specs.Events.{Alloc, Register}
+use Rattle.fz_model.specs.declared.call.Call.TheVariants.{Alloc, Register}
+use Rattle.fz_model.specs.Places.{slot_at}
+use Rattle.fz_model.specs.Events.{Make}
 use Rattle.fz_model.specs.State.{Object, Core, State}
 use Rattle.fz_model.specs.Memory.{slot_word}
 use Rattle.fz_model.specs.Steps.{IsReached}
@@ -22,10 +24,10 @@ cache_code = code_by (ℕ × WorldView) (coded× coded_ℕ world_code) (λ c. (c
 
 -- where the list starts, and the word of the object in hand
 abbrev pub list_in : Core → ℕ
-list_in c = slot_word c.frames 0 LIST
+list_in c = slot_word c.frames (slot_at 0 LIST)
 
 abbrev pub in_hand : CacheView → ℕ
-in_hand cache = slot_word cache.world.frames 0 HAND
+in_hand cache = slot_word cache.world.frames (slot_at 0 HAND)
 
 -- what is cached under a key: the target of the short link at the key's word of the list
 abbrev pub cached_in : Core → ℕ → Option ℕ
@@ -45,7 +47,7 @@ KeepsCached old new = SameIn old.core new.core
 abbrev pub Makes : WorldView → ℕ → WorldView → Type 0
 Makes old client_data new =
     (mid : WorldView) × (made : ℕ × ℕ) × (answer : RegAnswer)
-    × Does old (Alloc 0 HAND 1 Atomic) (Ok made) mid × Does mid (Register 0 HAND Normal 0 client_data 0) (Ok answer) new
+    × Does old (Make (Alloc (slot_at 0 HAND) 1 Atomic)) (Ok made) mid × Does mid (Make (Register (slot_at 0 HAND) Normal 0 client_data (Some 0))) (Ok answer) new
 
 -- the list has a word for each key, what is cached under it or zero; and no long link stands anywhere
 pub record IsCache (keys : ℕ) (c : Core) : Type 0 where

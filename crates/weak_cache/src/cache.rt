@@ -2,7 +2,9 @@
 
 ghost use Rattle.std.specs.Prelude.{◌≡◌, ◌≢◌, ◌<◌, ℕ, Some, None, IfOk, OnOk, IfSome, slice_get};
 ghost use Rattle.fz_model.specs.CallLaws.{Stands};
-ghost use Rattle.fz_model.specs.Events.{Set, Collect, Finish};
+ghost use Rattle.fz_model.specs.declared.call.Call.TheVariants.{Set, Collect};
+ghost use Rattle.fz_model.specs.Places.{slot_at};
+ghost use Rattle.fz_model.specs.Events.{Make, Finish};
 ghost use Rattle.fz_model.specs.Reachability.{IsReachable};
 ghost use Rattle.fz_world.specs.Does.{Does};
 ghost use Rattle.weak_cache.specs.declared.cache.TheConstants.{HAND};
@@ -94,7 +96,7 @@ impl Cache {
 
     /// Lets go of the object in hand.
     pub(crate) fn let_go(&mut self) -> Result<(), Refusal>
-        ensures step { Does self.old.world (Set 0 HAND 0) result self.new.world }
+        ensures step { Does self.old.world (Make (Set (slot_at 0 HAND) 0)) result self.new.world }
         ensures same { KeepsCached self.old.world self.new.world }
         ensures keys { self.new.keys ≡ self.old.keys }
     {
@@ -103,7 +105,7 @@ impl Cache {
 
     /// Collects: what isn't found is cached no more.
     pub(crate) fn collect(&mut self) -> Result<Passed, Refusal>
-        ensures step { Does self.old.world Collect result self.new.world }
+        ensures step { Does self.old.world (Make Collect) result self.new.world }
         // What is cached afterwards was cached before, under the same key. So an empty key stays empty.
         ensures kept { (key a : ℕ) → cached self.new key ≡ Some a → cached self.old key ≡ Some a }
         // What is reachable stays cached.

@@ -3,20 +3,13 @@
 
 mod cache;
 
-use anyhow::{Error, Result, anyhow};
+use anyhow::Result;
 use cache::Cache;
-use fz_model::Refusal;
-
-/// A refused call as the program's error.
-fn refused(refusal: Refusal) -> Error {
-    let name = refusal.name();
-    anyhow!("refused: {name}")
-}
 
 /// Prints what is cached under each key.
 fn show<R: Print>(rt: &R, cache: &mut Cache, keys: u64) -> Result<()> {
     for key in 0..keys {
-        match cache.get(key).map_err(refused)? {
+        match cache.get(key)? {
             Some(address) => println!(rt; "{key}: {address}")?,
             None => println!(rt; "{key}: -")?,
         }
@@ -31,20 +24,20 @@ fn finalize<R: Print>(rt: &R, cache: &mut Cache, entries: u64) -> Result<()> {
             break;
         };
         println!(rt; "finalizes {}", entry.cd)?;
-        cache.finish(&entry).map_err(refused)?;
+        cache.finish(&entry)?;
     }
     Ok(())
 }
 
 fn main(rt: HostRuntime) -> Result<()> {
-    let mut cache = Cache::open(rt.alloc(), 4, 3).map_err(refused)?;
+    let mut cache = Cache::open(rt.alloc(), 4, 3)?;
     for key in 0..3 {
-        cache.make(key).map_err(refused)?;
-        cache.put(key).map_err(refused)?;
+        cache.make(key)?;
+        cache.put(key)?;
     }
     show(&rt, &mut cache, 3)?;
-    cache.get(1).map_err(refused)?;
-    let passed = cache.collect().map_err(refused)?;
+    cache.get(1)?;
+    let passed = cache.collect()?;
     show(&rt, &mut cache, 3)?;
     finalize(&rt, &mut cache, passed.picked)
 }

@@ -3,8 +3,8 @@
 use super::files::{FULL_HEAP, FULL_TABLE, LONG_CHURN};
 use super::wanted::{ends, prints_and_ends, runs_rows};
 use super::{Row, fault, joined, run};
+use fz_devices::WHOLE;
 use fz_model::Refusal;
-use fz_text::WHOLE;
 use std::alloc::{AllocError, Global};
 use std::test::Fail;
 

@@ -7,7 +7,7 @@ use super::files::{
 };
 use super::wanted::{prints, runs_rows};
 use super::{Outcome, Row, joined, run};
-use fz_text::WHOLE;
+use fz_devices::WHOLE;
 use std::alloc::AllocError;
 use std::process::Abort;
 use std::sync::Wait;

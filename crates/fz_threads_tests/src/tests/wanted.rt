@@ -2,8 +2,9 @@
 //! assert stands here.
 
 use super::{Outcome, Row, run_within};
+use fz_devices::Limits;
 use fz_model::Refusal;
-use fz_text::{DriveFault, Limits};
+use fz_text::DriveFault;
 use std::alloc::AllocError;
 use std::fmt::Debug;
 use std::process::Abort;

@@ -31,7 +31,7 @@ gather-requires t c =
       (
         subst (λ (line : ℕ × ℕ). AllByRecursion (λ (seat : SeatState). seat.line ≡ line) rest) (sym (ap (λ (d : (ℕ × ℕ) × _). d.0) deque)) (each_rest (λ (seat : SeatState). seat.line ≡ (worker_deque c.args.worker.now).0) c.args.seats.now rest c.split_at_mut-front.ensures.back c.requires.own),
         (
-          ((absorbed.0.1 ∙ blank.0.1 ∙ room.0, omega (arith, absorbed.1, blank.1, room.1, sent), omega (arith, absorbed.0.3, blank.0.3, room.2)), as_asked _ _ _ g),
+          ((absorbed.0.1 ∙ blank.0.1 ∙ room.0, omega (arith, absorbed.1, blank.1, room.1, sent)), as_asked _ _ _ g),
           (omega (arith, lists, back, c.requires.all), (c.requires.room.0, omega (arith, c.requires.room.1, sent))),
         ),
       ),

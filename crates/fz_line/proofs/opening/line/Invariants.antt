@@ -1,5 +1,5 @@
-use Rattle.std.proofs.Common.{◌≡◌, [], vec_len, vec_capacity}
-use Rattle.crossbeam_deque.specs.Handles.{worker_deque, worker_view}
+use Rattle.std.proofs.Common.{◌≡◌, [], vec_len, vec_capacity, ◌≤◌}
+use Rattle.crossbeam_deque.specs.Handles.{worker_deque, worker_view, worker_capacity}
 use Rattle.fz_line.specs.States.{new_seats}
 use Rattle.fz_line.specs.Passes.{IsOwnerEnd}
 use Rattle.fz_line.proofs.opening.line.Given as goal
@@ -12,5 +12,6 @@ invariant-loop-index l = record {
   nothing_popped : (worker_view l.worker).popped ≡ [];
   seats : l.seats.items ≡ new_seats (worker_deque l.initial.worker).0 l.index;
   count : vec_len l.seats ≡ l.index;
-  room : vec_capacity l.seats ≡ l.count;
+  capacity : vec_capacity l.seats ≡ l.count;
+  room : l.room ≤ worker_capacity l.worker;
 }

@@ -26,7 +26,7 @@ returns-clause-end c =
     let room = end.0 in
     let same = a.same in (
       (
-        (same.0.1 ∙ room.0, omega (arith, same.1, room.1, sent), omega (arith, same.0.3, room.2)),
+        (same.0.1 ∙ room.0, omega (arith, same.1, room.1, sent)),
         left ∙ (λ i. view_of true (sym left i).sent (sym left i).popped rest),
         omega arith,
       ),

@@ -7,25 +7,25 @@ use Rattle.fz_model.specs.Pass.{is_outside, links_within}
 use Rattle.fz_heap.specs.Contents.{Contents}
 use Rattle.fz_dirty.specs.Flags.{Set, Flagged}
 use Rattle.fz_marker.specs.Marking.{Marking, IsClosed}
-use Rattle.fz_pass.specs.Leading.{Traces, AreReaching, is_unreachable}
+use Rattle.fz_pass.specs.Leading.{is_unreachable}
 use Rattle.fz_pass.specs.Picking.{Picks, is_free}
 use Rattle.fz_pass.proofs.Carried.{decided, nothing_at_zero, still_within, closed_after, cleared_by, condemned, len_cleared}
 use Rattle.fz_pass.proofs.pass.decide.Goals as goal
 
-pub trace_led-requires-clause-closed : goal.trace_led-requires-clause-closed
-trace_led-requires-clause-closed c =
+pub list_unreachable-requires-clause-closed : goal.list_unreachable-requires-clause-closed
+list_unreachable-requires-clause-closed c =
     let m0 = c.args.marker.now in
     let heap0 = c.args.heap.now in
     let first = cleared_by heap0 c.clear_dead.new.heap c.args.short.now.links c.found.result.now.members m0.marked (ap (λ (f : Flagged). f.members) c.found.ensures) c.clear_dead.ensures in
-    let begun : c.list_unreachable.new.marker.traced ≡ m0.marked = ap (λ (m : Marking). m.traced) c.list_unreachable.ensures.same ∙ ap (λ (m : Marking). m.traced) c.trace_found.ensures in
+    let begun : c.trace_found.new.self.traced ≡ m0.marked = ap (λ (m : Marking). m.traced) c.trace_found.ensures in
     subst (IsClosed c.clear_dead.new.heap.objects) (sym begun)
     (subst (λ (h : Contents). IsClosed h.objects m0.marked) (sym first) (closed_after heap0.objects c.args.short.now.links m0.marked (nothing_at_zero heap0.blocks heap0.objects c.condemned-before.ensures.objects) c.requires.closed))
 
 pub returns-clause-decided : goal.returns-clause-decided
 returns-clause-decided c =
     let m0 = c.args.marker.now in
-    let m1 = c.list_unreachable.new.marker in
-    let m2 = c.trace_led.new.marker in
+    let m2 = c.list_unreachable.new.marker in
+    let m1 : Marking = record c.trace_found.new.self { listed = m2.listed } in
     let m3 = c.trace_listed.new.marker in
     let heap0 = c.args.heap.now in
     let heap1 = c.clear_dead.new.heap in
@@ -37,19 +37,17 @@ returns-clause-decided c =
     let short = c.args.short.now.links in
     let long = c.args.long.now.links in
     let first = cleared_by heap0 heap1 short c.found.result.now.members m0.marked (ap (λ (f : Flagged). f.members) c.found.ensures) c.clear_dead.ensures in
-    let begun : m1.traced ≡ m0.marked = ap (λ (m : Marking). m.traced) c.list_unreachable.ensures.same ∙ ap (λ (m : Marking). m.traced) c.trace_found.ensures in
+    let begun : m1.traced ≡ m0.marked = ap (λ (m : Marking). m.traced) c.trace_found.ensures in
     let listed : (a : ℕ) → contains m1.listed a ≡ is_unreachable heap1.objects table0.registrations (contains m0.marked) a =
     λ a. c.list_unreachable.ensures.listed a ∙ ap (λ (m : Marking). is_unreachable heap1.objects table0.registrations (contains m.marked) a) c.trace_found.ensures in
-    let list : m2.listed ≡ m1.listed = ap (λ (m : Marking). m.listed) c.trace_led.ensures.same in
     let marked : m3.marked ≡ m0.marked =
-    ap (λ (m : Marking). m.marked) c.trace_listed.ensures.same ∙ ap (λ (m : Marking). m.marked) c.trace_led.ensures.same ∙ ap (λ (m : Marking). m.marked) c.list_unreachable.ensures.same ∙ ap (λ (m : Marking). m.marked) c.trace_found.ensures in
-    let picks = subst (λ (s : Set). Picks heap1.objects (is_free s m2.traced) table0 table1 out0 out1) (ap (λ (f : Flagged). f.members) c.listed.ensures.listed ∙ list)
+    ap (λ (m : Marking). m.marked) c.trace_listed.ensures.same ∙ ap (λ (m : Marking). m.marked) c.list_unreachable.ensures.led.same ∙ ap (λ (m : Marking). m.marked) c.trace_found.ensures in
+    let picks = subst (λ (s : Set). Picks heap1.objects (is_free s m2.traced) table0 table1 out0 out1) (ap (λ (f : Flagged). f.members) c.listed.ensures.listed)
     (subst (λ (s : Set). Picks heap1.objects (is_free c.listed.result.now.members s) table0 table1 out0 out1) (ap (λ (f : Flagged). f.members) c.kept.ensures) c.pick_free.ensures.picks) in
-    let reached = subst (λ (s : Set). Traces heap1.objects m2 m3 (AreReaching heap1.objects (contains s))) list c.trace_listed.ensures in
     let second = cleared_by heap1 heap2 long c.kept-kept.result.now.members m3.traced (ap (λ (f : Flagged). f.members) c.kept-kept.ensures) c.clear_dead-2.ensures in
     let found : c.found-found.result.now.members ≡ m0.marked = ap (λ (f : Flagged). f.members) c.found-found.ensures ∙ marked in
     let kept : c.kept-kept.result.now.members ≡ m3.traced = ap (λ (f : Flagged). f.members) c.kept-kept.ensures in
-    decided heap0 heap1 heap2 c.condemn_outside.new.heap m0 m1 m2 m3 table0 table1 c.args.short.now c.args.long.now c.keep_within.new.links c.keep_within-2.new.links m1.listed out0 out1 first begun listed c.trace_led.ensures picks reached second
+    decided heap0 heap1 heap2 c.condemn_outside.new.heap m0 m1 m2 m3 table0 table1 c.args.short.now c.args.long.now c.keep_within.new.links c.keep_within-2.new.links m1.listed out0 out1 first begun listed c.list_unreachable.ensures.led picks c.trace_listed.ensures second
     (c.keep_within.ensures ∙ (λ i. links_within heap2.objects short (contains (found i)) (contains (kept i))))
     (c.keep_within-2.ensures ∙ (λ i. links_within heap2.objects long (contains (kept i)) (contains (kept i))))
     (c.condemn_outside.ensures.objects ∙ ap (λ (f : Flagged). retain_keys heap2.objects (contains f.members)) c.kept-kept.ensures)

@@ -1,10 +1,10 @@
 use Rattle.std.proofs.Common.{◌≤◌, ◌*◌}
-use Rattle.fz_model.specs.Calls.{event}
+use Rattle.fz_model.specs.Events.{Make}
 use Rattle.fz_threads.specs.Holds.{HasRefused, AreTurns}
 use Rattle.fz_threads.proofs.section.turns.Given as goal
 
 abbrev pub invariant-loop-turn : goal.invariant-loop-turn
 invariant-loop-turn g l = record {
-  refused : HasRefused g.O.Opening.origin (AreTurns (event l.new) (event l.register) (event l.let_go) l._turn) l.refused;
+  refused : HasRefused g.O.Opening.origin (AreTurns (Make l.new) (Make l.register) (Make l.let_go) l._turn) l.refused;
   few : l.refused ≤ 2 * l._turn;
 }

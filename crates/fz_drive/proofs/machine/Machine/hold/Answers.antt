@@ -7,10 +7,10 @@ use Rattle.fz_drive.proofs.machine.Machine.hold.Goals as goal
 pub returns-in_err-entry : goal.returns-in_err-entry
 returns-in_err-entry c =
     let r = the_error c.from_residual.result _ c.from_residual.ensures.1 ∙ ap Err c.in_err-entry.ensures.missing.1 in
-    subst (λ r. JointDoes c.args.self.now (HoldOwn c.args.worker c.args.slot.frame c.args.slot.slot) r c.args.self.now) (sym r) (hold_missing _ _ _ _ c.in_err-entry.ensures.missing.0)
+    subst (λ r. JointDoes c.args.self.now (HoldOwn c.args.worker c.args.slot) r c.args.self.now) (sym r) (hold_missing _ _ _ c.in_err-entry.ensures.missing.0)
 
 pub returns-in_default : goal.returns-in_default
-returns-in_default c = hold_idle _ _ _ _ (c.in_ok-entry.ensures.found ∙ ap Some c.in_default.is)
+returns-in_default c = hold_idle _ _ _ (c.in_ok-entry.ensures.found ∙ ap Some c.in_default.is)
 
 pub returns : goal.returns
-returns c = held _ _ _ _ _ c.in-Some.entry _ (c.in_ok-entry.ensures.found ∙ ap Some c.in-Some.is) c.hold.ensures.step refl refl
+returns c = held _ _ _ _ c.in-Some.entry _ (c.in_ok-entry.ensures.found ∙ ap Some c.in-Some.is) c.hold.ensures.step refl refl

@@ -10,13 +10,13 @@ pub returns-clause-rest : goal.returns-clause-rest
 returns-clause-rest c =
     popped_rest (worker_view c.self.inside.worker) (MAX_WORKERS - c.self.inside.seats) c.args.seats.now c.args.self.now.sent _
     (ap (λ (o : OwnerState). o.sent) c.self.view_is)
-    (ap (λ (v : View). v.lists) c.self.invariant.1)
+    (ap (λ (v : View). v.lists) c.self.invariant.0.1)
     c.gather.ensures.rest
 
 pub returns-clause-first : goal.returns-clause-first
 returns-clause-first c =
     taken_first (worker_view c.self.inside.worker) (MAX_WORKERS - c.self.inside.seats) c.args.seats.now c.args.self.now.sent c.gather.new.out.items
     (ap (λ (o : OwnerState). o.sent) c.self.view_is)
-    (ap (λ (v : View). v.lists) c.self.invariant.1)
+    (ap (λ (v : View). v.lists) c.self.invariant.0.1)
     c.gather.ensures.whole
     (returns-clause-rest c)

@@ -1,7 +1,6 @@
 use Rattle.std.proofs.Common.{◌<◌, ◌≤◌, Contains, ap, length, sym, subst}
-use Rattle.fz_line.specs.Views.{first_room}
 use Rattle.fz_world.specs.World.{WorldView}
-use Rattle.fz_service.specs.States.{LockedState, IsReachedFrom}
+use Rattle.fz_service.specs.States.{LockedState, IsReachedFrom, line_room}
 use Rattle.fz_service.proofs.Keeps.{ran}
 use Rattle.fz_service.proofs.Served.{let_go, not_there, same_queue, still_sent}
 use Rattle.fz_service.proofs.locked.Locked.serve.Goals as goal
@@ -17,8 +16,8 @@ returns-in-Ok-clause-sent g c =
     let mid = c.publish.new.self in
     let world = sym (ap (λ (s : LockedState). s.world) c.publish.ensures.sent) in
     let reached = subst (IsReachedFrom g.O.Opening.origin) world (ran _ _ _ _ _ _ c.run.ensures c.self.invariant.0).reached in
-    still_sent mid c.finish.new.self (ap (λ (s : LockedState). s.published) c.in-Ok.ensures.counted) (same_queue g.O.Opening.origin _ _ _ c.in-Ok.ensures.step reached)
-    (subst (λ (w : WorldView). mid.published < length w.queue → first_room ≤ mid.published) world c.publish.ensures.room)
+    still_sent (line_room g.O.Opening.origin.blocks) mid c.finish.new.self (ap (λ (s : LockedState). s.published) c.in-Ok.ensures.counted) (same_queue g.O.Opening.origin _ _ _ c.in-Ok.ensures.step reached)
+    (subst (λ (w : WorldView). mid.published < length w.queue → line_room g.O.Opening.origin.blocks ≤ mid.published) world c.publish.ensures.room)
 
 pub returns-in-Err-clause-answer : goal.returns-in-Err-clause-answer
 returns-in-Err-clause-answer g c =

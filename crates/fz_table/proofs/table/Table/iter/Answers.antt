@@ -11,4 +11,4 @@ returns-clause-count c =
 
 pub returns-clause-limit : goal.returns-clause-limit
 returns-clause-limit c =
-    subst (λ n. n ≤ TABLE_LIMIT) (len_made c.self.inside.entries.entries c.iter.ensures.unique ∙ sym (ap length c.of.ensures ∙ c.iter.ensures.len)) c.self.invariant
+    subst (λ n. n ≤ TABLE_LIMIT) (len_made c.self.inside.entries.entries c.iter.ensures.unique ∙ sym (ap length c.of.ensures ∙ c.iter.ensures.len)) c.self.invariant.0

@@ -7,6 +7,6 @@ use Rattle.fz_world.proofs.frames.Frames.set.Goals as goal
 pub invariant_of-self : goal.invariant_of-self
 invariant_of-self c =
     let row = c.index_mut-row.result.now in
-    let there : c.args.frame < length c.self.inside.rows.items = grind (arith, nat_tests) in
-    All-set (λ (row : List ℕ). length row ≡ SLOTS) c.self.inside.rows.items c.args.frame (set row c.args.slot c.args.word)
-    (length-set row c.args.slot c.args.word ∙ ap length c.index_mut-row.ensures.value ∙ c.self.invariant c.args.frame row there) c.self.invariant
+    let there : c.args.slot.frame < length c.self.inside.rows.items = grind (arith, nat_tests) in
+    All-set (λ (row : List ℕ). length row ≡ SLOTS) c.self.inside.rows.items c.args.slot.frame (set row c.args.slot.slot c.args.word)
+    (length-set row c.args.slot.slot c.args.word ∙ ap length c.index_mut-row.ensures.value ∙ c.self.invariant c.args.slot.frame row there) c.self.invariant

@@ -4,7 +4,8 @@ use Rattle.std.specs.FinSet.{contains, contains-empty}
 use Rattle.fz_model.specs.State.{Core}
 use Rattle.fz_model.specs.Reachability.{IsRoot, IsReachable, Computes}
 use Rattle.fz_model.specs.Pass.{Passes}
-use Rattle.fz_model.specs.Events.{Collect}
+use Rattle.fz_model.specs.declared.call.Call.TheVariants.{Collect}
+use Rattle.fz_model.specs.Events.{Make}
 use Rattle.fz_dirty.specs.Flags.{Set}
 use Rattle.fz_marker.specs.Marking.{IsClosed, is_to_scan}
 use Rattle.fz_world.specs.World.{WorldView, IsWorld}
@@ -57,7 +58,7 @@ returns-clause-step c =
     (is_reachable (core_inside w) marked (λ b t. let from = c.finish.ensures.led b t in (from.0, first from.0 from.1, from.2)) a, has_reachable (core_inside w) marked closed roots a) in
     let P : Core → Type 0 = λ k. (found : ℕ → Bool) × Computes found (IsReachable k) × Passes k found c.pass.result c.pass.new.self.core in
     let accepts : P c.args.self.now.core = subst P core (contains marked, computes, c.pass.ensures.passes) in
-    does_ended c.args.self.now c.pass.new.self Collect c.pass.result refl tt c.in_ok-check_begin.ensures.judged accepts (ap (λ (k : Core). k.cycle) c.pass.ensures.passes.is)
+    does_ended c.args.self.now c.pass.new.self (Make Collect) c.pass.result refl tt c.in_ok-check_begin.ensures.judged accepts (ap (λ (k : Core). k.cycle) c.pass.ensures.passes.is)
 
 pub returns-clause-few : goal.returns-clause-few
 returns-clause-few c =

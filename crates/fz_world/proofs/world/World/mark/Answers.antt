@@ -2,7 +2,8 @@ use Rattle.std.proofs.Common.{◌≡◌, ◌<◌, None, refl, arith, rules, true
 use Rattle.std.specs.FinMap.{len}
 use Rattle.fz_model.specs.declared.answers.Progress.TheVariants.{More}
 use Rattle.fz_model.specs.Causes.{first_cause}
-use Rattle.fz_model.specs.Events.{Mark, causes}
+use Rattle.fz_model.specs.declared.call.Call.TheVariants.{Mark}
+use Rattle.fz_model.specs.Events.{Make, causes}
 use Rattle.fz_world.specs.World.{view_of}
 use Rattle.fz_world.proofs.Does.{does_mark}
 use Rattle.fz_world.proofs.Inside.{core_inside}
@@ -24,7 +25,7 @@ invariant_of-self c = (world_stepped _ _ _ _ _ _ _ _ c.step.new.self c.step.ensu
 pub returns-clause-step : goal.returns-clause-step
 returns-clause-step c =
     let w = c.self.inside in
-    let none : first_cause (causes (core_inside w) (Mark c.args.budget)) ≡ None = search rules in
+    let none : first_cause (causes (core_inside w) (Make (Mark c.args.budget))) ≡ None = search rules in
     let few : c.step.result ≡ More → c.args.budget < len w.heap.objects = λ more.
     let scans = c.step.ensures.more more in
     let each_once = c.step.ensures.each_once in

@@ -4,7 +4,8 @@ use Rattle.fz_model.specs.State.{Core}
 use Rattle.fz_model.specs.Reachability.{IsRoot}
 use Rattle.fz_model.specs.Pass.{Passes}
 use Rattle.fz_model.specs.Causes.{first_cause}
-use Rattle.fz_model.specs.Events.{Pause, causes}
+use Rattle.fz_model.specs.declared.call.Call.TheVariants.{Pause}
+use Rattle.fz_model.specs.Events.{Make, causes}
 use Rattle.fz_marker.specs.Marking.{IsClosed}
 use Rattle.fz_world.specs.World.{WorldView}
 use Rattle.fz_world.proofs.Does.{does_pause}
@@ -22,7 +23,7 @@ pass-requires-clause-closed c = subst (λ (k : Core). IsClosed k.objects c.mark_
 pub returns-clause-step : goal.returns-clause-step
 returns-clause-step c =
     let on : c.args.self.now.core.cycle ≡ true = search rules in
-    let none : first_cause (causes c.args.self.now.core Pause) ≡ None = search rules in
+    let none : first_cause (causes c.args.self.now.core (Make Pause)) ≡ None = search rules in
     let passes = same_pass c.args.self.now.core (contains c.mark_rest.new.self.marked) c.pass.result c.pass.new.self.core (subst (λ (k : Core). Passes k (contains c.mark_rest.new.self.marked) c.pass.result c.pass.new.self.core) c.mark_rest.ensures.core c.pass.ensures.passes) in
     does_pause c.args.self.now c.pass.new.self c.mark_rest.new.self.marked c.pass.result none on c.mark_rest.ensures.roots c.mark_rest.ensures.closed c.mark_rest.ensures.led passes (ap (λ (k : Core). k.cycle) passes.is)
 

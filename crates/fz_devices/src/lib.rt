@@ -1,0 +1,159 @@
+//! Readers and writers in memory, for tests: they hand over and take all at once or a byte at a time, and fail when they are told to.
+#![tactic(auto)]
+
+ghost use Rattle.std.specs.Prelude.{Some, ◌≡◌, ◌≤◌, ◌<◌, []};
+
+use arrayvec::ArrayVec;
+use fz_text::{Failures, Sink, Source};
+use std::sync::ledger::Ledger;
+
+/// How much a device hands over or takes in one call.
+#[derive(Clone, Copy)]
+pub enum Pieces {
+    /// All that there is room for.
+    Whole,
+    /// One byte.
+    Single,
+}
+
+impl Pieces {
+    /// How many of these bytes go into a call.
+    fn of(self, len: usize) -> usize
+        ensures whole { self ≡ Pieces.Whole → result ≡ len }
+        ensures single { self ≡ Pieces.Single → result ≤ 1 }
+        ensures within { result ≤ len }
+        ensures some { 0 < len → 0 < result }
+    {
+        match self {
+            Pieces::Whole => len,
+            Pieces::Single => len.min(1),
+        }
+    }
+}
+
+/// How much the devices of a run hand over and take in a call, and after how many calls they fail.
+#[derive(Clone, Copy)]
+pub struct Limits {
+    pub pieces: Pieces,
+    pub reads: u64,
+    pub writes: u64,
+}
+
+/// Devices that hand over and take all that they can, and don't fail.
+pub const WHOLE: Limits = Limits {
+    pieces: Pieces::Whole,
+    reads: u64::MAX,
+    writes: u64::MAX,
+};
+
+/// Devices that hand over and take a byte in a call, and fail after a given number of calls.
+pub fn bytewise(reads: usize, writes: usize) -> Limits
+    ensures { result ≡ record { pieces = Pieces.Single; reads = reads; writes = writes } }
+{
+    Limits {
+        pieces: Pieces::Single,
+        reads: reads as u64,
+        writes: writes as u64,
+    }
+}
+
+/// Hands over its bytes, in pieces of a given size, and fails after a given number of reads.
+#[derive(Drop)]
+pub struct MemorySource<'a, L: Ledger> {
+    rest: &'a [u8],
+    pieces: Pieces,
+    reads: u64,
+    failures: Failures<L>,
+}
+
+impl<'a, L: Ledger> MemorySource<'a, L> {
+    /// A reader of these bytes, whose read number `reads`, counted from 0, fails, and each after it.
+    pub fn new(
+        bytes: &'a [u8],
+        pieces: Pieces,
+        reads: u64,
+        failures: Failures<L>,
+    ) -> MemorySource<'a, L>
+        ensures { (result.rest ≡ bytes.entry) × (result.pieces ≡ pieces) × (result.reads ≡ reads) × (result.failures ≡ failures) }
+    {
+        MemorySource {
+            rest: bytes,
+            pieces,
+            reads,
+            failures,
+        }
+    }
+}
+
+impl<L: Ledger> Source for MemorySource<'_, L> {
+    ghost remaining = { λ s. Some s.rest.now };
+
+    ghost failures = { λ s. s.failures };
+
+    fn read(&mut self, buf: &mut [u8]) -> Option<usize> {
+        if self.reads == 0 {
+            self.failures.count();
+            return None;
+        }
+        self.reads -= 1;
+        let count = self.pieces.of(self.rest.len().min(buf.len()));
+        let (front, rest) = self.rest.split_at(count);
+        buf[..count].copy_from_slice(front);
+        self.rest = rest;
+        Some(count)
+    }
+}
+
+/// Takes bytes, in pieces of a given size and up to 4,096 in all, and fails after a given number of writes.
+#[derive(Drop)]
+pub struct MemorySink<L: Ledger> {
+    bytes: ArrayVec<u8, 4096>,
+    pieces: Pieces,
+    writes: u64,
+    failures: Failures<L>,
+}
+
+impl<L: Ledger> MemorySink<L> {
+    /// An empty writer, whose write number `writes`, counted from 0, fails, and each after it.
+    pub fn new(pieces: Pieces, writes: u64, failures: Failures<L>) -> MemorySink<L>
+        ensures { (result.bytes.items ≡ []) × (result.pieces ≡ pieces) × (result.writes ≡ writes) × (result.failures ≡ failures) }
+    {
+        MemorySink {
+            bytes: ArrayVec::new(),
+            pieces,
+            writes,
+            failures,
+        }
+    }
+
+    /// What was written.
+    pub fn into_bytes(self) -> ArrayVec<u8, 4096>
+        ensures { result.items ≡ self.bytes.items }
+    {
+        self.bytes
+    }
+}
+
+impl<L: Ledger> Sink for MemorySink<L> {
+    ghost written = { λ p. Some p.bytes.items };
+
+    ghost failures = { λ p. p.failures };
+
+    fn write(&mut self, bytes: &[u8]) -> Option<usize> {
+        if self.writes == 0 || self.bytes.is_full() {
+            self.failures.count();
+            return None;
+        }
+        self.writes -= 1;
+        let count = self
+            .pieces
+            .of(bytes.len().min(self.bytes.remaining_capacity()));
+        match self.bytes.try_extend_from_slice(&bytes[..count]) {
+            Ok(()) => Some(count),
+            Err(_) => {
+                self.failures.count();
+                None
+            }
+        }
+    }
+}

@@ -1,0 +1,2 @@
+mod LineAsBox
+mod SeatAsBox

@@ -1,0 +1,5 @@
+pub mod LineOwned
+pub mod SeatOwned
+pub mod Entries
+pub mod Lines
+pub mod Seats

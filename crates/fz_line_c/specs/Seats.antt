@@ -1,0 +1,50 @@
+-- What a call of a seat behind a handle does.
+use Rattle.std.specs.Prelude.{◌≡◌, ◌+◌, ◌⊎◌, ℕ, Option, Some, None, [], ◌∷◌, ◌++◌}
+use Rattle.fz_model.specs.declared.answers.Entry.{Entry}
+use Rattle.fz_model.specs.declared.refusal.Refusal.TheVariants as refusals
+use Rattle.fz_model.specs.Refusals.{code_of}
+use Rattle.fz_line.specs.Takes.{GainsEntry}
+use Rattle.fz_line_c.specs.Lines.{LineState}
+use Rattle.fz_line_c.specs.declared.codes.TheConstants.{OK, NO_WORLD, HAS_WORLD, EMPTY, BUSY, IN_HAND}
+use Rattle.fz_line_c.specs.declared.seat_session.SeatSession.{SeatSession}
+use Rattle.fz_line_c.specs.declared.seat_session.SeatSession.TheVariants.{Idle, Working, Away}
+
+-- ---- taking: what C is told is the entry that the seat gained, or its place is as it was
+
+abbrev pub Takes : SeatSession → SeatSession → ℕ → (Entry → Type 0) → Type 0 → Type 0
+Takes (Idle seat) (Working duty) code told kept = (code ≡ OK) × GainsEntry seat duty × told duty.entry
+Takes (Idle seat) (Idle same) code told kept = (same ≡ seat) × ((code ≡ EMPTY) ⊎ (code ≡ BUSY)) × kept
+Takes (Idle seat) Away code told kept = ⊥
+Takes (Working duty) new code told kept = (new ≡ Working duty) × (code ≡ IN_HAND) × kept
+Takes Away new code told kept = (new ≡ Away) × (code ≡ NO_WORLD) × kept
+
+abbrev pub TakesBehind : Option SeatSession → Option SeatSession → ℕ → (Entry → Type 0) → Type 0 → Type 0
+TakesBehind (Some old) (Some new) code told kept = Takes old new code told kept
+TakesBehind (Some old) None code told kept = ⊥
+TakesBehind None new code told kept = (new ≡ None) × (code ≡ NO_WORLD) × kept
+
+-- ---- finishing
+
+abbrev pub Finishes : SeatSession → SeatSession → ℕ → Type 0
+Finishes (Working duty) new code = (new ≡ Idle (record duty.seat { finished = duty.seat.finished + 1 })) × (code ≡ OK)
+Finishes (Idle seat) new code = (new ≡ Idle seat) × (code ≡ EMPTY)
+Finishes Away new code = (new ≡ Away) × (code ≡ NO_WORLD)
+
+abbrev pub FinishesBehind : Option SeatSession → Option SeatSession → ℕ → Type 0
+FinishesBehind (Some old) (Some new) code = Finishes old new code
+FinishesBehind (Some old) None code = ⊥
+FinishesBehind None new code = (new ≡ None) × (code ≡ NO_WORLD)
+
+-- ---- handing a seat out: the last of those that the line has left
+
+abbrev pub HandsNext : LineState → LineState → Option SeatSession → ℕ → Type 0
+HandsNext old new (Some (Idle seat)) code = (code ≡ OK) × (old.owner ≡ new.owner) × (old.seats ≡ new.seats ++ seat ∷ [])
+HandsNext old new (Some (Working duty)) code = ⊥
+HandsNext old new (Some Away) code = ⊥
+HandsNext old new None code = (new ≡ old) × (((code ≡ EMPTY) × (old.seats ≡ [])) ⊎ (code ≡ code_of refusals.NoMemory))
+
+abbrev pub HandsOut : Option LineState → Option SeatSession → Option LineState → Option SeatSession → ℕ → Type 0
+HandsOut line (Some seat) new handed code = (code ≡ HAS_WORLD) × (new ≡ line) × (handed ≡ Some seat)
+HandsOut None None new handed code = (code ≡ NO_WORLD) × (new ≡ None) × (handed ≡ None)
+HandsOut (Some old) None (Some new) handed code = HandsNext old new handed code
+HandsOut (Some old) None None handed code = ⊥

@@ -1,0 +1,20 @@
+//! The ready line, for C: an owner's end that entries are published to, and seats that take them, each behind a handle.
+//!
+//! `c/include/derrimas.h` declares the exports. Each answers a code. Where it doesn't answer 0, the places that C gave for its results are as they were.
+#![tactic(auto)]
+
+mod codes;
+mod entry;
+mod handle;
+mod line_session;
+mod lines;
+mod seat_session;
+mod seats;
+
+pub use codes::Code;
+pub use entry::Entry;
+pub use handle::{LineHandle, SeatHandle};
+pub use line_session::LineSession;
+pub use lines::{fz_line_destroy, fz_line_open, fz_line_publish, fz_line_seat};
+pub use seat_session::SeatSession;
+pub use seats::{fz_seat_destroy, fz_seat_done, fz_seat_take};

@@ -1,0 +1,114 @@
+//! Lines come and go, and are published to.
+
+ghost use Rattle.std.specs.Prelude.{◌≡◌, [], ◌∷◌, None, IfOk};
+ghost use Rattle.fz_model.specs.Causes.{IsJudgedOrLacks, bad_count};
+ghost use Rattle.fz_model.specs.declared.limits.TheConstants.{MAX_WORKERS};
+ghost use Rattle.fz_line_c.specs.Entries.{entry_of};
+ghost use Rattle.fz_line_c.specs.Lines.{IsNewLine, Opened, Opens, PublishesBehind};
+ghost use Rattle.fz_line_c.specs.Seats.{HandsNext, HandsOut};
+
+use crate::codes::{Code, EMPTY, HAS_WORLD, NO_WORLD, OK};
+use crate::entry::Entry;
+use crate::handle::{LineHandle, SeatHandle};
+use crate::line_session::{FIRST_ROOM, LineSession};
+use crate::seat_session::SeatSession;
+use fz_line::line;
+use fz_model::Refusal;
+use std::alloc::Global;
+
+fn open(alloc: Global, seats: u64) -> Result<Box<LineSession, Global>, Refusal>
+    ensures judged { IsJudgedOrLacks (bad_count MAX_WORKERS seats ∷ []) result }
+    ensures opened { IfOk result (λ session. IsNewLine seats session.value) }
+{
+    let (owner, seats) = line(alloc, seats, FIRST_ROOM)?;
+    Ok(Box::new(
+        alloc,
+        LineSession {
+            owner,
+            seats,
+            sent: 0,
+        },
+    )?)
+}
+
+fn open_into(alloc: Global, line: &mut LineHandle, seats: u64) -> Code
+    requires { line.old.value ≡ None }
+    ensures { Opened seats line.new.value result }
+{
+    match open(alloc, seats) {
+        Ok(session) => {
+            line.put(session);
+            OK
+        }
+        Err(refusal) => refusal.code(),
+    }
+}
+
+/// Opens a line in a handle that has none.
+#[unsafe(no_mangle)]
+pub extern "C" fn fz_line_open(alloc: Global, line: &mut LineHandle, seats: u64) -> Code
+    ensures { Opens line.old.value seats line.new.value result }
+{
+    match line.take(alloc) {
+        Some(session) => {
+            line.put(session);
+            HAS_WORLD
+        }
+        None => open_into(alloc, line, seats),
+    }
+}
+
+/// Frees the handle's line, with the seats that weren't handed out, if it has one.
+#[unsafe(no_mangle)]
+pub extern "C" fn fz_line_destroy(alloc: Global, line: &mut LineHandle)
+    ensures { line.new.value ≡ None }
+{
+    drop(line.take(alloc));
+}
+
+/// `Owner::publish` of one entry.
+#[unsafe(no_mangle)]
+pub extern "C" fn fz_line_publish(alloc: Global, line: &mut LineHandle, entry: &Entry) -> Code
+    ensures { PublishesBehind line.old.value (entry_of entry.now) line.new.value result }
+{
+    let Some(mut session) = line.take(alloc) else {
+        return NO_WORLD;
+    };
+    let code = session.publish(entry.read());
+    line.put(session);
+    code
+}
+
+fn next_seat(alloc: Global, session: &mut LineSession, seat: &mut SeatHandle) -> Code
+    requires { seat.old.value ≡ None }
+    ensures { HandsNext session.old session.new seat.new.value result }
+{
+    let Ok(mut held) = Box::new(alloc, SeatSession::Away) else {
+        return Refusal::NoMemory.code();
+    };
+    match session.seats.pop() {
+        Some(next) => {
+            *held = SeatSession::Idle(next);
+            seat.put(held);
+            OK
+        }
+        None => EMPTY,
+    }
+}
+
+/// Puts the last seat of the line that wasn't handed out into a handle that has none.
+#[unsafe(no_mangle)]
+pub extern "C" fn fz_line_seat(alloc: Global, line: &mut LineHandle, seat: &mut SeatHandle) -> Code
+    ensures { HandsOut line.old.value seat.old.value line.new.value seat.new.value result }
+{
+    if let Some(held) = seat.take(alloc) {
+        seat.put(held);
+        return HAS_WORLD;
+    }
+    let Some(mut session) = line.take(alloc) else {
+        return NO_WORLD;
+    };
+    let code = next_seat(alloc, &mut session, seat);
+    line.put(session);
+    code
+}

@@ -1,0 +1,57 @@
+//! What stands behind a seat's handle.
+
+ghost use Rattle.std.specs.Prelude.{◌≡◌};
+ghost use Rattle.fz_line_c.specs.Entries.{entry_of};
+ghost use Rattle.fz_line_c.specs.Seats.{Takes, Finishes};
+
+use crate::codes::{BUSY, Code, EMPTY, IN_HAND, NO_WORLD, OK};
+use crate::entry::Entry;
+use fz_line::{Duty, Seat, Take};
+
+/// A seat, which may have an entry in hand; `Away` where a call has it just now.
+pub enum SeatSession {
+    Idle(Seat),
+    Working(Duty),
+    Away,
+}
+
+impl Drop for SeatSession {
+    fn drop(self) {
+        match self {
+            SeatSession::Idle(seat) => seat.retire(),
+            SeatSession::Working(duty) => duty.forfeit().retire(),
+            SeatSession::Away => {}
+        }
+    }
+}
+
+impl SeatSession {
+    /// Takes an entry, if none is in hand, and tells it.
+    pub(crate) fn take(self, entry: &mut Entry) -> (SeatSession, Code)
+        ensures { Takes self result.0 result.1 (λ taken. entry_of entry.new ≡ taken) (entry.new ≡ entry.old) }
+    {
+        match self {
+            SeatSession::Working(duty) => (SeatSession::Working(duty), IN_HAND),
+            SeatSession::Away => (SeatSession::Away, NO_WORLD),
+            SeatSession::Idle(seat) => match seat.take() {
+                Take::Taken(duty) => {
+                    *entry = Entry::of(duty.entry());
+                    (SeatSession::Working(duty), OK)
+                }
+                Take::Empty(seat) => (SeatSession::Idle(seat), EMPTY),
+                Take::Busy(seat) => (SeatSession::Idle(seat), BUSY),
+            },
+        }
+    }
+
+    /// Puts the entry in hand away with its work done.
+    pub(crate) fn done(self) -> (SeatSession, Code)
+        ensures { Finishes self result.0 result.1 }
+    {
+        match self {
+            SeatSession::Working(duty) => (SeatSession::Idle(duty.done()), OK),
+            SeatSession::Idle(seat) => (SeatSession::Idle(seat), EMPTY),
+            SeatSession::Away => (SeatSession::Away, NO_WORLD),
+        }
+    }
+}

@@ -1,0 +1,48 @@
+//! Seats, which take entries.
+
+ghost use Rattle.std.specs.Prelude.{◌≡◌, None};
+ghost use Rattle.fz_line_c.specs.Entries.{entry_of};
+ghost use Rattle.fz_line_c.specs.Seats.{TakesBehind, FinishesBehind};
+
+use crate::codes::{Code, NO_WORLD};
+use crate::entry::Entry;
+use crate::handle::SeatHandle;
+use crate::seat_session::SeatSession;
+use std::alloc::Global;
+use std::mem::replace;
+
+/// `Seat::take`: with no lock and no wait.
+#[unsafe(no_mangle)]
+pub extern "C" fn fz_seat_take(alloc: Global, seat: &mut SeatHandle, entry: &mut Entry) -> Code
+    ensures { TakesBehind seat.old.value seat.new.value result (λ taken. entry_of entry.new ≡ taken) (entry.new ≡ entry.old) }
+{
+    let Some(mut session) = seat.take(alloc) else {
+        return NO_WORLD;
+    };
+    let (next, code) = replace(&mut *session, SeatSession::Away).take(entry);
+    *session = next;
+    seat.put(session);
+    code
+}
+
+/// `Duty::done`.
+#[unsafe(no_mangle)]
+pub extern "C" fn fz_seat_done(alloc: Global, seat: &mut SeatHandle) -> Code
+    ensures { FinishesBehind seat.old.value seat.new.value result }
+{
+    let Some(mut session) = seat.take(alloc) else {
+        return NO_WORLD;
+    };
+    let (next, code) = replace(&mut *session, SeatSession::Away).done();
+    *session = next;
+    seat.put(session);
+    code
+}
+
+/// Ends the handle's seat, if it has one. An entry in hand is forfeited.
+#[unsafe(no_mangle)]
+pub extern "C" fn fz_seat_destroy(alloc: Global, seat: &mut SeatHandle)
+    ensures { seat.new.value ≡ None }
+{
+    drop(seat.take(alloc));
+}

@@ -1,0 +1,5 @@
+//! Tests of `fz_pass`, in a crate of their own: a crate with tests in it is proved twice.
+#![tactic(auto)]
+
+#[cfg(test)]
+mod tests;
