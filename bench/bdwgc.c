@@ -12,6 +12,16 @@ static uintptr_t *hidden;      /* the objects, by pointers that bdwgc doesn't se
 static void *volatile root;    /* the one pointer to them that it sees */
 static void **volatile words;  /* an atomic object, in whose words links stand */
 static void finalizer(void *object, void *data) { (void)object; (void)data; }
+
+/* works as long as the busy procedure of crates/service_bench, by as many turns of a word */
+enum { TURNS = 1000 };
+static volatile uint64_t turned = 1;
+static void busy_finalizer(void *object, void *data) {
+    (void)object; (void)data;
+    uint64_t word = turned;
+    for (int turn = 0; turn < TURNS; turn++) { word ^= word << 13; word ^= word >> 7; word ^= word << 17; }
+    turned = word;
+}
 static void NOINLINE clear_stack(void) { volatile char a[256 * 1024]; memset((void *)a, 0, sizeof a); __asm__ volatile("" :: "r"(a) : "memory"); }
 
 static void NOINLINE make(const Objects *objects, bool live) {
@@ -38,6 +48,7 @@ static double NOINLINE enter(size_t n, Kind kind) {
     size_t linked = 0;
     double t = now();
     if (kind == NORMAL || kind == RANKED) for (size_t i = 0; i < n; i++) GC_register_finalizer(OBJECT(i), finalizer, 0, 0, 0);
+    if (kind == BUSY) for (size_t i = 0; i < n; i++) GC_register_finalizer(OBJECT(i), busy_finalizer, 0, 0, 0);
     if (kind == NO_ORDER) for (size_t i = 0; i < n; i++) GC_register_finalizer_no_order(OBJECT(i), finalizer, 0, 0, 0);
     if (kind == LINKED) for (size_t i = 0; i < n; i++) linked += GC_general_register_disappearing_link(&words[i], OBJECT(i)) == GC_SUCCESS;
     t = now() - t;

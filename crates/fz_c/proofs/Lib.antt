@@ -1,4 +1,3 @@
-mod AsBox
 pub mod Told
 pub mod Looking
 pub mod Taking

@@ -49,6 +49,23 @@ fn old_of(old: Option<fz_model::Old>) -> Old
     }
 }
 
+/// `World::register`, of the kind `Normal`.
+#[unsafe(no_mangle)]
+pub extern "C" fn fz_register(
+    alloc: Global,
+    world: &mut Handle,
+    slot: Slot,
+    proc: u64,
+    cd: u64,
+    rank: u8,
+    registered: &mut Registered,
+) -> Code
+    ensures { Calls world.old.value (Make (Register (slot_at slot.frame slot.slot) Normal proc cd (Some rank))) world.new.value result (TellsRegistered registered.new) (registered.new ≡ registered.old) }
+{
+    let kind = RegKind::Normal;
+    register(alloc, world, slot, kind, (proc, cd, rank), registered)
+}
+
 fn tell_registered(reply: Result<RegAnswer, Refusal>, registered: &mut Registered) -> Code
     ensures { IsTold reply result (TellsRegistered registered.new) (registered.new ≡ registered.old) }
 {
@@ -73,16 +90,21 @@ fn tell_registered(reply: Result<RegAnswer, Refusal>, registered: &mut Registere
     }
 }
 
-fn tell_old(reply: Result<Option<fz_model::Old>, Refusal>, old: &mut Old) -> Code
-    ensures { IsTold reply result (TellsOld old.new) (old.new ≡ old.old) }
+/// `World::register`, of the kind `IgnoreSelf`.
+#[unsafe(no_mangle)]
+pub extern "C" fn fz_register_ignore_self(
+    alloc: Global,
+    world: &mut Handle,
+    slot: Slot,
+    proc: u64,
+    cd: u64,
+    rank: u8,
+    registered: &mut Registered,
+) -> Code
+    ensures { Calls world.old.value (Make (Register (slot_at slot.frame slot.slot) IgnoreSelf proc cd (Some rank))) world.new.value result (TellsRegistered registered.new) (registered.new ≡ registered.old) }
 {
-    match reply {
-        Ok(found) => {
-            *old = old_of(found);
-            OK
-        }
-        Err(refusal) => refusal.code(),
-    }
+    let kind = RegKind::IgnoreSelf;
+    register(alloc, world, slot, kind, (proc, cd, rank), registered)
 }
 
 #[tactic(auto, using(crate::proofs::Told::not_called, crate::proofs::Told::called, crate::proofs::Told::none_taken))]
@@ -107,52 +129,6 @@ fn register(
     tell_registered(reply, registered)
 }
 
-/// `World::register`, of the kind `Normal`.
-#[unsafe(no_mangle)]
-pub extern "C" fn fz_register(
-    alloc: Global,
-    world: &mut Handle,
-    slot: Slot,
-    proc: u64,
-    cd: u64,
-    rank: u8,
-    registered: &mut Registered,
-) -> Code
-    ensures { Calls world.old.value (Make (Register (slot_at slot.frame slot.slot) Normal proc cd (Some rank))) world.new.value result (TellsRegistered registered.new) (registered.new ≡ registered.old) }
-{
-    register(
-        alloc,
-        world,
-        slot,
-        RegKind::Normal,
-        (proc, cd, rank),
-        registered,
-    )
-}
-
-/// `World::register`, of the kind `IgnoreSelf`.
-#[unsafe(no_mangle)]
-pub extern "C" fn fz_register_ignore_self(
-    alloc: Global,
-    world: &mut Handle,
-    slot: Slot,
-    proc: u64,
-    cd: u64,
-    rank: u8,
-    registered: &mut Registered,
-) -> Code
-    ensures { Calls world.old.value (Make (Register (slot_at slot.frame slot.slot) IgnoreSelf proc cd (Some rank))) world.new.value result (TellsRegistered registered.new) (registered.new ≡ registered.old) }
-{
-    register(
-        alloc,
-        world,
-        slot,
-        RegKind::IgnoreSelf,
-        (proc, cd, rank),
-        registered,
-    )
-}
-
 /// `World::register`, of the kind `NoOrder`.
 #[unsafe(no_mangle)]
 pub extern "C" fn fz_register_no_order(
@@ -166,14 +142,20 @@ pub extern "C" fn fz_register_no_order(
 ) -> Code
     ensures { Calls world.old.value (Make (Register (slot_at slot.frame slot.slot) NoOrder proc cd (Some rank))) world.new.value result (TellsRegistered registered.new) (registered.new ≡ registered.old) }
 {
-    register(
-        alloc,
-        world,
-        slot,
-        RegKind::NoOrder,
-        (proc, cd, rank),
-        registered,
-    )
+    let kind = RegKind::NoOrder;
+    register(alloc, world, slot, kind, (proc, cd, rank), registered)
+}
+
+fn tell_old(reply: Result<Option<fz_model::Old>, Refusal>, old: &mut Old) -> Code
+    ensures { IsTold reply result (TellsOld old.new) (old.new ≡ old.old) }
+{
+    match reply {
+        Ok(found) => {
+            *old = old_of(found);
+            OK
+        }
+        Err(refusal) => refusal.code(),
+    }
 }
 
 /// `World::unregister`.

@@ -67,25 +67,7 @@ pub struct Counts {
     pub noted: u64,
 }
 
-fn is_atomic(kind: ObjKind) -> bool
-    ensures { kind_of result ≡ kind }
-{
-    match kind {
-        ObjKind::Scanned => false,
-        ObjKind::Atomic => true,
-    }
-}
-
 /// The number of a kind of registration.
-fn number_for(kind: RegKind) -> u8
-    ensures { result ≡ number_of kind }
-{
-    match kind {
-        RegKind::Normal => 0,
-        RegKind::IgnoreSelf => 1,
-        RegKind::NoOrder => 2,
-    }
-}
 
 fn tell_object(found: Option<fz_world::Object>, object: &mut Object) -> Code
     ensures { IsFound found result (TellsObject object.new) (object.new ≡ object.old) }
@@ -100,6 +82,44 @@ fn tell_object(found: Option<fz_world::Object>, object: &mut Object) -> Code
         atomic: is_atomic(next.kind),
     };
     OK
+}
+
+fn is_atomic(kind: ObjKind) -> bool
+    ensures { kind_of result ≡ kind }
+{
+    match kind {
+        ObjKind::Scanned => false,
+        ObjKind::Atomic => true,
+    }
+}
+
+/// `World::next_object`.
+#[tactic(auto, using(crate::proofs::Looking::not_found, crate::proofs::Looking::finds, crate::proofs::Told::none_taken))]
+#[unsafe(no_mangle)]
+pub extern "C" fn fz_next_object(
+    alloc: Global,
+    world: &mut Handle,
+    from: u64,
+    object: &mut Object,
+) -> Code
+    ensures { Finds world.old.value world.new.value result (λ session. IsNextObject session.world from) (TellsObject object.new) (object.new ≡ object.old) }
+{
+    let Some(session) = world.take(alloc) else {
+        return NO_WORLD;
+    };
+    let found = session.world.next_object(from);
+    world.put(session);
+    tell_object(found, object)
+}
+
+fn number_for(kind: RegKind) -> u8
+    ensures { result ≡ number_of kind }
+{
+    match kind {
+        RegKind::Normal => 0,
+        RegKind::IgnoreSelf => 1,
+        RegKind::NoOrder => 2,
+    }
 }
 
 fn tell_registration(
@@ -122,35 +142,6 @@ fn tell_registration(
     OK
 }
 
-fn tell_linked(found: Option<(Addr, Addr)>, linked: &mut Linked) -> Code
-    ensures { IsFound found result (TellsLinked linked.new) (linked.new ≡ linked.old) }
-{
-    let Some((place, target)) = found else {
-        return EMPTY;
-    };
-    *linked = Linked { place, target };
-    OK
-}
-
-/// `World::next_object`.
-#[tactic(auto, using(crate::proofs::Looking::not_found, crate::proofs::Looking::finds, crate::proofs::Told::none_taken))]
-#[unsafe(no_mangle)]
-pub extern "C" fn fz_next_object(
-    alloc: Global,
-    world: &mut Handle,
-    from: u64,
-    object: &mut Object,
-) -> Code
-    ensures { Finds world.old.value world.new.value result (λ session. IsNextObject session.world from) (TellsObject object.new) (object.new ≡ object.old) }
-{
-    let Some(session) = world.take(alloc) else {
-        return NO_WORLD;
-    };
-    let found = session.world.next_object(from);
-    world.put(session);
-    tell_object(found, object)
-}
-
 /// `World::next_registration`.
 #[tactic(auto, using(crate::proofs::Looking::not_found, crate::proofs::Looking::finds, crate::proofs::Told::none_taken))]
 #[unsafe(no_mangle)]
@@ -168,6 +159,16 @@ pub extern "C" fn fz_next_registration(
     let found = session.world.next_registration(from);
     world.put(session);
     tell_registration(found, registration)
+}
+
+fn tell_linked(found: Option<(Addr, Addr)>, linked: &mut Linked) -> Code
+    ensures { IsFound found result (TellsLinked linked.new) (linked.new ≡ linked.old) }
+{
+    let Some((place, target)) = found else {
+        return EMPTY;
+    };
+    *linked = Linked { place, target };
+    OK
 }
 
 /// `World::next_link`.

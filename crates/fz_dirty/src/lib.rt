@@ -5,8 +5,6 @@ mod dirty;
 mod flags;
 mod members;
 mod sparse_flags;
-#[cfg(test)]
-mod tests;
 
 pub use dirty::Dirty;
 pub use flags::Flags;

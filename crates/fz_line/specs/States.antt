@@ -11,7 +11,7 @@ Line = ℕ × ℕ
 pub record OwnerState : Type 0 where
   pub line : Line
   pub seats : ℕ  -- how many
-  pub room : ℕ  -- so many entries it is sent without asking for memory
+  pub room : ℕ  -- the number of entries that it is sent without asking for memory
   pub sent : List Entry  -- all entries ever sent
   pub popped : List Entry  -- those that a drain took out
 

@@ -14,7 +14,7 @@ use crate::seat::Seat;
 use fz_model::{MAX_WORKERS, Refusal};
 use std::alloc::Global;
 
-/// An empty line with 1 to 8 seats, by index from 0, and room for so many entries from the first, some 80 bytes each.
+/// An empty line with 1 to 8 seats, by index from 0, and room for `room` entries from the first, at some 80 bytes each.
 ///
 /// `BadCount` for any other number of seats, and `NoMemory` where an allocation for the line or for its seats failed.
 pub fn line(alloc: Global, workers: u64, room: usize) -> Result<(Owner, Vec<Seat>), Refusal>

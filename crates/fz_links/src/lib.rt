@@ -2,7 +2,5 @@
 #![tactic(auto)]
 
 mod links;
-#[cfg(test)]
-mod tests;
 
 pub use links::Links;

@@ -150,7 +150,7 @@ impl Links {
         ensures dropped { (test : ℕ → ℕ → Bool) → ComputesTest (F.post f) test → self.new.links ≡ without test self.old.links }
         ensures room { self.old.room ≤ self.new.room }
     {
-        // From the back, since the last link takes the place of one that goes.
+        // From the back, since the last link takes the place of one that goes; by places, so that nothing is hashed.
         let mut place = self.entries.len();
         while place > 0 {
             place -= 1;

@@ -17,7 +17,7 @@ use Rattle.fz_model.specs.Reachability.{IsReachable}
 use Rattle.fz_model.specs.Allocation.{place_for}
 use Rattle.fz_model.specs.Pass.{Passes}
 use Rattle.fz_model.specs.Causes.{Causes, first_cause, slot_causes, place_causes, start_causes, register_causes, alloc_causes, bad_size, full, is_off_heap}
-use Rattle.fz_model.specs.declared.call.Call.TheVariants.{Alloc, Load, Store, Set, Copy, Register, Unregister, Link, Unlink, Move, Begin, Mark, Pause, Collect, Close, Outstanding}
+use Rattle.fz_model.specs.declared.call.Call.TheVariants as calls
 use Rattle.fz_model.specs.Events.{Event, Make, Hold, Finish, Queue, Answer, same_entry, links_of, causes}
 use Rattle.fz_model.specs.Steps.{Accepts, Step, StepsTo, NoStep, OneMore, any_call, IsReached, with_links, moved_to}
 use Rattle.fz_model.specs.Joint.{is_finish}
@@ -49,8 +49,8 @@ some_words size good =
 -- ---- the classes
 
 abbrev pub writes : Event → Bool
-writes (Make (Alloc _ _ _)) = true
-writes (Make (Store _ _)) = true
+writes (Make (calls.Alloc _ _ _)) = true
+writes (Make (calls.Store _ _)) = true
 writes _ = false
 
 -- a pass whose set has all that is reachable
@@ -99,33 +99,33 @@ relinked Short is r = becomes is (Shorts r)
 relinked Long is r = becomes is (Longs r)
 
 pub accepted_pass : (s : State) (e : Event) (answer : Answer e) (new : Core) → IsTrue (is_pass e) → Accepts s e answer new → PassOf s.core new
-accepted_pass s (Make Pause) answer new here a = record { found = a.0; passed = answer; reachable = a.1.reachable; passes = a.2 }
-accepted_pass s (Make Collect) answer new here a = record { found = a.0; passed = answer; reachable = λ x r. (a.1 x).1 r; passes = a.2 }
+accepted_pass s (Make calls.Pause) answer new here a = record { found = a.0; passed = answer; reachable = a.1.reachable; passes = a.2 }
+accepted_pass s (Make calls.Collect) answer new here a = record { found = a.0; passed = answer; reachable = λ x r. (a.1 x).1 r; passes = a.2 }
 accepted_pass s e answer new here a = absurd (true≢false (sym here))
 
 pub effect : (s : State) (e : Event) (answer : Answer e) (new : Core) → Accepts s e answer new → Effect s.core e new
-effect s (Make (Alloc slot size kind)) answer new a = becomes a.3 (Made slot size a.0 kind refl (λ none. (none_stands (causes s.core (Make (Alloc slot size kind))) none).1) a.1)
-effect s (Make (Copy slot to)) answer new a = becomes a (Put to (slot_word s.frames slot))
-effect s (Make (Load place to)) answer new a = becomes a.1 (Put to answer)
-effect s (Make (Store place from)) answer new a = becomes a (Wrote (address_of s.frames place) (slot_word s.frames from) refl)
-effect s (Make (Set slot word)) answer new a = becomes a (Put slot word)
-effect s (Make (Register slot kind procedure client_data rank)) answer new a =
+effect s (Make (calls.Alloc slot size kind)) answer new a = becomes a.3 (Made slot size a.0 kind refl (λ none. (none_stands (causes s.core (Make (calls.Alloc slot size kind))) none).1) a.1)
+effect s (Make (calls.Copy slot to)) answer new a = becomes a (Put to (slot_word s.frames slot))
+effect s (Make (calls.Load place to)) answer new a = becomes a.1 (Put to answer)
+effect s (Make (calls.Store place from)) answer new a = becomes a (Wrote (address_of s.frames place) (slot_word s.frames from) refl)
+effect s (Make (calls.Set slot word)) answer new a = becomes a (Put slot word)
+effect s (Make (calls.Register slot kind procedure client_data rank)) answer new a =
     let w = slot_word s.frames slot in
     let all = λ (b : Bool). slot_causes s.frames slot ++ (if b then [] else (start_causes s.objects w ++ register_causes s.registrations s.next_number w)) in
-    entered s.core new (Make (Register slot kind procedure client_data rank)) (is_off_heap s.blocks w) w (record { number = s.next_number; kind = kind; proc = procedure; cd = client_data; rank = unwrap_or rank 0 }) refl a.1
+    entered s.core new (Make (calls.Register slot kind procedure client_data rank)) (is_off_heap s.blocks w) w (record { number = s.next_number; kind = kind; proc = procedure; cd = client_data; rank = unwrap_or rank 0 }) refl a.1
     (λ within none. (none_stands (all false) (subst (λ b. first_cause (all b) ≡ None) within none)).1)
-effect s (Make (Unregister slot)) answer new a = let w = slot_word s.frames slot in dropped s.core new (Make (Unregister slot)) (is_off_heap s.blocks w) w a.1
-effect s (Make (Link which place target)) answer new a =
-    relinked which a.1 (More (slot_word s.frames place.slot) place.offset (slot_word s.frames target) (λ none. (none_stands (causes s.core (Make (Link which place target))) none).1.1))
-effect s (Make (Unlink which place)) answer new a = relinked which a.1 (Fewer (address_of s.frames place))
-effect s (Make (Move which place to)) answer new a =
-    relinked which a.1 (Moved (address_of s.frames place) (slot_word s.frames to.slot) to.offset (λ none. (none_stands (causes s.core (Make (Move which place to))) none).1.1.1.1))
-effect s (Make Begin) answer new a = becomes a (Began (λ none. (none_stands (causes s.core (Make Begin)) none).0))
-effect s (Make (Mark budget)) answer new a = becomes a.1 Nothing
-effect s (Make Pause) answer new a = Ended refl (accepted_pass s (Make Pause) answer new refl a)
-effect s (Make Collect) answer new a = Ended refl (accepted_pass s (Make Collect) answer new refl a)
-effect s (Make Close) answer new a = becomes a Shut
-effect s (Make Outstanding) answer new a = becomes a.1 Nothing
+effect s (Make (calls.Unregister slot)) answer new a = let w = slot_word s.frames slot in dropped s.core new (Make (calls.Unregister slot)) (is_off_heap s.blocks w) w a.1
+effect s (Make (calls.Link which place target)) answer new a =
+    relinked which a.1 (More (slot_word s.frames place.slot) place.offset (slot_word s.frames target) (λ none. (none_stands (causes s.core (Make (calls.Link which place target))) none).1.1))
+effect s (Make (calls.Unlink which place)) answer new a = relinked which a.1 (Fewer (address_of s.frames place))
+effect s (Make (calls.Move which place to)) answer new a =
+    relinked which a.1 (Moved (address_of s.frames place) (slot_word s.frames to.slot) to.offset (λ none. (none_stands (causes s.core (Make (calls.Move which place to))) none).1.1.1.1))
+effect s (Make calls.Begin) answer new a = becomes a (Began (λ none. (none_stands (causes s.core (Make calls.Begin)) none).0))
+effect s (Make (calls.Mark budget)) answer new a = becomes a.1 Nothing
+effect s (Make calls.Pause) answer new a = Ended refl (accepted_pass s (Make calls.Pause) answer new refl a)
+effect s (Make calls.Collect) answer new a = Ended refl (accepted_pass s (Make calls.Collect) answer new refl a)
+effect s (Make calls.Close) answer new a = becomes a Shut
+effect s (Make calls.Outstanding) answer new a = becomes a.1 Nothing
 effect s (Hold slot entry) answer new a = becomes a (Put slot entry.obj)
 effect s (Finish entry) answer new a = becomes a (Finished (λ h. not (same_entry entry h)) refl)
 effect s Queue answer new a = becomes a.1 Nothing

@@ -14,7 +14,6 @@ use Rattle.fz_model.specs.Reachability.{Child, OneMore, IsReachable}
 use Rattle.fz_model.specs.Allocation.{place_for}
 use Rattle.fz_model.specs.Pass.{IsFinding, remaining_objects, links_within, without_picks, entries_of, Decision, Passes}
 use Rattle.fz_model.specs.Causes.{first_cause}
-use Rattle.fz_model.specs.declared.call.Call.TheVariants.{Alloc, Load, Register, Unregister, Link, Unlink, Mark, Pause, Collect, Outstanding}
 use Rattle.fz_model.specs.declared.places.Slot.{Slot}
 use Rattle.fz_model.specs.declared.call.Call.TheVariants as calls
 use Rattle.fz_model.specs.Events.{Event, Make, Hold, Finish, Queue, Answer, causes}
@@ -65,31 +64,31 @@ finds s head = record {
 abbrev CanAccept : State → Event → Type 0
 CanAccept s e = (answer : Answer e) × (new : Core) × Accepts s e answer new
 
-place_there : (s : State) (slot : Slot) (size : ℕ) (kind : ObjKind) → first_cause (causes s.core (Make (Alloc slot size kind))) ≡ None → (a : ℕ) × (place_for s.objects s.blocks size kind ≡ Some a)
-place_there s slot size kind none = is_some_of (place_for s.objects s.blocks size kind) (none_stands (causes s.core (Make (Alloc slot size kind))) none).1.1.1.0
+place_there : (s : State) (slot : Slot) (size : ℕ) (kind : ObjKind) → first_cause (causes s.core (Make (calls.Alloc slot size kind))) ≡ None → (a : ℕ) × (place_for s.objects s.blocks size kind ≡ Some a)
+place_there s slot size kind none = is_some_of (place_for s.objects s.blocks size kind) (none_stands (causes s.core (Make (calls.Alloc slot size kind))) none).1.1.1.0
 
 can_accept : (s : State) → IsReached s → (e : Event) → first_cause (causes s.core e) ≡ None → CanAccept s e
-can_accept s r (Make (Alloc slot size kind)) none = let at = place_there s slot size kind none in ((at.0, s.next_birth), _, (at.0, at.1, refl, refl))
-can_accept s r (Make (Load place to)) none = (_, _, (refl, refl))
-can_accept s r (Make (Register slot kind procedure client_data rank)) none = (_, _, (refl, refl))
-can_accept s r (Make (Unregister slot)) none = (_, _, (refl, refl))
-can_accept s r (Make (Link which place target)) none = (_, _, (refl, refl))
-can_accept s r (Make (Unlink which place)) none = (_, _, (refl, refl))
+can_accept s r (Make (calls.Alloc slot size kind)) none = let at = place_there s slot size kind none in ((at.0, s.next_birth), _, (at.0, at.1, refl, refl))
+can_accept s r (Make (calls.Load place to)) none = (_, _, (refl, refl))
+can_accept s r (Make (calls.Register slot kind procedure client_data rank)) none = (_, _, (refl, refl))
+can_accept s r (Make (calls.Unregister slot)) none = (_, _, (refl, refl))
+can_accept s r (Make (calls.Link which place target)) none = (_, _, (refl, refl))
+can_accept s r (Make (calls.Unlink which place)) none = (_, _, (refl, refl))
 can_accept s r (Make (calls.Move which place to)) none = (_, _, (refl, refl))
-can_accept s r (Make (Mark budget)) none = (Done, s.core, (λ more. absurd (true≢false (sym (ap is_more more))), refl))
+can_accept s r (Make (calls.Mark budget)) none = (Done, s.core, (λ more. absurd (true≢false (sym (ap is_more more))), refl))
   where
     is_more : Progress → Bool
     is_more More = true
     is_more Done = false
-can_accept s r (Make Pause) none =
+can_accept s r (Make calls.Pause) none =
     let on = not-false s.cycle (first_none (not s.cycle, NoCycle) [] none).0 in
     let f = finds s (newest (opening r.0 r.1) s refl r.2 on) in
     let p = passing s.core (reachable s.core) (decides s.core (reachable s.core) (reached_standing s r) (reachable_closed s.core)) in
     (p.0, p.1, (reachable s.core, f, p.2))
-can_accept s r (Make Collect) none =
+can_accept s r (Make calls.Collect) none =
     let p = passing s.core (reachable s.core) (decides s.core (reachable s.core) (reached_standing s r) (reachable_closed s.core)) in
     (p.0, p.1, (reachable s.core, reachable_is s.core, p.2))
-can_accept s r (Make Outstanding) none = (_, _, (refl, refl))
+can_accept s r (Make calls.Outstanding) none = (_, _, (refl, refl))
 can_accept s r Queue none = (_, _, (refl, refl))
 can_accept s r e none = (tt, _, refl)
 

@@ -16,7 +16,7 @@ use Rattle.fz_model.specs.declared.refusal.Refusal.TheVariants.{BadSlot, NotPoin
 use Rattle.fz_model.specs.declared.limits.TheConstants.{MAX_OBJECT_WORDS, COUNT_LIMIT, HEAP_START}
 use Rattle.fz_model.specs.State.{Map, Object, State}
 use Rattle.fz_model.specs.Extents.{covers, extents, extent_of, heap_end}
-use Rattle.fz_model.specs.Memory.{points, slot_word, lacks_slot, address_of}
+use Rattle.fz_model.specs.Memory.{points, slot_word, lacks_slot}
 use Rattle.fz_model.specs.Causes.{Causes, first_cause, slot_causes, no_object, other_extent, no_start, start_causes, register_causes, exhausted, bad_size, no_space, is_off_heap}
 use Rattle.fz_model.specs.Events.{Event, Make, Hold, causes}
 use Rattle.fz_model.specs.OrderLaws.{AlwaysRefuses, AlwaysRefusesCall, HasSlot, LacksSlot, PointsNowhere, EndsBefore, HasPlace, SlotsComeFirst, PlacesComeFirst, SizesComeFirst, ObjectsComeFirst, CyclesComeFirst, FirstIsTold, AlwaysRefusesEvent, WorkersComeFirst}

@@ -1,5 +1,5 @@
 -- Laws that test the definitions of the calls: what is expected of each, in words that don't repeat how it is defined.
-use Rattle.std.specs.Prelude.{◌≡◌, ◌≢◌, ℕ, ◌+◌, ◌<◌, ◌≤◌, ◌⊎◌, Bool, false, length, None, Some, Contains, Result, Ok, Err, IsTrue, IsFalse, ◌↔◌}
+use Rattle.std.specs.Prelude.{◌≡◌, ◌≢◌, ℕ, ◌<◌, ◌≤◌, ◌⊎◌, Bool, false, length, None, Some, Contains, Result, Ok, Err, IsTrue, IsFalse, ◌↔◌}
 use Rattle.std.specs.FinMap.{get, len}
 use Rattle.fz_model.specs.declared.call.Call.TheVariants.{Link, Unlink, Move, Close}
 use Rattle.fz_model.specs.declared.places.Slot.{Slot}

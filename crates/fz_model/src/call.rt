@@ -45,9 +45,7 @@ pub enum Call {
         rank: Option<u8>,
     },
     /// Removes the registration of the slot's object.
-    Unregister {
-        slot: Slot,
-    },
+    Unregister(Slot),
     /// Makes a disappearing link at the place, whose target is the object that starts at the slot's word.
     Link {
         which: LinkKind,
@@ -67,10 +65,8 @@ pub enum Call {
     },
     /// Opens a cycle.
     Begin,
-    /// Scans at most `budget` marked objects.
-    Mark {
-        budget: u64,
-    },
+    /// Scans at most so many marked objects.
+    Mark(u64),
     /// Ends the cycle with a pass.
     Pause,
     /// A whole cycle in one step (`GC_gcollect`).

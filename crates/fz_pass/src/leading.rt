@@ -1,4 +1,4 @@
-//! What unreachable registrations lead to.
+//! What unreachable registrations lead to. The kinds differ in one function alone, `trace_first`.
 
 ghost use Rattle.std.specs.Prelude.{◌≡◌, ◌*◌, ◌||◌, ◌&&◌, nat_eq, ℕ, IsTrue};
 ghost use Rattle.std.specs.FinSet.{contains, empty};

@@ -20,7 +20,7 @@ use Rattle.fz_model.specs.declared.places.Place.{Place}
 use Rattle.fz_script.specs.declared.step.Step.{Step}
 use Rattle.fz_script.specs.declared.step.Step.TheVariants.{Open, Call, Take, Hold, Finish, Forfeit}
 use Rattle.fz_model.specs.declared.call.Call.{Call as WorldCall}
-use Rattle.fz_model.specs.declared.call.Call.TheVariants.{Alloc, Copy, Load, Store, Set, Register, Unregister, Link, Unlink, Move, Begin, Mark, Pause, Collect, Close, Outstanding}
+use Rattle.fz_model.specs.declared.call.Call.TheVariants as calls
 use Rattle.fz_script.specs.Spelling.{Token, Number, Text, IsToken, obj_kind, reg_kind, link_kind, slot_words, place_words, rank_words, words, text, spelling, Fits}
 use Rattle.fz_script.specs.Reading.{◌>>=◌, with_rest, number, find_text, kind_at, number_at, byte, byte_at, optional_at, two_at, slot_of, place_of, slot_at, place_at, obj_kind_at, reg_kind_at, link_kind_at, Fields, nothing, a_number, a_slot, a_place, an_obj_kind, a_reg_kind, a_link_kind, a_rank, two, three, Values, values_at, Verb, verbs, verb_named, word_at, words_of, named_at, step_at, end_at, step_in}
 use Rattle.fz_script.proofs.Numbers.{number_takes, number_again}
@@ -291,22 +291,22 @@ made_by : {s : Step} {verb : Verb} (name : List ℕ) → verb_named name ≡ Som
 made_by {s} {verb} name named values is = record { name = name; verb = verb; named = named; values = values; is = is }
 
 call_made : (c : WorldCall) → IsMade (Call c)
-call_made (Alloc slot size kind) = made_by (codes "new") refl (slot, size, kind) refl
-call_made (Set slot word) = made_by (codes "set") refl (slot, word) refl
-call_made (Copy slot to) = made_by (codes "copy") refl (slot, to) refl
-call_made (Load place to) = made_by (codes "load") refl (place, to) refl
-call_made (Store place from) = made_by (codes "store") refl (place, from) refl
-call_made (Register slot kind procedure client_data rank) = made_by (codes "register") refl (slot, kind, (procedure, client_data, rank)) refl
-call_made (Unregister slot) = made_by (codes "unregister") refl slot refl
-call_made (Link which place target) = made_by (codes "link") refl (which, place, target) refl
-call_made (Unlink which place) = made_by (codes "unlink") refl (which, place) refl
-call_made (Move which place to) = made_by (codes "move") refl (which, place, to) refl
-call_made Begin = made_by (codes "begin") refl tt refl
-call_made (Mark budget) = made_by (codes "mark") refl budget refl
-call_made Pause = made_by (codes "pause") refl tt refl
-call_made Collect = made_by (codes "collect") refl tt refl
-call_made Close = made_by (codes "close") refl tt refl
-call_made Outstanding = made_by (codes "outstanding") refl tt refl
+call_made (calls.Alloc slot size kind) = made_by (codes "new") refl (slot, size, kind) refl
+call_made (calls.Set slot word) = made_by (codes "set") refl (slot, word) refl
+call_made (calls.Copy slot to) = made_by (codes "copy") refl (slot, to) refl
+call_made (calls.Load place to) = made_by (codes "load") refl (place, to) refl
+call_made (calls.Store place from) = made_by (codes "store") refl (place, from) refl
+call_made (calls.Register slot kind procedure client_data rank) = made_by (codes "register") refl (slot, kind, (procedure, client_data, rank)) refl
+call_made (calls.Unregister slot) = made_by (codes "unregister") refl slot refl
+call_made (calls.Link which place target) = made_by (codes "link") refl (which, place, target) refl
+call_made (calls.Unlink which place) = made_by (codes "unlink") refl (which, place) refl
+call_made (calls.Move which place to) = made_by (codes "move") refl (which, place, to) refl
+call_made calls.Begin = made_by (codes "begin") refl tt refl
+call_made (calls.Mark budget) = made_by (codes "mark") refl budget refl
+call_made calls.Pause = made_by (codes "pause") refl tt refl
+call_made calls.Collect = made_by (codes "collect") refl tt refl
+call_made calls.Close = made_by (codes "close") refl tt refl
+call_made calls.Outstanding = made_by (codes "outstanding") refl tt refl
 
 is_made : (s : Step) → IsMade s
 is_made (Open blocks frames workers) = made_by (codes "open") refl (blocks, frames, workers) refl

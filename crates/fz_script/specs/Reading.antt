@@ -17,7 +17,7 @@ use Rattle.fz_model.specs.declared.places.Place.{Place}
 use Rattle.fz_script.specs.declared.step.Step.{Step}
 use Rattle.fz_script.specs.declared.step.Step.TheVariants.{Open, Call, Take, Hold, Finish, Forfeit}
 use Rattle.fz_model.specs.declared.call.Call.{Call as WorldCall}
-use Rattle.fz_model.specs.declared.call.Call.TheVariants.{Alloc, Copy, Load, Store, Set, Register, Unregister, Link, Unlink, Move, Begin, Mark, Pause, Collect, Close, Outstanding}
+use Rattle.fz_model.specs.declared.call.Call.TheVariants as calls
 use denote.Bor.{Bor}
 
 -- the code's `?`
@@ -155,26 +155,26 @@ call_verb name fields make = verb name fields (λ x. Call (make x))
 abbrev pub verbs : List Verb
 verbs =
     verb (codes "open") (three a_number a_number a_number) (λ x. Open x.0 x.1 x.2)
-    ∷ call_verb (codes "new") (three a_slot a_number an_obj_kind) (λ x. Alloc x.0 x.1 x.2)
-    ∷ call_verb (codes "set") (two a_slot a_number) (λ x. Set x.0 x.1)
-    ∷ call_verb (codes "copy") (two a_slot a_slot) (λ x. Copy x.0 x.1)
-    ∷ call_verb (codes "load") (two a_place a_slot) (λ x. Load x.0 x.1)
-    ∷ call_verb (codes "store") (two a_place a_slot) (λ x. Store x.0 x.1)
-    ∷ call_verb (codes "register") (three a_slot a_reg_kind (three a_number a_number a_rank)) (λ x. Register x.0 x.1 x.2.0 x.2.1 x.2.2)
-    ∷ call_verb (codes "unregister") a_slot (λ x. Unregister x)
-    ∷ call_verb (codes "link") (three a_link_kind a_place a_slot) (λ x. Link x.0 x.1 x.2)
-    ∷ call_verb (codes "unlink") (two a_link_kind a_place) (λ x. Unlink x.0 x.1)
-    ∷ call_verb (codes "move") (three a_link_kind a_place a_place) (λ x. Move x.0 x.1 x.2)
-    ∷ call_verb (codes "begin") nothing (λ x. Begin)
-    ∷ call_verb (codes "mark") a_number (λ x. Mark x)
-    ∷ call_verb (codes "pause") nothing (λ x. Pause)
-    ∷ call_verb (codes "collect") nothing (λ x. Collect)
+    ∷ call_verb (codes "new") (three a_slot a_number an_obj_kind) (λ x. calls.Alloc x.0 x.1 x.2)
+    ∷ call_verb (codes "set") (two a_slot a_number) (λ x. calls.Set x.0 x.1)
+    ∷ call_verb (codes "copy") (two a_slot a_slot) (λ x. calls.Copy x.0 x.1)
+    ∷ call_verb (codes "load") (two a_place a_slot) (λ x. calls.Load x.0 x.1)
+    ∷ call_verb (codes "store") (two a_place a_slot) (λ x. calls.Store x.0 x.1)
+    ∷ call_verb (codes "register") (three a_slot a_reg_kind (three a_number a_number a_rank)) (λ x. calls.Register x.0 x.1 x.2.0 x.2.1 x.2.2)
+    ∷ call_verb (codes "unregister") a_slot (λ x. calls.Unregister x)
+    ∷ call_verb (codes "link") (three a_link_kind a_place a_slot) (λ x. calls.Link x.0 x.1 x.2)
+    ∷ call_verb (codes "unlink") (two a_link_kind a_place) (λ x. calls.Unlink x.0 x.1)
+    ∷ call_verb (codes "move") (three a_link_kind a_place a_place) (λ x. calls.Move x.0 x.1 x.2)
+    ∷ call_verb (codes "begin") nothing (λ x. calls.Begin)
+    ∷ call_verb (codes "mark") a_number (λ x. calls.Mark x)
+    ∷ call_verb (codes "pause") nothing (λ x. calls.Pause)
+    ∷ call_verb (codes "collect") nothing (λ x. calls.Collect)
     ∷ verb (codes "take") a_number (λ x. Take x)
     ∷ verb (codes "hold") (two a_number a_slot) (λ x. Hold x.0 x.1)
     ∷ verb (codes "finish") a_number (λ x. Finish x)
     ∷ verb (codes "forfeit") a_number (λ x. Forfeit x)
-    ∷ call_verb (codes "close") nothing (λ x. Close)
-    ∷ call_verb (codes "outstanding") nothing (λ x. Outstanding)
+    ∷ call_verb (codes "close") nothing (λ x. calls.Close)
+    ∷ call_verb (codes "outstanding") nothing (λ x. calls.Outstanding)
     ∷ []
 
 abbrev pub verb_named : List ℕ → Option Verb

@@ -11,7 +11,7 @@ use Rattle.fz_model.specs.declared.places.Slot.{Slot}
 use Rattle.fz_model.specs.declared.places.Place.{Place}
 use Rattle.fz_script.specs.declared.step.Step.{Step}
 use Rattle.fz_model.specs.declared.call.Call.{Call as WorldCall}
-use Rattle.fz_model.specs.declared.call.Call.TheVariants.{Alloc, Copy, Load, Store, Set, Register, Unregister, Link, Unlink, Move, Begin, Mark, Pause, Collect, Close, Outstanding}
+use Rattle.fz_model.specs.declared.call.Call.TheVariants as calls
 use Rattle.fz_script.specs.declared.step.Step.TheVariants.{Open, Call, Take, Hold, Finish, Forfeit}
 
 -- one word of a line: a number, a rank, or letters that stand for themselves
@@ -48,23 +48,23 @@ rank_words (Some rank) = Rank rank ∷ []
 -- The words of a call's line, in their order: the verb, then its fields.
 -- A further verb is one more clause here; all else that is said of a line follows from it.
 abbrev pub call_words : WorldCall → List Token
-call_words (Alloc slot size kind) = Text (codes "new") ∷ slot_words slot ++ Number size ∷ Text (obj_kind kind) ∷ []
-call_words (Copy slot to) = Text (codes "copy") ∷ slot_words slot ++ slot_words to
-call_words (Load place to) = Text (codes "load") ∷ place_words place ++ slot_words to
-call_words (Store place from) = Text (codes "store") ∷ place_words place ++ slot_words from
-call_words (Set slot word) = Text (codes "set") ∷ slot_words slot ++ Number word ∷ []
-call_words (Register slot kind procedure client_data rank) =
+call_words (calls.Alloc slot size kind) = Text (codes "new") ∷ slot_words slot ++ Number size ∷ Text (obj_kind kind) ∷ []
+call_words (calls.Copy slot to) = Text (codes "copy") ∷ slot_words slot ++ slot_words to
+call_words (calls.Load place to) = Text (codes "load") ∷ place_words place ++ slot_words to
+call_words (calls.Store place from) = Text (codes "store") ∷ place_words place ++ slot_words from
+call_words (calls.Set slot word) = Text (codes "set") ∷ slot_words slot ++ Number word ∷ []
+call_words (calls.Register slot kind procedure client_data rank) =
     Text (codes "register") ∷ slot_words slot ++ Text (reg_kind kind) ∷ Number procedure ∷ Number client_data ∷ rank_words rank
-call_words (Unregister slot) = Text (codes "unregister") ∷ slot_words slot
-call_words (Link which place target) = Text (codes "link") ∷ Text (link_kind which) ∷ place_words place ++ slot_words target
-call_words (Unlink which place) = Text (codes "unlink") ∷ Text (link_kind which) ∷ place_words place
-call_words (Move which place to) = Text (codes "move") ∷ Text (link_kind which) ∷ place_words place ++ place_words to
-call_words Begin = Text (codes "begin") ∷ []
-call_words (Mark budget) = Text (codes "mark") ∷ Number budget ∷ []
-call_words Pause = Text (codes "pause") ∷ []
-call_words Collect = Text (codes "collect") ∷ []
-call_words Close = Text (codes "close") ∷ []
-call_words Outstanding = Text (codes "outstanding") ∷ []
+call_words (calls.Unregister slot) = Text (codes "unregister") ∷ slot_words slot
+call_words (calls.Link which place target) = Text (codes "link") ∷ Text (link_kind which) ∷ place_words place ++ slot_words target
+call_words (calls.Unlink which place) = Text (codes "unlink") ∷ Text (link_kind which) ∷ place_words place
+call_words (calls.Move which place to) = Text (codes "move") ∷ Text (link_kind which) ∷ place_words place ++ place_words to
+call_words calls.Begin = Text (codes "begin") ∷ []
+call_words (calls.Mark budget) = Text (codes "mark") ∷ Number budget ∷ []
+call_words calls.Pause = Text (codes "pause") ∷ []
+call_words calls.Collect = Text (codes "collect") ∷ []
+call_words calls.Close = Text (codes "close") ∷ []
+call_words calls.Outstanding = Text (codes "outstanding") ∷ []
 
 abbrev pub open_words : ℕ → ℕ → ℕ → List Token
 open_words blocks frames workers = Text (codes "open") ∷ Number blocks ∷ Number frames ∷ Number workers ∷ []

@@ -48,16 +48,12 @@ fn next_step(words: &mut Words<'_>) -> Option<Step>
         "load" => read_load(words),
         "store" => read_store(words),
         "register" => read_register(words),
-        "unregister" => Some(Step::Call(Call::Unregister {
-            slot: words.read()?,
-        })),
+        "unregister" => Some(Step::Call(Call::Unregister(words.read()?))),
         "link" => read_link(words),
         "unlink" => read_unlink(words),
         "move" => read_move(words),
         "begin" => Some(Step::Call(Call::Begin)),
-        "mark" => Some(Step::Call(Call::Mark {
-            budget: words.read()?,
-        })),
+        "mark" => Some(Step::Call(Call::Mark(words.read()?))),
         "pause" => Some(Step::Call(Call::Pause)),
         "collect" => Some(Step::Call(Call::Collect)),
         "take" => Some(Step::Take {

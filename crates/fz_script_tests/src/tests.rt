@@ -77,9 +77,7 @@ const EACH_VERB: [(&[u8], Step); 21] = [
     ),
     (
         b"unregister 0 1",
-        Step::Call(Call::Unregister {
-            slot: Slot { frame: 0, slot: 1 },
-        }),
+        Step::Call(Call::Unregister(Slot { frame: 0, slot: 1 })),
     ),
     (
         b"link short 0 1 2 3 4",
@@ -117,7 +115,7 @@ const EACH_VERB: [(&[u8], Step); 21] = [
         }),
     ),
     (b"begin", Step::Call(Call::Begin)),
-    (b"mark 10", Step::Call(Call::Mark { budget: 10 })),
+    (b"mark 10", Step::Call(Call::Mark(10))),
     (b"pause", Step::Call(Call::Pause)),
     (b"collect", Step::Call(Call::Collect)),
     (b"take 0", Step::Take { worker: 0 }),

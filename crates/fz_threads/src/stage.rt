@@ -29,9 +29,18 @@ fn maker(call: Call) -> Actor
     ensures { result ≡ maker call }
 {
     match call {
-        Call::Begin | Call::Mark { .. } | Call::Pause | Call::Collect => Actor::Collector,
+        Call::Alloc { .. }
+        | Call::Copy { .. }
+        | Call::Load { .. }
+        | Call::Store { .. }
+        | Call::Set { .. }
+        | Call::Register { .. }
+        | Call::Unregister(_)
+        | Call::Link { .. }
+        | Call::Unlink { .. }
+        | Call::Move { .. } => Actor::Mutator,
+        Call::Begin | Call::Mark(_) | Call::Pause | Call::Collect => Actor::Collector,
         Call::Close | Call::Outstanding => Actor::Nobody,
-        _ => Actor::Mutator,
     }
 }
 

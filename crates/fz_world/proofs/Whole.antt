@@ -33,8 +33,8 @@ use Rattle.fz_dirty.specs.Flags.{Set, IsWithin}
 use Rattle.fz_dirty.specs.Pages.{Pages}
 use Rattle.fz_marker.specs.Marking.{Marking, CleanAreClosed, HasChildrenIn, is_newly_in, is_on_noted, readable_count}
 use Rattle.fz_world.specs.Ready.{Ready}
-use Rattle.fz_world.specs.World.{IsWorld, with_in_cycle}
-use Rattle.fz_world.proofs.Keeping.{store_keeps, alloc_keeps}
+use Rattle.fz_world.specs.World.{IsWhole, IsMidCycle, IsWorld, with_in_cycle}
+use Rattle.fz_world.proofs.Keeping.{now_in, note_keeps, store_keeps, alloc_keeps}
 use Rattle.fz_world.proofs.Scans.{readable_made, readable_more, readable_within, readable_written}
 
 -- where nothing is condemned, nothing is after a sweep
@@ -50,139 +50,153 @@ still_swept condemned first count none =
 
 pub world_opening : (heap : Contents) (table : Registered) (ready : Ready) (marker : Marking) (pages : Pages) (blocks capacity : ℕ) (picks : List Pick) → heap.blocks ≡ blocks → heap.objects ≡ map.empty → table ≡ record { registrations = map.empty; next_number = 0 } → (ready.queue ≡ []) × (ready.held ≡ []) → marker.size ≡ BLOCK_WORDS * blocks → pages.pages ≡ blocks → picks ≡ [] → IsWorld heap table ready marker pages capacity picks false
 unfolding IsWorld
-world_opening heap table ready marker pages blocks capacity picks few none nothing empty size all none_picked = record {
-  sound =
-      let Sound = λ (objects : Map Object) (t : Registered) (queue held : List Entry). AreSound objects t.registrations t.next_number queue held in
-      let first : Sound heap.objects table ready.queue ready.held = rw none (rw nothing (rw empty.0 (rw empty.1 sound_opening))) in
-      first;
-  size = size ∙ ap (λ n. BLOCK_WORDS * n) (sym few);
-  pages_are = all ∙ sym few;
-  room = let zero_ = ap (λ (t : Registered). map.len t.registrations) nothing ∙ len-empty nat_cmp Registration in omega (arith, zero_);
-  pick_room = let zero_ = ap (λ (t : Registered). map.len t.registrations) nothing ∙ len-empty nat_cmp Registration in omega (arith, zero_);
-  none_picked = none_picked;
-  clean = λ on. absurd (true≢false (sym on));
-  once = λ on. absurd (true≢false (sym on));
-  none_condemned = λ on. absurd (true≢false (sym on));
-}
+world_opening heap table ready marker pages blocks capacity picks few none nothing empty size all none_picked = (
+  record {
+    sound =
+        let Sound = λ (objects : Map Object) (t : Registered) (queue held : List Entry). AreSound objects t.registrations t.next_number queue held in
+        let first : Sound heap.objects table ready.queue ready.held = rw none (rw nothing (rw empty.0 (rw empty.1 sound_opening))) in
+        first;
+    size = size ∙ ap (λ n. BLOCK_WORDS * n) (sym few);
+    pages_are = all ∙ sym few;
+    room = let zero_ = ap (λ (t : Registered). map.len t.registrations) nothing ∙ len-empty nat_cmp Registration in omega (arith, zero_);
+    pick_room = let zero_ = ap (λ (t : Registered). map.len t.registrations) nothing ∙ len-empty nat_cmp Registration in omega (arith, zero_);
+    none_picked = none_picked;
+  },
+  λ on. absurd (true≢false (sym on)),
+)
 
 module _ (heap : Contents) (table : Registered) (ready : Ready) (marker : Marking) (pages : Pages) (capacity : ℕ) (picks : List Pick) (cycle : Bool) where
   pub world_size : IsWorld heap table ready marker pages capacity picks cycle → marker.size ≡ BLOCK_WORDS * heap.blocks
   unfolding IsWorld
-  world_size h = h.size
+  world_size h = h.0.size
 
   pub world_pages : IsWorld heap table ready marker pages capacity picks cycle → pages.pages ≡ heap.blocks
   unfolding IsWorld
-  world_pages h = h.pages_are
+  world_pages h = h.0.pages_are
 
   pub world_room : IsWorld heap table ready marker pages capacity picks cycle → map.len table.registrations ≤ ready.room
   unfolding IsWorld
-  world_room h = h.room
+  world_room h = h.0.room
 
   pub world_pick_room : IsWorld heap table ready marker pages capacity picks cycle → map.len table.registrations ≤ capacity
   unfolding IsWorld
-  world_pick_room h = h.pick_room
+  world_pick_room h = h.0.pick_room
 
   pub world_sound : IsWorld heap table ready marker pages capacity picks cycle → AreSound heap.objects table.registrations table.next_number ready.queue ready.held
   unfolding IsWorld
-  world_sound h = h.sound
+  world_sound h = h.0.sound
 
   pub world_clean : IsWorld heap table ready marker pages capacity picks cycle → IsTrue cycle → CleanAreClosed heap.objects marker pages.noted
   unfolding IsWorld
-  world_clean h = h.clean
+  world_clean h on = (h.1 on).clean
 
   pub world_once : IsWorld heap table ready marker pages capacity picks cycle → IsTrue cycle → marker.scans ≤ readable_count heap.objects (sets.contains marker.scanned)
   unfolding IsWorld
-  world_once h = h.once
+  world_once h on = (h.1 on).once
 
   pub world_unfinished : IsWorld heap table ready marker pages capacity picks cycle → IsTrue cycle → marker.scans ≤ sets.len marker.scanned
   world_unfinished h on = let once = world_once h on in let few = readable_within heap.objects marker.scanned in omega (arith, once, few)
 
   pub world_none_condemned : IsWorld heap table ready marker pages capacity picks cycle → IsTrue cycle → heap.condemned ≡ sets.empty
   unfolding IsWorld
-  world_none_condemned h = h.none_condemned
+  world_none_condemned h on = (h.1 on).none_condemned
 
   pub world_none_picked : IsWorld heap table ready marker pages capacity picks cycle → picks ≡ []
   unfolding IsWorld
-  world_none_picked h = h.none_picked
+  world_none_picked h = h.0.none_picked
+
+  -- other marks and pages, for as many addresses and pages
+  resized : (addresses page_count : ℕ) → addresses ≡ marker.size → page_count ≡ pages.pages → IsWhole heap.objects heap.blocks table ready marker.size pages.pages capacity picks → IsWhole heap.objects heap.blocks table ready addresses page_count capacity picks
+  resized addresses page_count size all h =
+      subst (λ n. IsWhole heap.objects heap.blocks table ready n page_count capacity picks) (sym size) (subst (λ n. IsWhole heap.objects heap.blocks table ready marker.size n capacity picks) (sym all) h)
 
   -- other marks and pages, while no cycle is open
   pub world_remarked : (condemned : Set) (other : Marking) (others : Pages) → other.size ≡ marker.size → others.pages ≡ pages.pages → IsWorld heap table ready marker pages capacity picks cycle → IsWorld (record heap { condemned = condemned }) table ready other others capacity picks false
   unfolding IsWorld
-  world_remarked condemned other others size all h = record {
-    sound = h.sound;
-    size = size ∙ h.size;
-    pages_are = all ∙ h.pages_are;
-    room = h.room;
-    pick_room = h.pick_room;
-    none_picked = h.none_picked;
-    clean = λ on. absurd (true≢false (sym on));
-    once = λ on. absurd (true≢false (sym on));
-    none_condemned = λ on. absurd (true≢false (sym on));
-  }
+  world_remarked condemned other others size all h = (resized other.size others.pages size all h.0, λ on. absurd (true≢false (sym on)))
 
   -- marks begun anew after a sweep, in an open cycle or outside one
   pub world_anew : (other : Marking) (others : Pages) (opens : Bool) → other.size ≡ marker.size → others.pages ≡ pages.pages → other.scanned ≡ sets.empty → other.scans ≡ 0 → IsWorld heap table ready marker pages capacity picks cycle → IsWorld (record heap { condemned = sets.empty }) table ready other others capacity picks opens
   unfolding IsWorld
-  world_anew other others opens size all none zero_ h = record {
-    sound = h.sound;
-    size = size ∙ h.size;
-    pages_are = all ∙ h.pages_are;
-    room = h.room;
-    pick_room = h.pick_room;
-    none_picked = h.none_picked;
-    clean = λ on a scanned. absurd (true≢false (sym scanned ∙ ap (λ s. sets.contains s a) none ∙ sets.contains-empty nat_cmp a));
-    once = λ on. omega (arith, zero_);
-    none_condemned = λ on. refl;
-  }
+  world_anew other others opens size all none zero_ h = (
+    resized other.size others.pages size all h.0,
+    λ on. record {
+      clean = λ a scanned. absurd (true≢false (sym scanned ∙ ap (λ s. sets.contains s a) none ∙ sets.contains-empty nat_cmp a));
+      once = omega (arith, zero_);
+      none_condemned = refl;
+    },
+  )
 
   -- marks come, and what is scanned has marked children
   pub world_stepped : (new : Marking) → new.size ≡ marker.size → IsWithin marker.marked new.marked → ((a : ℕ) → IsTrue (is_newly_in marker.scanned new.scanned a) → HasChildrenIn heap.objects new.marked a) → IsWithin marker.scanned new.scanned → new.scans ≤ marker.scans + readable_count heap.objects (is_newly_in marker.scanned new.scanned) → IsWorld heap table ready marker pages capacity picks cycle → IsWorld heap table ready new pages capacity picks cycle
   unfolding IsWorld
-  world_stepped new size kept closed still each_once h = record {
-    sound = h.sound;
-    size = size ∙ h.size;
-    pages_are = h.pages_are;
-    room = h.room;
-    pick_room = h.pick_room;
-    none_picked = h.none_picked;
-    clean = λ on a scanned off. at a scanned off (h.clean on a) (sets.contains marker.scanned a) refl;
-    once = λ on. let was = h.once on in let more = readable_more heap.objects marker.scanned new.scanned still in omega (arith, was, more, each_once);
-    none_condemned = h.none_condemned;
-  }
+  world_stepped new size kept closed still each_once h = (
+    resized new.size pages.pages size refl h.0,
+    λ on. record {
+      clean = λ a scanned off. at a scanned off ((h.1 on).clean a) (sets.contains marker.scanned a) refl;
+      once = let was = (h.1 on).once in let more = readable_more heap.objects marker.scanned new.scanned still in omega (arith, was, more, each_once);
+      none_condemned = (h.1 on).none_condemned;
+    },
+  )
     where
       at : (a : ℕ) → IsTrue (sets.contains new.scanned a) → IsFalse (is_on_noted heap.objects pages.noted a) → (IsTrue (sets.contains marker.scanned a) → IsFalse (is_on_noted heap.objects pages.noted a) → HasChildrenIn heap.objects marker.marked a) → (b : Bool) → sets.contains marker.scanned a ≡ b → HasChildrenIn heap.objects new.marked a
       at a scanned off was true before = λ b child. kept b (was before off b child)
       at a scanned off was false before = closed a (ap (λ t. t && not (sets.contains marker.scanned a)) scanned ∙ ap not before)
 
+  -- in an open cycle, one more noted page
+  pub world_noted : (page : ℕ) → IsWorld heap table ready marker pages capacity picks cycle → IsWorld heap table ready marker (record pages { noted = with_in_cycle cycle pages.noted page }) capacity picks cycle
+  unfolding IsWorld
+  world_noted page h = (
+    h.0,
+    λ on. record {
+      clean = subst (λ b. CleanAreClosed heap.objects marker (with_in_cycle b pages.noted page)) (sym on) (note_keeps heap.objects marker pages.noted page (h.1 on).clean);
+      once = (h.1 on).once;
+      none_condemned = (h.1 on).none_condemned;
+    },
+  )
+
+  noted_now : (page : ℕ) → IsTrue cycle → IsTrue (sets.contains (with_in_cycle cycle pages.noted page) page)
+  noted_now page on = subst (λ b. IsTrue (sets.contains (with_in_cycle b pages.noted page) page)) (sym on) (now_in pages.noted page)
+
   pub world_written : (place value : ℕ) → IsWorld heap table ready marker pages capacity picks cycle → IsWorld (record heap { objects = written place value heap.objects }) table ready marker (record pages { noted = with_in_cycle cycle pages.noted (block_of place) }) capacity picks cycle
   unfolding IsWorld
-  world_written place value h = record {
-    sound = sound_written heap.objects table.registrations table.next_number ready.queue ready.held place value h.sound;
-    size = h.size;
-    pages_are = h.pages_are;
-    room = h.room;
-    pick_room = h.pick_room;
-    none_picked = h.none_picked;
-    clean = λ on. subst (λ b. CleanAreClosed (written place value heap.objects) marker (with_in_cycle b pages.noted (block_of place))) (sym on) (store_keeps heap.objects marker pages.noted place value (h.clean on));
-    once = λ on. let was = h.once on in let same = readable_written heap.objects place value (sets.contains marker.scanned) in omega (arith, was, same);
-    none_condemned = h.none_condemned;
-  }
+  world_written place value h = (
+    record {
+      sound = sound_written heap.objects table.registrations table.next_number ready.queue ready.held place value h.0.sound;
+      size = h.0.size;
+      pages_are = h.0.pages_are;
+      room = h.0.room;
+      pick_room = h.0.pick_room;
+      none_picked = h.0.none_picked;
+    },
+    λ on. record {
+      clean = store_keeps heap.objects marker (with_in_cycle cycle pages.noted (block_of place)) place value (noted_now (block_of place) on) ((world_noted (block_of place) h).1 on).clean;
+      once = let was = (h.1 on).once in let same = readable_written heap.objects place value (sets.contains marker.scanned) in omega (arith, was, same);
+      none_condemned = (h.1 on).none_condemned;
+    },
+  )
 
   pub world_made : (size : ℕ) (kind : ObjKind) (a : ℕ) → first_cause (alloc_causes heap.objects heap.blocks heap.next_birth size kind) ≡ None → place_for heap.objects heap.blocks size kind ≡ Some a
       → IsWorld heap table ready marker pages capacity picks cycle → IsWorld (record heap { objects = map.insert heap.objects a (new_object kind heap.next_birth size); condemned = swept heap.condemned (block_of a) (blocks_for size); next_birth = heap.next_birth + 1 }) table ready (record marker { marked = with_in_cycle cycle marker.marked a }) (record pages { noted = with_in_cycle cycle pages.noted (block_of a) }) capacity picks cycle
   unfolding IsWorld
-  world_made size kind a none place h = record {
-    sound = sound_made heap.objects table.registrations table.next_number ready.queue ready.held heap.blocks heap.next_birth heap.next_birth size kind a none place h.sound;
-    size = h.size;
-    pages_are = h.pages_are;
-    room = h.room;
-    pick_room = h.pick_room;
-    none_picked = h.none_picked;
-    clean = λ on. subst (λ b. CleanAreClosed (map.insert heap.objects a (new_object kind heap.next_birth size)) (record marker { marked = with_in_cycle b marker.marked a }) (with_in_cycle b pages.noted (block_of a))) (sym on)
-        (alloc_keeps heap.objects marker pages.noted a (new_object kind heap.next_birth size) (free_place heap.objects heap.blocks size a kind place) sized (h.clean on));
-    once = λ on. let was = h.once on in let more = readable_made heap.objects a (new_object kind heap.next_birth size) (sets.contains marker.scanned) (free_place heap.objects heap.blocks size a kind place) in omega (arith, was, more);
-    none_condemned = λ on. still_swept heap.condemned (block_of a) (blocks_for size) (h.none_condemned on);
-  }
+  world_made size kind a none place h = (
+    record {
+      sound = sound_made heap.objects table.registrations table.next_number ready.queue ready.held heap.blocks heap.next_birth heap.next_birth size kind a none place h.0.sound;
+      size = h.0.size;
+      pages_are = h.0.pages_are;
+      room = h.0.room;
+      pick_room = h.0.pick_room;
+      none_picked = h.0.none_picked;
+    },
+    λ on. record {
+      clean =
+          let noted = with_in_cycle cycle pages.noted (block_of a) in
+          subst (λ b. CleanAreClosed (map.insert heap.objects a (new_object kind heap.next_birth size)) (record marker { marked = with_in_cycle b marker.marked a }) noted) (sym on)
+          (alloc_keeps heap.objects marker noted a (new_object kind heap.next_birth size) (noted_now (block_of a) on) (free_place heap.objects heap.blocks size a kind place) sized ((world_noted (block_of a) h).1 on).clean);
+      once = let was = (h.1 on).once in let more = readable_made heap.objects a (new_object kind heap.next_birth size) (sets.contains marker.scanned) (free_place heap.objects heap.blocks size a kind place) in omega (arith, was, more);
+      none_condemned = still_swept heap.condemned (block_of a) (blocks_for size) (h.1 on).none_condemned;
+    },
+  )
     where
       sized : 0 < length {A = ℕ} (replicate size 0)
       sized =
@@ -193,17 +207,17 @@ module _ (heap : Contents) (table : Registered) (ready : Ready) (marker : Markin
 
   pub world_removed : (object : ℕ) → IsWorld heap table ready marker pages capacity picks cycle → IsWorld heap (record table { registrations = map.remove table.registrations object }) ready marker pages capacity picks cycle
   unfolding IsWorld
-  world_removed object h = record {
-    sound = sound_removed heap.objects table.registrations table.next_number ready.queue ready.held object h.sound;
-    size = h.size;
-    pages_are = h.pages_are;
-    room = let few = fewer in let room = h.room in omega (arith, few, room);
-    pick_room = let few = fewer in let room = h.pick_room in omega (arith, few, room);
-    none_picked = h.none_picked;
-    clean = h.clean;
-    once = h.once;
-    none_condemned = h.none_condemned;
-  }
+  world_removed object h = (
+    record {
+      sound = sound_removed heap.objects table.registrations table.next_number ready.queue ready.held object h.0.sound;
+      size = h.0.size;
+      pages_are = h.0.pages_are;
+      room = let few = fewer in let room = h.0.room in omega (arith, few, room);
+      pick_room = let few = fewer in let room = h.0.pick_room in omega (arith, few, room);
+      none_picked = h.0.none_picked;
+    },
+    h.1,
+  )
     where
       fewer : map.len (map.remove table.registrations object) ≤ map.len table.registrations
       fewer = let n = len-remove nat_cmp_total table.registrations object in elim (contains_key table.registrations object) as (λ b. map.len (map.remove table.registrations object) ≡ cond b (map.len table.registrations - 1) (map.len table.registrations) → map.len (map.remove table.registrations object) ≤ map.len table.registrations) [ true ↦ λ e. omega (arith, e) | false ↦ λ e. omega (arith, e) ] n
@@ -213,17 +227,17 @@ module _ (heap : Contents) (table : Registered) (ready : Ready) (marker : Markin
       → map.len (map.insert table.registrations object (record { number = table.next_number; kind = kind; proc = proc; cd = cd; rank = rank })) ≤ roomier.room → map.len (map.insert table.registrations object (record { number = table.next_number; kind = kind; proc = proc; cd = cd; rank = rank })) ≤ larger
       → IsWorld heap table ready marker pages capacity picks cycle → IsWorld heap (record { registrations = map.insert table.registrations object (record { number = table.next_number; kind = kind; proc = proc; cd = cd; rank = rank }); next_number = table.next_number + 1 }) roomier marker pages larger more cycle
   unfolding IsWorld
-  world_registered object kind proc cd rank roomier larger more none same same_picks room pick_room h = record {
-    sound = subst (Sound roomier.held) (sym same.0) (subst (λ held. Sound held ready.queue) (sym same.1) (sound_registered heap.objects table.registrations table.next_number ready.queue ready.held object kind proc cd rank none h.sound));
-    size = h.size;
-    pages_are = h.pages_are;
-    room = room;
-    pick_room = pick_room;
-    none_picked = same_picks ∙ h.none_picked;
-    clean = h.clean;
-    once = h.once;
-    none_condemned = h.none_condemned;
-  }
+  world_registered object kind proc cd rank roomier larger more none same same_picks room pick_room h = (
+    record {
+      sound = subst (Sound roomier.held) (sym same.0) (subst (λ held. Sound held ready.queue) (sym same.1) (sound_registered heap.objects table.registrations table.next_number ready.queue ready.held object kind proc cd rank none h.0.sound));
+      size = h.0.size;
+      pages_are = h.0.pages_are;
+      room = room;
+      pick_room = pick_room;
+      none_picked = same_picks ∙ h.0.none_picked;
+    },
+    h.1,
+  )
     where
       Sound : List Entry → List Entry → Type 0
       Sound held queue = AreSound heap.objects (map.insert table.registrations object (record { number = table.next_number; kind = kind; proc = proc; cd = cd; rank = rank })) (table.next_number + 1) queue held
@@ -231,31 +245,31 @@ module _ (heap : Contents) (table : Registered) (ready : Ready) (marker : Markin
   -- more room alone
   pub world_roomier : (roomier : Ready) (larger : ℕ) (more : List Pick) → (roomier.queue ≡ ready.queue) × (roomier.held ≡ ready.held) → ready.room ≤ roomier.room → capacity ≤ larger → more ≡ picks → IsWorld heap table ready marker pages capacity picks cycle → IsWorld heap table roomier marker pages larger more cycle
   unfolding IsWorld
-  world_roomier roomier larger more same room wider same_picks h = record {
-    sound = subst (λ q. AreSound heap.objects table.registrations table.next_number q roomier.held) (sym same.0) (subst (λ q. AreSound heap.objects table.registrations table.next_number ready.queue q) (sym same.1) h.sound);
-    size = h.size;
-    pages_are = h.pages_are;
-    room = let was = h.room in omega (arith, was, room);
-    pick_room = let was = h.pick_room in omega (arith, was, wider);
-    none_picked = same_picks ∙ h.none_picked;
-    clean = h.clean;
-    once = h.once;
-    none_condemned = h.none_condemned;
-  }
+  world_roomier roomier larger more same room wider same_picks h = (
+    record {
+      sound = subst (λ q. AreSound heap.objects table.registrations table.next_number q roomier.held) (sym same.0) (subst (λ q. AreSound heap.objects table.registrations table.next_number ready.queue q) (sym same.1) h.0.sound);
+      size = h.0.size;
+      pages_are = h.0.pages_are;
+      room = let was = h.0.room in omega (arith, was, room);
+      pick_room = let was = h.0.pick_room in omega (arith, was, wider);
+      none_picked = same_picks ∙ h.0.none_picked;
+    },
+    h.1,
+  )
 
   pub world_finished : (keep : Entry → Bool) (fewer : Ready) → fewer.queue ≡ ready.queue → fewer.held ≡ filter keep ready.held → ready.room ≤ fewer.room → IsWorld heap table ready marker pages capacity picks cycle → IsWorld heap table fewer marker pages capacity picks cycle
   unfolding IsWorld
-  world_finished keep fewer queue held room h = record {
-    sound = subst (λ q. AreSound heap.objects table.registrations table.next_number q fewer.held) (sym queue) (subst (λ q. AreSound heap.objects table.registrations table.next_number ready.queue q) (sym held) (sound_filtered heap.objects table.registrations table.next_number ready.queue ready.held keep h.sound));
-    size = h.size;
-    pages_are = h.pages_are;
-    room = let was = h.room in omega (arith, was, room);
-    pick_room = h.pick_room;
-    none_picked = h.none_picked;
-    clean = h.clean;
-    once = h.once;
-    none_condemned = h.none_condemned;
-  }
+  world_finished keep fewer queue held room h = (
+    record {
+      sound = subst (λ q. AreSound heap.objects table.registrations table.next_number q fewer.held) (sym queue) (subst (λ q. AreSound heap.objects table.registrations table.next_number ready.queue q) (sym held) (sound_filtered heap.objects table.registrations table.next_number ready.queue ready.held keep h.0.sound));
+      size = h.0.size;
+      pages_are = h.0.pages_are;
+      room = let was = h.0.room in omega (arith, was, room);
+      pick_room = h.0.pick_room;
+      none_picked = h.0.none_picked;
+    },
+    h.1,
+  )
 
 -- ---- room for one more registration
 
@@ -306,18 +320,18 @@ module _ (c : Core) (found : ℕ → Bool) (passed : Passed) (new : Core) (p : P
       → new.objects ≡ after.objects → new.registrations ≡ left.registrations → new.next_number ≡ left.next_number → new.queue ≡ later.queue → new.held ≡ later.held → after.blocks ≡ heap.blocks → other.size ≡ marker.size → map.len left.registrations ≤ later.room → map.len left.registrations ≤ larger
       → IsWorld heap table ready marker pages capacity picks false → IsWorld after left later other pages larger [] false
   unfolding IsWorld
-  world_passed heap after table left ready later marker other pages capacity larger picks o1 o2 o3 o4 o5 n1 n2 n3 n4 n5 blocks size room pick_room h = record {
-    sound =
-        let Sound = λ (objects : Map Object) (registrations : Map Registration) (next : ℕ) (queue held : List Entry). AreSound objects registrations next queue held in
-        let before : Sound c.objects c.registrations c.next_number c.queue c.held = rw (o1, o2, o3, o4, o5) h.sound in
-        let after_ : Sound new.objects new.registrations new.next_number new.queue new.held = sound_passed c found passed new reachable p before in
-        rw (← n1, ← n2, ← n3, ← n4, ← n5) after_;
-    size = size ∙ h.size ∙ ap (λ n. BLOCK_WORDS * n) (sym blocks);
-    pages_are = h.pages_are ∙ sym blocks;
-    room = room;
-    pick_room = pick_room;
-    none_picked = refl;
-    clean = λ on. absurd (true≢false (sym on));
-    once = λ on. absurd (true≢false (sym on));
-    none_condemned = λ on. absurd (true≢false (sym on));
-  }
+  world_passed heap after table left ready later marker other pages capacity larger picks o1 o2 o3 o4 o5 n1 n2 n3 n4 n5 blocks size room pick_room h = (
+    record {
+      sound =
+          let Sound = λ (objects : Map Object) (registrations : Map Registration) (next : ℕ) (queue held : List Entry). AreSound objects registrations next queue held in
+          let before : Sound c.objects c.registrations c.next_number c.queue c.held = rw (o1, o2, o3, o4, o5) h.0.sound in
+          let after_ : Sound new.objects new.registrations new.next_number new.queue new.held = sound_passed c found passed new reachable p before in
+          rw (← n1, ← n2, ← n3, ← n4, ← n5) after_;
+      size = size ∙ h.0.size ∙ ap (λ n. BLOCK_WORDS * n) (sym blocks);
+      pages_are = h.0.pages_are ∙ sym blocks;
+      room = room;
+      pick_room = pick_room;
+      none_picked = refl;
+    },
+    λ on. absurd (true≢false (sym on)),
+  )

@@ -7,7 +7,7 @@ use Rattle.std.specs.FinSet.{contains, insert}
 use Rattle.std.specs.FinMap as map
 use Rattle.fz_model.specs.declared.answers.Pick.{Pick}
 use Rattle.fz_model.specs.declared.limits.TheConstants.{BLOCK_WORDS, COUNT_LIMIT}
-use Rattle.fz_model.specs.State.{Core}
+use Rattle.fz_model.specs.State.{Map, Object, Core}
 use Rattle.fz_model.specs.Codes.{core_code}
 use Rattle.fz_model.specs.Parts.{AreSound}
 use Rattle.fz_heap.specs.Contents.{Contents}
@@ -60,23 +60,28 @@ KeepsMarks old new = new ≡ record old { core = new.core }
 abbrev pub with_in_cycle : Bool → Set → ℕ → Set
 with_in_cycle cycle set n = if cycle then insert set n else set
 
--- the rest is what a world keeps of its parts, as one word that proofs hand on whole
-pub record IsWhole (heap : Contents) (table : Registered) (ready : Ready) (marker : Marking) (pages : Pages) (capacity : ℕ) (picks : List Pick) (cycle : Bool) : Type 0 where
-  pub sound : AreSound heap.objects table.registrations table.next_number ready.queue ready.held
-  pub size : marker.size ≡ BLOCK_WORDS * heap.blocks
-  pub pages_are : pages.pages ≡ heap.blocks
+-- what a world keeps of its parts, with marks for so many addresses and so many pages
+pub record IsWhole (objects : Map Object) (blocks : ℕ) (table : Registered) (ready : Ready) (addresses pages capacity : ℕ) (picks : List Pick) : Type 0 where
+  pub sound : AreSound objects table.registrations table.next_number ready.queue ready.held
+  pub size : addresses ≡ BLOCK_WORDS * blocks
+  pub pages_are : pages ≡ blocks
   -- there is room for the entries and the picks of all registrations
   pub room : map.len table.registrations ≤ ready.room
   pub pick_room : map.len table.registrations ≤ capacity
   pub none_picked : picks ≡ []
-  -- in an open cycle a scanned object that stands on no noted page has marked children alone, and no object was scanned twice
-  pub clean : IsTrue cycle → CleanAreClosed heap.objects marker pages.noted
-  pub once : IsTrue cycle → marker.scans ≤ readable_count heap.objects (contains marker.scanned)
-  -- and no cell is condemned: a sweep came first
-  pub none_condemned : IsTrue cycle → heap.condemned ≡ sets.empty
 
+-- what it keeps in an open cycle
+pub record IsMidCycle (heap : Contents) (marker : Marking) (noted : Set) : Type 0 where
+  -- a scanned object that stands on no noted page has marked children alone, and no object was scanned twice
+  pub clean : CleanAreClosed heap.objects marker noted
+  pub once : marker.scans ≤ readable_count heap.objects (contains marker.scanned)
+  -- no cell is condemned: a sweep came first
+  pub none_condemned : heap.condemned ≡ sets.empty
+
+-- both as one word that proofs hand on whole
 unfoldable pub IsWorld : Contents → Registered → Ready → Marking → Pages → ℕ → List Pick → Bool → Type 0
-IsWorld heap table ready marker pages capacity picks cycle = IsWhole heap table ready marker pages capacity picks cycle
+IsWorld heap table ready marker pages capacity picks cycle =
+    IsWhole heap.objects heap.blocks table ready marker.size pages.pages capacity picks × (IsTrue cycle → IsMidCycle heap marker pages.noted)
 
 -- a cycle is open only where its pass has a number
 abbrev pub HasNumber : ℕ → Bool → Type 0

@@ -1,4 +1,5 @@
 //! Calls that come as values, each carried out by the call of its name.
+#![tactic(auto, using(crate::proofs::Replying::replies, crate::proofs::Replying::refuses))]
 
 ghost use Rattle.std.specs.Prelude.{◌≡◌, OnErr};
 ghost use Rattle.fz_model.specs.declared.call.Call.TheVariants as calls;
@@ -26,7 +27,7 @@ impl World {
                 client_data,
                 rank,
             } => register(self, slot, kind, procedure, client_data, rank),
-            Call::Unregister { slot } => unregister(self, slot),
+            Call::Unregister(slot) => unregister(self, slot),
             Call::Link {
                 which,
                 place,
@@ -35,7 +36,7 @@ impl World {
             Call::Unlink { which, place } => unlink(self, which, place),
             Call::Move { which, place, to } => move_link(self, which, place, to),
             Call::Begin => begin(self),
-            Call::Mark { budget } => mark(self, budget),
+            Call::Mark(budget) => mark(self, budget),
             Call::Pause => pause(self),
             Call::Collect => collect(self),
             Call::Close => close(self),
@@ -46,52 +47,42 @@ impl World {
 
 // Each call hands its result on as it is, so that no call pays for the results of others.
 
-#[tactic(auto, using(crate::proofs::Replying::replies, crate::proofs::Replying::refuses))]
 #[inline(never)]
 fn alloc(world: &mut World, slot: Slot, size: u64, kind: ObjKind) -> Result<Reply, Refusal>
-    ensures told { Replies world.old (calls.Alloc slot size kind) result world.new }
-    ensures refused { OnErr result (world.new ≡ world.old) }
+    ensures { Replies world.old (calls.Alloc slot size kind) result world.new }
 {
     let (address, birth) = world.alloc(slot.frame, slot.slot, size, kind)?;
     Ok(Reply::Allocated { address, birth })
 }
 
-#[tactic(auto, using(crate::proofs::Replying::replies, crate::proofs::Replying::refuses))]
 #[inline(never)]
 fn copy(world: &mut World, slot: Slot, to: Slot) -> Result<Reply, Refusal>
-    ensures told { Replies world.old (calls.Copy slot to) result world.new }
-    ensures refused { OnErr result (world.new ≡ world.old) }
+    ensures { Replies world.old (calls.Copy slot to) result world.new }
 {
     world.copy(slot.frame, slot.slot, to.frame, to.slot)?;
     Ok(Reply::Done)
 }
 
-#[tactic(auto, using(crate::proofs::Replying::replies, crate::proofs::Replying::refuses))]
 #[inline(never)]
 fn load(world: &mut World, place: Place, to: Slot) -> Result<Reply, Refusal>
-    ensures told { Replies world.old (calls.Load place to) result world.new }
-    ensures refused { OnErr result (world.new ≡ world.old) }
+    ensures { Replies world.old (calls.Load place to) result world.new }
 {
     let Place { slot, offset } = place;
     Ok(Reply::Word(world.load(slot.frame, slot.slot, offset, to.frame, to.slot)?))
 }
 
-#[tactic(auto, using(crate::proofs::Replying::replies, crate::proofs::Replying::refuses))]
 #[inline(never)]
 fn store(world: &mut World, place: Place, from: Slot) -> Result<Reply, Refusal>
-    ensures told { Replies world.old (calls.Store place from) result world.new }
-    ensures refused { OnErr result (world.new ≡ world.old) }
+    ensures { Replies world.old (calls.Store place from) result world.new }
 {
     let Place { slot, offset } = place;
     world.store(slot.frame, slot.slot, offset, from.frame, from.slot)?;
     Ok(Reply::Done)
 }
 
-#[tactic(auto, using(crate::proofs::Replying::replies, crate::proofs::Replying::refuses))]
 #[inline(never)]
 fn set(world: &mut World, slot: Slot, word: Word) -> Result<Reply, Refusal>
-    ensures told { Replies world.old (calls.Set slot word) result world.new }
-    ensures refused { OnErr result (world.new ≡ world.old) }
+    ensures { Replies world.old (calls.Set slot word) result world.new }
 {
     world.set(slot.frame, slot.slot, word)?;
     Ok(Reply::Done)
@@ -107,8 +98,7 @@ fn register(
     client_data: Word,
     rank: Option<u8>,
 ) -> Result<Reply, Refusal>
-    ensures told { Replies world.old (calls.Register slot kind procedure client_data rank) result world.new }
-    ensures refused { OnErr result (world.new ≡ world.old) }
+    ensures { Replies world.old (calls.Register slot kind procedure client_data rank) result world.new }
 {
     let rank = rank.unwrap_or(0);
     Ok(Reply::Registered(world.register(
@@ -121,20 +111,16 @@ fn register(
     )?))
 }
 
-#[tactic(auto, using(crate::proofs::Replying::replies, crate::proofs::Replying::refuses))]
 #[inline(never)]
 fn unregister(world: &mut World, slot: Slot) -> Result<Reply, Refusal>
-    ensures told { Replies world.old (calls.Unregister slot) result world.new }
-    ensures refused { OnErr result (world.new ≡ world.old) }
+    ensures { Replies world.old (calls.Unregister slot) result world.new }
 {
     Ok(Reply::Unregistered(world.unregister(slot.frame, slot.slot)?))
 }
 
-#[tactic(auto, using(crate::proofs::Replying::replies, crate::proofs::Replying::refuses))]
 #[inline(never)]
 fn link(world: &mut World, which: LinkKind, place: Place, target: Slot) -> Result<Reply, Refusal>
-    ensures told { Replies world.old (calls.Link which place target) result world.new }
-    ensures refused { OnErr result (world.new ≡ world.old) }
+    ensures { Replies world.old (calls.Link which place target) result world.new }
 {
     let Place { slot, offset } = place;
     Ok(Reply::Linked(world.link(
@@ -147,21 +133,17 @@ fn link(world: &mut World, which: LinkKind, place: Place, target: Slot) -> Resul
     )?))
 }
 
-#[tactic(auto, using(crate::proofs::Replying::replies, crate::proofs::Replying::refuses))]
 #[inline(never)]
 fn unlink(world: &mut World, which: LinkKind, place: Place) -> Result<Reply, Refusal>
-    ensures told { Replies world.old (calls.Unlink which place) result world.new }
-    ensures refused { OnErr result (world.new ≡ world.old) }
+    ensures { Replies world.old (calls.Unlink which place) result world.new }
 {
     let Place { slot, offset } = place;
     Ok(Reply::Unlinked(world.unlink(which, slot.frame, slot.slot, offset)?))
 }
 
-#[tactic(auto, using(crate::proofs::Replying::replies, crate::proofs::Replying::refuses))]
 #[inline(never)]
 fn move_link(world: &mut World, which: LinkKind, place: Place, to: Place) -> Result<Reply, Refusal>
-    ensures told { Replies world.old (calls.Move which place to) result world.new }
-    ensures refused { OnErr result (world.new ≡ world.old) }
+    ensures { Replies world.old (calls.Move which place to) result world.new }
 {
     let Place { slot, offset } = place;
     Ok(Reply::Moved(world.move_link(
@@ -175,58 +157,46 @@ fn move_link(world: &mut World, which: LinkKind, place: Place, to: Place) -> Res
     )?))
 }
 
-#[tactic(auto, using(crate::proofs::Replying::replies, crate::proofs::Replying::refuses))]
 #[inline(never)]
 fn begin(world: &mut World) -> Result<Reply, Refusal>
-    ensures told { Replies world.old calls.Begin result world.new }
-    ensures refused { OnErr result (world.new ≡ world.old) }
+    ensures { Replies world.old calls.Begin result world.new }
 {
     world.begin()?;
     Ok(Reply::Done)
 }
 
-#[tactic(auto, using(crate::proofs::Replying::replies, crate::proofs::Replying::refuses))]
 #[inline(never)]
 fn mark(world: &mut World, budget: u64) -> Result<Reply, Refusal>
-    ensures told { Replies world.old (calls.Mark budget) result world.new }
-    ensures refused { OnErr result (world.new ≡ world.old) }
+    ensures { Replies world.old (calls.Mark budget) result world.new }
 {
     Ok(Reply::Marked(world.mark(budget)?))
 }
 
-#[tactic(auto, using(crate::proofs::Replying::replies, crate::proofs::Replying::refuses))]
 #[inline(never)]
 fn pause(world: &mut World) -> Result<Reply, Refusal>
-    ensures told { Replies world.old calls.Pause result world.new }
-    ensures refused { OnErr result (world.new ≡ world.old) }
+    ensures { Replies world.old calls.Pause result world.new }
 {
     Ok(Reply::Passed(world.pause()?))
 }
 
-#[tactic(auto, using(crate::proofs::Replying::replies, crate::proofs::Replying::refuses))]
 #[inline(never)]
 fn collect(world: &mut World) -> Result<Reply, Refusal>
-    ensures told { Replies world.old calls.Collect result world.new }
-    ensures refused { OnErr result (world.new ≡ world.old) }
+    ensures { Replies world.old calls.Collect result world.new }
 {
     Ok(Reply::Passed(world.collect()?))
 }
 
-#[tactic(auto, using(crate::proofs::Replying::replies, crate::proofs::Replying::refuses))]
 #[inline(never)]
 fn close(world: &mut World) -> Result<Reply, Refusal>
-    ensures told { Replies world.old calls.Close result world.new }
-    ensures refused { OnErr result (world.new ≡ world.old) }
+    ensures { Replies world.old calls.Close result world.new }
 {
     world.close()?;
     Ok(Reply::Done)
 }
 
-#[tactic(auto, using(crate::proofs::Replying::replies, crate::proofs::Replying::refuses))]
 #[inline(never)]
 fn outstanding(world: &mut World) -> Result<Reply, Refusal>
-    ensures told { Replies world.old calls.Outstanding result world.new }
-    ensures refused { OnErr result (world.new ≡ world.old) }
+    ensures { Replies world.old calls.Outstanding result world.new }
 {
     Ok(Reply::Outstanding(world.outstanding()))
 }

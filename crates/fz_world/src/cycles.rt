@@ -8,7 +8,7 @@ ghost use Rattle.fz_model.specs.declared.limits.TheConstants.{BLOCK_WORDS, COUNT
 ghost use Rattle.fz_model.specs.Reachability.{IsRoot};
 ghost use Rattle.fz_model.specs.Pass.{Passes};
 ghost use Rattle.fz_model.specs.Causes.{IsJudgedBy};
-ghost use Rattle.fz_model.specs.declared.call.Call.TheVariants.{Begin, Mark, Pause, Collect};
+ghost use Rattle.fz_model.specs.declared.call.Call.TheVariants as calls;
 ghost use Rattle.fz_model.specs.Events.{Make, causes};
 ghost use Rattle.fz_dirty.specs.Flags.{IsWithin};
 ghost use Rattle.fz_marker.specs.Marking.{IsClosed};
@@ -27,8 +27,8 @@ impl World {
     ///
     /// Refusals, in their order: `CycleOpen`, `Exhausted` at the 2^48th pass.
     pub fn begin(&mut self) -> Result<(), Refusal>
-        ensures step { Does self.old (Make Begin) result self.new }
-        ensures caused { IsJudgedBy (causes self.old.core (Make Begin)) result }
+        ensures step { Does self.old (Make calls.Begin) result self.new }
+        ensures caused { IsJudgedBy (causes self.old.core (Make calls.Begin)) result }
         ensures refused { OnErr result (self.new ≡ self.old) }
         ensures begun { OnOk result (IsBegun self.old self.new) }
     {
@@ -41,8 +41,8 @@ impl World {
     ///
     /// Refusals, in their order: `BadCount` where the budget is 0, `NoCycle`.
     pub fn mark(&mut self, budget: u64) -> Result<Progress, Refusal>
-        ensures step { Does self.old (Make (Mark budget)) result self.new }
-        ensures caused { IsJudgedBy (causes self.old.core (Make (Mark budget))) result }
+        ensures step { Does self.old (Make (calls.Mark budget)) result self.new }
+        ensures caused { IsJudgedBy (causes self.old.core (Make (calls.Mark budget))) result }
         ensures refused { OnErr result (self.new ≡ self.old) }
         ensures same { self.new ≡ record self.old { marked = self.new.marked; scanned = self.new.scanned; scans = self.new.scans } }
         ensures kept { IsWithin self.old.marked self.new.marked }
@@ -63,8 +63,8 @@ impl World {
     ///
     /// Refused `NoCycle` where no cycle is open.
     pub fn pause(&mut self) -> Result<Passed, Refusal>
-        ensures step { Does self.old (Make Pause) result self.new }
-        ensures caused { IsJudgedBy (causes self.old.core (Make Pause)) result }
+        ensures step { Does self.old (Make calls.Pause) result self.new }
+        ensures caused { IsJudgedBy (causes self.old.core (Make calls.Pause)) result }
         ensures refused { OnErr result (self.new ≡ self.old) }
         ensures scans { self.old.scans ≤ self.new.scans }
         // Over the whole cycle: each object once, and at the end once more those of noted pages, of which each has no more than words.
@@ -82,8 +82,8 @@ impl World {
     ///
     /// Refusals, in their order: `CycleOpen`, `Exhausted` at the 2^48th pass.
     pub fn collect(&mut self) -> Result<Passed, Refusal>
-        ensures step { Does self.old (Make Collect) result self.new }
-        ensures caused { IsJudgedBy (causes self.old.core (Make Collect)) result }
+        ensures step { Does self.old (Make calls.Collect) result self.new }
+        ensures caused { IsJudgedBy (causes self.old.core (Make calls.Collect)) result }
         ensures refused { OnErr result (self.new ≡ self.old) }
         ensures few { OnOk result (self.new.scans ≤ len self.old.objects) }
         ensures noted { OnOk result (self.new.noted ≡ sets.empty) }
@@ -110,7 +110,7 @@ impl World {
 
     /// Refuses to open a cycle: `CycleOpen` where one is open, `Exhausted` where passes have come to their end.
     fn check_begin(&self) -> Result<(), Refusal>
-        ensures judged { IsJudgedBy (causes self.now.core (Make Begin)) result }
+        ensures judged { IsJudgedBy (causes self.now.core (Make calls.Begin)) result }
         ensures idle { OnOk result (IsFalse self.now.cycle) }
         ensures few { OnOk result (self.now.passes + 1 < COUNT_LIMIT) }
     {

@@ -4,7 +4,7 @@ ghost use Rattle.std.specs.Prelude.{◌≡◌, ◌-◌, length, slice_get, OnErr
 ghost use Rattle.std.specs.FinMap.{len};
 ghost use Rattle.std.specs.declared.result.Result.TheVariants.{Ok};
 ghost use Rattle.fz_model.specs.Causes.{IsJudgedBy};
-ghost use Rattle.fz_model.specs.declared.call.Call.TheVariants.{Close, Outstanding};
+ghost use Rattle.fz_model.specs.declared.call.Call.TheVariants as calls;
 ghost use Rattle.fz_model.specs.Places.{slot_at};
 ghost use Rattle.fz_model.specs.Events.{Make, Hold, Finish, Queue, causes};
 ghost use Rattle.fz_world.specs.World.{KeepsMarks};
@@ -46,8 +46,8 @@ impl World {
     ///
     /// Refused `Closed` where the world is closed.
     pub fn close(&mut self) -> Result<(), Refusal>
-        ensures step { Does self.old (Make Close) result self.new }
-        ensures caused { IsJudgedBy (causes self.old.core (Make Close)) result }
+        ensures step { Does self.old (Make calls.Close) result self.new }
+        ensures caused { IsJudgedBy (causes self.old.core (Make calls.Close)) result }
         ensures refused { OnErr result (self.new ≡ self.old) }
         ensures marks { KeepsMarks self.old self.new }
     {
@@ -60,7 +60,7 @@ impl World {
 
     /// The number of held entries.
     pub fn outstanding(&self) -> u64
-        ensures step { Does self.now (Make Outstanding) (Ok result) self.now }
+        ensures step { Does self.now (Make calls.Outstanding) (Ok result) self.now }
         ensures count { result ≡ length self.now.held }
     {
         self.ready.outstanding()

@@ -5,7 +5,7 @@ ghost use Rattle.std.specs.Option.{IsNone};
 ghost use Rattle.std.specs.FinMap.{get};
 ghost use Rattle.fz_model.specs.Memory.{slot_word, address_of};
 ghost use Rattle.fz_model.specs.Causes.{IsJudgedBy, IsJudgedOrLacks, slot_causes, place_causes, start_causes};
-ghost use Rattle.fz_model.specs.declared.call.Call.TheVariants.{Link, Unlink, Move};
+ghost use Rattle.fz_model.specs.declared.call.Call.TheVariants as calls;
 ghost use Rattle.fz_model.specs.Places.{slot_at, place_at};
 ghost use Rattle.fz_model.specs.Events.{Make, causes, links_of};
 ghost use Rattle.fz_world.specs.World.{KeepsMarks};
@@ -61,8 +61,8 @@ impl World {
         target_frame: u64,
         target_slot: u64,
     ) -> Result<LinkAnswer, Refusal>
-        ensures step { Does self.old (Make (Link which (place_at frame slot offset) (slot_at target_frame target_slot))) result self.new }
-        ensures caused { IsJudgedOrLacks (causes self.old.core (Make (Link which (place_at frame slot offset) (slot_at target_frame target_slot)))) result }
+        ensures step { Does self.old (Make (calls.Link which (place_at frame slot offset) (slot_at target_frame target_slot))) result self.new }
+        ensures caused { IsJudgedOrLacks (causes self.old.core (Make (calls.Link which (place_at frame slot offset) (slot_at target_frame target_slot)))) result }
         ensures refused { OnErr result (self.new ≡ self.old) }
         // Only a new link can want memory.
         ensures growth { IfErr result (λ r. r ≡ Refusal.NoMemory → IsNone (get (links_of self.old.core which) (address_of self.old.frames (place_at frame slot offset)))) }
@@ -94,8 +94,8 @@ impl World {
         slot: u64,
         offset: u64,
     ) -> Result<bool, Refusal>
-        ensures step { Does self.old (Make (Unlink which (place_at frame slot offset))) result self.new }
-        ensures caused { IsJudgedBy (causes self.old.core (Make (Unlink which (place_at frame slot offset)))) result }
+        ensures step { Does self.old (Make (calls.Unlink which (place_at frame slot offset))) result self.new }
+        ensures caused { IsJudgedBy (causes self.old.core (Make (calls.Unlink which (place_at frame slot offset)))) result }
         ensures refused { OnErr result (self.new ≡ self.old) }
         ensures marks { KeepsMarks self.old self.new }
     {
@@ -120,8 +120,8 @@ impl World {
         to_slot: u64,
         to_offset: u64,
     ) -> Result<MoveAnswer, Refusal>
-        ensures step { Does self.old (Make (Move which (place_at frame slot offset) (place_at to_frame to_slot to_offset))) result self.new }
-        ensures caused { IsJudgedOrLacks (causes self.old.core (Make (Move which (place_at frame slot offset) (place_at to_frame to_slot to_offset)))) result }
+        ensures step { Does self.old (Make (calls.Move which (place_at frame slot offset) (place_at to_frame to_slot to_offset))) result self.new }
+        ensures caused { IsJudgedOrLacks (causes self.old.core (Make (calls.Move which (place_at frame slot offset) (place_at to_frame to_slot to_offset)))) result }
         ensures refused { OnErr result (self.new ≡ self.old) }
         // Only a link that comes to another place, where none stands, can want memory.
         ensures growth { IfErr result (λ r. r ≡ Refusal.NoMemory → IsSome (get (links_of self.old.core which) (address_of self.old.frames (place_at frame slot offset))) × IsNone (get (links_of self.old.core which) (address_of self.old.frames (place_at to_frame to_slot to_offset)))) }

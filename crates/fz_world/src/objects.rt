@@ -6,7 +6,7 @@ ghost use Rattle.fz_model.specs.Extents.{IsInHeap};
 ghost use Rattle.fz_model.specs.Memory.{address_of};
 ghost use Rattle.fz_model.specs.Allocation.{block_of};
 ghost use Rattle.fz_model.specs.Causes.{IsJudgedBy};
-ghost use Rattle.fz_model.specs.declared.call.Call.TheVariants.{Alloc, Load, Store, Set, Copy};
+ghost use Rattle.fz_model.specs.declared.call.Call.TheVariants as calls;
 ghost use Rattle.fz_model.specs.Places.{slot_at, place_at};
 ghost use Rattle.fz_model.specs.Events.{Make, causes};
 ghost use Rattle.fz_world.specs.World.{KeepsMarks, with_in_cycle};
@@ -51,9 +51,9 @@ impl World {
         size: u64,
         kind: ObjKind,
     ) -> Result<(Addr, u64), Refusal>
-        ensures step { Does self.old (Make (Alloc (slot_at frame slot) size kind)) result self.new }
+        ensures step { Does self.old (Make (calls.Alloc (slot_at frame slot) size kind)) result self.new }
         // It takes no memory, since `open` made its room: so each refusal has its cause.
-        ensures caused { IsJudgedBy (causes self.old.core (Make (Alloc (slot_at frame slot) size kind))) result }
+        ensures caused { IsJudgedBy (causes self.old.core (Make (calls.Alloc (slot_at frame slot) size kind))) result }
         ensures refused { OnErr result (self.new ≡ self.old) }
         ensures marks { IfOk result (λ made. self.new ≡ record self.old { core = self.new.core; marked = with_in_cycle self.old.cycle self.old.marked made.0; noted = with_in_cycle self.old.cycle self.old.noted (block_of made.0) }) }
     {
@@ -76,8 +76,8 @@ impl World {
         to_frame: u64,
         to_slot: u64,
     ) -> Result<Word, Refusal>
-        ensures step { Does self.old (Make (Load (place_at frame slot offset) (slot_at to_frame to_slot))) result self.new }
-        ensures caused { IsJudgedBy (causes self.old.core (Make (Load (place_at frame slot offset) (slot_at to_frame to_slot)))) result }
+        ensures step { Does self.old (Make (calls.Load (place_at frame slot offset) (slot_at to_frame to_slot))) result self.new }
+        ensures caused { IsJudgedBy (causes self.old.core (Make (calls.Load (place_at frame slot offset) (slot_at to_frame to_slot)))) result }
         ensures refused { OnErr result (self.new ≡ self.old) }
         ensures marks { KeepsMarks self.old self.new }
     {
@@ -104,8 +104,8 @@ impl World {
         from_frame: u64,
         from_slot: u64,
     ) -> Result<(), Refusal>
-        ensures step { Does self.old (Make (Store (place_at frame slot offset) (slot_at from_frame from_slot))) result self.new }
-        ensures caused { IsJudgedBy (causes self.old.core (Make (Store (place_at frame slot offset) (slot_at from_frame from_slot)))) result }
+        ensures step { Does self.old (Make (calls.Store (place_at frame slot offset) (slot_at from_frame from_slot))) result self.new }
+        ensures caused { IsJudgedBy (causes self.old.core (Make (calls.Store (place_at frame slot offset) (slot_at from_frame from_slot)))) result }
         ensures refused { OnErr result (self.new ≡ self.old) }
         ensures marks { OnOk result (self.new ≡ record self.old { core = self.new.core; noted = with_in_cycle self.old.cycle self.old.noted (block_of (address_of self.old.frames (place_at frame slot offset))) }) }
     {
@@ -123,8 +123,8 @@ impl World {
     ///
     /// Refused `BadSlot` where there is no such slot.
     pub fn set(&mut self, frame: u64, slot: u64, word: Word) -> Result<(), Refusal>
-        ensures step { Does self.old (Make (Set (slot_at frame slot) word)) result self.new }
-        ensures caused { IsJudgedBy (causes self.old.core (Make (Set (slot_at frame slot) word))) result }
+        ensures step { Does self.old (Make (calls.Set (slot_at frame slot) word)) result self.new }
+        ensures caused { IsJudgedBy (causes self.old.core (Make (calls.Set (slot_at frame slot) word))) result }
         ensures refused { OnErr result (self.new ≡ self.old) }
         ensures marks { KeepsMarks self.old self.new }
     {
@@ -143,8 +143,8 @@ impl World {
         to_frame: u64,
         to_slot: u64,
     ) -> Result<(), Refusal>
-        ensures step { Does self.old (Make (Copy (slot_at frame slot) (slot_at to_frame to_slot))) result self.new }
-        ensures caused { IsJudgedBy (causes self.old.core (Make (Copy (slot_at frame slot) (slot_at to_frame to_slot)))) result }
+        ensures step { Does self.old (Make (calls.Copy (slot_at frame slot) (slot_at to_frame to_slot))) result self.new }
+        ensures caused { IsJudgedBy (causes self.old.core (Make (calls.Copy (slot_at frame slot) (slot_at to_frame to_slot)))) result }
         ensures refused { OnErr result (self.new ≡ self.old) }
         ensures marks { KeepsMarks self.old self.new }
     {

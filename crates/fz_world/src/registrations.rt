@@ -8,7 +8,7 @@ ghost use Rattle.fz_model.specs.declared.limits.TheConstants.{TABLE_LIMIT};
 ghost use Rattle.fz_model.specs.Memory.{slot_word};
 ghost use Rattle.fz_model.specs.Causes.{IsJudgedBy, IsJudgedOrLacks, start_causes, register_causes, is_off_heap, full};
 ghost use Rattle.fz_model.specs.Steps.{old_of};
-ghost use Rattle.fz_model.specs.declared.call.Call.TheVariants.{Register, Unregister};
+ghost use Rattle.fz_model.specs.declared.call.Call.TheVariants as calls;
 ghost use Rattle.fz_model.specs.Places.{slot_at};
 ghost use Rattle.fz_model.specs.Events.{Make, causes};
 ghost use Rattle.fz_world.specs.World.{KeepsMarks};
@@ -43,7 +43,7 @@ pub(crate) fn check_start(heap: &Heap, word: Word) -> Result<(), Refusal>
     Ok(())
 }
 
-/// Makes room for so many further entries, and as many picks. `NoMemory` where an allocation failed.
+/// Makes room for `more` entries, and as many picks. `NoMemory` where an allocation failed.
 fn reserve(ready: &mut Ready, picks: &mut Vec<Pick>, more: usize) -> Result<(), Refusal>
     requires few { more ≤ TABLE_LIMIT }
     ensures refused { IfErr result (λ r. r ≡ Refusal.NoMemory) }
@@ -142,8 +142,8 @@ impl World {
         cd: Word,
         rank: u8,
     ) -> Result<RegAnswer, Refusal>
-        ensures step { Does self.old (Make (Register (slot_at frame slot) kind proc cd (Some rank))) result self.new }
-        ensures caused { IsJudgedOrLacks (causes self.old.core (Make (Register (slot_at frame slot) kind proc cd (Some rank)))) result }
+        ensures step { Does self.old (Make (calls.Register (slot_at frame slot) kind proc cd (Some rank))) result self.new }
+        ensures caused { IsJudgedOrLacks (causes self.old.core (Make (calls.Register (slot_at frame slot) kind proc cd (Some rank)))) result }
         ensures refused { OnErr result (self.new ≡ self.old) }
         // Only the first registration of an object can want memory.
         ensures inside { IfErr result (λ r. r ≡ Refusal.NoMemory → IsFalse (is_off_heap self.old.blocks (slot_word self.old.frames (slot_at frame slot)))) }
@@ -170,8 +170,8 @@ impl World {
     ///
     /// Refusals, in their order: `BadSlot`, `NotPointer`, `NotStart`; a word that is zero or outside the heap has no registration.
     pub fn unregister(&mut self, frame: u64, slot: u64) -> Result<Option<Old>, Refusal>
-        ensures step { Does self.old (Make (Unregister (slot_at frame slot))) result self.new }
-        ensures caused { IsJudgedBy (causes self.old.core (Make (Unregister (slot_at frame slot)))) result }
+        ensures step { Does self.old (Make (calls.Unregister (slot_at frame slot))) result self.new }
+        ensures caused { IsJudgedBy (causes self.old.core (Make (calls.Unregister (slot_at frame slot)))) result }
         ensures refused { OnErr result (self.new ≡ self.old) }
         ensures marks { KeepsMarks self.old self.new }
     {

@@ -2,15 +2,18 @@
 //!
 //! `mutex` takes a bare lock COUNT times and writes a word each time. `step` enters a service COUNT times and sets a slot each time. `workers` collects
 //! COUNT registered objects to which nothing leads, beside WORKERS workers on threads of their own, and ends when the workers have finished all of their
-//! entries; the other tests have no use for workers. It stands beside `bench/run`, which calls it.
+//! entries. `busy` is the same with a procedure that works for about 2 microseconds. The other tests have no use for workers. It stands beside
+//! `bench/run`, which calls it.
 #![tactic(auto)]
 
 mod bare;
+mod finalizers;
 mod finishing;
 mod session;
 mod steps;
 
 use bare::lock_bare;
+use finalizers::Procedure;
 use fz_service::Service;
 use fz_world::Config;
 use session::{Test, run};
@@ -38,7 +41,14 @@ fn main(rt: HostRuntime) -> io::Result<ExitCode> {
     let nanoseconds = match test.as_str() {
         "mutex" => Some(lock_bare(&rt, count)?),
         "step" => of_service(&rt, rt.alloc(), Test::Steps, count, workers)?,
-        "workers" => of_service(&rt, rt.alloc(), Test::Workers, count, workers)?,
+        "workers" => {
+            let test = Test::Workers(Procedure::Nothing);
+            of_service(&rt, rt.alloc(), test, count, workers)?
+        }
+        "busy" => {
+            let test = Test::Workers(Procedure::Busy);
+            of_service(&rt, rt.alloc(), test, count, workers)?
+        }
         _ => return wrong(&rt),
     };
     match nanoseconds {
@@ -49,7 +59,7 @@ fn main(rt: HostRuntime) -> io::Result<ExitCode> {
 }
 
 fn wrong(rt: &impl Eprint) -> io::Result<ExitCode> {
-    eprintln!(rt; "service_bench: want mutex, step or workers, COUNT and WORKERS")?;
+    eprintln!(rt; "service_bench: want mutex, step, workers or busy, COUNT and WORKERS")?;
     Ok(ExitCode::from(2))
 }
 

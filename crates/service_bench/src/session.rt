@@ -2,6 +2,7 @@
 
 ghost use Rattle.std.specs.Prelude.{◌≡◌};
 
+use crate::finalizers::Procedure;
 use crate::finishing::finish_all;
 use crate::steps::enter_and_set;
 use fz_service::{Opening, Prepared, Service};
@@ -15,7 +16,7 @@ use std::thread::Threads;
 #[derive(Clone, Copy)]
 pub(crate) enum Test {
     Steps,
-    Workers,
+    Workers(Procedure),
 }
 
 /// The nanoseconds of the test; nothing where it is too large, or where not all of its entries were finished.
@@ -33,11 +34,13 @@ pub(crate) fn run<O: Opening + Send + Sync, R: Clock + Threads + Wait + Sync>(
     };
     let nanoseconds = match test {
         Test::Steps => enter_and_set(rt, &service, count).map(Some),
-        Test::Workers => finish_all(rt, alloc, &service, &mut seats, count),
+        Test::Workers(procedure) => {
+            finish_all(rt, alloc, &service, &mut seats, procedure, count)
+        }
     };
     let due = match test {
         Test::Steps => 0,
-        Test::Workers => count,
+        Test::Workers(_) => count,
     };
     match service.conclude(seats) {
         Ok(end) if end.finished == due => nanoseconds,

@@ -1,0 +1,4 @@
+pub mod AsBox
+pub mod Typed
+pub mod Moves
+pub mod Sent

@@ -1,2 +1,0 @@
-mod LineAsBox
-mod SeatAsBox

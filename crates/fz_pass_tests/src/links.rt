@@ -1,0 +1,158 @@
+//! What no clause says: that calls succeed, and what they return when an allocation failed.
+
+use crate::equal::must_be;
+use fz_links::Links;
+use fz_model::{Addr, LinkAnswer, MoveAnswer, Refusal};
+use std::process::Abort;
+
+#[test]
+fn registers_and_unregisters(rt: HostRuntime) {
+    let mut links = Links::new(rt.alloc());
+    must_be(&rt, links.is_empty(), true, "empty at first");
+    must_be(&rt, links.unregister(70_000), false, "an unknown link");
+
+    let success = Ok(LinkAnswer::Success);
+    must_be(&rt, links.register(70_000, 80_000), success, "a link");
+    must_be(&rt, links.register(70_001, 80_000), success, "a second");
+    let duplicate = Ok(LinkAnswer::Duplicate);
+    must_be(&rt, links.register(70_000, 80_064), duplicate, "again");
+    must_be(&rt, links.len(), 2, "two links");
+    must_be(&rt, links.get(70_000), Some(80_064), "the new target");
+
+    must_be(&rt, links.unregister(70_000), true, "the first link");
+    must_be(&rt, links.unregister(70_000), false, "the first once more");
+    must_be(&rt, links.get(70_000), None, "what is gone");
+}
+
+#[test]
+fn moves_a_link(rt: HostRuntime) {
+    let mut links = Links::new(rt.alloc());
+    let registered = Ok(LinkAnswer::Success);
+    let not_found = Ok(MoveAnswer::NotFound);
+    must_be(&rt, links.move_link(1, 1), not_found, "no links");
+    must_be(&rt, links.register(1, 11), registered, "link 1");
+    must_be(&rt, links.register(2, 12), registered, "link 2");
+    must_be(&rt, links.register(3, 13), registered, "link 3");
+    must_be(&rt, links.move_link(4, 1), not_found, "an unknown link");
+    let moved = Ok(MoveAnswer::Success);
+    must_be(&rt, links.move_link(1, 1), moved, "to its own word");
+    let duplicate = Ok(MoveAnswer::Duplicate);
+    must_be(&rt, links.move_link(1, 2), duplicate, "to a taken word");
+    must_be(&rt, links.get(1), Some(11), "a link that wasn't moved");
+
+    must_be(&rt, links.move_link(1, 5), moved, "to a new word");
+    must_be(&rt, links.get(1), None, "the old word");
+    must_be(&rt, links.get(5), Some(11), "the new word");
+    must_be(&rt, links.len(), 3, "as many links as before");
+}
+
+/// Notes one of ten links from 100 on, which has to have its own target and to come once.
+fn note_link(rt: &impl Abort, seen: &mut [bool; 10], link: Addr, target: Addr) {
+    must_be(rt, target, link ^ 1, "the target of a link");
+    assert!(rt; 100 <= link && link < 110, "{link} wasn't registered");
+    let place = (link - 100) as usize;
+    must_be(rt, seen[place], false, "a link that comes once");
+    seen[place] = true;
+}
+
+#[test]
+fn iterates_over_all(rt: HostRuntime) {
+    let mut links = Links::new(rt.alloc());
+    for link in 100..110u64 {
+        let is_registered = links.register(link, link ^ 1).is_ok();
+        must_be(&rt, is_registered, true, "one of ten links");
+    }
+    links.unregister(103);
+
+    let entries = links.iter();
+    must_be(&rt, entries.len(), 9, "nine links are left");
+    must_be(&rt, entries.size_hint(), (9, Some(9)), "nine to come");
+    let mut seen = [false; 10];
+    for (link, target) in entries {
+        note_link(&rt, &mut seen, link, target);
+    }
+    let want = [true, true, true, false, true, true, true, true, true, true];
+    must_be(&rt, seen, want, "all links but 103");
+}
+
+fn drop_all(links: &mut Links) {
+    links.drop_where(|_link: u64, _target: u64| -> bool { true });
+}
+
+#[test]
+fn drops_by_link_and_target(rt: HostRuntime) {
+    let mut links = Links::new(rt.alloc());
+    for link in 0..1_000u64 {
+        let is_registered = links.register(link, link % 7).is_ok();
+        must_be(&rt, is_registered, true, "one of 1,000 links");
+    }
+    links.drop_where(|link: u64, target: u64| -> bool { target == 3 || link < 10 });
+    // 143 links have the target 3, and 9 others are below 10.
+    must_be(&rt, links.len(), 848, "what is left of 1,000 links");
+    must_be(&rt, links.get(9), None, "the last below 10");
+    must_be(&rt, links.get(10), None, "one with the target 3");
+    must_be(&rt, links.get(11), Some(4), "one with the target 4");
+    drop_all(&mut links);
+    must_be(&rt, links.is_empty(), true, "all are dropped");
+    drop_all(&mut links);
+    let registered = Ok(LinkAnswer::Success);
+    must_be(&rt, links.register(9, 1), registered, "a link once more");
+}
+
+#[test]
+fn holds_65_536(rt: HostRuntime) {
+    let mut links = Links::new(rt.alloc());
+    let success = Ok(LinkAnswer::Success);
+    for number in 0..65_536u64 {
+        let answer = links.register(65_536 + number, number);
+        must_be(&rt, answer, success, "one of 65,536 links");
+    }
+    let full = Err(Refusal::TableFull);
+    must_be(&rt, links.register(200_000, 1), full, "one link too many");
+    must_be(&rt, links.len(), 65_536, "all that there is room for");
+    let duplicate = Ok(LinkAnswer::Duplicate);
+    must_be(&rt, links.register(65_537, 2), duplicate, "a new target");
+    must_be(&rt, links.get(65_537), Some(2), "the new target");
+    // A move leaves as many links as there were.
+    let moved = Ok(MoveAnswer::Success);
+    must_be(&rt, links.move_link(65_538, 200_000), moved, "a move");
+    must_be(&rt, links.get(200_000), Some(2), "the moved link");
+    must_be(&rt, links.register(65_538, 1), full, "the word it left");
+    must_be(&rt, links.unregister(65_540), true, "room for one link");
+    must_be(&rt, links.register(65_538, 1), success, "in that room");
+}
+
+/// Registers a link with a number, which is how many there are, and again where memory was wanting.
+fn register_soon(rt: &impl Abort, links: &mut Links, link: Addr, number: u64) {
+    let mut answer = links.register(link, number);
+    if answer == Err(Refusal::NoMemory) {
+        must_be(rt, links.len() as u64, number, "as many links as before");
+        must_be(rt, links.get(link), None, "a refused link");
+        answer = links.register(link, number);
+    }
+    must_be(rt, answer, Ok(LinkAnswer::Success), "one of 1,000 links");
+}
+
+/// Moves a link with a number, and again where memory was wanting.
+fn move_soon(rt: &impl Abort, links: &mut Links, link: Addr, new: Addr, number: u64) {
+    let mut moved = links.move_link(link, new);
+    if moved == Err(Refusal::NoMemory) {
+        must_be(rt, links.get(link), Some(number), "a link that stayed");
+        must_be(rt, links.get(new), None, "a word without a link");
+        moved = links.move_link(link, new);
+    }
+    must_be(rt, moved, Ok(MoveAnswer::Success), "one of 1,000 moves");
+}
+
+/// With an allocation that fails, the call that wanted it is refused, changes nothing, and is accepted when it is made again.
+#[test]
+fn stands_a_refused_growth(rt: HostRuntime) {
+    let mut links = Links::new(rt.alloc());
+    for number in 0..1_000u64 {
+        let link = 70_000 + number;
+        register_soon(&rt, &mut links, link, number);
+        move_soon(&rt, &mut links, link, 90_000 + number, number);
+    }
+    must_be(&rt, links.len(), 1_000, "all links");
+    must_be(&rt, links.get(90_007), Some(7), "one of the moved links");
+}

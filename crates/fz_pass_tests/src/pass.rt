@@ -1,0 +1,353 @@
+//! Worked examples of a pass. Objects of one word stand at the heap's first addresses, in the order in which they are made.
+
+ghost use Rattle.std.specs.Prelude.{◌≡◌, ◌*◌, IfOk};
+ghost use Rattle.fz_model.specs.declared.limits.TheConstants.{BLOCK_WORDS};
+ghost use Rattle.fz_marker.specs.Marking.{IsClosed};
+
+use crate::equal::must_be;
+use fz_dirty::Dirty;
+use fz_heap::Heap;
+use fz_links::Links;
+use fz_marker::Marker;
+use fz_model::RegKind::{IgnoreSelf, NoOrder, Normal};
+use fz_model::{Addr, HEAP_START, MAX_BLOCKS, ObjKind, Pick, RegKind, Word};
+use fz_pass::decide;
+use fz_table::Table;
+use std::alloc::Global;
+use std::process::Abort;
+use std::test::Fail;
+
+const FIRST: Addr = HEAP_START;
+
+const SECOND: Addr = HEAP_START + 1;
+
+const THIRD: Addr = HEAP_START + 2;
+
+const FOURTH: Addr = HEAP_START + 3;
+
+/// What a pass goes over.
+#[derive(Drop)]
+struct Parts {
+    heap: Heap,
+    table: Table,
+    short: Links,
+    long: Links,
+}
+
+fn open(alloc: Global, blocks: u64) -> Result<Parts, Fail> {
+    Ok(Parts {
+        heap: Heap::new(alloc, blocks)?,
+        table: Table::new(alloc),
+        short: Links::new(alloc),
+        long: Links::new(alloc),
+    })
+}
+
+/// Makes a scanned object for each word, which is what it holds.
+fn make(parts: &mut Parts, words: &[Word]) -> Result<(), Fail> {
+    for word in words {
+        let (start, _) = parts.heap.alloc(1, ObjKind::Scanned)?;
+        parts.heap.write(start, 0, *word)?;
+    }
+    Ok(())
+}
+
+/// Registers these objects with their kinds and ranks, numbered from 0 in this order.
+fn register(parts: &mut Parts, registered: &[(Addr, RegKind, u8)]) -> Result<(), Fail> {
+    for (object, kind, rank) in registered {
+        parts.table.register(*object, *kind, 7, 8, *rank)?;
+    }
+    Ok(())
+}
+
+/// A marker that has found what one root leads to.
+fn marked(alloc: Global, heap: &Heap, root: Word) -> Result<Marker, Fail>
+    ensures size { IfOk result (λ m. m.size ≡ BLOCK_WORDS * heap.now.blocks) }
+    ensures closed { IfOk result (λ m. IsClosed heap.now.objects m.marked) }
+{
+    let blocks = heap.blocks();
+    let mut marker = Marker::new(alloc, blocks)?;
+    let clean = Dirty::new(alloc, blocks)?;
+    marker.begin();
+    marker.root(heap, root);
+    marker.finish(heap, &clean);
+    Ok(marker)
+}
+
+/// A pass that finds what one root leads to: its picks, and how many objects it reclaims.
+fn pass(alloc: Global, parts: &mut Parts, root: Word) -> Result<(Vec<Pick>, u64), Fail> {
+    let mut picks = Vec::new(alloc);
+    let reclaimed = pass_onto(alloc, parts, root, &mut picks)?;
+    Ok((picks, reclaimed))
+}
+
+/// The same, with the picks at the end of a list.
+fn pass_onto(
+    alloc: Global,
+    parts: &mut Parts,
+    root: Word,
+    picks: &mut Vec<Pick>,
+) -> Result<u64, Fail> {
+    picks.reserve(parts.table.len())?;
+    let mut marker = marked(alloc, &parts.heap, root)?;
+    Ok(decide(
+        &mut parts.heap,
+        &mut marker,
+        &mut parts.table,
+        &mut parts.short,
+        &mut parts.long,
+        picks,
+    ))
+}
+
+fn objects_of(alloc: Global, picks: &[Pick]) -> Result<Vec<Addr>, Fail> {
+    Ok(picks.iter().map(|pick| pick.obj).collect(alloc)?)
+}
+
+/// The objects that a pass without roots picks among those with these words, in order.
+fn picked(
+    alloc: Global,
+    words: &[Word],
+    registered: &[(Addr, RegKind, u8)],
+) -> Result<Vec<Addr>, Fail> {
+    let mut parts = open(alloc, 2)?;
+    make(&mut parts, words)?;
+    register(&mut parts, registered)?;
+    let (picks, _) = pass(alloc, &mut parts, 0)?;
+    objects_of(alloc, &picks)
+}
+
+/// A pass without roots has to pick these objects among those with these words, in order.
+fn must_pick(
+    rt: &impl Abort,
+    alloc: Global,
+    words: &[Word],
+    registered: &[(Addr, RegKind, u8)],
+    want: &[Addr],
+) -> Result<(), Fail> {
+    let objects = picked(alloc, words, registered)?;
+    assert_eq!(rt; objects.as_slice(), want, "of {registered:?}");
+    Ok(())
+}
+
+/// Of four objects the first is registered and found, the second is registered and leads to the third, and nothing leads to the fourth.
+#[test]
+fn picks_keeps_and_reclaims(rt: HostRuntime) -> Result<(), Fail> {
+    let alloc = rt.alloc();
+    let mut parts = open(alloc, 2)?;
+    make(&mut parts, &[0, THIRD, 0, 0])?;
+    register(&mut parts, &[(FIRST, Normal, 0), (SECOND, Normal, 0)])?;
+    let (picks, reclaimed) = pass(alloc, &mut parts, FIRST)?;
+    let pick = Pick {
+        reg: 1,
+        obj: SECOND,
+        birth: 1,
+        proc: 7,
+        cd: 8,
+    };
+    must_be(&rt, picks.as_slice(), &[pick], "the second alone");
+    must_be(&rt, reclaimed, 1, "how many are reclaimed");
+    must_be(&rt, parts.heap.condemned(), 1, "how many are condemned");
+    let is_kept = parts.heap.facts(THIRD).is_some();
+    must_be(&rt, is_kept, true, "the pick leads to it");
+    let is_kept = parts.heap.facts(FOURTH).is_some();
+    must_be(&rt, is_kept, false, "nothing leads to it");
+    let is_registered = parts.table.get(FIRST).is_some();
+    must_be(&rt, is_registered, true, "it was found");
+    let is_registered = parts.table.get(SECOND).is_some();
+    must_be(&rt, is_registered, false, "it is picked once");
+    Ok(())
+}
+
+/// Two objects lead to one another, and each waits for the other, whether it ignores itself or not.
+#[test]
+fn a_cycle_waits(rt: HostRuntime) -> Result<(), Fail> {
+    let pair = [SECOND, FIRST];
+    let normal = [(FIRST, Normal, 0), (SECOND, Normal, 0)];
+    must_pick(&rt, rt.alloc(), &pair, &normal, &[])?;
+    let ignore_self = [(FIRST, IgnoreSelf, 0), (SECOND, IgnoreSelf, 0)];
+    must_pick(&rt, rt.alloc(), &pair, &ignore_self, &[])
+}
+
+/// A word that leads back to its own object holds back a normal one alone.
+#[test]
+fn a_self_reference_counts_by_kind(rt: HostRuntime) -> Result<(), Fail> {
+    let words = [FIRST, SECOND, THIRD];
+    let registered = [
+        (FIRST, Normal, 0),
+        (SECOND, IgnoreSelf, 0),
+        (THIRD, NoOrder, 0),
+    ];
+    must_pick(&rt, rt.alloc(), &words, &registered, &[SECOND, THIRD])
+}
+
+/// A no-order object holds nothing back, and waits for a normal one that leads to it.
+#[test]
+fn no_order_waits_for_normal(rt: HostRuntime) -> Result<(), Fail> {
+    let chain = [SECOND, THIRD, 0];
+    let registered = [
+        (FIRST, NoOrder, 0),
+        (SECOND, Normal, 0),
+        (THIRD, NoOrder, 0),
+    ];
+    must_pick(&rt, rt.alloc(), &chain, &registered, &[FIRST, SECOND])
+}
+
+#[test]
+fn ranks_come_before_addresses(rt: HostRuntime) -> Result<(), Fail> {
+    let registered = [
+        (FIRST, Normal, 255),
+        (SECOND, NoOrder, 1),
+        (THIRD, Normal, 255),
+        (FOURTH, Normal, 0),
+    ];
+    let want = [FOURTH, SECOND, FIRST, THIRD];
+    must_pick(&rt, rt.alloc(), &[0; 4], &registered, &want)
+}
+
+/// What is tried with one heap and its tables, which one function owns and lends.
+#[derive(Clone, Copy)]
+enum Example {
+    ShortLink,
+    LongLink,
+    LargestHeap,
+    AllRanks,
+    EarlierPick,
+}
+
+fn holds(alloc: Global, example: Example) -> Result<bool, Fail> {
+    let mut parts = open(alloc, MAX_BLOCKS)?;
+    match example {
+        Example::ShortLink => clears_short_links_first(alloc, &mut parts),
+        Example::LongLink => long_link_waits(alloc, &mut parts),
+        Example::LargestHeap => picks_by_address(alloc, &mut parts),
+        Example::AllRanks => picks_by_rank(alloc, &mut parts),
+        Example::EarlierPick => picks_behind_earlier(alloc, &mut parts),
+    }
+}
+
+/// Two objects lead to one another, the first by a word that is a short link. It is zeroed before the order is judged.
+fn clears_short_links_first(alloc: Global, parts: &mut Parts) -> Result<bool, Fail> {
+    make(parts, &[SECOND, FIRST])?;
+    register(parts, &[(FIRST, Normal, 0), (SECOND, Normal, 0)])?;
+    parts.short.register(FIRST, SECOND)?;
+    let (picks, reclaimed) = pass(alloc, parts, 0)?;
+    let is_second = picks.iter().all(|pick| pick.obj == SECOND);
+    let is_cleared = parts.heap.read(FIRST, 0) == Ok(0) && parts.short.get(FIRST).is_none();
+    Ok(picks.len() == 1 && is_second && reclaimed == 0 && is_cleared)
+}
+
+/// A long link of a found object stands while its target is kept for its finalizer, and is cleared when the target is reclaimed.
+fn long_link_waits(alloc: Global, parts: &mut Parts) -> Result<bool, Fail> {
+    make(parts, &[5, 0])?;
+    register(parts, &[(SECOND, Normal, 0)])?;
+    parts.long.register(FIRST, SECOND)?;
+    pass(alloc, parts, FIRST)?;
+    let stood = parts.heap.read(FIRST, 0) == Ok(5) && parts.long.get(FIRST) == Some(SECOND);
+    pass(alloc, parts, FIRST)?;
+    let is_cleared = parts.heap.read(FIRST, 0) == Ok(0) && parts.long.get(FIRST).is_none();
+    Ok(stood && is_cleared)
+}
+
+/// The heap is full of registered objects of half a block each: one pass picks them all, and the next reclaims them.
+fn picks_by_address(alloc: Global, parts: &mut Parts) -> Result<bool, Fail> {
+    fill(parts)?;
+    let (picks, kept) = pass(alloc, parts, 0)?;
+    let all = picks.len() == 8_192 && first_out_of_place(&picks).is_none();
+    let (none, reclaimed) = pass(alloc, parts, 0)?;
+    Ok(all && kept == 0 && none.is_empty() && reclaimed == 8_192)
+}
+
+fn fill(parts: &mut Parts) -> Result<(), Fail> {
+    for _ in 0..2 * MAX_BLOCKS {
+        let (start, _) = parts.heap.alloc(32, ObjKind::Scanned)?;
+        parts.table.register(start, NoOrder, 7, 8, 3)?;
+    }
+    Ok(())
+}
+
+/// The picks of a second pass stand behind those of the first, also where their ranks differ and are lower.
+fn picks_behind_earlier(alloc: Global, parts: &mut Parts) -> Result<bool, Fail> {
+    make(parts, &[0; 4])?;
+    register(parts, &[(FOURTH, Normal, 9)])?;
+    let mut picks = Vec::new(alloc);
+    pass_onto(alloc, parts, 0, &mut picks)?;
+    make(parts, &[0; 3])?;
+    let ranked = [(FIRST, Normal, 2), (SECOND, Normal, 1), (THIRD, Normal, 2)];
+    register(parts, &ranked)?;
+    pass_onto(alloc, parts, 0, &mut picks)?;
+    let objects = objects_of(alloc, &picks)?;
+    Ok(objects.as_slice() == [FOURTH, SECOND, FIRST, THIRD].as_slice())
+}
+
+/// The heap is full of registered objects of half a block each, whose ranks are 255 to 0 in turn: one pass picks them by rank, then address.
+fn picks_by_rank(alloc: Global, parts: &mut Parts) -> Result<bool, Fail> {
+    fill_in_turn(parts)?;
+    let (picks, kept) = pass(alloc, parts, 0)?;
+    Ok(picks.len() == 8_192 && kept == 0 && are_in_turn(&picks) && parts.table.is_empty())
+}
+
+fn fill_in_turn(parts: &mut Parts) -> Result<(), Fail> {
+    for turn in 0..2 * MAX_BLOCKS {
+        let (start, _) = parts.heap.alloc(32, ObjKind::Scanned)?;
+        let rank = 255 - (turn % 256) as u8;
+        parts.table.register(start, NoOrder, 7, 8, rank)?;
+    }
+    Ok(())
+}
+
+/// Whether the picks are those of the ranks 0 to 255, 32 of each, by rising address.
+fn are_in_turn(picks: &[Pick]) -> bool {
+    let mut place = 0u64;
+    for pick in picks {
+        let rank = place / 32 % 256;
+        let turn = 256 * (place % 32) + 255 - rank;
+        if pick.obj != HEAP_START + 32 * turn {
+            return false;
+        }
+        place = place.wrapping_add(1);
+    }
+    true
+}
+
+/// The first pick that isn't the object of its place.
+fn first_out_of_place(picks: &[Pick]) -> Option<usize> {
+    let mut want = HEAP_START;
+    for (place, pick) in picks.iter().enumerate() {
+        if pick.obj != want {
+            return Some(place);
+        }
+        want = want.checked_add(32)?;
+    }
+    None
+}
+
+#[test]
+fn short_links_are_cleared_first(rt: HostRuntime) -> Result<(), Fail> {
+    assert!(rt; holds(rt.alloc(), Example::ShortLink)?);
+    Ok(())
+}
+
+#[test]
+fn a_long_link_waits_for_its_target(rt: HostRuntime) -> Result<(), Fail> {
+    assert!(rt; holds(rt.alloc(), Example::LongLink)?);
+    Ok(())
+}
+
+#[test]
+fn all_ranks_are_picked_in_order(rt: HostRuntime) -> Result<(), Fail> {
+    assert!(rt; holds(rt.alloc(), Example::AllRanks)?);
+    Ok(())
+}
+
+#[test]
+fn picks_stand_behind_earlier_ones(rt: HostRuntime) -> Result<(), Fail> {
+    assert!(rt; holds(rt.alloc(), Example::EarlierPick)?);
+    Ok(())
+}
+
+#[test]
+fn the_largest_heap_is_picked_by_address(rt: HostRuntime) -> Result<(), Fail> {
+    assert!(rt; holds(rt.alloc(), Example::LargestHeap)?);
+    Ok(())
+}

@@ -1,0 +1,121 @@
+//! What no clause says: that calls succeed, and what they return when an allocation failed.
+
+use crate::equal::must_be;
+use fz_model::{Addr, Old, Refusal, RegKind, Registration};
+use fz_table::Table;
+use std::process::Abort;
+
+#[test]
+fn registers_replaces_and_takes(rt: HostRuntime) {
+    let mut table = Table::new(rt.alloc());
+    must_be(&rt, table.is_empty(), true, "empty at first");
+    must_be(&rt, table.get(70_000), None, "get an unknown object");
+    must_be(&rt, table.remove(70_000), None, "remove it");
+
+    let first = table.register(70_000, RegKind::Normal, 7, 8, 5);
+    must_be(&rt, first, Ok((0, None)), "the first object");
+    let second = table.register(70_064, RegKind::NoOrder, 9, 10, 0);
+    must_be(&rt, second, Ok((1, None)), "the second object");
+    let replaced = table.register(70_000, RegKind::IgnoreSelf, 11, 12, 255);
+    let old = Old { proc: 7, cd: 8 };
+    must_be(&rt, replaced, Ok((2, Some(old))), "the first again");
+    must_be(&rt, table.len(), 2, "two objects");
+    must_be(&rt, table.ranked(), 1, "one with a rank");
+    let registration = Registration {
+        number: 2,
+        kind: RegKind::IgnoreSelf,
+        proc: 11,
+        cd: 12,
+        rank: 255,
+    };
+    must_be(&rt, table.get(70_000), Some(registration), "get it");
+
+    must_be(&rt, table.take(70_000), Some(registration), "take it");
+    must_be(&rt, table.take(70_000), None, "take it once more");
+    must_be(&rt, table.get(70_000), None, "get what was taken");
+    must_be(&rt, table.len(), 1, "one object");
+    must_be(&rt, table.ranked(), 0, "none with a rank");
+    // Numbers aren't used again.
+    let next = table.register(70_000, RegKind::Normal, 1, 2, 0);
+    must_be(&rt, next, Ok((3, None)), "the first after that");
+}
+
+/// Notes one of ten objects from 100,000 on, whose procedure has to be its own address, and which has to come once.
+fn note_object(rt: &impl Abort, seen: &mut [bool; 10], object: Addr, proc: u64) {
+    must_be(rt, proc, object, "the procedure of an object");
+    assert!(rt;
+        100_000 <= object && object < 100_010,
+        "{object} wasn't registered"
+    );
+    let place = (object - 100_000) as usize;
+    must_be(rt, seen[place], false, "an object that comes once");
+    seen[place] = true;
+}
+
+#[test]
+fn iterates_over_all(rt: HostRuntime) {
+    let mut table = Table::new(rt.alloc());
+    must_be(&rt, table.iter().next(), None, "none at first");
+    for object in 100_000..100_010u64 {
+        let answer = table.register(object, RegKind::Normal, object, 0, 0);
+        must_be(&rt, answer.is_ok(), true, "one of ten objects");
+    }
+    table.remove(100_003);
+
+    let registrations = table.iter();
+    must_be(&rt, registrations.len(), 9, "nine objects are left");
+    let hint = registrations.size_hint();
+    must_be(&rt, hint, (9, Some(9)), "nine to come");
+    let mut seen = [false; 10];
+    for (object, registration) in registrations {
+        note_object(&rt, &mut seen, object, registration.proc);
+    }
+    let want = [true, true, true, false, true, true, true, true, true, true];
+    must_be(&rt, seen, want, "all objects but one");
+}
+
+#[test]
+fn holds_65_536(rt: HostRuntime) {
+    let mut table = Table::new(rt.alloc());
+    for number in 0..65_536u64 {
+        let answer = table.register(65_536 + number, RegKind::Normal, number, 0, 0);
+        must_be(&rt, answer, Ok((number, None)), "one of 65,536 objects");
+    }
+    let refused = table.register(200_000, RegKind::Normal, 1, 2, 0);
+    let full = Err(Refusal::TableFull);
+    must_be(&rt, refused, full, "one object too many");
+    must_be(&rt, table.len(), 65_536, "all that there is room for");
+
+    let replaced = table.register(65_537, RegKind::NoOrder, 3, 4, 0);
+    let old = Old { proc: 1, cd: 0 };
+    must_be(&rt, replaced, Ok((65_536, Some(old))), "one again");
+    let old = Old { proc: 4, cd: 0 };
+    must_be(&rt, table.remove(65_540), Some(old), "room for one");
+    let accepted = table.register(200_000, RegKind::Normal, 1, 2, 0);
+    must_be(&rt, accepted, Ok((65_537, None)), "one in that room");
+}
+
+/// Registers an object with a number, which is how many there are, and again where memory was wanting.
+fn register_soon(rt: &impl Abort, table: &mut Table, object: Addr, number: u64) {
+    let mut answer = table.register(object, RegKind::Normal, number, 0, 0);
+    if answer == Err(Refusal::NoMemory) {
+        must_be(rt, table.len() as u64, number, "as many as before");
+        must_be(rt, table.get(object), None, "a refused object");
+        if 0 < number {
+            let old = table.get(70_000).map(|registration| registration.proc);
+            must_be(rt, old, Some(0), "the procedure of the first");
+        }
+        answer = table.register(object, RegKind::Normal, number, 0, 0);
+    }
+    must_be(rt, answer, Ok((number, None)), "one of 1,000 objects");
+}
+
+/// With an allocation that fails, the call that wanted it is refused, changes nothing, and is accepted when it is made again.
+#[test]
+fn stands_a_refused_growth(rt: HostRuntime) {
+    let mut table = Table::new(rt.alloc());
+    for number in 0..1_000u64 {
+        register_soon(&rt, &mut table, 70_000 + number, number);
+    }
+    must_be(&rt, table.len(), 1_000, "all objects");
+}
