@@ -190,7 +190,7 @@ const RUNS: [(&str, &[u8], u8, &[u8]); 8] = [
         b"ok\nline 2 refused 15 BadLine\n",
     ),
     ("run", b"#\n", 1, b"line 2 refused 15 BadLine\n"),
-    ("run", b"open 4097 1 1\n", 1, b"refused 7 BadCount\n"),
+    ("run", b"open 0 1 1\n", 1, b"refused 7 BadCount\n"),
     ("threads", THREADS_FILE, 0, SUMMARY),
     (
         "threads",

@@ -10,7 +10,7 @@ use Rattle.fz_model.specs.Allocation.{same_kind}
 use Rattle.fz_model.specs.Bits.{has_bit}
 use Rattle.fz_model.proofs.Bits.{no_bits}
 use Rattle.fz_blocks.specs.declared.block.Block.{Block}
-use Rattle.fz_blocks.specs.BlockSets.{Roomed}
+use Rattle.fz_dirty.specs.Flags.{Flagged}
 use Rattle.fz_blocks.specs.Cells.{is_cell}
 use Rattle.fz_blocks.specs.Blocks.{starts_at, is_bare, is_full, has_free_cell, has_same_room, IsAlike, Claims}
 use Rattle.fz_blocks.specs.Layout.{has_room}
@@ -126,7 +126,7 @@ module _ (old new : Block) (alike : IsAlike old new) (place : ℕ) (starts : sta
 
 -- ---- the sets
 
-pub stays_listed : (blocks : List Block) (bare : Roomed) (rooms : List Roomed) → AreListed blocks bare rooms → (at : ℕ) (new : Block) → IsListedAlike blocks at new → AreListed (set blocks at new) bare rooms
+pub stays_listed : (blocks : List Block) (bare : Flagged) (rooms : List Flagged) → AreListed blocks bare rooms → (at : ℕ) (new : Block) → IsListedAlike blocks at new → AreListed (set blocks at new) bare rooms
 stays_listed blocks bare rooms listed at new is =
     put_listed blocks bare bare rooms rooms at new listed (slice_get_within blocks at is.was is.here)
     (changes_none rooms at is.was new (λ class small. listed.rooms_are class at small ∙ ap (λ o. option_map_or (has_room class) o false) is.here) is.room)

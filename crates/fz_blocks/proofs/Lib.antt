@@ -1,4 +1,3 @@
-pub mod Sets
 pub mod Tabulating
 pub mod Ranges
 pub mod Bits
@@ -8,6 +7,7 @@ pub mod Reading
 pub mod Places
 pub mod Runs
 pub mod Shifts
+pub mod Least
 pub mod Listed
 pub mod Alike
 pub mod Changes

@@ -1,5 +1,5 @@
 -- A list of blocks and its sets, as one block changes.
-use Rattle.std.proofs.Common.{◌≡◌, ◌≢◌, ℕ, suc, zero, ◌*◌, ◌<◌, ◌≤◌, Bool, true, false, cond, not, ◌||◌, ◌&&◌, ◌==◌, List, [], ◌∷◌, length, Option, Some, None, MatchOption, slice_get, slice_index_or, set, nat_le, nat_eq, nat_cmp, refl, sym, ap, ◌∙◌, subst, ⊎_elim, arith, length-set}
+use Rattle.std.proofs.Common.{◌≡◌, ◌≢◌, ℕ, suc, zero, ◌<◌, ◌≤◌, Bool, true, false, cond, not, ◌||◌, ◌&&◌, ◌==◌, List, [], ◌∷◌, length, Option, Some, None, MatchOption, slice_get, slice_index_or, set, nat_le, nat_eq, nat_cmp, refl, sym, ap, ◌∙◌, subst, ⊎_elim, arith, length-set}
 use Rattle.std.proofs.lemmas.Bool.{cases_eq, eq-eqb, ne_eqb, eqb-true, and_parts, leb-true, cond-true, cond-false, both_ways}
 use Rattle.std.proofs.lemmas.List.{get_or_read, get_or-set_same, get_or-set_other}
 use Rattle.std.specs.Option.{option_map_or}
@@ -7,10 +7,12 @@ use Rattle.std.specs.FinSet as sets
 use Rattle.std.specs.FinSet.{contains, empty, contains-empty}
 use Rattle.fz_model.specs.declared.kinds.ObjKind.{ObjKind}
 use Rattle.fz_model.specs.declared.kinds.ObjKind.TheVariants.{Scanned, Atomic}
+use Rattle.fz_model.specs.declared.limits.TheConstants.{MAX_BLOCKS}
 use Rattle.fz_model.specs.Allocation.{same_kind}
 use Rattle.fz_model.proofs.Sets.{has_inserted, has_removed}
 use Rattle.fz_blocks.specs.declared.block.Block.{Block}
-use Rattle.fz_blocks.specs.BlockSets.{BlockNumbers, Roomed, no_room, members_at, room_at, IsLeast}
+use Rattle.fz_blocks.specs.BlockSets.{BlockNumbers, no_room, members_at, room_at, IsLeast}
+use Rattle.fz_dirty.specs.Flags.{Flagged}
 use Rattle.fz_blocks.specs.Classes.{class_of}
 use Rattle.fz_blocks.specs.Blocks.{is_full, has_free_cell, has_same_room, is_bare}
 use Rattle.fz_blocks.specs.Layout.{has_room}
@@ -58,25 +60,25 @@ class_below block on = at block.size block.kind block.sized (class_small block o
     at size Scanned sized small = omega arith
     at size Atomic sized small = omega arith
 
-module _ (rooms : List Roomed) (block : Block) (at : ℕ) where
+module _ (rooms : List Flagged) (block : Block) (at : ℕ) where
   module _ (on : has_free_cell block ≡ true) (i : ℕ) (is : i ≡ class_of block.size block.kind) (classes : length rooms ≡ 128) where
     within : i < length rooms
     within = let below = class_below block on in omega (arith, below, is, classes)
 
-    module _ (read : Roomed) (here : read ≡ slice_index_or rooms i read) where
+    module _ (read : Flagged) (here : read ≡ slice_index_or rooms i read) where
       read_is : slice_index_or rooms i read ≡ slice_index_or rooms i no_room
       read_is = sym here ∙ get_or_read rooms i read within here no_room
 
       -- the set that is read has room for what each has room for
-      pub room_read : ((d : ℕ) → d < 128 → at < 64 * room_at rooms d) → at < 64 * (slice_index_or rooms i read).room
+      pub room_read : ((d : ℕ) → d < 128 → at < room_at rooms d) → at < (slice_index_or rooms i read).size
       room_read room =
           let some = room i (omega (arith, class_below block on, is)) in
-          let same = ap (λ (s : Roomed). s.room) read_is in
+          let same = ap (λ (s : Flagged). s.size) read_is in
           omega (arith, some, same)
 
       -- the set of the class changes at the block
       module _ (change : Bool → Bool → Bool) (unchanged : (u : Bool) → change false u ≡ u) (members : BlockNumbers) (are : (q : ℕ) → contains members q ≡ change (nat_eq q at) (contains (slice_index_or rooms i read).members q)) where
-        abbrev now : Roomed
+        abbrev now : Flagged
         now = record (slice_index_or rooms i read) { members = members }
 
         own : (d : ℕ) → d ≡ i → has_room d block ≡ true
@@ -88,8 +90,8 @@ module _ (rooms : List Roomed) (block : Block) (at : ℕ) where
         room_kept : (d : ℕ) → room_at (set rooms i now) d ≡ room_at rooms d
         room_kept d =
             ⊎_elim
-            (λ (same : d ≡ i). ap (room_at (set rooms i now)) same ∙ ap (λ (s : Roomed). s.room) (get_or-set_same rooms i now no_room within) ∙ ap (λ (s : Roomed). s.room) read_is ∙ ap (room_at rooms) (sym same))
-            (λ (ne : d ≢ i). ap (λ (s : Roomed). s.room) (get_or-set_other rooms i d now no_room ne))
+            (λ (same : d ≡ i). ap (room_at (set rooms i now)) same ∙ ap (λ (s : Flagged). s.size) (get_or-set_same rooms i now no_room within) ∙ ap (λ (s : Flagged). s.size) read_is ∙ ap (room_at rooms) (sym same))
+            (λ (ne : d ≢ i). ap (λ (s : Flagged). s.size) (get_or-set_other rooms i d now no_room ne))
             (cases_eq d i)
 
         changed : (d q : ℕ) → contains (members_at (set rooms i now) d) q ≡ change (has_room d block && q == at) (contains (members_at rooms d) q)
@@ -97,12 +99,12 @@ module _ (rooms : List Roomed) (block : Block) (at : ℕ) where
             ⊎_elim
             (λ (same : d ≡ i).
             ap (λ j. contains (members_at (set rooms i now) j) q) same
-            ∙ ap (λ (s : Roomed). contains s.members q) (get_or-set_same rooms i now no_room within)
+            ∙ ap (λ (s : Flagged). contains s.members q) (get_or-set_same rooms i now no_room within)
             ∙ are q
-            ∙ ap (λ (s : Roomed). change (q == at) (contains s.members q)) (read_is ∙ ap (λ j. slice_index_or rooms j no_room) (sym same))
+            ∙ ap (λ (s : Flagged). change (q == at) (contains s.members q)) (read_is ∙ ap (λ j. slice_index_or rooms j no_room) (sym same))
             ∙ ap (λ t. change (t && q == at) (contains (members_at rooms d) q)) (sym (own d same)))
             (λ (ne : d ≢ i).
-            ap (λ (s : Roomed). contains s.members q) (get_or-set_other rooms i d now no_room ne)
+            ap (λ (s : Flagged). contains s.members q) (get_or-set_other rooms i d now no_room ne)
             ∙ sym (ap (λ t. change (t && q == at) (contains (members_at rooms d) q)) (other d ne) ∙ unchanged (contains (members_at rooms d) q)))
             (cases_eq d i)
 
@@ -141,7 +143,7 @@ same_rooms old new alike d = room_is d old ∙ parts (has_free_cell old) (has_fr
     parts false false on = refl
 
 -- where the sets have the block in the classes in which it was listed
-module _ (rooms : List Roomed) (at : ℕ) (old new : Block) (listed : (class : ℕ) → class < 128 → contains (members_at rooms class) at ≡ has_room class old) where
+module _ (rooms : List Flagged) (at : ℕ) (old new : Block) (listed : (class : ℕ) → class < 128 → contains (members_at rooms class) at ≡ has_room class old) where
   pub changes_none : has_same_room old new ≡ true → Changes rooms rooms new at
   changes_none alike = record {
     long = refl;
@@ -153,7 +155,7 @@ module _ (rooms : List Roomed) (at : ℕ) (old new : Block) (listed : (class : �
       stays d b small true is = ap (contains (members_at rooms d)) (eqb-true b at is) ∙ listed d small ∙ same_rooms old new alike d
       stays d b small false is = refl
 
-  pub changes_both : (left joined : List Roomed) → Leaves rooms left old at → Joins left joined new at → Changes rooms joined new at
+  pub changes_both : (left joined : List Flagged) → Leaves rooms left old at → Joins left joined new at → Changes rooms joined new at
   changes_both left joined leaves joins = record {
     long = joins.long ∙ leaves.long;
     room = λ d. joins.room d ∙ leaves.room d;
@@ -177,9 +179,9 @@ module _ (rooms : List Roomed) (at : ℕ) (old new : Block) (listed : (class : �
           ∙ settle (has_room d new) (has_room d old)
       changed d b small false is = keep (has_room d new) (has_room d old) (contains (members_at rooms d) b)
 
-pub put_listed : (blocks : List Block) (bare bare_now : Roomed) (rooms changed : List Roomed) (at : ℕ) (new : Block) → AreListed blocks bare rooms → at < length blocks → Changes rooms changed new at → bare_now.room ≡ bare.room → ((b : ℕ) → contains bare_now.members b ≡ cond (b == at) (is_bare new) (contains bare.members b)) → AreListed (set blocks at new) bare_now changed
+pub put_listed : (blocks : List Block) (bare bare_now : Flagged) (rooms changed : List Flagged) (at : ℕ) (new : Block) → AreListed blocks bare rooms → at < length blocks → Changes rooms changed new at → bare_now.size ≡ bare.size → ((b : ℕ) → contains bare_now.members b ≡ cond (b == at) (is_bare new) (contains bare.members b)) → AreListed (set blocks at new) bare_now changed
 put_listed blocks bare bare_now rooms changed at new listed lt changes room_is bare_is = record {
-  few = subst (λ n. n ≤ 4096) (sym (length-set blocks at new)) listed.few;
+  few = subst (λ n. n ≤ MAX_BLOCKS) (sym (length-set blocks at new)) listed.few;
   classes = changes.long ∙ listed.classes;
   bare_room = let long = length-set blocks at new in let was = listed.bare_room in omega (arith, long, was, room_is);
   rooms_room = λ class small. let long = length-set blocks at new in let was = listed.rooms_room class small in let same = changes.room class in omega (arith, long, was, same);

@@ -7,6 +7,7 @@ use Rattle.std.specs.FinMap.{get, remove, retain_keys, contains_key}
 use Rattle.std.specs.FinMap as maps
 use Rattle.std.specs.FinSet.{contains, insert, len}
 use Rattle.std.specs.Option.{option_map_or}
+use Rattle.fz_model.specs.declared.limits.TheConstants.{MAX_BLOCKS}
 use Rattle.fz_model.specs.declared.extent.Extent.{Extent}
 use Rattle.fz_model.specs.Allocation.{block_start, blocks_for}
 use Rattle.fz_blocks.specs.declared.block.Block.{Block}
@@ -129,7 +130,7 @@ module _ (blocks : List Block) (b : ℕ) (old new : Block) (here : slice_get blo
 pub map_swept : (blocks : List Block) → IsMap blocks → (b : ℕ) (old new : Block) → slice_get blocks b ≡ Some old → IsAlike old new → new.objects ≡ old.objects → (now : List Block) → now ≡ set blocks b new → IsMap now
 map_swept blocks is b old new here alike objects now now_is = subst IsMap (sym now_is) (record {
   some = subst (λ n. 1 ≤ n) (sym (length-set blocks b new)) is.some;
-  few = subst (λ n. n ≤ 4096) (sym (length-set blocks b new)) is.few;
+  few = subst (λ n. n ≤ MAX_BLOCKS) (sym (length-set blocks b new)) is.few;
   runs = swept_runs blocks b old new here alike objects is.runs;
 })
 
@@ -212,7 +213,7 @@ module _ (blocks : List Block) (b places : ℕ) (was now : Block) (here : slice_
     pub map_condemned : IsMap new
     map_condemned = record {
       some = subst (λ n. 1 ≤ n) (sym chosen_long) is.some;
-      few = subst (λ n. n ≤ 4096) (sym chosen_long) is.few;
+      few = subst (λ n. n ≤ MAX_BLOCKS) (sym chosen_long) is.few;
       runs = freed_runs blocks new is.runs b some.0 was now here some.1 all.alike (gone_first was now some.0 some.1 some.2) (subst (λ n. FreesLater (set blocks b now) new b n) (count_is ∙ ap blocks_for all.alike.size) (subst (λ ms. FreesLater ms new b count) mid_is frees));
     }
 

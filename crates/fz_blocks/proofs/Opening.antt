@@ -9,8 +9,10 @@ use Rattle.std.specs.FinMap.{get-empty}
 use Rattle.std.specs.FinSet as sets
 use Rattle.std.specs.FinSet.{contains, contains-empty}
 use Rattle.fz_model.specs.Allocation.{block_start}
+use Rattle.fz_model.specs.declared.limits.TheConstants.{MAX_BLOCKS}
 use Rattle.fz_blocks.specs.declared.block.Block.{Block}
-use Rattle.fz_blocks.specs.BlockSets.{Roomed, no_room}
+use Rattle.fz_blocks.specs.BlockSets.{no_room}
+use Rattle.fz_dirty.specs.Flags.{Flagged}
 use Rattle.fz_model.specs.Bits.{has_bit}
 use Rattle.std.specs.Int.Count.{ones}
 use Rattle.std.proofs.lemmas.Nat.{ones_le_self}
@@ -42,9 +44,9 @@ module _ (blocks : List Block) (n : ℕ) (block : Block) (are : blocks ≡ repli
   pub all_new : AreNew blocks n
   all_new = record { long = len; bare = λ b k here. subst (λ k. is_bare k ≡ true) (sym (only b k here)) bare; clean = λ b k here. ap (λ (k : Block). k.condemned) (only b k here) ∙ clean }
 
-  pub listed_new : n ≤ 4096 → (all : Roomed) (rooms : List Roomed) → n ≤ 64 * all.room → ((b : ℕ) → contains all.members b ≡ nat_lt b n) → length rooms ≡ 128 → All (λ s. (s.members ≡ sets.empty) × (n ≤ 64 * s.room)) rooms → AreListed blocks all rooms
+  pub listed_new : n ≤ MAX_BLOCKS → (all : Flagged) (rooms : List Flagged) → n ≤ all.size → ((b : ℕ) → contains all.members b ≡ nat_lt b n) → length rooms ≡ 128 → All (λ s. (s.members ≡ sets.empty) × (n ≤ s.size)) rooms → AreListed blocks all rooms
   listed_new few all rooms wide all_are classes none = record {
-    few = subst (λ m. m ≤ 4096) (sym len) few;
+    few = subst (λ m. m ≤ MAX_BLOCKS) (sym len) few;
     classes = classes;
     bare_room = omega (arith, len, wide);
     rooms_room = λ class lt. let made = (none class no_room (subst (λ m. class < m) (sym classes) lt)).1 in omega (arith, len, made);
@@ -88,10 +90,10 @@ module _ (blocks : List Block) (n : ℕ) (new : AreNew blocks n) where
   own_new : (b : ℕ) (k : Block) → slice_get blocks b ≡ Some k → k.back ≡ 0
   own_new b k here = eqb-true k.back 0 (and_parts (k.objects == 0) (k.back == 0) (new.bare b k here)).1
 
-  pub map_new : 1 ≤ n → n ≤ 4096 → IsMap blocks
+  pub map_new : 1 ≤ n → n ≤ MAX_BLOCKS → IsMap blocks
   map_new some few = record {
     some = subst (λ m. 1 ≤ m) (sym new.long) some;
-    few = subst (λ m. m ≤ 4096) (sym new.long) few;
+    few = subst (λ m. m ≤ MAX_BLOCKS) (sym new.long) few;
     runs = record {
       ahead = λ b k first here on low reach. absurd (both_ways _ (none_bare first (new.bare b first here) 0) on);
       behind = λ b later here low. let own = own_new b later here in absurd (omega (arith, own, low));

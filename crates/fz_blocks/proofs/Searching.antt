@@ -1,51 +1,43 @@
 -- The least run of blocks, by the bits of a set.
-use Rattle.std.proofs.Common.{◌≡◌, ◌≢◌, ℕ, ◌+◌, ◌-◌, ◌*◌, ◌/◌, ◌%◌, ◌^◌, ◌<◌, ◌≤◌, true, false, nat_lt, nat_cmp, List, length, slice_index, Option, Some, None, MatchOption, slice_get, refl, sym, ap, ◌∙◌, subst, ⊎_elim, arith, w64}
+use Rattle.std.proofs.Common.{◌≡◌, ◌≢◌, ℕ, ◌+◌, ◌-◌, ◌*◌, ◌/◌, ◌<◌, ◌≤◌, true, false, nat_lt, List, Option, Some, None, MatchOption, slice_get, refl, sym, ap, ◌∙◌, subst, ⊎_elim, arith, w64}
 use Rattle.std.proofs.lemmas.Bool.{cond-true, cond-false, cases_lt, lt-ltb, le-ltb, both_ways}
-use Rattle.std.proofs.lemmas.List.{get_or_past}
-use Rattle.std.proofs.lemmas.Nat.Bits.{bit_at-trailing_zeros}
 use Rattle.std.specs.Option.{option_map_or}
 use Rattle.std.specs.Int.{trailing_zeros}
-use Rattle.std.specs.FinSet.{contains, contains-empty}
+use Rattle.std.specs.FinSet.{contains}
 use Rattle.fz_blocks.specs.declared.block.Block.{Block}
 use Rattle.fz_blocks.specs.Blocks.{is_bare}
-use Rattle.fz_blocks.specs.BlockSets.{BlockNumbers, has_pair_bit, blocks_of, AreRunsOf, HasRun, IsLeastRun, IsSummary}
-use Rattle.fz_model.specs.Bits.{has_bit, has_flag}
+use Rattle.fz_blocks.specs.BlockSets.{BlockNumbers, has_pair_bit, AreRunsOf, HasRun, IsLeastRun}
+use Rattle.fz_dirty.specs.Flags.{IsNext}
+use Rattle.fz_model.specs.Bits.{has_bit}
 use Rattle.fz_blocks.specs.Runs.{IsRun, IsFirstRun}
 use Rattle.fz_blocks.proofs.Bits.{lowest}
 use Rattle.fz_model.proofs.Bits.{no_bits}
-use Rattle.fz_blocks.proofs.Sets.{contains-blocks_of, word_zero, none_first}
 
 -- ---- among the words of a set
 
-module _ (words : List ℕ) (row word next : ℕ) (word_is : word ≡ slice_index words row) (next_is : next ≡ slice_index words (row + 1)) where
-  pair_bit : (p : ℕ) → p < 128 → has_pair_bit word next p ≡ has_flag words (64 * row + p)
+module _ (set : BlockNumbers) (row word next : ℕ) (word_is : (p : ℕ) → p < 64 → has_bit word p ≡ contains set (64 * row + p)) (next_is : (p : ℕ) → p < 64 → has_bit next p ≡ contains set (64 * (row + 1) + p)) where
+  pair_bit : (p : ℕ) → p < 128 → has_pair_bit word next p ≡ contains set (64 * row + p)
   pair_bit p small =
       ⊎_elim
-      (λ (lt : p < 64).
-      let row_is : (64 * row + p) / 64 ≡ row = omega (arith, lt) in
-      let bit_is : (64 * row + p) % 64 ≡ p = omega (arith, lt) in
-      cond-true (nat_lt p 64) (has_bit word p) (has_bit next (p - 64)) (lt-ltb p 64 lt)
-      ∙ ap (λ w. has_bit w p) word_is ∙ sym (ap (λ r. has_bit (slice_index words r) ((64 * row + p) % 64)) row_is ∙ ap (has_bit (slice_index words row)) bit_is))
+      (λ (lt : p < 64). cond-true (nat_lt p 64) (has_bit word p) (has_bit next (p - 64)) (lt-ltb p 64 lt) ∙ word_is p lt)
       (λ (ge : 64 ≤ p).
-      let row_is : (64 * row + p) / 64 ≡ row + 1 = omega (arith, ge, small) in
-      let bit_is : (64 * row + p) % 64 ≡ p - 64 = omega (arith, ge, small) in
-      cond-false (nat_lt p 64) (has_bit word p) (has_bit next (p - 64)) (le-ltb p 64 ge)
-      ∙ ap (λ w. has_bit w (p - 64)) next_is ∙ sym (ap (λ r. has_bit (slice_index words r) ((64 * row + p) % 64)) row_is ∙ ap (has_bit (slice_index words (row + 1))) bit_is))
+      let at : 64 * (row + 1) + (p - 64) ≡ 64 * row + p = omega (arith, ge) in
+      cond-false (nat_lt p 64) (has_bit word p) (has_bit next (p - 64)) (le-ltb p 64 ge) ∙ next_is (p - 64) (omega (arith, ge, small)) ∙ ap (contains set) at)
       (cases_lt p 64)
 
   module _ (runs count : ℕ) (few : count ≤ 64) (are : AreRunsOf runs word next count) where
-    run_here : (p : ℕ) → p < 64 → has_bit runs p ≡ true → HasRun (blocks_of words) count (64 * row + p)
+    run_here : (p : ℕ) → p < 64 → has_bit runs p ≡ true → HasRun set count (64 * row + p)
     run_here p small on k lt =
         let at : 64 * row + p + k ≡ 64 * row + (p + k) = omega arith in
-        contains-blocks_of words (64 * row + p + k) ∙ ap (has_flag words) at ∙ sym (pair_bit (p + k) (omega (arith, small, lt, few))) ∙ are.all p k small on lt
+        ap (contains set) at ∙ sym (pair_bit (p + k) (omega (arith, small, lt, few))) ∙ are.all p k small on lt
 
-    bit_here : (p : ℕ) → p < 64 → HasRun (blocks_of words) count (64 * row + p) → has_bit runs p ≡ true
+    bit_here : (p : ℕ) → p < 64 → HasRun set count (64 * row + p) → has_bit runs p ≡ true
     bit_here p small run = are.each p small (λ k lt.
         let at : 64 * row + p + k ≡ 64 * row + (p + k) = omega arith in
-        pair_bit (p + k) (omega (arith, small, lt, few)) ∙ ap (has_flag words) (sym at) ∙ sym (contains-blocks_of words (64 * row + p + k)) ∙ run k lt)
+        pair_bit (p + k) (omega (arith, small, lt, few)) ∙ ap (contains set) (sym at) ∙ run k lt)
 
     -- the first bit is the least run of those from the word on
-    pub least_run : (z : ℕ) → runs ≢ 0 → runs < 18446744073709551616 → z ≡ trailing_zeros w64 runs → ((b : ℕ) → b < 64 * row → HasRun (blocks_of words) count b → ⊥) → IsLeastRun (blocks_of words) count (64 * row + z)
+    pub least_run : (z : ℕ) → runs ≢ 0 → runs < 18446744073709551616 → z ≡ trailing_zeros w64 runs → ((b : ℕ) → b < 64 * row → HasRun set count b → ⊥) → IsLeastRun set count (64 * row + z)
     least_run z some fits is none =
         let low = lowest runs z some fits is in
         record {
@@ -56,42 +48,34 @@ module _ (words : List ℕ) (row word next : ℕ) (word_is : word ≡ slice_inde
               let at : 64 * row + (b - 64 * row) ≡ b = omega (arith, late) in
               let less : b - 64 * row < z = omega (arith, late, lt) in
               let within = low.0 in
-              both_ways _ (low.2 (b - 64 * row) less) (bit_here (b - 64 * row) (omega (arith, less, within)) (subst (HasRun (blocks_of words) count) (sym at) run)))
+              both_ways _ (low.2 (b - 64 * row) less) (bit_here (b - 64 * row) (omega (arith, less, within)) (subst (HasRun set count) (sym at) run)))
               (cases_lt b (64 * row));
         }
 
-    pub none_in_row : runs ≡ 0 → ((b : ℕ) → b < 64 * row → HasRun (blocks_of words) count b → ⊥) → (b : ℕ) → b < 64 * (row + 1) → HasRun (blocks_of words) count b → ⊥
+    pub none_in_row : runs ≡ 0 → ((b : ℕ) → b < 64 * row → HasRun set count b → ⊥) → (b : ℕ) → b < 64 * (row + 1) → HasRun set count b → ⊥
     none_in_row zero none b lt run =
         ⊎_elim
         (λ (early : b < 64 * row). none b early run)
         (λ (late : 64 * row ≤ b).
         let at : 64 * row + (b - 64 * row) ≡ b = omega (arith, late) in
-        both_ways _ (ap (λ n. has_bit n (b - 64 * row)) zero ∙ no_bits (b - 64 * row)) (bit_here (b - 64 * row) (omega (arith, late, lt)) (subst (HasRun (blocks_of words) count) (sym at) run)))
+        both_ways _ (ap (λ n. has_bit n (b - 64 * row)) zero ∙ no_bits (b - 64 * row)) (bit_here (b - 64 * row) (omega (arith, late, lt)) (subst (HasRun set count) (sym at) run)))
         (cases_lt b (64 * row))
 
--- no run starts past the words
-pub none_past_words : (words : List ℕ) (count b : ℕ) → 1 ≤ count → 64 * length words ≤ b → HasRun (blocks_of words) count b → ⊥
-none_past_words words count b some past run =
-    let at : b + 0 ≡ b = omega arith in
-    both_ways _ (ap (λ w. has_bit w (b % 64)) (get_or_past words (b / 64) 0 (omega (arith, past))) ∙ no_bits (b % 64)) (sym (contains-blocks_of words b) ∙ ap (contains (blocks_of words)) (sym at) ∙ run 0 (omega (arith, some)))
+module _ (set : BlockNumbers) (count : ℕ) (some : 1 ≤ count) where
+  begins : (b : ℕ) → HasRun set count b → contains set b ≡ true
+  begins b run = let at : b ≡ b + 0 = omega arith in ap (contains set) at ∙ run 0 (omega (arith, some))
 
--- nor before the first word that the summary has
-pub none_before : (words : List ℕ) (summary row count : ℕ) → IsSummary words summary → summary < 2 ^ 64 → row ≡ trailing_zeros w64 summary → 1 ≤ count → (b : ℕ) → b < 64 * row → HasRun (blocks_of words) count b → ⊥
-none_before words summary row count is fits row_is some b lt run =
-    both_ways _ (⊎_elim any none (cases_lt 0 summary)) (ap (contains (blocks_of words)) at ∙ run 0 (omega (arith, some)))
-  where
-    at : b ≡ b + 0
-    at = omega arith
+  -- no run begins in an empty set
+  pub none_at_all : ((n : ℕ) → 0 ≤ n → contains set n ≡ false) → (b : ℕ) → HasRun set count b → ⊥
+  none_at_all none b run = both_ways _ (none b (omega arith)) (begins b run)
 
-    any : 0 < summary → contains (blocks_of words) b ≡ false
-    any some_word =
-        let low = bit_at-trailing_zeros w64 summary some_word fits in
-        let before : b / 64 < trailing_zeros w64 summary = omega (arith, lt, row_is) in
-        let in_word : b / 64 < 64 = let within = low.0 in omega (arith, before, within) in
-        contains-blocks_of words b ∙ ap (λ w. has_bit w (b % 64)) (word_zero words summary (b / 64) is in_word (low.2 (b / 64) before)) ∙ no_bits (b % 64)
+  -- nor before the word of the least member
+  pub none_before : (first row : ℕ) → IsNext set 0 first → row ≡ first / 64 → (b : ℕ) → b < 64 * row → HasRun set count b → ⊥
+  none_before first row is row_is b lt run = both_ways _ (is.before b (omega arith) (omega (arith, lt, row_is))) (begins b run)
 
-    none : summary ≤ 0 → contains (blocks_of words) b ≡ false
-    none zero = ap (λ s. contains s b) (none_first words summary is (omega (arith, zero))) ∙ contains-empty nat_cmp b
+  -- nor past the last
+  pub none_past : (size b : ℕ) → ((n : ℕ) → contains set n ≡ true → n < size) → size ≤ b → HasRun set count b → ⊥
+  none_past size b within past run = let lt = within b (begins b run) in absurd (omega (arith, lt, past))
 
 -- ---- among blocks
 

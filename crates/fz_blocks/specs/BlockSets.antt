@@ -1,46 +1,35 @@
--- Sets of block numbers, and how up to 64 words with a summary hold one.
-use Rattle.std.specs.Prelude.{◌≡◌, ℕ, ◌+◌, ◌-◌, nat_lt, ◌*◌, ◌<◌, ◌≤◌, refl, Bool, ◌==◌, if◌then◌else◌, List, length, slice_index, slice_index_or, IsTrue, IsFalse}
-use Rattle.std.specs.List.{range_with_len}
-use Rattle.std.specs.Ordering.{nat_cmp}
-use Rattle.std.specs.Int.{bit_at}
-use Rattle.std.specs.FinSet.{FinSet, code, empty, contains, from_list, retain}
-use Rattle.std.specs.Coded.{Coded, code_by, coded×, coded_ℕ}
-use Rattle.fz_model.specs.Bits.{has_bit, has_flag}
+-- Sets of block numbers, and runs of them.
+use Rattle.std.specs.Prelude.{ℕ, ◌+◌, ◌-◌, nat_lt, nat_le, ◌<◌, Option, Some, None, Bool, if◌then◌else◌, List, slice_index_or, IsTrue, IsFalse}
+use Rattle.std.specs.FinSet.{empty, contains}
+use Rattle.fz_model.specs.Bits.{has_bit}
+use Rattle.fz_dirty.specs.Flags.{Set, Flagged}
 
 abbrev pub BlockNumbers : Type 0
-BlockNumbers = FinSet nat_cmp
+BlockNumbers = Set
 
--- a set, and for how many words of block numbers it has room
-pub record Roomed : Type 0 where
-  pub room : ℕ
-  pub members : BlockNumbers
+abbrev pub no_room : Flagged
+no_room = record { size = 0; members = empty }
 
-abbrev pub roomed_code : Coded Roomed
-roomed_code = code_by (ℕ × BlockNumbers) (coded× coded_ℕ (code coded_ℕ)) (λ s. (s.room, s.members)) (λ p. record { room = p.0; members = p.1 }) (λ _. refl)
-
-abbrev pub no_room : Roomed
-no_room = record { room = 0; members = empty }
-
--- the set of a class, and its room
-abbrev pub members_at : List Roomed → ℕ → BlockNumbers
+-- the set of a class, and for how many blocks it has room
+abbrev pub members_at : List Flagged → ℕ → BlockNumbers
 members_at sets class = (slice_index_or sets class no_room).members
 
-abbrev pub room_at : List Roomed → ℕ → ℕ
-room_at sets class = (slice_index_or sets class no_room).room
+abbrev pub room_at : List Flagged → ℕ → ℕ
+room_at sets class = (slice_index_or sets class no_room).size
 
 -- the least member
 pub record IsLeast (blocks : BlockNumbers) (least : ℕ) : Type 0 where
   pub member : IsTrue (contains blocks least)
   pub before : (b : ℕ) → b < least → IsFalse (contains blocks b)
 
--- the blocks whose bits are set
-abbrev pub blocks_of : List ℕ → BlockNumbers
-blocks_of words = retain (from_list (range_with_len 0 (64 * length words))) (has_flag words)
+-- a number is the least member, if there is one
+abbrev pub IsLeastOf : BlockNumbers → Option ℕ → Type 0
+IsLeastOf blocks None = (b : ℕ) → IsFalse (contains blocks b)
+IsLeastOf blocks (Some b) = IsLeast blocks b
 
--- a bit for each of the words that isn't zero
-pub record IsSummary (words : List ℕ) (summary : ℕ) : Type 0 where
-  pub few : length words ≤ 64
-  pub bits : (i : ℕ) → i < 64 → bit_at summary i ≡ (if slice_index words i == 0 then 0 else 1)
+abbrev pub lesser : Option ℕ → ℕ → ℕ
+lesser None block = block
+lesser (Some least) block = if nat_le least block then least else block
 
 -- the bit at a place of two words, one after the other
 abbrev pub has_pair_bit : ℕ → ℕ → ℕ → Bool

@@ -1,19 +1,20 @@
 -- A list of blocks beside the sets by which the least bare one, and the least with room, are found.
-use Rattle.std.specs.Prelude.{◌≡◌, ℕ, ◌<◌, ◌≤◌, Bool, false, not, ◌&&◌, ◌||◌, ◌==◌, if◌then◌else◌, List, length, Some, slice_get, ◌*◌, IsTrue, IsFalse}
+use Rattle.std.specs.Prelude.{◌≡◌, ℕ, ◌<◌, ◌≤◌, Bool, false, not, ◌&&◌, ◌||◌, ◌==◌, if◌then◌else◌, List, length, Some, slice_get, IsTrue, IsFalse}
 use Rattle.std.specs.Option.{option_map_or}
 use Rattle.std.specs.FinSet.{contains}
 use Rattle.fz_model.specs.declared.limits.TheConstants.{MAX_BLOCKS}
 use Rattle.fz_blocks.specs.declared.block.Block.{Block}
-use Rattle.fz_blocks.specs.BlockSets.{Roomed, members_at, room_at}
+use Rattle.fz_blocks.specs.BlockSets.{members_at, room_at}
+use Rattle.fz_dirty.specs.Flags.{Flagged}
 use Rattle.fz_blocks.specs.Blocks.{is_bare, has_same_room}
 use Rattle.fz_blocks.specs.Layout.{has_room}
 
 -- the sets have just the blocks that no object meets, and for each class those with room
-pub record AreListed (blocks : List Block) (bare : Roomed) (rooms : List Roomed) : Type 0 where
+pub record AreListed (blocks : List Block) (bare : Flagged) (rooms : List Flagged) : Type 0 where
   pub few : length blocks ≤ MAX_BLOCKS
   pub classes : length rooms ≡ 128
-  pub bare_room : length blocks ≤ 64 * bare.room
-  pub rooms_room : (class : ℕ) → class < 128 → length blocks ≤ 64 * room_at rooms class
+  pub bare_room : length blocks ≤ bare.size
+  pub rooms_room : (class : ℕ) → class < 128 → length blocks ≤ room_at rooms class
   pub bare_are : (b : ℕ) → contains bare.members b ≡ option_map_or is_bare (slice_get blocks b) false
   pub rooms_are : (class b : ℕ) → class < 128 → contains (members_at rooms class) b ≡ option_map_or (has_room class) (slice_get blocks b) false
 
@@ -31,18 +32,18 @@ pub record IsFirst (test : Block → Bool) (blocks : List Block) (b : ℕ) : Typ
   pub before : (c : ℕ) (other : Block) → c < b → slice_get blocks c ≡ Some other → IsFalse (test other)
 
 -- a block leaves the sets of those with room, or joins them, by what it is
-pub record Leaves (old new : List Roomed) (block : Block) (at : ℕ) : Type 0 where
+pub record Leaves (old new : List Flagged) (block : Block) (at : ℕ) : Type 0 where
   pub long : length new ≡ length old
   pub room : (class : ℕ) → room_at new class ≡ room_at old class
   pub are : (class b : ℕ) → contains (members_at new class) b ≡ (not (has_room class block && b == at) && contains (members_at old class) b)
 
-pub record Joins (old new : List Roomed) (block : Block) (at : ℕ) : Type 0 where
+pub record Joins (old new : List Flagged) (block : Block) (at : ℕ) : Type 0 where
   pub long : length new ≡ length old
   pub room : (class : ℕ) → room_at new class ≡ room_at old class
   pub are : (class b : ℕ) → contains (members_at new class) b ≡ (has_room class block && b == at || contains (members_at old class) b)
 
 -- a block that was one stands now in just the sets of those with room in which it is as another
-pub record Changes (old new : List Roomed) (block : Block) (at : ℕ) : Type 0 where
+pub record Changes (old new : List Flagged) (block : Block) (at : ℕ) : Type 0 where
   pub long : length new ≡ length old
   pub room : (class : ℕ) → room_at new class ≡ room_at old class
   pub are : (class b : ℕ) → class < 128 → contains (members_at new class) b ≡ (if b == at then has_room class block else contains (members_at old class) b)

@@ -1,10 +1,12 @@
-//! A set of block numbers whose least member is found in two steps, however many it has.
+//! A set of block numbers that knows its least member.
 
-ghost use Rattle.std.specs.Prelude.{◌*◌, slice_index, ◌==◌, if◌then◌else◌, ◌≡◌, ◌<◌, ◌≤◌, ℕ, IsTrue, IfOk, IfErr, MatchOption};
+ghost use Rattle.std.specs.Prelude.{◌==◌, if◌then◌else◌, false, ◌≡◌, ◌<◌, ◌≤◌, ℕ, IfOk, IfErr, MatchOption};
+ghost use Rattle.std.specs.Option.{option_map_or};
 ghost use Rattle.std.specs.FinSet.{empty, insert, remove, contains};
 ghost use Rattle.fz_model.specs.declared.limits.TheConstants.{MAX_BLOCKS};
-ghost use Rattle.fz_blocks.specs.BlockSets.{IsLeast, AreRunsOf, HasRun, IsLeastRun};
+ghost use Rattle.fz_blocks.specs.BlockSets.{lesser, IsLeast, AreRunsOf, HasRun, IsLeastRun};
 
+use fz_dirty::SparseFlags;
 use fz_model::Refusal;
 use std::alloc::Global;
 use std::marker::Model;
@@ -12,18 +14,32 @@ use std::marker::Model;
 /// The bits of a word.
 const BITS: u64 = 64;
 
-/// A set of block numbers: a bit for each, and a bit for each word of them that isn't zero. It has as many words as its blocks take.
+/// A set of block numbers.
 #[derive(Drop)]
 pub(crate) struct BlockSet {
-    words: Vec<u64>,
-    summary: u64,
+    blocks: SparseFlags,
+    /// The least of them, for which most claims ask.
+    least: Option<u64>,
 }
 
-/// The word of a row; past the last all bits are zero.
-fn word_at(words: &[u64], row: usize) -> u64
-    ensures { result ≡ slice_index words.now row }
+/// The lesser of a number that may be there and another.
+fn lesser(least: Option<u64>, block: u64) -> u64
+    ensures { result ≡ lesser least block }
 {
-    words.get(row).copied().unwrap_or(0)
+    match least {
+        Some(least) if least <= block => least,
+        _ => block,
+    }
+}
+
+/// Whether the number is there, and this block.
+fn is_it(least: Option<u64>, block: u64) -> bool
+    ensures { result ≡ option_map_or (λ b. b == block) least false }
+{
+    match least {
+        Some(least) => least == block,
+        None => false,
+    }
 }
 
 /// The places of a word at which a run of `count` set bits begins, running on into the next word.
@@ -42,16 +58,17 @@ pub(crate) fn runs_of(word: u64, next: u64, count: u64) -> u64
 }
 
 impl Model for BlockSet {
-    ghost use Rattle.std.specs.Prelude.{length};
-    ghost use Rattle.fz_blocks.specs.BlockSets.{Roomed, roomed_code, blocks_of, IsSummary};
+    ghost use Rattle.fz_dirty.specs.Flags.{Flagged, flagged_code};
 
-    ghost Value = { Roomed };
+    ghost Value = { Flagged };
 
-    ghost coded = { roomed_code };
+    ghost coded = { flagged_code };
 
-    ghost view = { λ s. record { room = length s.words.items; members = blocks_of s.words.items } };
+    ghost use Rattle.fz_blocks.specs.BlockSets.{IsLeastOf};
 
-    ghost invariant = { λ s. IsSummary s.words.items s.summary };
+    ghost view = { λ s. s.blocks };
+
+    ghost invariant = { λ s. IsLeastOf s.blocks.members s.least };
 }
 
 impl BlockSet {
@@ -59,22 +76,20 @@ impl BlockSet {
     pub(crate) fn new(alloc: Global, blocks: u64) -> Result<BlockSet, Refusal>
         requires { blocks ≤ MAX_BLOCKS }
         ensures refused { IfErr result (λ r. r ≡ Refusal.NoMemory) }
-        ensures made { IfOk result (λ s. (s.members ≡ empty) × (blocks ≤ 64 * s.room)) }
+        ensures made { IfOk result (λ s. (s.members ≡ empty) × (blocks ≤ s.size)) }
     {
-        let words = vec![in alloc; 0; blocks.div_ceil(BITS) as usize]?;
-        Ok(BlockSet { words, summary: 0 })
+        let blocks = SparseFlags::new(alloc, blocks.div_ceil(BITS))?;
+        Ok(BlockSet {
+            blocks,
+            least: None,
+        })
     }
 
     /// The least member.
     pub(crate) fn first(&self) -> Option<u64>
         ensures { MatchOption result (self.now.members ≡ empty) (λ b. IsLeast self.now.members b) }
     {
-        if self.summary == 0 {
-            return None;
-        }
-        let word = self.summary.trailing_zeros();
-        let bit = self.words[word as usize].trailing_zeros();
-        Some(BITS * u64::from(word) + u64::from(bit))
+        self.least
     }
 
     /// The least number at which a run of `count` members begins.
@@ -83,12 +98,11 @@ impl BlockSet {
         requires few { count ≤ 64 }
         ensures { MatchOption result ((b : ℕ) → HasRun self.now.members count b → ⊥) (λ b. IsLeastRun self.now.members count b) }
     {
-        let words = &self.words;
-        let mut row = self.summary.trailing_zeros() as usize;
-        while row < words.len() {
-            let runs = runs_of(word_at(words, row), word_at(words, row + 1), count);
+        let mut row = self.blocks.next(0)? / BITS;
+        while row < self.blocks.words() {
+            let runs = runs_of(self.blocks.word(row), self.blocks.word(row + 1), count);
             if runs != 0 {
-                return Some(BITS * row as u64 + u64::from(runs.trailing_zeros()));
+                return Some(BITS * row + u64::from(runs.trailing_zeros()));
             }
             row += 1;
         }
@@ -97,8 +111,8 @@ impl BlockSet {
 
     /// Puts a block in, or takes it out.
     pub(crate) fn set(&mut self, block: u64, member: bool)
-        requires { block < 64 * self.old.room }
-        ensures room { self.new.room ≡ self.old.room }
+        requires { block < self.old.size }
+        ensures size { self.new.size ≡ self.old.size }
         ensures members { (b : ℕ) → contains self.new.members b ≡ (if b == block then member else contains self.old.members b) }
     {
         if member {
@@ -110,24 +124,20 @@ impl BlockSet {
 
     /// Puts a block in.
     pub(crate) fn insert(&mut self, block: u64)
-        requires { block < 64 * self.old.room }
+        requires { block < self.old.size }
         ensures { self.new ≡ record self.old { members = insert self.old.members block } }
     {
-        let word = block / BITS;
-        self.words[word as usize] |= 1 << (block % BITS);
-        self.summary |= 1 << word;
+        self.blocks.insert(block);
+        self.least = Some(lesser(self.least, block));
     }
 
     /// Takes a block out.
     pub(crate) fn remove(&mut self, block: u64)
-        requires { block < 64 * self.old.room }
         ensures { self.new ≡ record self.old { members = remove self.old.members block } }
     {
-        let word = block / BITS;
-        let rest = self.words[word as usize] & !(1 << (block % BITS));
-        self.words[word as usize] = rest;
-        if rest == 0 {
-            self.summary &= !(1 << word);
+        self.blocks.remove(block);
+        if is_it(self.least, block) {
+            self.least = self.blocks.next(block);
         }
     }
 }

@@ -31,7 +31,7 @@ pub(crate) struct Blocks {
 fn all_blocks(alloc: Global, blocks: u64) -> Result<BlockSet, Refusal>
     requires { blocks ≤ MAX_BLOCKS }
     ensures refused { IfErr result (λ r. r ≡ Refusal.NoMemory) }
-    ensures room { IfOk result (λ s. blocks ≤ 64 * s.room) }
+    ensures room { IfOk result (λ s. blocks ≤ s.size) }
     ensures made { IfOk result (λ s. (b : ℕ) → contains s.members b ≡ nat_lt b blocks) }
 {
     let mut all = BlockSet::new(alloc, blocks)?;
@@ -46,7 +46,7 @@ fn no_rooms(alloc: Global, blocks: u64) -> Result<Vec<BlockSet>, Refusal>
     requires { blocks ≤ MAX_BLOCKS }
     ensures refused { IfErr result (λ r. r ≡ Refusal.NoMemory) }
     ensures long { IfOk result (λ rooms. length rooms.items ≡ CLASSES) }
-    ensures made { IfOk result (λ rooms. All (λ s. (s.members ≡ sets.empty) × (blocks ≤ 64 * s.room)) rooms.items) }
+    ensures made { IfOk result (λ rooms. All (λ s. (s.members ≡ sets.empty) × (blocks ≤ s.size)) rooms.items) }
 {
     let mut rooms = Vec::new(alloc);
     while rooms.len() < CLASSES {
@@ -59,7 +59,6 @@ fn no_rooms(alloc: Global, blocks: u64) -> Result<Vec<BlockSet>, Refusal>
 /// A block leaves the set of its class, if it is in one.
 fn leave(rooms: &mut [BlockSet], block: &Block, at: u64)
     requires classes { length rooms.old ≡ CLASSES }
-    requires room { (class : ℕ) → class < CLASSES → at < 64 * room_at rooms.old class }
     ensures { Leaves rooms.old rooms.new block.now at }
 {
     if block.has_room() {
@@ -70,7 +69,7 @@ fn leave(rooms: &mut [BlockSet], block: &Block, at: u64)
 /// A block joins the set of its class, if it has room.
 fn join(rooms: &mut [BlockSet], block: &Block, at: u64)
     requires classes { length rooms.old ≡ CLASSES }
-    requires room { (class : ℕ) → class < CLASSES → at < 64 * room_at rooms.old class }
+    requires room { (class : ℕ) → class < CLASSES → at < room_at rooms.old class }
     ensures { Joins rooms.old rooms.new block.now at }
 {
     if block.has_room() {
@@ -81,7 +80,7 @@ fn join(rooms: &mut [BlockSet], block: &Block, at: u64)
 /// A block that becomes another leaves the set of its class and joins the other's, where these differ.
 fn change_room(rooms: &mut [BlockSet], old: &Block, block: &Block, at: u64)
     requires classes { length rooms.old ≡ CLASSES }
-    requires room { (class : ℕ) → class < CLASSES → at < 64 * room_at rooms.old class }
+    requires room { (class : ℕ) → class < CLASSES → at < room_at rooms.old class }
     requires listed { (class : ℕ) → class < CLASSES → contains (members_at rooms.old class) at ≡ has_room class old.now }
     ensures { Changes rooms.old rooms.new block.now at }
 {
@@ -94,9 +93,9 @@ fn change_room(rooms: &mut [BlockSet], old: &Block, block: &Block, at: u64)
 
 /// A block joins the set of bare blocks or leaves it, where it was not what it is.
 fn change_bare(bare: &mut BlockSet, was: bool, is: bool, at: u64)
-    requires room { at < 64 * bare.old.room }
+    requires room { at < bare.old.size }
     requires listed { contains bare.old.members at ≡ was }
-    ensures room { bare.new.room ≡ bare.old.room }
+    ensures room { bare.new.size ≡ bare.old.size }
     ensures members { (b : ℕ) → contains bare.new.members b ≡ (if b == at then is else contains bare.old.members b) }
 {
     if was != is {

@@ -7,7 +7,7 @@ use crate::calls::{
 };
 use fz_blocks::BlockMap;
 use fz_model::ObjKind::{Atomic, Scanned};
-use fz_model::Refusal;
+use fz_model::{BLOCK_WORDS, MAX_BLOCKS, Refusal};
 use std::test::Fail;
 
 #[test]
@@ -141,7 +141,7 @@ fn words_lie_in_cells(rt: HostRuntime) -> Result<(), Fail> {
 
 #[test]
 fn sizes_and_blocks_have_limits(rt: HostRuntime) -> Result<(), Fail> {
-    must_refuse(&rt, rt.alloc(), &[0, 4_097, u64::MAX]);
+    must_refuse(&rt, rt.alloc(), &[0, MAX_BLOCKS + 1, u64::MAX]);
     let mut map = BlockMap::new(rt.alloc(), 1)?;
     must_have_blocks(&rt, &map, 1);
     must_claim(
@@ -159,11 +159,12 @@ fn sizes_and_blocks_have_limits(rt: HostRuntime) -> Result<(), Fail> {
 
 #[test]
 fn all_cells_are_claimed_in_order_and_again(rt: HostRuntime) -> Result<(), Fail> {
-    let mut map = BlockMap::new(rt.alloc(), 4_096)?;
+    let mut map = BlockMap::new(rt.alloc(), MAX_BLOCKS)?;
+    let words = BLOCK_WORDS * MAX_BLOCKS;
     for kind in [Scanned, Atomic] {
-        must_claim_row(&rt, &mut map, 262_144, 1, kind);
+        must_claim_row(&rt, &mut map, words, 1, kind);
         must_claim(&rt, &mut map, &[(1, kind, Err(Refusal::NoSpace))]);
-        must_condemn_row(&rt, &mut map, 262_144);
+        must_condemn_row(&rt, &mut map, words);
     }
     Ok(())
 }

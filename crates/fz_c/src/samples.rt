@@ -26,68 +26,71 @@ pub struct Samples {
     pub counts: Counts,
 }
 
+const SAMPLE_OLD: Old = Old {
+    proc: 1,
+    cd: 2,
+    was: true,
+};
+
+const SAMPLE: Samples = Samples {
+    slot: Slot { frame: 1, slot: 2 },
+    made: Made {
+        address: 1,
+        birth: 2,
+    },
+    replaced: SAMPLE_OLD,
+    registered: Registered {
+        number: 1,
+        replaced: SAMPLE_OLD,
+        made: true,
+    },
+    passed: Passed {
+        pass: 1,
+        picked: 2,
+        reclaimed: 3,
+    },
+    entry: Entry {
+        seq: 1,
+        pass: 2,
+        reg: 3,
+        obj: 4,
+        birth: 5,
+        proc: 6,
+        cd: 7,
+    },
+    object: Object {
+        start: 1,
+        size: 2,
+        birth: 3,
+        atomic: true,
+    },
+    registration: Registration {
+        object: 1,
+        number: 2,
+        proc: 3,
+        cd: 4,
+        kind: 5,
+        rank: 6,
+    },
+    linked: Linked {
+        place: 1,
+        target: 2,
+    },
+    counts: Counts {
+        passes: 1,
+        reclaimed: 2,
+        queued: 3,
+        taken: 4,
+        outstanding: 5,
+        scans: 6,
+        noted: 7,
+    },
+};
+
 /// Numbers the fields of each struct from 1 on, in their order; a `bool` is true.
 #[unsafe(no_mangle)]
 pub extern "C" fn fz_sample(samples: &mut Samples)
     ensures { samples.new ≡ sample }
 {
-    let replaced = Old {
-        proc: 1,
-        cd: 2,
-        was: true,
-    };
-    *samples = Samples {
-        slot: Slot { frame: 1, slot: 2 },
-        made: Made {
-            address: 1,
-            birth: 2,
-        },
-        replaced,
-        registered: Registered {
-            number: 1,
-            replaced,
-            made: true,
-        },
-        passed: Passed {
-            pass: 1,
-            picked: 2,
-            reclaimed: 3,
-        },
-        entry: Entry {
-            seq: 1,
-            pass: 2,
-            reg: 3,
-            obj: 4,
-            birth: 5,
-            proc: 6,
-            cd: 7,
-        },
-        object: Object {
-            start: 1,
-            size: 2,
-            birth: 3,
-            atomic: true,
-        },
-        registration: Registration {
-            object: 1,
-            number: 2,
-            proc: 3,
-            cd: 4,
-            kind: 5,
-            rank: 6,
-        },
-        linked: Linked {
-            place: 1,
-            target: 2,
-        },
-        counts: Counts {
-            passes: 1,
-            reclaimed: 2,
-            queued: 3,
-            taken: 4,
-            outstanding: 5,
-            scans: 6,
-            noted: 7,
-        },
-    };
+    *samples = SAMPLE;
 }

@@ -146,6 +146,13 @@ impl<const FIRST: u64> Flags<FIRST> {
         word_at(&self.words, index)
     }
 
+    /// How many words it has.
+    pub fn words(&self) -> u64
+        ensures size { self.now.size ≡ 64 * result }
+    {
+        self.words.len() as u64
+    }
+
     /// Takes out the 64 numbers of a word.
     pub fn clear_word(&mut self, index: u64)
         requires { 64 * index < self.old.size }

@@ -7,6 +7,7 @@ use Rattle.std.specs.List.{All}
 use Rattle.std.specs.Bool.{MatchBool}
 use Rattle.fz_model.specs.declared.refusal.Refusal.{Refusal}
 use Rattle.fz_model.specs.declared.refusal.Refusal.TheVariants.{BadLine, BadCount, NoMemory, Output, Input}
+use Rattle.fz_model.specs.declared.limits.TheConstants.{MAX_BLOCKS, MAX_FRAMES, MAX_WORKERS}
 use Rattle.fz_model.specs.Causes.{bad_count, first_cause, IsRefusedFor}
 use Rattle.fz_model.specs.Joint.{Move}
 use Rattle.fz_script.specs.Spelling.{Token}
@@ -290,7 +291,7 @@ opening_refusal false false false q h = absurd cc
 -- an opening is refused for one of two reasons
 two_refusals : (blocks frames workers : ℕ) (q : Refusal) → IsRefusedFor (opening_causes blocks frames workers) true q → (q ≡ BadCount) ⊎ (q ≡ NoMemory)
 two_refusals blocks frames workers q h = elim h [
-  | inl first ↦ inl (opening_refusal (bad_count 8 workers).0 (bad_count 4096 blocks).0 (bad_count 8 frames).0 q first)
+  | inl first ↦ inl (opening_refusal (bad_count MAX_WORKERS workers).0 (bad_count MAX_BLOCKS blocks).0 (bad_count MAX_FRAMES frames).0 q first)
   | inr none ↦ inr none.1
 ]
 

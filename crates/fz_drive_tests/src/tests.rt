@@ -27,12 +27,13 @@ use crate::rows::registrations::{
 use arrayvec::ArrayVec;
 use fz_devices::{Limits, MemorySink, MemorySource, Pieces, WHOLE, bytewise};
 use fz_drive::{Summary, drive};
-use fz_model::Refusal;
+use fz_model::{MAX_BLOCKS, MAX_FRAMES, MAX_WORKERS, Refusal};
 use fz_text::{DriveFault, Failures};
-use std::alloc::Global;
+use std::alloc::{AllocError, Global};
 use std::marker::Brand;
 use std::process::Abort;
 use std::sync::ledger::{Blank, Ledger};
+use std::test::Fail;
 
 /// Scripts over objects and their order, and such as end early.
 const OBJECTS: [Row; 18] = [
@@ -363,40 +364,52 @@ fn long_lines(rt: HostRuntime) {
     }
 }
 
+/// Blocks, frames and workers, one of them outside its limits.
+const OUTSIDE: [(u64, u64, u64); 6] = [
+    (0, 1, 1),
+    (MAX_BLOCKS + 1, 1, 1),
+    (1, 0, 1),
+    (1, MAX_FRAMES + 1, 1),
+    (1, 1, 0),
+    (1, 1, MAX_WORKERS + 1),
+];
+
+/// The same, all within their limits: each number of workers, and some of frames.
+const WITHIN: [(u64, u64, u64); 8] = [
+    (1, 1, MAX_WORKERS),
+    (2, 2, 7),
+    (3, 3, 6),
+    (64, 4, 5),
+    (65, 5, 4),
+    (MAX_BLOCKS - 2, 6, 3),
+    (MAX_BLOCKS - 1, 7, 2),
+    (MAX_BLOCKS, MAX_FRAMES, 1),
+];
+
+/// Runs a script that opens a world, and does no more.
+fn opened(alloc: Global, opening: (u64, u64, u64)) -> Result<Outcome, AllocError> {
+    let (blocks, frames, workers) = opening;
+    let script = format!(in alloc; "open {blocks} {frames} {workers}\n")?;
+    Ok(run(alloc, script.as_str().as_bytes(), WHOLE))
+}
+
 #[test]
-fn openings_outside_the_limits(rt: HostRuntime) {
-    let scripts: [&[u8]; 6] = [
-        b"open 0 1 1\n",
-        b"open 4097 1 1\n",
-        b"open 1 0 1\n",
-        b"open 1 9 1\n",
-        b"open 1 1 0\n",
-        b"open 1 1 9\n",
-    ];
-    for (number, script) in scripts.iter().enumerate() {
-        let outcome = run(rt.alloc(), *script, WHOLE);
+fn openings_outside_the_limits(rt: HostRuntime) -> Result<(), Fail> {
+    for (number, opening) in OUTSIDE.iter().enumerate() {
+        let outcome = opened(rt.alloc(), *opening)?;
         must_report(&rt, &outcome, b"refused 7 BadCount\n", number);
         must_end(&rt, &outcome, fault(Refusal::BadCount, 1), number);
     }
+    Ok(())
 }
 
-/// Each number of workers and of frames.
 #[test]
-fn openings_within_the_limits(rt: HostRuntime) {
-    let scripts: [&[u8]; 8] = [
-        b"open 1 1 8\n",
-        b"open 2 2 7\n",
-        b"open 3 3 6\n",
-        b"open 64 4 5\n",
-        b"open 65 5 4\n",
-        b"open 4094 6 3\n",
-        b"open 4095 7 2\n",
-        b"open 4096 8 1\n",
-    ];
+fn openings_within_the_limits(rt: HostRuntime) -> Result<(), Fail> {
     let report = b"ok\nend enqueued 0 finished 0 forfeited 0 in_hand 0 left 0\n";
-    for (number, script) in scripts.iter().enumerate() {
-        must_report(&rt, &run(rt.alloc(), *script, WHOLE), report, number);
+    for (number, opening) in WITHIN.iter().enumerate() {
+        must_report(&rt, &opened(rt.alloc(), *opening)?, report, number);
     }
+    Ok(())
 }
 
 /// What the workers are refused, and what stays in their hands.

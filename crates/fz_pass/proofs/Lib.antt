@@ -1,4 +1,5 @@
 pub mod Filling
+pub mod Gathering
 pub mod Dead
 pub mod Traced
 pub mod Picked

@@ -2,6 +2,7 @@
 #![tactic(auto)]
 
 mod clearing;
+mod gathered;
 mod keeping;
 mod law;
 mod leading;

@@ -2,7 +2,7 @@
 
 use crate::equal::must_be;
 use fz_links::Links;
-use fz_model::{Addr, LinkAnswer, MoveAnswer, Refusal};
+use fz_model::{Addr, HEAP_START, LinkAnswer, MoveAnswer, Refusal, TABLE_LIMIT};
 use std::process::Abort;
 
 #[test]
@@ -99,27 +99,41 @@ fn drops_by_link_and_target(rt: HostRuntime) {
     must_be(&rt, links.register(9, 1), registered, "a link once more");
 }
 
+/// A word that isn't among so many from the heap's start.
+const FURTHER: Addr = HEAP_START + 2 * TABLE_LIMIT;
+
 #[test]
-fn holds_65_536(rt: HostRuntime) {
+fn holds_as_many_as_the_limit(rt: HostRuntime) {
     let mut links = Links::new(rt.alloc());
     let success = Ok(LinkAnswer::Success);
-    for number in 0..65_536u64 {
-        let answer = links.register(65_536 + number, number);
-        must_be(&rt, answer, success, "one of 65,536 links");
+    for number in 0..TABLE_LIMIT {
+        let answer = links.register(HEAP_START + number, number);
+        must_be(&rt, answer, success, "one of all links");
     }
     let full = Err(Refusal::TableFull);
-    must_be(&rt, links.register(200_000, 1), full, "one link too many");
-    must_be(&rt, links.len(), 65_536, "all that there is room for");
+    must_be(&rt, links.register(FURTHER, 1), full, "one link too many");
+    must_be(
+        &rt,
+        links.len() as u64,
+        TABLE_LIMIT,
+        "all that there is room for",
+    );
+    let (second, third) = (HEAP_START + 1, HEAP_START + 2);
     let duplicate = Ok(LinkAnswer::Duplicate);
-    must_be(&rt, links.register(65_537, 2), duplicate, "a new target");
-    must_be(&rt, links.get(65_537), Some(2), "the new target");
+    must_be(&rt, links.register(second, 2), duplicate, "a new target");
+    must_be(&rt, links.get(second), Some(2), "the new target");
     // A move leaves as many links as there were.
     let moved = Ok(MoveAnswer::Success);
-    must_be(&rt, links.move_link(65_538, 200_000), moved, "a move");
-    must_be(&rt, links.get(200_000), Some(2), "the moved link");
-    must_be(&rt, links.register(65_538, 1), full, "the word it left");
-    must_be(&rt, links.unregister(65_540), true, "room for one link");
-    must_be(&rt, links.register(65_538, 1), success, "in that room");
+    must_be(&rt, links.move_link(third, FURTHER), moved, "a move");
+    must_be(&rt, links.get(FURTHER), Some(2), "the moved link");
+    must_be(&rt, links.register(third, 1), full, "the word it left");
+    must_be(
+        &rt,
+        links.unregister(HEAP_START + 4),
+        true,
+        "room for one link",
+    );
+    must_be(&rt, links.register(third, 1), success, "in that room");
 }
 
 /// Registers a link with a number, which is how many there are, and again where memory was wanting.

@@ -10,7 +10,7 @@ use fz_heap::Heap;
 use fz_links::Links;
 use fz_marker::Marker;
 use fz_model::RegKind::{IgnoreSelf, NoOrder, Normal};
-use fz_model::{Addr, HEAP_START, MAX_BLOCKS, ObjKind, Pick, RegKind, Word};
+use fz_model::{Addr, Entry, HEAP_START, MAX_BLOCKS, ObjKind, RegKind, Word};
 use fz_pass::decide;
 use fz_table::Table;
 use std::alloc::Global;
@@ -74,21 +74,24 @@ fn marked(alloc: Global, heap: &Heap, root: Word) -> Result<Marker, Fail>
     Ok(marker)
 }
 
-/// A pass that finds what one root leads to: its picks, and how many objects it reclaims.
-fn pass(alloc: Global, parts: &mut Parts, root: Word) -> Result<(Vec<Pick>, u64), Fail> {
-    let mut picks = Vec::new(alloc);
-    let reclaimed = pass_onto(alloc, parts, root, &mut picks)?;
-    Ok((picks, reclaimed))
+/// The number of each pass.
+const PASS: u64 = 3;
+
+/// A pass that finds what one root leads to: the entries of its picks, and how many objects it reclaims.
+fn pass(alloc: Global, parts: &mut Parts, root: Word) -> Result<(Vec<Entry>, u64), Fail> {
+    let mut queue = Vec::new(alloc);
+    let reclaimed = pass_onto(alloc, parts, root, &mut queue)?;
+    Ok((queue, reclaimed))
 }
 
-/// The same, with the picks at the end of a list.
+/// The same, with the entries at the end of a queue.
 fn pass_onto(
     alloc: Global,
     parts: &mut Parts,
     root: Word,
-    picks: &mut Vec<Pick>,
+    queue: &mut Vec<Entry>,
 ) -> Result<u64, Fail> {
-    picks.reserve(parts.table.len())?;
+    queue.reserve(parts.table.len())?;
     let mut marker = marked(alloc, &parts.heap, root)?;
     Ok(decide(
         &mut parts.heap,
@@ -96,12 +99,13 @@ fn pass_onto(
         &mut parts.table,
         &mut parts.short,
         &mut parts.long,
-        picks,
+        queue,
+        PASS,
     ))
 }
 
-fn objects_of(alloc: Global, picks: &[Pick]) -> Result<Vec<Addr>, Fail> {
-    Ok(picks.iter().map(|pick| pick.obj).collect(alloc)?)
+fn objects_of(alloc: Global, queue: &[Entry]) -> Result<Vec<Addr>, Fail> {
+    Ok(queue.iter().map(|entry| entry.obj).collect(alloc)?)
 }
 
 /// The objects that a pass without roots picks among those with these words, in order.
@@ -113,8 +117,8 @@ fn picked(
     let mut parts = open(alloc, 2)?;
     make(&mut parts, words)?;
     register(&mut parts, registered)?;
-    let (picks, _) = pass(alloc, &mut parts, 0)?;
-    objects_of(alloc, &picks)
+    let (queue, _) = pass(alloc, &mut parts, 0)?;
+    objects_of(alloc, &queue)
 }
 
 /// A pass without roots has to pick these objects among those with these words, in order.
@@ -137,15 +141,17 @@ fn picks_keeps_and_reclaims(rt: HostRuntime) -> Result<(), Fail> {
     let mut parts = open(alloc, 2)?;
     make(&mut parts, &[0, THIRD, 0, 0])?;
     register(&mut parts, &[(FIRST, Normal, 0), (SECOND, Normal, 0)])?;
-    let (picks, reclaimed) = pass(alloc, &mut parts, FIRST)?;
-    let pick = Pick {
+    let (queue, reclaimed) = pass(alloc, &mut parts, FIRST)?;
+    let entry = Entry {
+        seq: 0,
+        pass: PASS,
         reg: 1,
         obj: SECOND,
         birth: 1,
         proc: 7,
         cd: 8,
     };
-    must_be(&rt, picks.as_slice(), &[pick], "the second alone");
+    must_be(&rt, queue.as_slice(), &[entry], "the second alone");
     must_be(&rt, reclaimed, 1, "how many are reclaimed");
     must_be(&rt, parts.heap.condemned(), 1, "how many are condemned");
     let is_kept = parts.heap.facts(THIRD).is_some();
@@ -231,10 +237,10 @@ fn clears_short_links_first(alloc: Global, parts: &mut Parts) -> Result<bool, Fa
     make(parts, &[SECOND, FIRST])?;
     register(parts, &[(FIRST, Normal, 0), (SECOND, Normal, 0)])?;
     parts.short.register(FIRST, SECOND)?;
-    let (picks, reclaimed) = pass(alloc, parts, 0)?;
-    let is_second = picks.iter().all(|pick| pick.obj == SECOND);
+    let (queue, reclaimed) = pass(alloc, parts, 0)?;
+    let is_second = queue.iter().all(|entry| entry.obj == SECOND);
     let is_cleared = parts.heap.read(FIRST, 0) == Ok(0) && parts.short.get(FIRST).is_none();
-    Ok(picks.len() == 1 && is_second && reclaimed == 0 && is_cleared)
+    Ok(queue.len() == 1 && is_second && reclaimed == 0 && is_cleared)
 }
 
 /// A long link of a found object stands while its target is kept for its finalizer, and is cleared when the target is reclaimed.
@@ -252,8 +258,8 @@ fn long_link_waits(alloc: Global, parts: &mut Parts) -> Result<bool, Fail> {
 /// The heap is full of registered objects of half a block each: one pass picks them all, and the next reclaims them.
 fn picks_by_address(alloc: Global, parts: &mut Parts) -> Result<bool, Fail> {
     fill(parts)?;
-    let (picks, kept) = pass(alloc, parts, 0)?;
-    let all = picks.len() == 8_192 && first_out_of_place(&picks).is_none();
+    let (queue, kept) = pass(alloc, parts, 0)?;
+    let all = queue.len() == 8_192 && first_out_of_place(&queue).is_none();
     let (none, reclaimed) = pass(alloc, parts, 0)?;
     Ok(all && kept == 0 && none.is_empty() && reclaimed == 8_192)
 }
@@ -270,21 +276,21 @@ fn fill(parts: &mut Parts) -> Result<(), Fail> {
 fn picks_behind_earlier(alloc: Global, parts: &mut Parts) -> Result<bool, Fail> {
     make(parts, &[0; 4])?;
     register(parts, &[(FOURTH, Normal, 9)])?;
-    let mut picks = Vec::new(alloc);
-    pass_onto(alloc, parts, 0, &mut picks)?;
+    let mut queue = Vec::new(alloc);
+    pass_onto(alloc, parts, 0, &mut queue)?;
     make(parts, &[0; 3])?;
     let ranked = [(FIRST, Normal, 2), (SECOND, Normal, 1), (THIRD, Normal, 2)];
     register(parts, &ranked)?;
-    pass_onto(alloc, parts, 0, &mut picks)?;
-    let objects = objects_of(alloc, &picks)?;
+    pass_onto(alloc, parts, 0, &mut queue)?;
+    let objects = objects_of(alloc, &queue)?;
     Ok(objects.as_slice() == [FOURTH, SECOND, FIRST, THIRD].as_slice())
 }
 
 /// The heap is full of registered objects of half a block each, whose ranks are 255 to 0 in turn: one pass picks them by rank, then address.
 fn picks_by_rank(alloc: Global, parts: &mut Parts) -> Result<bool, Fail> {
     fill_in_turn(parts)?;
-    let (picks, kept) = pass(alloc, parts, 0)?;
-    Ok(picks.len() == 8_192 && kept == 0 && are_in_turn(&picks) && parts.table.is_empty())
+    let (queue, kept) = pass(alloc, parts, 0)?;
+    Ok(queue.len() == 8_192 && kept == 0 && are_in_turn(&queue) && parts.table.is_empty())
 }
 
 fn fill_in_turn(parts: &mut Parts) -> Result<(), Fail> {
@@ -296,13 +302,13 @@ fn fill_in_turn(parts: &mut Parts) -> Result<(), Fail> {
     Ok(())
 }
 
-/// Whether the picks are those of the ranks 0 to 255, 32 of each, by rising address.
-fn are_in_turn(picks: &[Pick]) -> bool {
+/// Whether the entries are those of the ranks 0 to 255, 32 of each, by rising address, and have the numbers of their places.
+fn are_in_turn(queue: &[Entry]) -> bool {
     let mut place = 0u64;
-    for pick in picks {
+    for entry in queue {
         let rank = place / 32 % 256;
         let turn = 256 * (place % 32) + 255 - rank;
-        if pick.obj != HEAP_START + 32 * turn {
+        if entry.obj != HEAP_START + 32 * turn || entry.seq != place {
             return false;
         }
         place = place.wrapping_add(1);
@@ -310,11 +316,11 @@ fn are_in_turn(picks: &[Pick]) -> bool {
     true
 }
 
-/// The first pick that isn't the object of its place.
-fn first_out_of_place(picks: &[Pick]) -> Option<usize> {
+/// The first entry whose object or number isn't that of its place.
+fn first_out_of_place(queue: &[Entry]) -> Option<usize> {
     let mut want = HEAP_START;
-    for (place, pick) in picks.iter().enumerate() {
-        if pick.obj != want {
+    for (place, entry) in queue.iter().enumerate() {
+        if entry.obj != want || entry.seq != place as u64 {
             return Some(place);
         }
         want = want.checked_add(32)?;

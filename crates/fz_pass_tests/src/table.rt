@@ -1,7 +1,7 @@
 //! What no clause says: that calls succeed, and what they return when an allocation failed.
 
 use crate::equal::must_be;
-use fz_model::{Addr, Old, Refusal, RegKind, Registration};
+use fz_model::{Addr, HEAP_START, Old, Refusal, RegKind, Registration, TABLE_LIMIT};
 use fz_table::Table;
 use std::process::Abort;
 
@@ -74,25 +74,38 @@ fn iterates_over_all(rt: HostRuntime) {
     must_be(&rt, seen, want, "all objects but one");
 }
 
+/// An object that isn't among so many from the heap's start.
+const FURTHER: Addr = HEAP_START + 2 * TABLE_LIMIT;
+
 #[test]
-fn holds_65_536(rt: HostRuntime) {
+fn holds_as_many_as_the_limit(rt: HostRuntime) {
     let mut table = Table::new(rt.alloc());
-    for number in 0..65_536u64 {
-        let answer = table.register(65_536 + number, RegKind::Normal, number, 0, 0);
-        must_be(&rt, answer, Ok((number, None)), "one of 65,536 objects");
+    for number in 0..TABLE_LIMIT {
+        let answer = table.register(HEAP_START + number, RegKind::Normal, number, 0, 0);
+        must_be(&rt, answer, Ok((number, None)), "one of all objects");
     }
-    let refused = table.register(200_000, RegKind::Normal, 1, 2, 0);
+    let refused = table.register(FURTHER, RegKind::Normal, 1, 2, 0);
     let full = Err(Refusal::TableFull);
     must_be(&rt, refused, full, "one object too many");
-    must_be(&rt, table.len(), 65_536, "all that there is room for");
+    must_be(
+        &rt,
+        table.len() as u64,
+        TABLE_LIMIT,
+        "all that there is room for",
+    );
 
-    let replaced = table.register(65_537, RegKind::NoOrder, 3, 4, 0);
+    let replaced = table.register(HEAP_START + 1, RegKind::NoOrder, 3, 4, 0);
     let old = Old { proc: 1, cd: 0 };
-    must_be(&rt, replaced, Ok((65_536, Some(old))), "one again");
+    must_be(&rt, replaced, Ok((TABLE_LIMIT, Some(old))), "one again");
     let old = Old { proc: 4, cd: 0 };
-    must_be(&rt, table.remove(65_540), Some(old), "room for one");
-    let accepted = table.register(200_000, RegKind::Normal, 1, 2, 0);
-    must_be(&rt, accepted, Ok((65_537, None)), "one in that room");
+    must_be(&rt, table.remove(HEAP_START + 4), Some(old), "room for one");
+    let accepted = table.register(FURTHER, RegKind::Normal, 1, 2, 0);
+    must_be(
+        &rt,
+        accepted,
+        Ok((TABLE_LIMIT + 1, None)),
+        "one in that room",
+    );
 }
 
 /// Registers an object with a number, which is how many there are, and again where memory was wanting.

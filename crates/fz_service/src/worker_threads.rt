@@ -7,7 +7,7 @@ ghost use Rattle.fz_service.specs.Workers.{Extends, ExtendEach, SlotExtends, slo
 use crate::opening::Opening;
 use crate::seat::Seat;
 use crate::service::Service;
-use crate::workers::{Gate, Proc, Turn};
+use crate::workers::{Gate, Proc, Turn, held_on};
 use std::alloc::Global;
 use std::marker::Model;
 use std::sync::Wait;
@@ -179,13 +179,17 @@ impl<O: Opening> Service<O> {
         let mut seat = seat;
         let mut told = false;
         let mut pause = Pause::new();
+        let mut held = None;
+        let mut turns = 0u64;
         for _turn in rt.forever() {
             told = stop.load(Ordering::SeqCst);
             if told {
                 break;
             }
-            let (same, turn) = self.turn(seat, procs, gate, rt);
+            let (same, turn, locked) = self.turn(seat, procs, gate, rt, held);
             seat = same;
+            held = held_on(locked, turns);
+            turns = turns.wrapping_add(1);
             match turn {
                 Turn::Served(_) => pause.end(),
                 Turn::Busy => hint::spin_loop(),
@@ -208,9 +212,13 @@ impl<O: Opening> Service<O> {
     {
         let mut seat = seat;
         let mut turn = Turn::Busy;
+        let mut held = None;
+        let mut turns = 0u64;
         for _turn in rt.forever() {
-            let (same, now) = self.turn(seat, procs, gate, rt);
+            let (same, now, locked) = self.turn(seat, procs, gate, rt, held);
             seat = same;
+            held = held_on(locked, turns);
+            turns = turns.wrapping_add(1);
             turn = now;
             match turn {
                 Turn::Served(_) => (),

@@ -15,6 +15,10 @@ use fz_world::World;
 pub struct Nothing;
 
 impl Proc for Nothing {
+    fn has_work(&self) -> bool {
+        false
+    }
+
     #[tactic(auto, using(fz_service::proofs::Running::runs_calls))]
     fn run(&mut self, _entry: &Entry, _world: &mut World)
         ensures calls { RunsCalls _world.old _world.new }
@@ -27,6 +31,10 @@ impl Proc for Nothing {
 pub struct Keep;
 
 impl Proc for Keep {
+    fn has_work(&self) -> bool {
+        false
+    }
+
     #[tactic(auto, using(fz_service::proofs::Running::runs_calls))]
     fn run(&mut self, entry: &Entry, world: &mut World)
         ensures calls { RunsCalls world.old world.new }

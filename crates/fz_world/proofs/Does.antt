@@ -1,16 +1,15 @@
 -- A reply of a world is a step of the model from each state that the world stands for.
-use Rattle.std.proofs.Common.{◌≡◌, ◌⊎◌, ◌||◌, ◌==◌, ◌+◌, ◌++◌, append_assoc, ℕ, Bool, true, false, cond, if◌then◌else◌, [], ◌∷◌, Option, None, Some, Result, Ok, Err, IsErrAnd, refl, sym, ap, subst, ◌∙◌, inl, inr, ⊎_elim, suc, arith, IsTrue, IsFalse, Any, Contains}
+use Rattle.std.proofs.Common.{◌≡◌, ◌⊎◌, ◌||◌, ◌++◌, append_assoc, ℕ, Bool, true, false, if◌then◌else◌, [], ◌∷◌, Option, None, Some, Result, Ok, Err, IsErrAnd, refl, sym, ap, subst, ◌∙◌, inl, inr, ⊎_elim, IsTrue, IsFalse, Any}
 use Rattle.std.proofs.lemmas.Bool.{cond-true, cases_eq, ne_eqb, both_ways}
-use Rattle.std.specs.FinSet.{contains, insert}
+use Rattle.std.specs.FinSet.{contains}
 use Rattle.fz_model.specs.declared.kinds.ObjKind.{ObjKind}
 use Rattle.fz_model.specs.declared.refusal.Refusal.{Refusal}
 use Rattle.fz_model.specs.State.{Core, State}
 use Rattle.fz_model.specs.Reachability.{IsReachable, IsRoot, WasSeen, Leads, Itself, OneMore, Slot, ClientData, HeldObject, HeldData, Registered}
 use Rattle.fz_model.specs.Pass.{IsFinding, Passes}
-use Rattle.fz_model.specs.Seen.{SeenIsClosed}
 use Rattle.fz_model.specs.declared.answers.Passed.{Passed}
 use Rattle.fz_model.specs.declared.answers.Progress.{Progress}
-use Rattle.fz_model.specs.Causes.{Causes, IsJudgedBy, first_cause, slot_causes, place_causes, start_causes, register_causes, is_off_heap, full}
+use Rattle.fz_model.specs.Causes.{Causes, IsJudgedBy, first_cause, slot_causes, start_causes, register_causes, is_off_heap, full}
 use Rattle.fz_model.proofs.Judged.{judged_more, judged_err}
 use Rattle.fz_model.specs.declared.kinds.LinkKind.{LinkKind}
 use Rattle.fz_model.specs.declared.kinds.RegKind.{RegKind}
@@ -26,7 +25,7 @@ use Rattle.fz_model.specs.Memory.{points, slot_word, with_slot, address_of}
 use Rattle.fz_dirty.specs.Flags.{Set}
 use Rattle.fz_model.proofs.Sets.{has_inserted}
 use Rattle.fz_marker.specs.Marking.{IsLedFrom, IsClosed}
-use Rattle.fz_world.specs.World.{WorldView, KeepsMarks, with_in_cycle}
+use Rattle.fz_world.specs.World.{WorldView, with_in_cycle}
 use Rattle.fz_world.specs.Does.{AreSeen, StandsFor, Does}
 
 -- a refused call leaves the world as it was

@@ -1,5 +1,5 @@
 -- A call as a value is carried out by the call of its name.
-use Rattle.std.proofs.Common.{◌≡◌, ℕ, Option, Some, None, Result, Ok, Err, IsErrAnd, refl, sym, ap, subst}
+use Rattle.std.proofs.Common.{◌≡◌, ℕ, Option, Some, None, Result, Ok, Err, IsErrAnd, ap, subst}
 use Rattle.std.specs.Option.{unwrap_or}
 use Rattle.fz_model.specs.declared.kinds.RegKind.{RegKind}
 use Rattle.fz_model.specs.declared.answers.RegAnswer.{RegAnswer}

@@ -1,5 +1,5 @@
--- The room that a registration makes for its entry and its pick.
-use Rattle.std.proofs.Common.{◌≡◌, ◌≤◌, ◌<◌, ℕ, ◌+◌, Bool, true, false, true≢false, not, ◌&&◌, nat_le, is_some, sym, ◌∙◌, min, arith}
+-- The room that a registration makes for its entry.
+use Rattle.std.proofs.Common.{◌≡◌, ◌≤◌, ◌<◌, ℕ, ◌+◌, Bool, true, false, true≢false, not, ◌&&◌, nat_le, is_some, min, arith}
 use Rattle.std.proofs.lemmas.Bool.Decides.{nat_tests}
 use Rattle.std.specs.FinMap as map
 use Rattle.std.specs.FinMap.{get, contains_key}

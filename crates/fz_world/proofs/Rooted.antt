@@ -1,10 +1,9 @@
 -- The roots that a world marks are those of the model.
-use Rattle.std.proofs.Common.{◌≡◌, ◌⊎◌, ◌↔◌, ℕ, Bool, false, not, is_some, refl, sym, ap, subst, ◌∙◌, inl, inr, ⊎_elim, true≢false, IsTrue, All, Some, nat_cmp}
+use Rattle.std.proofs.Common.{◌≡◌, ◌↔◌, ℕ, Bool, false, not, is_some, refl, sym, ap, ◌∙◌, inl, inr, ⊎_elim, true≢false, IsTrue, All, nat_cmp}
 use Rattle.std.proofs.lemmas.List.Elements.{Contains-get_or}
 use Rattle.std.specs.FinMap.{get, contains_key}
 use Rattle.std.specs.FinSet.{contains, empty, contains-empty}
 use Rattle.fz_model.specs.declared.answers.Entry.{Entry}
-use Rattle.fz_model.specs.declared.answers.Registration.{Registration}
 use Rattle.fz_model.specs.State.{Core, Map, Object}
 use Rattle.fz_model.specs.Reachability.{IsRoot, Slot, ClientData, HeldObject, HeldData, Registered, IsReachable, Leads, Itself, OneMore}
 use Rattle.fz_model.specs.Parts.{AreSound}
@@ -12,7 +11,7 @@ use Rattle.fz_model.specs.Pass.{Passes}
 use Rattle.fz_model.specs.declared.answers.Passed.{Passed}
 use Rattle.fz_model.proofs.Sound.{is_some_of}
 use Rattle.fz_dirty.specs.Flags.{Set}
-use Rattle.fz_marker.specs.Marking.{Marking, IsClosed, IsLedFrom}
+use Rattle.fz_marker.specs.Marking.{Marking, IsClosed}
 use Rattle.fz_world.specs.Roots.{Marks, IsRootHere}
 
 -- the roots of a core, as a world goes over them

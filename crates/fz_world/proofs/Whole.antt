@@ -32,8 +32,9 @@ use Rattle.fz_table.specs.Registered.{Registered}
 use Rattle.fz_dirty.specs.Flags.{Set, IsWithin}
 use Rattle.fz_dirty.specs.Pages.{Pages}
 use Rattle.fz_marker.specs.Marking.{Marking, CleanAreClosed, HasChildrenIn, is_newly_in, is_on_noted, readable_count}
+use Rattle.fz_pass.specs.Decides.{Parts, Decides}
 use Rattle.fz_world.specs.Ready.{Ready}
-use Rattle.fz_world.specs.World.{IsWhole, IsMidCycle, IsWorld, with_in_cycle}
+use Rattle.fz_world.specs.World.{IsWhole, IsWorld, with_in_cycle}
 use Rattle.fz_world.proofs.Keeping.{now_in, note_keeps, store_keeps, alloc_keeps}
 use Rattle.fz_world.proofs.Scans.{readable_made, readable_more, readable_within, readable_written}
 
@@ -48,9 +49,9 @@ still_swept condemned first count none =
     ∙ ap (λ b. b && is_left first count q) (ap (λ (s : Set). sets.contains s q) none ∙ sets.contains-empty nat_cmp q)
     ∙ sym (sets.contains-empty nat_cmp q))
 
-pub world_opening : (heap : Contents) (table : Registered) (ready : Ready) (marker : Marking) (pages : Pages) (blocks capacity : ℕ) (picks : List Pick) → heap.blocks ≡ blocks → heap.objects ≡ map.empty → table ≡ record { registrations = map.empty; next_number = 0 } → (ready.queue ≡ []) × (ready.held ≡ []) → marker.size ≡ BLOCK_WORDS * blocks → pages.pages ≡ blocks → picks ≡ [] → IsWorld heap table ready marker pages capacity picks false
+pub world_opening : (heap : Contents) (table : Registered) (ready : Ready) (marker : Marking) (pages : Pages) (blocks : ℕ) → heap.blocks ≡ blocks → heap.objects ≡ map.empty → table ≡ record { registrations = map.empty; next_number = 0 } → (ready.queue ≡ []) × (ready.held ≡ []) → marker.size ≡ BLOCK_WORDS * blocks → pages.pages ≡ blocks → IsWorld heap table ready marker pages false
 unfolding IsWorld
-world_opening heap table ready marker pages blocks capacity picks few none nothing empty size all none_picked = (
+world_opening heap table ready marker pages blocks few none nothing empty size all = (
   record {
     sound =
         let Sound = λ (objects : Map Object) (t : Registered) (queue held : List Entry). AreSound objects t.registrations t.next_number queue held in
@@ -59,64 +60,54 @@ world_opening heap table ready marker pages blocks capacity picks few none nothi
     size = size ∙ ap (λ n. BLOCK_WORDS * n) (sym few);
     pages_are = all ∙ sym few;
     room = let zero_ = ap (λ (t : Registered). map.len t.registrations) nothing ∙ len-empty nat_cmp Registration in omega (arith, zero_);
-    pick_room = let zero_ = ap (λ (t : Registered). map.len t.registrations) nothing ∙ len-empty nat_cmp Registration in omega (arith, zero_);
-    none_picked = none_picked;
   },
   λ on. absurd (true≢false (sym on)),
 )
 
-module _ (heap : Contents) (table : Registered) (ready : Ready) (marker : Marking) (pages : Pages) (capacity : ℕ) (picks : List Pick) (cycle : Bool) where
-  pub world_size : IsWorld heap table ready marker pages capacity picks cycle → marker.size ≡ BLOCK_WORDS * heap.blocks
+module _ (heap : Contents) (table : Registered) (ready : Ready) (marker : Marking) (pages : Pages) (cycle : Bool) where
+  pub world_size : IsWorld heap table ready marker pages cycle → marker.size ≡ BLOCK_WORDS * heap.blocks
   unfolding IsWorld
   world_size h = h.0.size
 
-  pub world_pages : IsWorld heap table ready marker pages capacity picks cycle → pages.pages ≡ heap.blocks
+  pub world_pages : IsWorld heap table ready marker pages cycle → pages.pages ≡ heap.blocks
   unfolding IsWorld
   world_pages h = h.0.pages_are
 
-  pub world_room : IsWorld heap table ready marker pages capacity picks cycle → map.len table.registrations ≤ ready.room
+  pub world_room : IsWorld heap table ready marker pages cycle → map.len table.registrations ≤ ready.room
   unfolding IsWorld
   world_room h = h.0.room
 
-  pub world_pick_room : IsWorld heap table ready marker pages capacity picks cycle → map.len table.registrations ≤ capacity
-  unfolding IsWorld
-  world_pick_room h = h.0.pick_room
-
-  pub world_sound : IsWorld heap table ready marker pages capacity picks cycle → AreSound heap.objects table.registrations table.next_number ready.queue ready.held
+  pub world_sound : IsWorld heap table ready marker pages cycle → AreSound heap.objects table.registrations table.next_number ready.queue ready.held
   unfolding IsWorld
   world_sound h = h.0.sound
 
-  pub world_clean : IsWorld heap table ready marker pages capacity picks cycle → IsTrue cycle → CleanAreClosed heap.objects marker pages.noted
+  pub world_clean : IsWorld heap table ready marker pages cycle → IsTrue cycle → CleanAreClosed heap.objects marker pages.noted
   unfolding IsWorld
   world_clean h on = (h.1 on).clean
 
-  pub world_once : IsWorld heap table ready marker pages capacity picks cycle → IsTrue cycle → marker.scans ≤ readable_count heap.objects (sets.contains marker.scanned)
+  pub world_once : IsWorld heap table ready marker pages cycle → IsTrue cycle → marker.scans ≤ readable_count heap.objects (sets.contains marker.scanned)
   unfolding IsWorld
   world_once h on = (h.1 on).once
 
-  pub world_unfinished : IsWorld heap table ready marker pages capacity picks cycle → IsTrue cycle → marker.scans ≤ sets.len marker.scanned
+  pub world_unfinished : IsWorld heap table ready marker pages cycle → IsTrue cycle → marker.scans ≤ sets.len marker.scanned
   world_unfinished h on = let once = world_once h on in let few = readable_within heap.objects marker.scanned in omega (arith, once, few)
 
-  pub world_none_condemned : IsWorld heap table ready marker pages capacity picks cycle → IsTrue cycle → heap.condemned ≡ sets.empty
+  pub world_none_condemned : IsWorld heap table ready marker pages cycle → IsTrue cycle → heap.condemned ≡ sets.empty
   unfolding IsWorld
   world_none_condemned h on = (h.1 on).none_condemned
 
-  pub world_none_picked : IsWorld heap table ready marker pages capacity picks cycle → picks ≡ []
-  unfolding IsWorld
-  world_none_picked h = h.0.none_picked
-
   -- other marks and pages, for as many addresses and pages
-  resized : (addresses page_count : ℕ) → addresses ≡ marker.size → page_count ≡ pages.pages → IsWhole heap.objects heap.blocks table ready marker.size pages.pages capacity picks → IsWhole heap.objects heap.blocks table ready addresses page_count capacity picks
+  resized : (addresses page_count : ℕ) → addresses ≡ marker.size → page_count ≡ pages.pages → IsWhole heap.objects heap.blocks table ready marker.size pages.pages → IsWhole heap.objects heap.blocks table ready addresses page_count
   resized addresses page_count size all h =
-      subst (λ n. IsWhole heap.objects heap.blocks table ready n page_count capacity picks) (sym size) (subst (λ n. IsWhole heap.objects heap.blocks table ready marker.size n capacity picks) (sym all) h)
+      subst (λ n. IsWhole heap.objects heap.blocks table ready n page_count) (sym size) (subst (λ n. IsWhole heap.objects heap.blocks table ready marker.size n) (sym all) h)
 
   -- other marks and pages, while no cycle is open
-  pub world_remarked : (condemned : Set) (other : Marking) (others : Pages) → other.size ≡ marker.size → others.pages ≡ pages.pages → IsWorld heap table ready marker pages capacity picks cycle → IsWorld (record heap { condemned = condemned }) table ready other others capacity picks false
+  pub world_remarked : (condemned : Set) (other : Marking) (others : Pages) → other.size ≡ marker.size → others.pages ≡ pages.pages → IsWorld heap table ready marker pages cycle → IsWorld (record heap { condemned = condemned }) table ready other others false
   unfolding IsWorld
   world_remarked condemned other others size all h = (resized other.size others.pages size all h.0, λ on. absurd (true≢false (sym on)))
 
   -- marks begun anew after a sweep, in an open cycle or outside one
-  pub world_anew : (other : Marking) (others : Pages) (opens : Bool) → other.size ≡ marker.size → others.pages ≡ pages.pages → other.scanned ≡ sets.empty → other.scans ≡ 0 → IsWorld heap table ready marker pages capacity picks cycle → IsWorld (record heap { condemned = sets.empty }) table ready other others capacity picks opens
+  pub world_anew : (other : Marking) (others : Pages) (opens : Bool) → other.size ≡ marker.size → others.pages ≡ pages.pages → other.scanned ≡ sets.empty → other.scans ≡ 0 → IsWorld heap table ready marker pages cycle → IsWorld (record heap { condemned = sets.empty }) table ready other others opens
   unfolding IsWorld
   world_anew other others opens size all none zero_ h = (
     resized other.size others.pages size all h.0,
@@ -128,7 +119,7 @@ module _ (heap : Contents) (table : Registered) (ready : Ready) (marker : Markin
   )
 
   -- marks come, and what is scanned has marked children
-  pub world_stepped : (new : Marking) → new.size ≡ marker.size → IsWithin marker.marked new.marked → ((a : ℕ) → IsTrue (is_newly_in marker.scanned new.scanned a) → HasChildrenIn heap.objects new.marked a) → IsWithin marker.scanned new.scanned → new.scans ≤ marker.scans + readable_count heap.objects (is_newly_in marker.scanned new.scanned) → IsWorld heap table ready marker pages capacity picks cycle → IsWorld heap table ready new pages capacity picks cycle
+  pub world_stepped : (new : Marking) → new.size ≡ marker.size → IsWithin marker.marked new.marked → ((a : ℕ) → IsTrue (is_newly_in marker.scanned new.scanned a) → HasChildrenIn heap.objects new.marked a) → IsWithin marker.scanned new.scanned → new.scans ≤ marker.scans + readable_count heap.objects (is_newly_in marker.scanned new.scanned) → IsWorld heap table ready marker pages cycle → IsWorld heap table ready new pages cycle
   unfolding IsWorld
   world_stepped new size kept closed still each_once h = (
     resized new.size pages.pages size refl h.0,
@@ -144,7 +135,7 @@ module _ (heap : Contents) (table : Registered) (ready : Ready) (marker : Markin
       at a scanned off was false before = closed a (ap (λ t. t && not (sets.contains marker.scanned a)) scanned ∙ ap not before)
 
   -- in an open cycle, one more noted page
-  pub world_noted : (page : ℕ) → IsWorld heap table ready marker pages capacity picks cycle → IsWorld heap table ready marker (record pages { noted = with_in_cycle cycle pages.noted page }) capacity picks cycle
+  pub world_noted : (page : ℕ) → IsWorld heap table ready marker pages cycle → IsWorld heap table ready marker (record pages { noted = with_in_cycle cycle pages.noted page }) cycle
   unfolding IsWorld
   world_noted page h = (
     h.0,
@@ -158,7 +149,7 @@ module _ (heap : Contents) (table : Registered) (ready : Ready) (marker : Markin
   noted_now : (page : ℕ) → IsTrue cycle → IsTrue (sets.contains (with_in_cycle cycle pages.noted page) page)
   noted_now page on = subst (λ b. IsTrue (sets.contains (with_in_cycle b pages.noted page) page)) (sym on) (now_in pages.noted page)
 
-  pub world_written : (place value : ℕ) → IsWorld heap table ready marker pages capacity picks cycle → IsWorld (record heap { objects = written place value heap.objects }) table ready marker (record pages { noted = with_in_cycle cycle pages.noted (block_of place) }) capacity picks cycle
+  pub world_written : (place value : ℕ) → IsWorld heap table ready marker pages cycle → IsWorld (record heap { objects = written place value heap.objects }) table ready marker (record pages { noted = with_in_cycle cycle pages.noted (block_of place) }) cycle
   unfolding IsWorld
   world_written place value h = (
     record {
@@ -166,8 +157,6 @@ module _ (heap : Contents) (table : Registered) (ready : Ready) (marker : Markin
       size = h.0.size;
       pages_are = h.0.pages_are;
       room = h.0.room;
-      pick_room = h.0.pick_room;
-      none_picked = h.0.none_picked;
     },
     λ on. record {
       clean = store_keeps heap.objects marker (with_in_cycle cycle pages.noted (block_of place)) place value (noted_now (block_of place) on) ((world_noted (block_of place) h).1 on).clean;
@@ -177,7 +166,7 @@ module _ (heap : Contents) (table : Registered) (ready : Ready) (marker : Markin
   )
 
   pub world_made : (size : ℕ) (kind : ObjKind) (a : ℕ) → first_cause (alloc_causes heap.objects heap.blocks heap.next_birth size kind) ≡ None → place_for heap.objects heap.blocks size kind ≡ Some a
-      → IsWorld heap table ready marker pages capacity picks cycle → IsWorld (record heap { objects = map.insert heap.objects a (new_object kind heap.next_birth size); condemned = swept heap.condemned (block_of a) (blocks_for size); next_birth = heap.next_birth + 1 }) table ready (record marker { marked = with_in_cycle cycle marker.marked a }) (record pages { noted = with_in_cycle cycle pages.noted (block_of a) }) capacity picks cycle
+      → IsWorld heap table ready marker pages cycle → IsWorld (record heap { objects = map.insert heap.objects a (new_object kind heap.next_birth size); condemned = swept heap.condemned (block_of a) (blocks_for size); next_birth = heap.next_birth + 1 }) table ready (record marker { marked = with_in_cycle cycle marker.marked a }) (record pages { noted = with_in_cycle cycle pages.noted (block_of a) }) cycle
   unfolding IsWorld
   world_made size kind a none place h = (
     record {
@@ -185,8 +174,6 @@ module _ (heap : Contents) (table : Registered) (ready : Ready) (marker : Markin
       size = h.0.size;
       pages_are = h.0.pages_are;
       room = h.0.room;
-      pick_room = h.0.pick_room;
-      none_picked = h.0.none_picked;
     },
     λ on. record {
       clean =
@@ -205,7 +192,7 @@ module _ (heap : Contents) (table : Registered) (ready : Ready) (marker : Markin
           let n : length {A = ℕ} (replicate size 0) ≡ size = length-replicate {A = ℕ} size 0 in
           omega (arith, least, n)
 
-  pub world_removed : (object : ℕ) → IsWorld heap table ready marker pages capacity picks cycle → IsWorld heap (record table { registrations = map.remove table.registrations object }) ready marker pages capacity picks cycle
+  pub world_removed : (object : ℕ) → IsWorld heap table ready marker pages cycle → IsWorld heap (record table { registrations = map.remove table.registrations object }) ready marker pages cycle
   unfolding IsWorld
   world_removed object h = (
     record {
@@ -213,8 +200,6 @@ module _ (heap : Contents) (table : Registered) (ready : Ready) (marker : Markin
       size = h.0.size;
       pages_are = h.0.pages_are;
       room = let few = fewer in let room = h.0.room in omega (arith, few, room);
-      pick_room = let few = fewer in let room = h.0.pick_room in omega (arith, few, room);
-      none_picked = h.0.none_picked;
     },
     h.1,
   )
@@ -223,18 +208,16 @@ module _ (heap : Contents) (table : Registered) (ready : Ready) (marker : Markin
       fewer = let n = len-remove nat_cmp_total table.registrations object in elim (contains_key table.registrations object) as (λ b. map.len (map.remove table.registrations object) ≡ cond b (map.len table.registrations - 1) (map.len table.registrations) → map.len (map.remove table.registrations object) ≤ map.len table.registrations) [ true ↦ λ e. omega (arith, e) | false ↦ λ e. omega (arith, e) ] n
 
   -- with room for one more registration
-  pub world_registered : (object : ℕ) (kind : RegKind) (proc cd rank : ℕ) (roomier : Ready) (larger : ℕ) (more : List Pick) → first_cause (start_causes heap.objects object) ≡ None → (roomier.queue ≡ ready.queue) × (roomier.held ≡ ready.held) → more ≡ picks
-      → map.len (map.insert table.registrations object (record { number = table.next_number; kind = kind; proc = proc; cd = cd; rank = rank })) ≤ roomier.room → map.len (map.insert table.registrations object (record { number = table.next_number; kind = kind; proc = proc; cd = cd; rank = rank })) ≤ larger
-      → IsWorld heap table ready marker pages capacity picks cycle → IsWorld heap (record { registrations = map.insert table.registrations object (record { number = table.next_number; kind = kind; proc = proc; cd = cd; rank = rank }); next_number = table.next_number + 1 }) roomier marker pages larger more cycle
+  pub world_registered : (object : ℕ) (kind : RegKind) (proc cd rank : ℕ) (roomier : Ready) → first_cause (start_causes heap.objects object) ≡ None → (roomier.queue ≡ ready.queue) × (roomier.held ≡ ready.held)
+      → map.len (map.insert table.registrations object (record { number = table.next_number; kind = kind; proc = proc; cd = cd; rank = rank })) ≤ roomier.room
+      → IsWorld heap table ready marker pages cycle → IsWorld heap (record { registrations = map.insert table.registrations object (record { number = table.next_number; kind = kind; proc = proc; cd = cd; rank = rank }); next_number = table.next_number + 1 }) roomier marker pages cycle
   unfolding IsWorld
-  world_registered object kind proc cd rank roomier larger more none same same_picks room pick_room h = (
+  world_registered object kind proc cd rank roomier none same room h = (
     record {
       sound = subst (Sound roomier.held) (sym same.0) (subst (λ held. Sound held ready.queue) (sym same.1) (sound_registered heap.objects table.registrations table.next_number ready.queue ready.held object kind proc cd rank none h.0.sound));
       size = h.0.size;
       pages_are = h.0.pages_are;
       room = room;
-      pick_room = pick_room;
-      none_picked = same_picks ∙ h.0.none_picked;
     },
     h.1,
   )
@@ -243,21 +226,19 @@ module _ (heap : Contents) (table : Registered) (ready : Ready) (marker : Markin
       Sound held queue = AreSound heap.objects (map.insert table.registrations object (record { number = table.next_number; kind = kind; proc = proc; cd = cd; rank = rank })) (table.next_number + 1) queue held
 
   -- more room alone
-  pub world_roomier : (roomier : Ready) (larger : ℕ) (more : List Pick) → (roomier.queue ≡ ready.queue) × (roomier.held ≡ ready.held) → ready.room ≤ roomier.room → capacity ≤ larger → more ≡ picks → IsWorld heap table ready marker pages capacity picks cycle → IsWorld heap table roomier marker pages larger more cycle
+  pub world_roomier : (roomier : Ready) → (roomier.queue ≡ ready.queue) × (roomier.held ≡ ready.held) → ready.room ≤ roomier.room → IsWorld heap table ready marker pages cycle → IsWorld heap table roomier marker pages cycle
   unfolding IsWorld
-  world_roomier roomier larger more same room wider same_picks h = (
+  world_roomier roomier same room h = (
     record {
       sound = subst (λ q. AreSound heap.objects table.registrations table.next_number q roomier.held) (sym same.0) (subst (λ q. AreSound heap.objects table.registrations table.next_number ready.queue q) (sym same.1) h.0.sound);
       size = h.0.size;
       pages_are = h.0.pages_are;
       room = let was = h.0.room in omega (arith, was, room);
-      pick_room = let was = h.0.pick_room in omega (arith, was, wider);
-      none_picked = same_picks ∙ h.0.none_picked;
     },
     h.1,
   )
 
-  pub world_finished : (keep : Entry → Bool) (fewer : Ready) → fewer.queue ≡ ready.queue → fewer.held ≡ filter keep ready.held → ready.room ≤ fewer.room → IsWorld heap table ready marker pages capacity picks cycle → IsWorld heap table fewer marker pages capacity picks cycle
+  pub world_finished : (keep : Entry → Bool) (fewer : Ready) → fewer.queue ≡ ready.queue → fewer.held ≡ filter keep ready.held → ready.room ≤ fewer.room → IsWorld heap table ready marker pages cycle → IsWorld heap table fewer marker pages cycle
   unfolding IsWorld
   world_finished keep fewer queue held room h = (
     record {
@@ -265,8 +246,6 @@ module _ (heap : Contents) (table : Registered) (ready : Ready) (marker : Markin
       size = h.0.size;
       pages_are = h.0.pages_are;
       room = let was = h.0.room in omega (arith, was, room);
-      pick_room = h.0.pick_room;
-      none_picked = h.0.none_picked;
     },
     h.1,
   )
@@ -310,17 +289,25 @@ picks_fit registrations (p ∷ ps) each apart =
     omega (arith, rest, some, gone)
 
 -- the picks of a decision are of registrations, each of another object
-pub decided_fit : (objects : Map Object) (registrations : Map Registration) (short : Map ℕ) (found : ℕ → Bool) (d : Decision objects registrations short found) → map.len (without_picks registrations d.picks) + length d.picks ≡ map.len registrations
+decided_fit : (objects : Map Object) (registrations : Map Registration) (short : Map ℕ) (found : ℕ → Bool) (d : Decision objects registrations short found) → map.len (without_picks registrations d.picks) + length d.picks ≡ map.len registrations
 decided_fit objects registrations short found d =
     picks_fit registrations d.picks (λ k p e. ap is_some (All-contains (IsPicked objects registrations short found) d.picks p d.picks_are.each (contains_at d.picks k p e)).unreachable.registered)
     (λ i j p q l e f. before_differs registrations p q (picks_ordered objects registrations short found d.picks d.picks_are i j p q l e f))
 
+-- what is picked and what is left is what was registered
+pub left_fit : (old new : Parts) (found : ℕ → Bool) (picks : List Pick) → Decides old found picks new → map.len new.registrations + length picks ≡ map.len old.registrations
+left_fit old new found picks d =
+    let fit = decided_fit old.objects old.registrations old.short found d.decision in
+    let gone : map.len new.registrations ≡ map.len (without_picks old.registrations d.decision.picks) = ap (λ (p : Parts). map.len p.registrations) d.is in
+    let picked = ap length d.picked in
+    omega (arith, fit, gone, picked)
+
 module _ (c : Core) (found : ℕ → Bool) (passed : Passed) (new : Core) (p : Passes c found passed new) (reachable : (a : ℕ) → IsReachable c a → IsTrue (found a)) where
-  pub world_passed : (heap after : Contents) (table left : Registered) (ready later : Ready) (marker other : Marking) (pages : Pages) (capacity larger : ℕ) (picks : List Pick) → c.objects ≡ heap.objects → c.registrations ≡ table.registrations → c.next_number ≡ table.next_number → c.queue ≡ ready.queue → c.held ≡ ready.held
-      → new.objects ≡ after.objects → new.registrations ≡ left.registrations → new.next_number ≡ left.next_number → new.queue ≡ later.queue → new.held ≡ later.held → after.blocks ≡ heap.blocks → other.size ≡ marker.size → map.len left.registrations ≤ later.room → map.len left.registrations ≤ larger
-      → IsWorld heap table ready marker pages capacity picks false → IsWorld after left later other pages larger [] false
+  pub world_passed : (heap after : Contents) (table left : Registered) (ready later : Ready) (marker other : Marking) (pages : Pages) → c.objects ≡ heap.objects → c.registrations ≡ table.registrations → c.next_number ≡ table.next_number → c.queue ≡ ready.queue → c.held ≡ ready.held
+      → new.objects ≡ after.objects → new.registrations ≡ left.registrations → new.next_number ≡ left.next_number → new.queue ≡ later.queue → new.held ≡ later.held → after.blocks ≡ heap.blocks → other.size ≡ marker.size → map.len left.registrations ≤ later.room
+      → IsWorld heap table ready marker pages false → IsWorld after left later other pages false
   unfolding IsWorld
-  world_passed heap after table left ready later marker other pages capacity larger picks o1 o2 o3 o4 o5 n1 n2 n3 n4 n5 blocks size room pick_room h = (
+  world_passed heap after table left ready later marker other pages o1 o2 o3 o4 o5 n1 n2 n3 n4 n5 blocks size room h = (
     record {
       sound =
           let Sound = λ (objects : Map Object) (registrations : Map Registration) (next : ℕ) (queue held : List Entry). AreSound objects registrations next queue held in
@@ -330,8 +317,6 @@ module _ (c : Core) (found : ℕ → Bool) (passed : Passed) (new : Core) (p : P
       size = size ∙ h.0.size ∙ ap (λ n. BLOCK_WORDS * n) (sym blocks);
       pages_are = h.0.pages_are ∙ sym blocks;
       room = room;
-      pick_room = pick_room;
-      none_picked = refl;
     },
     λ on. absurd (true≢false (sym on)),
   )

@@ -3,7 +3,7 @@ use Rattle.std.specs.Prelude.{◌≡◌, ℕ, [], ◌∷◌, Result, IsTrue}
 use Rattle.std.specs.FinSet.{contains}
 use Rattle.fz_model.specs.declared.refusal.Refusal.{Refusal}
 use Rattle.fz_model.specs.declared.limits.TheConstants.{MAX_BLOCKS, MAX_FRAMES}
-use Rattle.fz_model.specs.State.{Core, State}
+use Rattle.fz_model.specs.State.{State}
 use Rattle.fz_model.specs.Seen.{SeenIsClosed}
 use Rattle.fz_model.specs.Reachability.{WasSeen}
 use Rattle.fz_model.specs.Causes.{Causes, bad_count}

@@ -1,5 +1,5 @@
 -- What a world shows of its tables, by address.
-use Rattle.std.specs.Prelude.{◌≡◌, ℕ, ◌≤◌, ◌<◌, Bool, length, IsTrue, IsFalse}
+use Rattle.std.specs.Prelude.{ℕ, ◌≤◌, ◌<◌, Bool, length, IsTrue, IsFalse}
 use Rattle.std.specs.FinMap.{contains_key}
 use Rattle.fz_model.specs.State as model
 use Rattle.fz_model.specs.State.{Core}

@@ -1,11 +1,10 @@
 -- What contracts see of a world: all that a state of the model keeps but what an open cycle has seen; and of the cycle begun last the marked
 -- and the scanned objects, the noted pages, and the number of scans.
-use Rattle.std.specs.Prelude.{◌≡◌, ℕ, ◌+◌, ◌<◌, ◌≤◌, ◌*◌, Bool, List, [], if◌then◌else◌, IsTrue, refl}
+use Rattle.std.specs.Prelude.{◌≡◌, ℕ, ◌+◌, ◌<◌, ◌≤◌, ◌*◌, Bool, List, if◌then◌else◌, IsTrue, refl}
 use Rattle.std.specs.Coded.{Coded, code_by, coded×, coded_ℕ}
 use Rattle.std.specs.FinSet as sets
 use Rattle.std.specs.FinSet.{contains, insert}
 use Rattle.std.specs.FinMap as map
-use Rattle.fz_model.specs.declared.answers.Pick.{Pick}
 use Rattle.fz_model.specs.declared.limits.TheConstants.{BLOCK_WORDS, COUNT_LIMIT}
 use Rattle.fz_model.specs.State.{Map, Object, Core}
 use Rattle.fz_model.specs.Codes.{core_code}
@@ -61,14 +60,12 @@ abbrev pub with_in_cycle : Bool → Set → ℕ → Set
 with_in_cycle cycle set n = if cycle then insert set n else set
 
 -- what a world keeps of its parts, with marks for so many addresses and so many pages
-pub record IsWhole (objects : Map Object) (blocks : ℕ) (table : Registered) (ready : Ready) (addresses pages capacity : ℕ) (picks : List Pick) : Type 0 where
+pub record IsWhole (objects : Map Object) (blocks : ℕ) (table : Registered) (ready : Ready) (addresses pages : ℕ) : Type 0 where
   pub sound : AreSound objects table.registrations table.next_number ready.queue ready.held
   pub size : addresses ≡ BLOCK_WORDS * blocks
   pub pages_are : pages ≡ blocks
-  -- there is room for the entries and the picks of all registrations
+  -- there is room for the entries of all registrations
   pub room : map.len table.registrations ≤ ready.room
-  pub pick_room : map.len table.registrations ≤ capacity
-  pub none_picked : picks ≡ []
 
 -- what it keeps in an open cycle
 pub record IsMidCycle (heap : Contents) (marker : Marking) (noted : Set) : Type 0 where
@@ -79,9 +76,9 @@ pub record IsMidCycle (heap : Contents) (marker : Marking) (noted : Set) : Type 
   pub none_condemned : heap.condemned ≡ sets.empty
 
 -- both as one word that proofs hand on whole
-unfoldable pub IsWorld : Contents → Registered → Ready → Marking → Pages → ℕ → List Pick → Bool → Type 0
-IsWorld heap table ready marker pages capacity picks cycle =
-    IsWhole heap.objects heap.blocks table ready marker.size pages.pages capacity picks × (IsTrue cycle → IsMidCycle heap marker pages.noted)
+unfoldable pub IsWorld : Contents → Registered → Ready → Marking → Pages → Bool → Type 0
+IsWorld heap table ready marker pages cycle =
+    IsWhole heap.objects heap.blocks table ready marker.size pages.pages × (IsTrue cycle → IsMidCycle heap marker pages.noted)
 
 -- a cycle is open only where its pass has a number
 abbrev pub HasNumber : ℕ → Bool → Type 0

@@ -19,7 +19,6 @@ ghost use Rattle.fz_world.specs.Does.{Does};
 use crate::roots::mark_roots;
 use crate::world::World;
 use fz_model::{COUNT_LIMIT, Passed, Progress, Refusal};
-use fz_pass::decide;
 
 #[tactic(auto, using(crate::proofs::Does::does_refused))]
 impl World {
@@ -178,22 +177,14 @@ impl World {
         ensures passes { Passes self.old.core (contains self.old.marked) result self.new.core }
         ensures marks { KeepsMarks self.old self.new }
     {
-        let reclaimed = decide(
+        self.passes += 1;
+        self.ready.pass(
+            self.passes,
             &mut self.heap,
             &mut self.marker,
             &mut self.table,
             &mut self.short,
             &mut self.long,
-            &mut self.picks,
-        );
-        self.passes += 1;
-        self.ready.enqueue(self.passes, self.picks.as_slice());
-        let picked = self.picks.len() as u64;
-        self.picks.clear();
-        Passed {
-            pass: self.passes,
-            picked,
-            reclaimed,
-        }
+        )
     }
 }

@@ -1,15 +1,24 @@
 //! The queue of finalizers that are ready, and those of its entries that are held.
 
-ghost use Rattle.std.specs.Prelude.{◌≡◌, ◌≤◌, ◌<◌, ◌+◌, ◌*◌, ◌^◌, ◌++◌, [], ◌∷◌, not, filter, length, Contains, vec_len, vec_capacity, OnOk, OnErr, IfOk, IfErr, IfSome, MatchOption};
+ghost use Rattle.std.specs.Prelude.{◌≡◌, ◌≤◌, ◌<◌, ◌+◌, ◌*◌, ◌^◌, [], ◌∷◌, ◌||◌, not, ℕ, List, filter, length, Contains, vec_len, vec_capacity, OnOk, OnErr, IfOk, IfErr, IfSome, MatchOption};
+ghost use Rattle.std.specs.FinSet.{contains};
+ghost use Rattle.std.specs.FinMap.{len};
 ghost use Rattle.fz_model.specs.declared.answers.Entry.{Entry};
-ghost use Rattle.fz_model.specs.declared.limits.TheConstants.{TABLE_LIMIT};
+ghost use Rattle.fz_model.specs.declared.answers.Pick.{Pick};
+ghost use Rattle.fz_model.specs.declared.limits.TheConstants.{TABLE_LIMIT, BLOCK_WORDS};
 ghost use Rattle.fz_model.specs.Causes.{IsJudgedBy};
 ghost use Rattle.fz_model.specs.Events.{same_entry, not_held};
-ghost use Rattle.fz_model.specs.Pass.{entries_of};
-ghost use Rattle.fz_world.specs.Ready.{IsNextHeld};
+ghost use Rattle.fz_marker.specs.Marking.{IsClosed};
+ghost use Rattle.fz_pass.specs.Decides.{Decides, parts};
+ghost use Rattle.fz_world.specs.Ready.{IsNextHeld, GainsPicks, is_between};
 
 use fz_dirty::SparseFlags;
-use fz_model::{Entry, Pick, Refusal};
+use fz_heap::Heap;
+use fz_links::Links;
+use fz_marker::Marker;
+use fz_model::{Entry, Passed, Refusal};
+use fz_pass::decide;
+use fz_table::Table;
 use std::alloc::Global;
 use std::marker::Model;
 
@@ -52,6 +61,18 @@ fn reserve(queue: &mut Vec<Entry>, more: usize) -> Result<u64, Refusal>
 {
     queue.reserve(more)?;
     Ok((queue.len() + more) as u64)
+}
+
+/// Puts each number from the first to before the end into a set, which has room for them.
+fn hold(held: &mut SparseFlags, first: u64, end: u64)
+    requires ordered { first ≤ end }
+    requires room { first < end → end ≤ held.old.size }
+    ensures size { held.new.size ≡ held.old.size }
+    ensures held { (n : ℕ) → contains held.new.members n ≡ (is_between first end n || contains held.old.members n) }
+{
+    for number in first..end {
+        held.insert(number);
+    }
 }
 
 impl Ready {
@@ -104,37 +125,37 @@ impl Ready {
         self.held.extend_to(entries.div_ceil(64))
     }
 
-    /// Puts an entry with the next number at the end, for which there has to be room.
-    fn push(&mut self, entry: Entry)
-        requires room { 0 < self.old.room }
-        requires number { entry.seq ≡ length self.old.queue }
-        ensures queue { self.new.queue ≡ self.old.queue ++ entry ∷ [] }
-        ensures held { self.new.held ≡ self.old.held ++ entry ∷ [] }
-        ensures room { self.old.room ≤ self.new.room + 1 }
+    /// Carries out a pass with this number over the other parts of a world: its entries come to the end of the queue, for which there has to be
+    /// room, and are held.
+    pub(crate) fn pass(
+        &mut self,
+        number: u64,
+        heap: &mut Heap,
+        marker: &mut Marker,
+        table: &mut Table,
+        short: &mut Links,
+        long: &mut Links,
+    ) -> Passed
+        requires size { marker.old.size ≡ BLOCK_WORDS * heap.old.blocks }
+        requires closed { IsClosed heap.old.objects marker.old.marked }
+        requires room { len table.old.registrations ≤ self.old.room }
+        ensures decided { (picks : List Pick) × (result.picked ≡ length picks) × GainsPicks number picks self.old self.new × Decides (parts heap.old table.old.registered short.old long.old) (contains marker.old.marked) picks (parts heap.new table.new.registered short.new long.new) }
+        ensures number { result.pass ≡ number }
+        ensures reclaimed { len heap.new.objects + result.reclaimed ≡ len heap.old.objects }
+        ensures room { len table.new.registrations ≤ self.new.room }
+        ensures heap { heap.new ≡ record heap.old { objects = heap.new.objects; condemned = heap.new.condemned } }
+        ensures marker { marker.new ≡ record marker.old { traced = marker.new.traced; listed = marker.new.listed } }
+        ensures table { table.new.registered ≡ record table.old.registered { registrations = table.new.registrations } }
     {
-        let _ = self.queue.push(entry);
-        self.held.insert(entry.seq);
-        self.outstanding += 1;
-    }
-
-    /// Puts the picks of a pass at the end, for which there has to be room.
-    pub(crate) fn enqueue(&mut self, pass: u64, picks: &[Pick])
-        requires { length picks.now ≤ self.old.room }
-        ensures queue { self.new.queue ≡ self.old.queue ++ entries_of pass (length self.old.queue) picks.now }
-        ensures held { self.new.held ≡ self.old.held ++ entries_of pass (length self.old.queue) picks.now }
-        ensures room { self.old.room ≤ self.new.room + length picks.now }
-    {
-        for pick in picks {
-            let seq = self.queue().len() as u64;
-            self.push(Entry {
-                seq,
-                pass,
-                reg: pick.reg,
-                obj: pick.obj,
-                birth: pick.birth,
-                proc: pick.proc,
-                cd: pick.cd,
-            });
+        let first = self.queue.len() as u64;
+        let reclaimed = decide(heap, marker, table, short, long, &mut self.queue, number);
+        let end = self.queue.len() as u64;
+        hold(&mut self.held, first, end);
+        self.outstanding += end - first;
+        Passed {
+            pass: number,
+            picked: end - first,
+            reclaimed,
         }
     }
 

@@ -1,6 +1,6 @@
 //! Registrations of finalizers.
 
-ghost use Rattle.std.specs.Prelude.{Some, ◌≡◌, ◌≤◌, ◌<◌, ◌+◌, ◌⊎◌, IsFalse, IfOk, IfErr, OnOk, OnErr, vec_capacity, vec_len, ℕ};
+ghost use Rattle.std.specs.Prelude.{Some, ◌≡◌, ◌≤◌, ◌+◌, ◌⊎◌, IsFalse, IfOk, IfErr, OnOk, OnErr};
 ghost use Rattle.std.specs.Option.{IsNone};
 ghost use Rattle.std.specs.FinMap.{get, len, insert};
 ghost use Rattle.fz_model.specs.declared.answers.Registration.{Registration};
@@ -18,7 +18,7 @@ use crate::ready::Ready;
 use crate::world::World;
 use fz_heap::Heap;
 use fz_model::{
-    Addr, BLOCK_WORDS, HEAP_START, Old, Pick, Refusal, RegAnswer, RegKind, Slot, TABLE_LIMIT, Word,
+    Addr, BLOCK_WORDS, HEAP_START, Old, Refusal, RegAnswer, RegKind, Slot, TABLE_LIMIT, Word,
 };
 use fz_table::Table;
 
@@ -43,47 +43,21 @@ pub(crate) fn check_start(heap: &Heap, word: Word) -> Result<(), Refusal>
     Ok(())
 }
 
-/// Makes room for `more` entries, and as many picks. `NoMemory` where an allocation failed.
-fn reserve(ready: &mut Ready, picks: &mut Vec<Pick>, more: usize) -> Result<(), Refusal>
-    requires few { more ≤ TABLE_LIMIT }
-    ensures refused { IfErr result (λ r. r ≡ Refusal.NoMemory) }
-    ensures wanting { 0 < more → OnErr result ((ready.old.room < more) ⊎ (vec_capacity picks.old < vec_len picks.old + more)) }
-    ensures same { (ready.new.queue ≡ ready.old.queue) × (ready.new.held ≡ ready.old.held) }
-    ensures roomier { ready.old.room ≤ ready.new.room }
-    ensures items { picks.new.items ≡ picks.old.items }
-    ensures wider { vec_capacity picks.old ≤ vec_capacity picks.new }
-    ensures room { OnOk result (more ≤ ready.new.room) }
-    ensures pick_room { OnOk result (more ≤ vec_capacity picks.new) }
-{
-    ready.reserve(more)?;
-    picks.reserve(more)?;
-    Ok(())
-}
-
-/// Makes room for the entry and the pick of an object's registration, if the object isn't registered: so no pass needs memory. `NoMemory` where an
-/// allocation failed. The table is searched for the object only then.
-fn make_room(
-    table: &Table,
-    ready: &mut Ready,
-    picks: &mut Vec<Pick>,
-    object: Addr,
-) -> Result<(), Refusal>
+/// Makes room for the entry of an object's registration, if the object isn't registered: so no pass needs memory. `NoMemory` where an allocation
+/// failed. The table is searched for the object only then.
+fn make_room(table: &Table, ready: &mut Ready, object: Addr) -> Result<(), Refusal>
     requires free { IsFalse (full table.now.registrations object).0 }
     requires room { len table.now.registrations ≤ ready.old.room }
-    requires pick_room { len table.now.registrations ≤ vec_capacity picks.old }
     ensures refused { IfErr result (λ r. r ≡ Refusal.NoMemory) }
     ensures growth { IfErr result (λ r. IsNone (get table.now.registrations object)) }
-    ensures wanting { OnErr result ((ready.old.room ≤ len table.now.registrations) ⊎ (vec_capacity picks.old ≤ vec_len picks.old + len table.now.registrations)) }
+    ensures wanting { OnErr result (ready.old.room ≤ len table.now.registrations) }
     ensures same { (ready.new.queue ≡ ready.old.queue) × (ready.new.held ≡ ready.old.held) }
     ensures roomier { ready.old.room ≤ ready.new.room }
-    ensures items { picks.new.items ≡ picks.old.items }
-    ensures wider { vec_capacity picks.old ≤ vec_capacity picks.new }
     ensures room { OnOk result ((r : Registration) → len (insert table.now.registrations object r) ≤ ready.new.room) }
-    ensures pick_room { OnOk result ((r : Registration) → len (insert table.now.registrations object r) ≤ vec_capacity picks.new) }
 {
     // Where the table is full, the object is registered.
     let more = (table.len() + 1).min(TABLE_LIMIT as usize);
-    let Err(refusal) = reserve(ready, picks, more) else {
+    let Err(refusal) = ready.reserve(more) else {
         return Ok(());
     };
     if table.get(object).is_some() {
@@ -92,20 +66,18 @@ fn make_room(
     Err(refusal)
 }
 
-/// Registers an object, once there is room for its entry and its pick; returns the number and what was replaced. Refused as `Table::register` is; a
-/// refused call leaves no more than room behind.
+/// Registers an object, once there is room for its entry; returns the number and what was replaced. Refused as `Table::register` is; a refused call
+/// leaves no more than room behind.
 fn enroll(
     table: &mut Table,
     ready: &mut Ready,
-    picks: &mut Vec<Pick>,
     object: Addr,
     registration: (RegKind, u64, Word, u8),
 ) -> Result<(u64, Option<Old>), Refusal>
     requires room { len table.old.registrations ≤ ready.old.room }
-    requires pick_room { len table.old.registrations ≤ vec_capacity picks.old }
     ensures judged { IsJudgedOrLacks (register_causes table.old.registrations table.old.next_number object) result }
     ensures growth { IfErr result (λ r. r ≡ Refusal.NoMemory → IsNone (get table.old.registrations object)) }
-    ensures wanting { IfErr result (λ r. r ≡ Refusal.NoMemory → (table.old.room ≡ 0) ⊎ ((ready.old.room ≤ len table.old.registrations) ⊎ (vec_capacity picks.old ≤ vec_len picks.old + len table.old.registrations))) }
+    ensures wanting { IfErr result (λ r. r ≡ Refusal.NoMemory → (table.old.room ≡ 0) ⊎ (ready.old.room ≤ len table.old.registrations)) }
     ensures unchanged { OnErr result (table.new.registered ≡ table.old.registered) }
     ensures number { IfOk result (λ answer. answer.0 ≡ table.old.next_number) }
     ensures replaced { IfOk result (λ answer. answer.1 ≡ old_of table.old.registrations object) }
@@ -115,18 +87,15 @@ fn enroll(
     }) }
     ensures same { (ready.new.queue ≡ ready.old.queue) × (ready.new.held ≡ ready.old.held) }
     ensures roomier { ready.old.room ≤ ready.new.room }
-    ensures items { picks.new.items ≡ picks.old.items }
-    ensures wider { vec_capacity picks.old ≤ vec_capacity picks.new }
     ensures room { OnOk result (len table.new.registrations ≤ ready.new.room) }
-    ensures pick_room { OnOk result (len table.new.registrations ≤ vec_capacity picks.new) }
 {
     let (kind, proc, cd, rank) = registration;
     table.check(object)?;
-    make_room(table, ready, picks, object)?;
+    make_room(table, ready, object)?;
     table.register_checked(object, kind, proc, cd, rank)
 }
 
-#[tactic(auto, using(fz_model::proofs::Judged::judged_more, fz_model::proofs::Judged::judged_err, crate::proofs::Whole::world_room, crate::proofs::Whole::world_pick_room, crate::proofs::Whole::world_registered, crate::proofs::Whole::world_roomier, crate::proofs::Whole::world_removed, crate::proofs::Does::start_refused, crate::proofs::Does::does_refused, crate::proofs::Does::does_accepted))]
+#[tactic(auto, using(fz_model::proofs::Judged::judged_more, fz_model::proofs::Judged::judged_err, crate::proofs::Whole::world_room, crate::proofs::Whole::world_registered, crate::proofs::Whole::world_roomier, crate::proofs::Whole::world_removed, crate::proofs::Does::start_refused, crate::proofs::Does::does_refused, crate::proofs::Does::does_accepted))]
 impl World {
     /// Registers a finalizer of the object that starts at the slot's word, as `GC_register_finalizer` does, or by its kind the `_ignore_self`
     /// or `_no_order` one. A pass queues what is ready by rank, then address. A word that is zero or outside the heap is answered `Outside`, and
@@ -158,7 +127,6 @@ impl World {
         let (number, old) = enroll(
             &mut self.table,
             &mut self.ready,
-            &mut self.picks,
             word,
             (kind, proc, cd, rank),
         )?;

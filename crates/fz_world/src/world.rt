@@ -13,7 +13,7 @@ use fz_dirty::Dirty;
 use fz_heap::Heap;
 use fz_links::Links;
 use fz_marker::Marker;
-use fz_model::{MAX_FRAMES, Pick, Refusal};
+use fz_model::{MAX_FRAMES, Refusal};
 use fz_table::Table;
 use std::alloc::Global;
 use std::marker::Model;
@@ -41,8 +41,6 @@ pub struct World {
     pub(crate) ready: Ready,
     pub(crate) marker: Marker,
     pub(crate) dirty: Dirty,
-    /// What a pass picks, before it is queued: empty between calls, with room for all that are registered.
-    pub(crate) picks: Vec<Pick>,
     pub(crate) passes: u64,
     pub(crate) closed: bool,
     pub(crate) cycle: bool,
@@ -60,7 +58,6 @@ impl Drop for World {
             ready: _,
             marker: _,
             dirty: _,
-            picks: _,
             passes: _,
             closed: _,
             cycle: _,
@@ -69,7 +66,6 @@ impl Drop for World {
 }
 
 impl Model for World {
-    ghost use Rattle.std.specs.Prelude.{vec_capacity};
     ghost use Rattle.fz_world.specs.World.{WorldView, world_code, core_of, view_of, IsWorld, HasNumber};
 
     ghost Value = { WorldView };
@@ -78,7 +74,7 @@ impl Model for World {
 
     ghost view = { λ w. view_of (core_of w.heap w.frames w.table.registered w.short w.long w.ready w.passes w.closed w.cycle) w.marker w.dirty };
 
-    ghost invariant = { λ w. IsWorld w.heap w.table.registered w.ready w.marker w.dirty (vec_capacity w.picks) w.picks.items w.cycle × HasNumber w.passes w.cycle };
+    ghost invariant = { λ w. IsWorld w.heap w.table.registered w.ready w.marker w.dirty w.cycle × HasNumber w.passes w.cycle };
 }
 
 /// The marker and the pages of a heap.
@@ -119,7 +115,6 @@ impl World {
             ready,
             marker,
             dirty,
-            picks: Vec::new(alloc),
             passes: 0,
             closed: false,
             cycle: false,

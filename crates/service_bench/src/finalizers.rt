@@ -14,7 +14,11 @@ pub(crate) enum Procedure {
 #[derive(Drop)]
 pub(crate) struct Nothing;
 
-impl Proc for Nothing {}
+impl Proc for Nothing {
+    fn has_work(&self) -> bool {
+        false
+    }
+}
 
 /// How often a busy procedure turns its word: for about 2 microseconds at 3 GHz, since a turn is six instructions that wait for each other.
 const TURNS: u64 = 1_000;

@@ -145,11 +145,17 @@ fn thousands_are_sent_at_once(rt: HostRuntime) {
     sends_thousands::<Brand, HostRuntime>(&rt, prepared);
 }
 
-/// A procedure that collects.
+/// A procedure that collects, and may have work to do before that.
 #[derive(Drop)]
-struct Collects;
+struct Collects {
+    has_work: bool,
+}
 
 impl Proc for Collects {
+    fn has_work(&self) -> bool {
+        self.has_work
+    }
+
     #[tactic(auto, using(fz_service::proofs::Running::runs_calls))]
     fn run(&mut self, _entry: &Entry, world: &mut World) {
         let _ = world.collect();
@@ -178,12 +184,15 @@ fn takes_what_was_collected<O: Opening, R: Abort + Wait>(
     let _ = ended(rt, service, seats);
 }
 
+/// In one hold of the lock with the others, and in a hold of its own.
 #[test]
 fn a_seat_takes_what_its_procedure_collected(rt: HostRuntime) -> Result<(), Fail> {
-    let mut procs: Vec<Box<dyn Proc + Send>> = Vec::new(rt.alloc());
-    procs.push(Box::new(rt.alloc(), Collects)?)?;
-    let prepared = prepared_with(&rt, rt.alloc(), 80, 1);
-    takes_what_was_collected::<Brand, HostRuntime>(&rt, prepared, procs.as_mut_slice());
+    for has_work in [false, true] {
+        let mut procs: Vec<Box<dyn Proc + Send>> = Vec::new(rt.alloc());
+        procs.push(Box::new(rt.alloc(), Collects { has_work })?)?;
+        let prepared = prepared_with(&rt, rt.alloc(), 80, 1);
+        takes_what_was_collected::<Brand, HostRuntime>(&rt, prepared, procs.as_mut_slice());
+    }
     Ok(())
 }
 

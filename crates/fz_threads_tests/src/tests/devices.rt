@@ -1,6 +1,6 @@
 //! Readers and writers that fail, and such as take a byte at a time.
 
-use super::files::{FOUR_MUTATORS, KEPT_OBJECT, NINE_FRAMES, NO_OPENING};
+use super::files::{FOUR_MUTATORS, KEPT_OBJECT, NO_FRAMES, NO_OPENING};
 use super::wanted::{ends, prints_and_ends, runs_row, runs_rows};
 use super::{Row, fault, run_within};
 use fz_devices::{Limits, WHOLE, bytewise};
@@ -41,7 +41,7 @@ fn reading_stops_at_a_malformed_line(rt: HostRuntime) -> Result<(), Fail> {
 }
 
 /// A summary, a malformed line and a refused opening.
-const WRITTEN: [Row; 3] = [KEPT_OBJECT, NO_OPENING, NINE_FRAMES];
+const WRITTEN: [Row; 3] = [KEPT_OBJECT, NO_OPENING, NO_FRAMES];
 
 /// Each write fails in turn, and what was written is a beginning of what was due.
 #[test]

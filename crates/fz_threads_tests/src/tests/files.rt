@@ -224,33 +224,23 @@ pub(crate) const LONG_CHURN: Row = Row {
     fault: None,
 };
 
-/// Seven mutators register 70,000 objects at one time, which is 4,464 too many. Those are reclaimed by the pass that queues the others.
-pub(crate) const FULL_TABLE: Row = Row {
-    file: b"open 4096 8 8\n\
-      settle 1\n\
-      mutator\n\
-      churn 10000 0 0 1 scanned normal 0\n\
-      mutator\n\
-      churn 10000 1 0 1 scanned normal 0\n\
-      mutator\n\
-      churn 10000 2 0 1 scanned normal 0\n\
-      mutator\n\
-      churn 10000 3 0 1 scanned normal 0\n\
-      mutator\n\
-      churn 10000 4 0 1 scanned normal 0\n\
-      mutator\n\
-      churn 10000 5 0 1 scanned normal 0\n\
-      mutator\n\
-      churn 10000 6 0 1 scanned normal 0\n",
-    text: b"enqueued 65536\n\
-      finished 65536\n\
-      forfeited 0\n\
-      left 0\n\
-      passes 1\n\
-      reclaimed 4464\n\
-      refused 4464\n",
-    fault: None,
-};
+/// Seven mutators register 70,000 objects at one time.
+pub(crate) const SEVEN_CHURNS: &[u8] = b"open 4096 8 8\n\
+  settle 1\n\
+  mutator\n\
+  churn 10000 0 0 1 scanned normal 0\n\
+  mutator\n\
+  churn 10000 1 0 1 scanned normal 0\n\
+  mutator\n\
+  churn 10000 2 0 1 scanned normal 0\n\
+  mutator\n\
+  churn 10000 3 0 1 scanned normal 0\n\
+  mutator\n\
+  churn 10000 4 0 1 scanned normal 0\n\
+  mutator\n\
+  churn 10000 5 0 1 scanned normal 0\n\
+  mutator\n\
+  churn 10000 6 0 1 scanned normal 0\n";
 
 /// A file that begins without an opening.
 pub(crate) const NO_OPENING: Row = Row {
@@ -263,10 +253,10 @@ pub(crate) const NO_OPENING: Row = Row {
     }),
 };
 
-/// An opening with a frame too many, after a comment.
-pub(crate) const NINE_FRAMES: Row = Row {
-    file: b"# nine frames\n\
-      open 4 9 1\n\
+/// An opening without frames, after a comment.
+pub(crate) const NO_FRAMES: Row = Row {
+    file: b"# no frames\n\
+      open 4 0 1\n\
       settle 1\n",
     text: b"refused 7 BadCount\n",
     fault: Some(DriveFault {

@@ -1,19 +1,39 @@
 //! Files and runs at their limits.
 
-use super::files::{FULL_HEAP, FULL_TABLE, LONG_CHURN};
+use super::files::{FULL_HEAP, LONG_CHURN, SEVEN_CHURNS};
 use super::wanted::{ends, prints_and_ends, runs_rows};
 use super::{Row, fault, joined, run};
 use fz_devices::WHOLE;
-use fz_model::Refusal;
+use fz_model::{Refusal, TABLE_LIMIT};
 use std::alloc::{AllocError, Global};
 use std::test::Fail;
 
-/// Runs that fill a heap, a table, and a line's count.
-const LIMITS: [Row; 3] = [FULL_HEAP, LONG_CHURN, FULL_TABLE];
+/// Runs that fill a heap, and a line's count.
+const LIMITS: [Row; 2] = [FULL_HEAP, LONG_CHURN];
 
 #[test]
 fn the_limits_are_summarized(rt: HostRuntime) -> Result<(), Fail> {
     runs_rows(&rt, &LIMITS, WHOLE)?;
+    Ok(())
+}
+
+/// Objects for which the table has no room are refused, and reclaimed by the pass that queues the others.
+#[test]
+fn a_full_table_refuses_the_others(rt: HostRuntime) -> Result<(), Fail> {
+    let outcome = run(&rt, SEVEN_CHURNS)?;
+    let queued = TABLE_LIMIT.min(70_000);
+    let refused = 70_000 - queued;
+    let text = format!(in rt.alloc();
+        "enqueued {queued}\nfinished {queued}\nforfeited 0\nleft 0\npasses 1\nreclaimed {refused}\nrefused {refused}\n"
+    )?;
+    prints_and_ends(
+        &rt,
+        "objects",
+        70_000,
+        &outcome,
+        text.as_str().as_bytes(),
+        Ok(()),
+    );
     Ok(())
 }
 

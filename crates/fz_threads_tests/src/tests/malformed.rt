@@ -2,7 +2,7 @@
 
 use super::wanted::prints_and_ends;
 use super::{fault, joined, run};
-use fz_model::Refusal;
+use fz_model::{MAX_BLOCKS, MAX_FRAMES, MAX_WORKERS, Refusal};
 use std::alloc::AllocError;
 use std::process::Abort;
 use std::sync::Wait;
@@ -82,7 +82,7 @@ const FILES: [(&[u8], u64); 28] = [
     (b"open 4 1 1\nsettle\n", 2),
     // a malformed line is told where the opening is outside its limits, too
     (b"open 0 1 1\nsettle 1\nmutator \n", 3),
-    (b"open 4097 1 1\n", 2),
+    (b"open 0 1 1\n", 2),
     // line ends
     (b"open 4 1 1\r\nsettle 1\n", 1),
     (b"# \r\nopen 4 1 1\nsettle 1\r\n", 3),
@@ -196,15 +196,11 @@ fn too_many_sections(rt: HostRuntime) -> Result<(), Fail> {
 }
 
 /// Openings outside the limits, each in the line after a number of others.
-const REFUSED: [(&[u8], u64); 10] = [
-    (b"open 4097 1 1\nsettle 1\n", 1),
+const REFUSED: [(&[u8], u64); 6] = [
     (b"open 4 0 1\nsettle 1\n", 1),
-    (b"open 4 9 1\nsettle 1\n", 1),
     (b"open 4 1 0\nsettle 1\n", 1),
-    (b"open 4 1 9\nsettle 1\n", 1),
     (b"open 0 1 1\nsettle 0", 1),
     (b"open 18446744073709551615 1 1\nsettle 100", 1),
-    (b"# a comment\nopen 4097 9 9\n\nsettle 1\n", 2),
     (
         b"\n# two comments\n#\nopen 4 0 1\nsettle 1\nmutator\nset 0 0 0\n",
         4,
@@ -215,13 +211,40 @@ const REFUSED: [(&[u8], u64); 10] = [
     ),
 ];
 
+/// Openings of one more than each limit.
+const TOO_MANY: [(u64, u64, u64); 4] = [
+    (MAX_BLOCKS + 1, 1, 1),
+    (4, MAX_FRAMES + 1, 1),
+    (4, 1, MAX_WORKERS + 1),
+    (MAX_BLOCKS + 1, MAX_FRAMES + 1, MAX_WORKERS + 1),
+];
+
+/// Runs the threads file: that its opening is refused in this line is all that comes of it. The place tells which file of a test it is.
+fn is_outside<R: AllocGlobal + Abort + Threads + Wait + Sync>(
+    rt: &R,
+    place: usize,
+    file: &[u8],
+    line: u64,
+) -> Result<(), AllocError> {
+    let outcome = run(rt, file)?;
+    let text = b"refused 7 BadCount\n";
+    let refused = fault(Refusal::BadCount, line);
+    prints_and_ends(rt, "file", place as u64, &outcome, text, refused);
+    Ok(())
+}
+
 #[test]
 fn openings_outside_the_limits(rt: HostRuntime) -> Result<(), Fail> {
     for (place, (file, line)) in REFUSED.iter().enumerate() {
-        let outcome = run(&rt, *file)?;
-        let text = b"refused 7 BadCount\n";
-        let refused = fault(Refusal::BadCount, *line);
-        prints_and_ends(&rt, "file", place as u64, &outcome, text, refused);
+        is_outside(&rt, place, *file, *line)?;
+    }
+    for (place, (blocks, frames, workers)) in TOO_MANY.iter().enumerate() {
+        let file = format!(in rt.alloc(); "open {blocks} {frames} {workers}\nsettle 1\n")?;
+        is_outside(&rt, place, file.as_str().as_bytes(), 1)?;
+        let file = format!(in rt.alloc();
+            "# a comment\nopen {blocks} {frames} {workers}\n\nsettle 1\n"
+        )?;
+        is_outside(&rt, place, file.as_str().as_bytes(), 2)?;
     }
     Ok(())
 }

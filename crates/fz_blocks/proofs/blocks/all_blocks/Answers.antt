@@ -2,7 +2,7 @@ use Rattle.std.proofs.Common.{◌∙◌, ap, sym, cond, true, nat_eq, arith}
 use Rattle.std.proofs.lemmas.Bool.{le-ltb}
 use Rattle.std.specs.Ordering.{nat_cmp}
 use Rattle.std.specs.FinSet.{contains, contains-empty}
-use Rattle.fz_blocks.specs.BlockSets.{Roomed}
+use Rattle.fz_dirty.specs.Flags.{Flagged}
 use Rattle.fz_model.proofs.Sets.{contains-inserted}
 use Rattle.fz_blocks.proofs.Opening.{one_more}
 use Rattle.fz_blocks.proofs.blocks.all_blocks.Goals as goal
@@ -16,10 +16,10 @@ insert-requires c = let wide = c.loop-block.invariant.0 in let lt = c.loop-block
 pub loop-block-preserved : goal.loop-block-preserved
 loop-block-preserved c =
     let wide = c.loop-block.invariant.0 in
-    let room = ap (λ (s : Roomed). s.room) c.insert.ensures in (
+    let room = ap (λ (s : Flagged). s.size) c.insert.ensures in (
       omega (arith, wide, room),
       λ b.
-          ap (λ (s : Roomed). contains s.members b) c.insert.ensures
+          ap (λ (s : Flagged). contains s.members b) c.insert.ensures
           ∙ contains-inserted c.loop-block.all.members c.loop-block.block b
           ∙ ap (cond (nat_eq b c.loop-block.block) true) (c.loop-block.invariant.1 b)
           ∙ one_more b c.loop-block.block,

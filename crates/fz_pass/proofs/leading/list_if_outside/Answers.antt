@@ -1,4 +1,4 @@
-use Rattle.std.proofs.Common.{◌≡◌, ◌∙◌, ◌||◌, ◌&&◌, ℕ, Bool, true, false, nat_eq, refl, sym, ap, subst, IsTrue}
+use Rattle.std.proofs.Common.{◌≡◌, ◌∙◌, ◌||◌, ◌&&◌, Bool, true, false, nat_eq, refl, sym, ap, subst}
 use Rattle.std.specs.FinSet.{contains, insert}
 use Rattle.fz_dirty.specs.Flags.{Flagged}
 use Rattle.fz_model.proofs.Sets.{has_inserted}

@@ -1,9 +1,9 @@
 -- The parts of the pass fit together.
-use Rattle.std.proofs.Common.{◌≡◌, ◌||◌, ◌∙◌, ℕ, sym, ap, subst, arith}
+use Rattle.std.proofs.Common.{◌≡◌, ◌||◌, ◌∙◌, ◌++◌, [], ℕ, length, sym, ap, subst, arith}
 use Rattle.std.specs.FinSet as sets
 use Rattle.std.specs.FinSet.{contains}
 use Rattle.std.specs.FinMap.{retain_keys}
-use Rattle.fz_model.specs.Pass.{is_outside, links_within}
+use Rattle.fz_model.specs.Pass.{is_outside, links_within, entries_of}
 use Rattle.fz_heap.specs.Contents.{Contents}
 use Rattle.fz_dirty.specs.Flags.{Set, Flagged}
 use Rattle.fz_marker.specs.Marking.{Marking, IsClosed}
@@ -31,9 +31,10 @@ returns-clause-decided c =
     let heap1 = c.clear_dead.new.heap in
     let heap2 = c.clear_dead-2.new.heap in
     let table0 = c.args.table.now.registered in
-    let table1 = c.pick_free.new.table.registered in
-    let out0 = c.args.out.now.items in
-    let out1 = c.pick_free.new.out.items in
+    let table1 = c.queue_free.new.table.registered in
+    let queue = c.args.queue.now.items in
+    let queued = c.queue_free.ensures.queued in
+    let gained = queued.0 in
     let short = c.args.short.now.links in
     let long = c.args.long.now.links in
     let first = cleared_by heap0 heap1 short c.found.result.now.members m0.marked (ap (λ (f : Flagged). f.members) c.found.ensures) c.clear_dead.ensures in
@@ -42,15 +43,16 @@ returns-clause-decided c =
     λ a. c.list_unreachable.ensures.listed a ∙ ap (λ (m : Marking). is_unreachable heap1.objects table0.registrations (contains m.marked) a) c.trace_found.ensures in
     let marked : m3.marked ≡ m0.marked =
     ap (λ (m : Marking). m.marked) c.trace_listed.ensures.same ∙ ap (λ (m : Marking). m.marked) c.list_unreachable.ensures.led.same ∙ ap (λ (m : Marking). m.marked) c.trace_found.ensures in
-    let picks = subst (λ (s : Set). Picks heap1.objects (is_free s m2.traced) table0 table1 out0 out1) (ap (λ (f : Flagged). f.members) c.listed.ensures.listed)
-    (subst (λ (s : Set). Picks heap1.objects (is_free c.listed.result.now.members s) table0 table1 out0 out1) (ap (λ (f : Flagged). f.members) c.kept.ensures) c.pick_free.ensures.picks) in
+    let picks = subst (λ (s : Set). Picks heap1.objects (is_free s m2.traced) table0 table1 [] gained) (ap (λ (f : Flagged). f.members) c.listed.ensures.listed)
+    (subst (λ (s : Set). Picks heap1.objects (is_free c.listed.result.now.members s) table0 table1 [] gained) (ap (λ (f : Flagged). f.members) c.kept.ensures) queued.2) in
     let second = cleared_by heap1 heap2 long c.kept-kept.result.now.members m3.traced (ap (λ (f : Flagged). f.members) c.kept-kept.ensures) c.clear_dead-2.ensures in
     let found : c.found-found.result.now.members ≡ m0.marked = ap (λ (f : Flagged). f.members) c.found-found.ensures ∙ marked in
     let kept : c.kept-kept.result.now.members ≡ m3.traced = ap (λ (f : Flagged). f.members) c.kept-kept.ensures in
-    decided heap0 heap1 heap2 c.condemn_outside.new.heap m0 m1 m2 m3 table0 table1 c.args.short.now c.args.long.now c.keep_within.new.links c.keep_within-2.new.links m1.listed out0 out1 first begun listed c.list_unreachable.ensures.led picks c.trace_listed.ensures second
+    let done = decided heap0 heap1 heap2 c.condemn_outside.new.heap m0 m1 m2 m3 table0 table1 c.args.short.now c.args.long.now c.keep_within.new.links c.keep_within-2.new.links m1.listed [] gained first begun listed c.list_unreachable.ensures.led picks c.trace_listed.ensures second
     (c.keep_within.ensures ∙ (λ i. links_within heap2.objects short (contains (found i)) (contains (kept i))))
     (c.keep_within-2.ensures ∙ (λ i. links_within heap2.objects long (contains (kept i)) (contains (kept i))))
-    (c.condemn_outside.ensures.objects ∙ ap (λ (f : Flagged). retain_keys heap2.objects (contains f.members)) c.kept-kept.ensures)
+    (c.condemn_outside.ensures.objects ∙ ap (λ (f : Flagged). retain_keys heap2.objects (contains f.members)) c.kept-kept.ensures) in
+    (done.0, queued.1 ∙ ap (λ ps. queue ++ entries_of c.args.pass (length queue) ps) done.1, done.2)
 
 pub returns-clause-condemned : goal.returns-clause-condemned
 returns-clause-condemned c =

@@ -1,4 +1,4 @@
-use Rattle.std.proofs.Common.{◌≡◌, ◌≤◌, ◌∙◌, sym, ap, arith}
+use Rattle.std.proofs.Common.{sym, arith}
 use Rattle.fz_world.proofs.Whole.{room_kept}
 use Rattle.fz_world.proofs.Room.{enough}
 use Rattle.fz_world.proofs.registrations.make_room.Goals as goal
@@ -7,12 +7,5 @@ pub returns-in_default-clause-room : goal.returns-in_default-clause-room
 returns-in_default-clause-room c =
     enough c.args.table.now.registrations c.args.object c.min-more.result c.requires.free (let few = c.len.ensures.limit in let count = c.len.ensures.count in omega (arith, few, count)) (let is = c.min-more.ensures in let count = c.len.ensures.count in omega (arith, is, count)) _ c.in_default.ensures.room
 
-pub returns-in_default-clause-pick_room : goal.returns-in_default-clause-pick_room
-returns-in_default-clause-pick_room c =
-    enough c.args.table.now.registrations c.args.object c.min-more.result c.requires.free (let few = c.len.ensures.limit in let count = c.len.ensures.count in omega (arith, few, count)) (let is = c.min-more.ensures in let count = c.len.ensures.count in omega (arith, is, count)) _ c.in_default.ensures.pick_room
-
 pub returns-then-is_some-clause-room : goal.returns-then-is_some-clause-room
-returns-then-is_some-clause-room c = room_kept c.args.table.now.registrations c.args.object _ (sym c.get.ensures) c.is_some.ensures c.if-is_some.true (let more = c.reserve.ensures.roomier in let room = c.requires.room in omega (arith, more, room))
-
-pub returns-then-is_some-clause-pick_room : goal.returns-then-is_some-clause-pick_room
-returns-then-is_some-clause-pick_room c = room_kept c.args.table.now.registrations c.args.object _ (sym c.get.ensures) c.is_some.ensures c.if-is_some.true (let more = c.reserve.ensures.wider in let room = c.requires.pick_room in omega (arith, more, room))
+returns-then-is_some-clause-room c = room_kept c.args.table.now.registrations c.args.object _ (sym c.get.ensures) c.is_some.ensures c.if-is_some.true (let more = c.reserve.ensures.kept in let room = c.requires.room in omega (arith, more, room))

@@ -4,7 +4,8 @@ use Rattle.std.proofs.lemmas.List.{get_or_read}
 use Rattle.fz_model.specs.declared.kinds.ObjKind.{ObjKind}
 use Rattle.fz_model.specs.declared.kinds.ObjKind.TheVariants.{Scanned, Atomic}
 use Rattle.fz_blocks.specs.declared.block.Block.{Block}
-use Rattle.fz_blocks.specs.BlockSets.{Roomed, no_room, members_at, IsLeast}
+use Rattle.fz_blocks.specs.BlockSets.{no_room, members_at, IsLeast}
+use Rattle.fz_dirty.specs.Flags.{Flagged}
 use Rattle.fz_blocks.specs.Classes.{class_of}
 use Rattle.fz_blocks.specs.Layout.{has_room}
 use Rattle.fz_blocks.specs.Listed.{IsFirst}
@@ -25,4 +26,4 @@ returns c =
     subst (λ (bs : List Block). MatchOption c.first.result (c.args.size ≤ 64 → (b : ℕ) (block : Block) → slice_get bs b ≡ Some block → has_room (class_of c.args.size c.args.kind) block ≡ false) (λ b. (c.args.size ≤ 64) × IsFirst (has_room (class_of c.args.size c.args.kind)) bs b)) c.self.view_is
     (small_found c.self.inside.blocks.items (has_room (class_of c.args.size c.args.kind)) c.args.size small c.first.result
     (first_found c.self.inside.blocks.items (members_at c.self.inside.rooms.items (class_of c.args.size c.args.kind)) (has_room (class_of c.args.size c.args.kind)) (λ b. c.self.invariant.0.rooms_are (class_of c.args.size c.args.kind) b lt) c.first.result
-    (subst (λ (s : Roomed). MatchOption c.first.result (s.members ≡ empty) (λ b. IsLeast s.members b)) read c.first.ensures)))
+    (subst (λ (s : Flagged). MatchOption c.first.result (s.members ≡ empty) (λ b. IsLeast s.members b)) read c.first.ensures)))

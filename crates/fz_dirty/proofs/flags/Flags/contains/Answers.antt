@@ -1,4 +1,4 @@
-use Rattle.std.proofs.Common.{◌≡◌, ◌+◌, ◌*◌, ◌/◌, ◌%◌, ◌∙◌, sym, ap, arith, false, true, slice_index}
+use Rattle.std.proofs.Common.{◌≡◌, ◌+◌, ◌*◌, ◌/◌, ◌%◌, ◌∙◌, sym, ap, arith, slice_index}
 use Rattle.std.specs.FinSet.{contains}
 use Rattle.fz_dirty.specs.Flags.{Flagged, flagged}
 use Rattle.std.proofs.lemmas.Bool.{lt-leb}

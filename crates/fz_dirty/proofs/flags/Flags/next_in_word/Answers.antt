@@ -1,4 +1,4 @@
-use Rattle.std.proofs.Common.{◌-◌, ◌/◌, arith, true}
+use Rattle.std.proofs.Common.{◌-◌, ◌/◌, arith}
 use Rattle.fz_dirty.proofs.Words.{rest_none, rest_found, found_room}
 use Rattle.fz_dirty.proofs.flags.Flags.next_in_word.Goals as goal
 

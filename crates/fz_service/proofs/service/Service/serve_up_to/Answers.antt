@@ -2,12 +2,12 @@ use Rattle.std.proofs.Common.{arith}
 use Rattle.fz_service.proofs.Serving.{same_seat, served, counted, one_more}
 use Rattle.fz_service.proofs.service.Service.serve_up_to.Goals as goal
 
-pub loop-turn-init : goal.loop-turn-init
-loop-turn-init g c = record { seat = same_seat c.args.seat; count = omega arith; few = omega arith; taken = omega arith }
+pub loop-number-init : goal.loop-number-init
+loop-number-init g c = record { seat = same_seat c.args.seat; count = omega arith; few = omega arith; taken = omega arith }
 
-pub loop-turn-preserved : goal.loop-turn-preserved
-loop-turn-preserved g c =
-    let i = c.loop-turn.invariant in
+pub loop-number-preserved : goal.loop-number-preserved
+loop-number-preserved g c =
+    let i = c.loop-number.invariant in
     let turned = rw c.in-Served.is at c.turn-same.ensures in
     let more = counted _ _ turned.0 _ turned.1 turned.2 in
     let count = more.0 in
@@ -25,7 +25,7 @@ loop-turn-preserved g c =
 
 pub returns-clause-used : goal.returns-clause-used
 returns-clause-used g c =
-    let took = c.loop-turn.invariant.taken in
-    let past = c.loop-turn-test.false in
-    let within = c.loop-turn.auto._turn-end in
+    let took = c.loop-number.invariant.taken in
+    let past = c.loop-number-test.false in
+    let within = c.loop-number.auto.number-end in
     omega (arith, took, past, within)

@@ -1,8 +1,5 @@
-use Rattle.std.proofs.Common.{◌≡◌, [], true≢false, sym, ap, ◌∙◌, subst, List}
-use Rattle.std.specs.FinSet.{contains, empty, contains-empty}
-use Rattle.fz_dirty.specs.Flags.{Flagged, Set}
-use Rattle.fz_model.specs.declared.answers.Entry.{Entry}
-use Rattle.fz_world.specs.Ready.{IsReady}
+use Rattle.std.proofs.Common.{ap}
+use Rattle.fz_dirty.specs.Flags.{Flagged}
 use Rattle.fz_world.proofs.Queues.{ready_empty}
 use Rattle.fz_world.proofs.ready.Ready.new.Goals as goal
 

@@ -1,4 +1,4 @@
-use Rattle.std.proofs.Common.{◌≡◌, ◌<◌, ℕ, Contains, sym, ap, ◌∙◌, subst, List, length, arith}
+use Rattle.std.proofs.Common.{◌<◌, Contains, ap, subst, length, arith}
 use Rattle.fz_model.specs.declared.answers.Entry.{Entry}
 use Rattle.fz_world.specs.Ready.{Ready, IsNextHeld}
 use Rattle.fz_world.proofs.Queues.{none_left, next_is, number_at, read_at}

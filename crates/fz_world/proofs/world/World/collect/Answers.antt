@@ -1,4 +1,4 @@
-use Rattle.std.proofs.Common.{◌≡◌, ℕ, Bool, false, refl, sym, ap, ◌∙◌, subst, arith, IsTrue, true≢false, vec_capacity, nat_cmp}
+use Rattle.std.proofs.Common.{◌≡◌, ℕ, Bool, false, refl, sym, ap, ◌∙◌, subst, arith, IsTrue, true≢false, nat_cmp}
 use Rattle.std.specs.FinMap.{len}
 use Rattle.std.specs.FinSet.{contains, contains-empty}
 use Rattle.fz_model.specs.State.{Core}
@@ -20,16 +20,16 @@ still_idle : (k : Core) → k.cycle ≡ false → record k { cycle = false } ≡
 still_idle k off = ap (λ b. record k { cycle = b }) (sym off)
 
 pub finish-requires-clause-size : goal.finish-requires-clause-size
-finish-requires-clause-size c = world_size _ _ _ _ _ _ _ _ c.self.invariant.0
+finish-requires-clause-size c = world_size _ _ _ _ _ _ c.self.invariant.0
 
 pub finish-requires-clause-pages : goal.finish-requires-clause-pages
-finish-requires-clause-pages c = world_pages _ _ _ _ _ _ _ _ c.self.invariant.0
+finish-requires-clause-pages c = world_pages _ _ _ _ _ _ c.self.invariant.0
 
 pub invariant_of-self : goal.invariant_of-self
 invariant_of-self c =
     let w = c.self.inside in
     let off : w.cycle ≡ false = ap (λ (v : WorldView). v.core.cycle) c.self.view_is ∙ ap (λ (k : Core). k.cycle) c.mark_anew.ensures.core in (
-      subst (λ (b : Bool). IsWorld w.heap w.table.registered w.ready c.finish.new.self w.dirty (vec_capacity w.picks) w.picks.items b) (sym off) (world_remarked _ _ _ _ _ _ _ _ w.heap.condemned c.finish.new.self w.dirty c.finish.ensures.size refl c.self.invariant.0),
+      subst (λ (b : Bool). IsWorld w.heap w.table.registered w.ready c.finish.new.self w.dirty b) (sym off) (world_remarked _ _ _ _ _ _ w.heap.condemned c.finish.new.self w.dirty c.finish.ensures.size refl c.self.invariant.0),
       c.self.invariant.1,
     )
 

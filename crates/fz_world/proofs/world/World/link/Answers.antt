@@ -1,10 +1,8 @@
-use Rattle.std.proofs.Common.{◌≡◌, ℕ, Some, sym, ap, ◌∙◌, subst, inl, rules}
-use Rattle.fz_model.specs.State.{Core}
+use Rattle.std.proofs.Common.{◌≡◌, Some}
 use Rattle.fz_model.specs.Causes.{first_cause}
 use Rattle.fz_model.specs.declared.call.Call.TheVariants.{Link}
 use Rattle.fz_model.specs.Places.{slot_at, place_at}
 use Rattle.fz_model.specs.Events.{Make, causes}
-use Rattle.fz_world.specs.World.{WorldView}
 use Rattle.fz_world.proofs.Inside.{core_inside}
 use Rattle.fz_world.proofs.Does.{hands_on, link_refused}
 use Rattle.fz_world.proofs.world.World.link.Goals as goal

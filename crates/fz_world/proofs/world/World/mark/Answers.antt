@@ -12,15 +12,15 @@ use Rattle.fz_world.proofs.Whole.{world_size, world_unfinished, world_stepped}
 use Rattle.fz_world.proofs.world.World.mark.Goals as goal
 
 pub step-requires-clause-size : goal.step-requires-clause-size
-step-requires-clause-size c = world_size _ _ _ _ _ _ _ _ c.self.invariant.0
+step-requires-clause-size c = world_size _ _ _ _ _ _ c.self.invariant.0
 
 pub step-requires-clause-unfinished : goal.step-requires-clause-unfinished
 step-requires-clause-unfinished c =
     let on : c.self.inside.cycle ≡ true = search rules in
-    world_unfinished _ _ _ _ _ _ _ _ c.self.invariant.0 on
+    world_unfinished _ _ _ _ _ _ c.self.invariant.0 on
 
 pub invariant_of-self : goal.invariant_of-self
-invariant_of-self c = (world_stepped _ _ _ _ _ _ _ _ c.step.new.self c.step.ensures.same.0 c.step.ensures.kept c.step.ensures.closed c.step.ensures.still c.step.ensures.each_once c.self.invariant.0, c.self.invariant.1)
+invariant_of-self c = (world_stepped _ _ _ _ _ _ c.step.new.self c.step.ensures.same.0 c.step.ensures.kept c.step.ensures.closed c.step.ensures.still c.step.ensures.each_once c.self.invariant.0, c.self.invariant.1)
 
 pub returns-clause-step : goal.returns-clause-step
 returns-clause-step c =

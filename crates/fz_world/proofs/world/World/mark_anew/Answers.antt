@@ -1,4 +1,4 @@
-use Rattle.std.proofs.Common.{◌≡◌, ◌↔◌, ◌+◌, ◌*◌, ◌<◌, sym, ap, ◌∙◌, subst, IsTrue, All, vec_capacity}
+use Rattle.std.proofs.Common.{◌≡◌, ◌↔◌, ◌+◌, ◌*◌, ◌<◌, sym, ap, ◌∙◌, subst, IsTrue, All}
 use Rattle.std.specs.FinMap.{contains_key}
 use Rattle.std.specs.FinSet.{contains, empty}
 use Rattle.fz_model.specs.declared.answers.Entry.{Entry}
@@ -16,15 +16,15 @@ use Rattle.fz_world.proofs.world.World.mark_anew.Goals as goal
 
 pub mark_roots-requires-clause-size : goal.mark_roots-requires-clause-size
 mark_roots-requires-clause-size c =
-    ap (λ (m : Marking). m.size) c.begin.ensures ∙ world_size _ _ _ _ _ _ _ _ c.self.invariant.0 ∙ ap (λ (h : Contents). BLOCK_WORDS * h.blocks) (sym c.sweep_all.ensures)
+    ap (λ (m : Marking). m.size) c.begin.ensures ∙ world_size _ _ _ _ _ _ c.self.invariant.0 ∙ ap (λ (h : Contents). BLOCK_WORDS * h.blocks) (sym c.sweep_all.ensures)
 
 pub mark_roots-requires-clause-registered : goal.mark_roots-requires-clause-registered
 mark_roots-requires-clause-registered c a t =
-    subst (λ (h : Contents). IsTrue (contains_key h.objects a)) (sym c.sweep_all.ensures) (registered_here (core_inside c.self.inside) (world_sound _ _ _ _ _ _ _ _ c.self.invariant.0) a t)
+    subst (λ (h : Contents). IsTrue (contains_key h.objects a)) (sym c.sweep_all.ensures) (registered_here (core_inside c.self.inside) (world_sound _ _ _ _ _ _ c.self.invariant.0) a t)
 
 pub mark_roots-requires-clause-held : goal.mark_roots-requires-clause-held
 mark_roots-requires-clause-held c =
-    subst (λ (h : Contents). All (λ (e : Entry). IsTrue (contains_key h.objects e.obj)) c.self.inside.ready.held) (sym c.sweep_all.ensures) (held_here (core_inside c.self.inside) (world_sound _ _ _ _ _ _ _ _ c.self.invariant.0))
+    subst (λ (h : Contents). All (λ (e : Entry). IsTrue (contains_key h.objects e.obj)) c.self.inside.ready.held) (sym c.sweep_all.ensures) (held_here (core_inside c.self.inside) (world_sound _ _ _ _ _ _ c.self.invariant.0))
 
 pub mark_roots-requires-clause-swept : goal.mark_roots-requires-clause-swept
 mark_roots-requires-clause-swept c = ap (λ (h : Contents). h.condemned) c.sweep_all.ensures
@@ -36,8 +36,8 @@ invariant_of-self c =
     let pages = ap (λ (p : Pages). p.pages) c.take_all.ensures in
     let scanned = ap (λ (m : Marking). m.scanned) c.mark_roots.ensures.same ∙ ap (λ (m : Marking). m.scanned) c.begin.ensures in
     let scans = ap (λ (m : Marking). m.scans) c.mark_roots.ensures.same ∙ ap (λ (m : Marking). m.scans) c.begin.ensures in (
-      subst (λ (h : Contents). IsWorld h w.table.registered w.ready c.mark_roots.new.marker c.take_all.new.self (vec_capacity w.picks) w.picks.items c.args.opens) (sym c.sweep_all.ensures)
-          (world_anew _ _ _ _ _ _ _ _ c.mark_roots.new.marker c.take_all.new.self c.args.opens size pages scanned scans c.self.invariant.0),
+      subst (λ (h : Contents). IsWorld h w.table.registered w.ready c.mark_roots.new.marker c.take_all.new.self c.args.opens) (sym c.sweep_all.ensures)
+          (world_anew _ _ _ _ _ _ c.mark_roots.new.marker c.take_all.new.self c.args.opens size pages scanned scans c.self.invariant.0),
       λ on. subst (λ (v : WorldView). v.core.passes + 1 < COUNT_LIMIT) (sym c.self.view_is) c.requires.few,
     )
 

@@ -1,10 +1,8 @@
-use Rattle.std.proofs.Common.{◌≡◌, ℕ, Some, sym, ap, ◌∙◌, subst, inl, rules}
-use Rattle.fz_model.specs.State.{Core}
+use Rattle.std.proofs.Common.{◌≡◌, Some, sym, ap, ◌∙◌}
 use Rattle.fz_model.specs.Causes.{first_cause, start_causes, is_off_heap}
 use Rattle.fz_model.specs.declared.call.Call.TheVariants.{Register}
 use Rattle.fz_model.specs.Places.{slot_at}
 use Rattle.fz_model.specs.Events.{Make, causes}
-use Rattle.fz_world.specs.World.{WorldView}
 use Rattle.fz_world.proofs.Inside.{core_inside}
 use Rattle.fz_world.proofs.Does.{hands_on, start_refused}
 use Rattle.fz_world.proofs.world.World.register.Goals as goal

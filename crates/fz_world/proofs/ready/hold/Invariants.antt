@@ -1,0 +1,11 @@
+-- The numbers so far are in.
+use Rattle.std.proofs.Common.{◌≡◌, ◌||◌, ℕ}
+use Rattle.std.specs.FinSet.{contains}
+use Rattle.fz_world.specs.Ready.{is_between}
+use Rattle.fz_world.proofs.ready.hold.Given as goal
+
+abbrev pub invariant-loop-number : goal.invariant-loop-number
+invariant-loop-number l = record {
+  size : l.held.size ≡ l.initial.held.size;
+  held : (n : ℕ) → contains l.held.members n ≡ (is_between l.first l.number n || contains l.initial.held.members n);
+}
