@@ -65,7 +65,7 @@ pub enum Call {
     },
     /// Opens a cycle.
     Begin,
-    /// Scans at most so many marked objects.
+    /// Scans marked objects, at most as many as its number.
     Mark(u64),
     /// Ends the cycle with a pass.
     Pause,

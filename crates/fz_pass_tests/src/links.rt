@@ -99,7 +99,7 @@ fn drops_by_link_and_target(rt: HostRuntime) {
     must_be(&rt, links.register(9, 1), registered, "a link once more");
 }
 
-/// A word that isn't among so many from the heap's start.
+/// A word beyond those of all the links.
 const FURTHER: Addr = HEAP_START + 2 * TABLE_LIMIT;
 
 #[test]

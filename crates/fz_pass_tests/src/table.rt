@@ -74,7 +74,7 @@ fn iterates_over_all(rt: HostRuntime) {
     must_be(&rt, seen, want, "all objects but one");
 }
 
-/// An object that isn't among so many from the heap's start.
+/// An object beyond all the others.
 const FURTHER: Addr = HEAP_START + 2 * TABLE_LIMIT;
 
 #[test]

@@ -59,7 +59,7 @@ KeepsMarks old new = new ≡ record old { core = new.core }
 abbrev pub with_in_cycle : Bool → Set → ℕ → Set
 with_in_cycle cycle set n = if cycle then insert set n else set
 
--- what a world keeps of its parts, with marks for so many addresses and so many pages
+-- what a world keeps of its parts, with marks for a number of addresses and a number of pages
 pub record IsWhole (objects : Map Object) (blocks : ℕ) (table : Registered) (ready : Ready) (addresses pages : ℕ) : Type 0 where
   pub sound : AreSound objects table.registrations table.next_number ready.queue ready.held
   pub size : addresses ≡ BLOCK_WORDS * blocks
