@@ -69,7 +69,7 @@ fn line_length(bytes: &[u8]) -> usize
 }
 
 fn append(line: &mut ArrayVec<u8, MAX_LINE>, bytes: &[u8])
-    requires { length line.old.items + length bytes.now ≤ 200 }
+    requires { length line.old.items + length bytes.now ≤ lines.max_line }
     ensures { line.new.items ≡ line.old.items ++ bytes.now }
 {
     line.try_extend_from_slice(bytes).unwrap();
