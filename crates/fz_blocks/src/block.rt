@@ -2,9 +2,13 @@
 
 ghost use Rattle.std.specs.Prelude.{◌≡◌, ◌≤◌, ◌<◌, ◌+◌, ℕ, IsTrue, IsFalse, MatchOption};
 ghost use Rattle.fz_model.specs.declared.limits.TheConstants.{BLOCK_WORDS, MAX_OBJECT_WORDS};
+ghost use Rattle.fz_blocks.specs.declared.block.TheConstants.{MAX_SPAN};
 ghost use Rattle.fz_blocks.specs.Cells.{AreCells, AreAmong, AreSeparate};
 
-use fz_model::{BLOCK_WORDS, Extent, ObjKind};
+use fz_model::{BLOCK_WORDS, Extent, MAX_OBJECT_WORDS, ObjKind};
+
+/// The most blocks that an object meets.
+pub(crate) const MAX_SPAN: u64 = (MAX_OBJECT_WORDS - 1) / BLOCK_WORDS + 1;
 
 /// A block of 64 words, whose cells have one size and one kind. Size and kind say nothing while no object starts in it.
 #[derive(Clone, Copy)]
@@ -61,7 +65,7 @@ impl Block {
     /// A block into which an object reaches that starts `back` blocks before.
     pub(crate) fn later(back: u64) -> Block
         requires some { 1 ≤ back }
-        requires few { back ≤ 15 }
+        requires few { back < MAX_SPAN }
         ensures { (result.back ≡ back) × (result.condemned ≡ 0) }
     {
         let mut block = Block::of(BLOCK_WORDS, ObjKind::Scanned);

@@ -4,6 +4,7 @@ ghost use Rattle.std.specs.Prelude.{◌==◌, if◌then◌else◌, false, ◌≡
 ghost use Rattle.std.specs.Option.{option_map_or};
 ghost use Rattle.std.specs.FinSet.{empty, insert, remove, contains};
 ghost use Rattle.fz_model.specs.declared.limits.TheConstants.{MAX_BLOCKS};
+ghost use Rattle.fz_blocks.specs.declared.block_set.TheConstants.{BITS};
 ghost use Rattle.fz_blocks.specs.BlockSets.{lesser, IsLeast, AreRunsOf, HasRun, IsLeastRun};
 
 use fz_dirty::SparseFlags;
@@ -45,7 +46,7 @@ fn is_it(least: Option<u64>, block: u64) -> bool
 /// The places of a word at which a run of `count` set bits begins, running on into the next word.
 pub(crate) fn runs_of(word: u64, next: u64, count: u64) -> u64
     requires some { 1 ≤ count }
-    requires few { count ≤ 64 }
+    requires few { count ≤ BITS }
     ensures { AreRunsOf result word next count }
 {
     let mut runs = word;
@@ -95,7 +96,7 @@ impl BlockSet {
     /// The least number at which a run of `count` members begins.
     pub(crate) fn first_run(&self, count: u64) -> Option<u64>
         requires some { 1 ≤ count }
-        requires few { count ≤ 64 }
+        requires few { count ≤ BITS }
         ensures { MatchOption result ((b : ℕ) → HasRun self.now.members count b → ⊥) (λ b. IsLeastRun self.now.members count b) }
     {
         let mut row = self.blocks.next(0)? / BITS;

@@ -122,6 +122,7 @@ impl Model for Blocks {
 impl Blocks {
     ghost use Rattle.std.specs.Prelude.{Some, ℕ, slice_get, slice_set, MatchOption, IsTrue, IsFalse, ◌≤◌, IfOk, IfErr};
     ghost use Rattle.fz_blocks.specs.declared.block.Block.{Block};
+    ghost use Rattle.fz_blocks.specs.declared.block.TheConstants.{MAX_SPAN};
     ghost use Rattle.fz_blocks.specs.Classes.{class_of};
     ghost use Rattle.fz_blocks.specs.Layout.{waiting_in};
     ghost use Rattle.fz_blocks.specs.Runs.{IsRun, IsFirstRun};
@@ -171,7 +172,7 @@ impl Blocks {
     /// The first block of the least run of `count` blocks that no object meets.
     pub(crate) fn first_run(&self, count: u64) -> Option<u64>
         requires some { 1 ≤ count }
-        requires few { count ≤ 16 }
+        requires few { count ≤ MAX_SPAN }
         ensures { MatchOption result ((b : ℕ) → IsRun self.now count b → ⊥) (λ b. IsFirstRun self.now count b) }
     {
         self.bare.first_run(count)

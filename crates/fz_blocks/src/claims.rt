@@ -4,6 +4,7 @@ ghost use Rattle.std.specs.Prelude.{◌≡◌, ◌≤◌, ◌<◌, ◌+◌, ℕ,
 ghost use Rattle.fz_model.specs.declared.limits.TheConstants.{BLOCK_WORDS, MAX_BLOCKS, MAX_OBJECT_WORDS};
 ghost use Rattle.fz_model.specs.Allocation.{place_in, blocks_for};
 ghost use Rattle.fz_blocks.specs.declared.block.Block.{Block};
+ghost use Rattle.fz_blocks.specs.declared.block.TheConstants.{MAX_SPAN};
 ghost use Rattle.fz_blocks.specs.Classes.{class_of};
 ghost use Rattle.fz_blocks.specs.Layout.{extents_in, has_room, AreRuns, IsMap};
 ghost use Rattle.fz_blocks.specs.Listed.{IsFirst};
@@ -32,7 +33,7 @@ fn claim_in_room(blocks: &mut Blocks, at: u64, size: u64, kind: ObjKind) -> Addr
 /// Writes a run: its first block, and the later ones that lead back to it.
 fn write_run(blocks: &mut Blocks, at: u64, count: u64, first: Block)
     requires some { 1 ≤ count }
-    requires few { count ≤ 16 }
+    requires few { count ≤ MAX_SPAN }
     requires low { length blocks.old ≤ MAX_BLOCKS }
     requires within { at + count ≤ length blocks.old }
     ensures { WritesRun blocks.old blocks.new at count first }
