@@ -1,11 +1,12 @@
 -- What the program says on standard error, and what its exit statuses mean.
-use Rattle.std.specs.Prelude.{◌≡◌, ◌≢◌, ◌⊎◌, ℕ, List, [], ◌∷◌, All, codes, length, Option, Some, slice_get}
+use Rattle.std.specs.Prelude.{◌≡◌, ◌⊎◌, ℕ, List, [], ◌∷◌, All, codes, length, Option}
 use Rattle.std.specs.declared.vec.Vec.{Vec}
 use Rattle.fz_model.specs.declared.limits.TheConstants.{MAX_WORKERS}
 use Rattle.fz_model.specs.declared.refusal.Refusal.{Refusal}
 use Rattle.fz_model.specs.declared.refusal.Refusal.TheVariants.{Input, Output, NoMemory}
-use Rattle.finalize.specs.declared.program.Program.{Program}
-use Rattle.finalize.specs.declared.program.Program.TheVariants.{Run, Threads}
+use Rattle.fz_words.specs.declared.Program.{Program}
+use Rattle.fz_words.specs.declared.Program.TheVariants.{Run, Threads}
+use Rattle.fz_words.specs.Words.{name_of, IsFile}
 use Rattle.fz_drive.specs.declared.run.Summary.{Summary}
 use Rattle.fz_text.specs.declared.fault.DriveFault.{DriveFault}
 use Rattle.std.specs.Io.KnownBytes.{Keeps}
@@ -28,19 +29,6 @@ fault_line Input = codes "finalize: input failed\n"
 fault_line Output = codes "finalize: output failed\n"
 fault_line NoMemory = memory_line
 fault_line _ = []
-
--- the word that names the program
-abbrev pub name_of : Program → List ℕ
-name_of Run = codes "run"
-name_of Threads = codes "threads"
-
--- the words are the program's name and a file
-abbrev pub Names : Program → List (List ℕ) → Type 0
-Names program words = (file : List ℕ) × (words ≡ name_of program ∷ file ∷ [])
-
--- the word is taken as a file: it is `-` alone, or doesn't begin with a hyphen (45)
-abbrev pub IsFile : List ℕ → Type 0
-IsFile word = (word ≡ codes "-") ⊎ (slice_get word 0 ≢ Some 45)
 
 -- the program ran on this input to its end, and wrote its whole report or summary
 abbrev pub Completes : Program → Option (List ℕ) → Option (List ℕ) → Option (List ℕ) → Type 0

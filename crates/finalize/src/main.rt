@@ -6,8 +6,9 @@ ghost use Rattle.fz_model.specs.declared.refusal.Refusal.{Refusal};
 ghost use Rattle.fz_text.specs.Devices.{Says};
 ghost use Rattle.fz_text.specs.declared.fault.DriveFault.{DriveFault};
 ghost use Rattle.fz_drive.specs.Report.{failures_of};
-ghost use Rattle.finalize.specs.declared.program.Program.{Program};
-ghost use Rattle.finalize.specs.Program.{want_line, fault_line, name_of, IsFile, Completes, Stops, IsUntouched, RanOn, SaysWhyNot};
+ghost use Rattle.fz_words.specs.declared.Program.{Program};
+ghost use Rattle.fz_words.specs.Words.{name_of, IsFile};
+ghost use Rattle.finalize.specs.Program.{want_line, fault_line, Completes, Stops, IsUntouched, RanOn, SaysWhyNot};
 
 mod program;
 mod shelf;

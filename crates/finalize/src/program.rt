@@ -1,81 +1,27 @@
 //! The program, over its words and two writers.
 
-ghost use Rattle.std.specs.Prelude.{◌≡◌, ◌≢◌, ◌≤◌, ◌⊎◌, ◌+◌, List, [], ◌∷◌, ℕ, Option, IfErr, IfOk, IfSome, IsNone, codes, length, map, option_map, slice_get, Err, Some};
-ghost use Rattle.clap.specs.Words.{app_of, kind_of};
-ghost use Rattle.finalize.specs.Words.{TakesFiles};
-ghost use Rattle.finalize.specs.Program.{want_line, open_line, memory_line, fault_line, name_of, IsFile, Names, Completes, Stops, IsUntouched, ReadFrom, RanOn, SaysWhyNot, AreForWorkers};
+ghost use Rattle.std.specs.Prelude.{◌≡◌, ◌≢◌, ◌≤◌, ◌⊎◌, ◌+◌, List, [], ◌∷◌, ℕ, codes, length, map, slice_get, Err, Some};
+ghost use Rattle.fz_words.specs.Words.{name_of, IsFile};
+ghost use Rattle.finalize.specs.Program.{want_line, open_line, memory_line, fault_line, Completes, Stops, IsUntouched, ReadFrom, RanOn, SaysWhyNot, AreForWorkers};
 ghost use Rattle.fz_text.specs.Devices.{Says};
 ghost use Rattle.fz_drive.specs.Report.{failures_of};
 ghost use Rattle.fz_text.specs.declared.fault.DriveFault.{DriveFault};
 
 use crate::shelf::Shelf;
 use crate::stream::Stream;
-use clap::error::ErrorKind;
-use clap::{Arg, Command, Error};
 use fz_drive::drive;
 use fz_model::Refusal;
 use fz_service::Proc;
 use fz_text::{DriveFault, Failures, Sink, write_all};
 use fz_threads::drive_threads;
-use std::alloc::{AllocError, Global};
+use fz_words::{Program, WordsFault, program_and_file};
+use std::alloc::Global;
 use std::convert::AsStr;
 use std::io::Read;
 use std::marker::Brand;
 use std::sync::Wait;
 use std::sync::ledger::{Blank, Ledger};
 use std::thread::Threads;
-
-/// What the first word asks for.
-#[derive(Clone, Copy)]
-enum Program {
-    /// Runs a script.
-    Run,
-    /// Runs a threads file.
-    Threads,
-}
-
-/// The program that the words name: they are its name and a file.
-fn program_of<S: AsStr>(words: &[S]) -> Option<Program>
-    ensures some { IfSome result (λ program. Names program (map S.text words.now)) }
-    ensures none { IsNone result → (program : Program) → ¬ Names program (map S.text words.now) }
-{
-    if words.len() != 2 {
-        return None;
-    }
-    let name = words[0].as_str();
-    if name == "run" {
-        Some(Program::Run)
-    } else if name == "threads" {
-        Some(Program::Threads)
-    } else {
-        None
-    }
-}
-
-fn command<'a>(alloc: Global) -> Result<Command<'a>, AllocError>
-    ensures { IfOk result (λ command. TakesFiles (app_of command)) }
-{
-    let run = Command::new(alloc, "run").arg(Arg::new(alloc, "FILE").required(true))?;
-    let threads = Command::new(alloc, "threads").arg(Arg::new(alloc, "FILE").required(true))?;
-    Command::new(alloc, "finalize")
-        .no_binary_name(true)
-        .subcommand_required(true)
-        .subcommand(run)?
-        .subcommand(threads)
-}
-
-/// The file that the words name. An error says that they are wrong, or that memory was short.
-fn file_of<'a, S: AsStr>(alloc: Global, words: &'a [S]) -> Result<Option<&'a str>, Error>
-    ensures found { (program : Program) → (file : List ℕ) → map S.text words.now ≡ name_of program ∷ file ∷ [] → IsFile file → IfOk result (λ some. option_map (λ word. word.now) some ≡ Some file) }
-    ensures taken { (program : Program) → (file : List ℕ) → map S.text words.now ≡ name_of program ∷ file ∷ [] → IsFile file → IfErr result (λ error. kind_of error ≡ ErrorKind.OutOfMemory) }
-{
-    let command = command(alloc)?;
-    let matches = command.try_get_matches_from(words)?;
-    Ok(match matches.subcommand() {
-        Some((_, program)) => program.get_str("FILE"),
-        None => None,
-    })
-}
 
 /// Writes the line, whether or not that succeeds; returns the status.
 fn say<E: Sink>(err: &mut E, line: &[u8], status: u8) -> u8
@@ -130,13 +76,10 @@ pub(crate) fn execute<F: Shelf, R: AllocGlobal + Threads + Wait + Sync, S: AsStr
         (IsUntouched (O.written out.old) (O.failures out.old) (O.written out.new) (O.failures out.new) × SaysWhyNot (E.written err.old) (E.failures err.old) (E.written err.new) (E.failures err.new))
         ⊎ ((fault : DriveFault) × RanOn (F.holds files.now) (map S.text words.now) (λ program input. Stops program input (O.written out.old) (O.written out.new) fault) × (O.failures out.new ≡ O.failures out.old + failures_of Refusal.Output (Err fault)) × Says (E.written err.old) (E.failures err.old) (fault_line fault.refusal) (E.written err.new) (E.failures err.new)) }
 {
-    let Some(program) = program_of(words) else {
-        return wrong_words(err);
-    };
-    match file_of(rt.alloc(), words) {
-        Ok(Some(file)) => run_file(files, rt, program, file, out, err, procs),
-        Err(error) if error.kind() == ErrorKind::OutOfMemory => out_of_memory(err),
-        _ => wrong_words(err),
+    match program_and_file(rt.alloc(), words) {
+        Ok((program, file)) => run_file(files, rt, program, file, out, err, procs),
+        Err(WordsFault::Wrong) => wrong_words(err),
+        Err(WordsFault::NoMemory) => out_of_memory(err),
     }
 }
 

@@ -1,6 +1,6 @@
 use Rattle.std.proofs.Common.{◌≡◌, ℕ, List, Option, refl, inl, inr}
-use Rattle.finalize.specs.declared.program.Program.{Program}
-use Rattle.finalize.specs.declared.program.Program.TheVariants.{Run, Threads}
+use Rattle.fz_words.specs.declared.Program.{Program}
+use Rattle.fz_words.specs.declared.Program.TheVariants.{Run, Threads}
 use Rattle.fz_drive.specs.declared.run.Summary.{Summary}
 use Rattle.fz_text.specs.declared.fault.DriveFault.{DriveFault}
 use Rattle.std.specs.Io.KnownBytes.{Keeps}

@@ -3,10 +3,10 @@ use Rattle.std.proofs.Common.{◌≡◌, ◌==◌, ℕ, List, [], ◌∷◌, Som
 use Rattle.std.proofs.lemmas.Bool.{ne_eqb}
 use Rattle.clap.specs.Words.{App, Row, Text, first_of, new_app, new_rule, takes, subcommand_of, with_rule, with_subcommand}
 use Rattle.clap.proofs.OnLiterals.{clap_on_literals}
-use Rattle.finalize.specs.declared.program.Program.{Program}
-use Rattle.finalize.specs.declared.program.Program.TheVariants.{Run, Threads}
-use Rattle.finalize.specs.Program.{name_of, IsFile}
-use Rattle.finalize.specs.Words.{TakesFiles, file_in}
+use Rattle.fz_words.specs.declared.Program.{Program}
+use Rattle.fz_words.specs.declared.Program.TheVariants.{Run, Threads}
+use Rattle.fz_words.specs.Words.{name_of, IsFile}
+use Rattle.fz_words.specs.Commands.{TakesFiles, file_in}
 
 abbrev pub leaf : List ℕ → App
 leaf name = with_rule (new_app name) (record (new_rule (codes "FILE")) { required = true })

@@ -4,9 +4,9 @@ use Rattle.clap.specs.Words.{App, app_of, with_rule, with_subcommand}
 use Rattle.clap.specs.Simple.{app_of_fields}
 use Rattle.clap.specs.declared.builder.Command.{Command}
 use Rattle.clap.specs.declared.builder.command.Command.TheOpen.{Command-F}
-use Rattle.finalize.specs.Words.{TakesFiles}
-use Rattle.finalize.proofs.Words.{bare, leaf, whole, TakesFiles-whole}
-use Rattle.finalize.proofs.program.command.Goals as goal
+use Rattle.fz_words.specs.Commands.{TakesFiles}
+use Rattle.fz_words.proofs.Words.{bare, leaf, whole, TakesFiles-whole}
+use Rattle.fz_words.proofs.command.Goals as goal
 
 pub returns : goal.returns
 returns c =

@@ -1,8 +1,8 @@
 -- Which words the program takes, in the words of clap's contracts.
 use Rattle.std.specs.Prelude.{◌≡◌, ℕ, List, [], ◌∷◌, Option, Some, codes, true, option_and_then}
 use Rattle.clap.specs.Words.{App, Row, Text, first_of, is_simple, subcommand_of, takes}
-use Rattle.finalize.specs.declared.program.Program.{Program}
-use Rattle.finalize.specs.Program.{name_of, IsFile}
+use Rattle.fz_words.specs.declared.Program.{Program}
+use Rattle.fz_words.specs.Words.{name_of, IsFile}
 
 -- the value of the subcommand's argument FILE
 abbrev pub file_in : Option (Text × List Row) → Option (List ℕ)

@@ -1,7 +1,7 @@
 use Rattle.std.proofs.Common.{◌≡◌, ℕ, List, [], ◌∷◌, codes, get_or, length, map, Bool, true, sym, ◌∙◌, arith}
 use Rattle.std.proofs.lemmas.Slice.Eq.{bytes_eq-Decides}
 use Rattle.std.specs.Str.{bytes_eq}
-use Rattle.finalize.proofs.program.program_of.Goals as goal
+use Rattle.fz_words.proofs.program_of.Goals as goal
 
 -- two words, of which the first has this text
 two_words : {A : Type 0} (text : A → List ℕ) (words : List A) (name : List ℕ) (first : A) → length words ≡ 2 → first ≡ get_or words 0 first → text first ≡ name → (file : List ℕ) × (map text words ≡ name ∷ file ∷ [])

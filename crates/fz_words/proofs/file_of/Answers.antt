@@ -1,10 +1,10 @@
 use Rattle.std.proofs.Common.{◌≡◌, ◌∙◌, ℕ, List, Bor, Some, codes, map, option_map, ap, subst, sym}
 use Rattle.clap.specs.Words.{Row, Text, app_of, found_of, subcommand_of}
 use Rattle.clap.proofs.WalkLemmas.{first_value-rows}
-use Rattle.finalize.specs.Words.{file_in}
-use Rattle.finalize.proofs.Words.{found-file, no-file}
-use Rattle.finalize.proofs.program.file_of.Goals as goal
-use Rattle.finalize.proofs.program.file_of.Goals.{in-Some, in-None}
+use Rattle.fz_words.specs.Commands.{file_in}
+use Rattle.fz_words.proofs.Words.{found-file, no-file}
+use Rattle.fz_words.proofs.file_of.Goals as goal
+use Rattle.fz_words.proofs.file_of.Goals.{in-Some, in-None}
 
 pub returns-clause-found : goal.returns-clause-found
 returns-clause-found g c = λ program file are is.

@@ -1,0 +1,96 @@
+//! The words of the program, read by `clap`: which part of it they ask for, and on which file.
+#![tactic(auto)]
+
+ghost use Rattle.std.specs.Prelude.{◌≡◌, ◌≢◌, List, [], ◌∷◌, ℕ, Err, IfErr, IfOk, IfSome, IsNone, Some, codes, length, map, option_map, slice_get};
+ghost use Rattle.clap.specs.Words.{app_of, kind_of};
+ghost use Rattle.fz_words.specs.Commands.{TakesFiles};
+ghost use Rattle.fz_words.specs.Words.{name_of, IsFile, Names};
+
+use clap::error::ErrorKind;
+use clap::{Arg, Command, Error};
+use std::alloc::{AllocError, Global};
+use std::convert::AsStr;
+
+/// What the first word asks for.
+#[derive(Clone, Copy, Debug, PartialEq, Eq)]
+pub enum Program {
+    /// Runs a script.
+    Run,
+    /// Runs a threads file.
+    Threads,
+}
+
+/// Why words are refused.
+#[derive(Clone, Copy, Debug, PartialEq, Eq)]
+pub enum WordsFault {
+    /// They aren't the name of a program and a file.
+    Wrong,
+    /// There was no memory to read them.
+    NoMemory,
+}
+
+/// The program that the words name, and the file.
+///
+/// A file's name may begin with a hyphen only if it is `-`, since `clap` takes other such words as options.
+pub fn program_and_file<'a, S: AsStr>(
+    alloc: Global,
+    words: &'a [S],
+) -> Result<(Program, &'a str), WordsFault>
+    ensures counted { length words.now ≢ 2 → result ≡ Err WordsFault.Wrong }
+    ensures named { (first : S) → slice_get words.now 0 ≡ Some first → S.text first ≢ codes "run" → S.text first ≢ codes "threads" → result ≡ Err WordsFault.Wrong }
+    ensures names { IfOk result (λ found. Names found.0 (map S.text words.now)) }
+    ensures found { (program : Program) → (file : List ℕ) → map S.text words.now ≡ name_of program ∷ file ∷ [] → IsFile file → IfOk result (λ found. found.1.now ≡ file) }
+    ensures taken { (program : Program) → (file : List ℕ) → map S.text words.now ≡ name_of program ∷ file ∷ [] → IsFile file → IfErr result (λ fault. fault ≡ WordsFault.NoMemory) }
+{
+    let Some(program) = program_of(words) else {
+        return Err(WordsFault::Wrong);
+    };
+    match file_of(alloc, words) {
+        Ok(Some(file)) => Ok((program, file)),
+        Err(error) if error.kind() == ErrorKind::OutOfMemory => Err(WordsFault::NoMemory),
+        _ => Err(WordsFault::Wrong),
+    }
+}
+
+/// The program that the words name: they are its name and a file.
+fn program_of<S: AsStr>(words: &[S]) -> Option<Program>
+    ensures some { IfSome result (λ program. Names program (map S.text words.now)) }
+    ensures none { IsNone result → (program : Program) → ¬ Names program (map S.text words.now) }
+{
+    if words.len() != 2 {
+        return None;
+    }
+    let name = words[0].as_str();
+    if name == "run" {
+        Some(Program::Run)
+    } else if name == "threads" {
+        Some(Program::Threads)
+    } else {
+        None
+    }
+}
+
+fn command<'a>(alloc: Global) -> Result<Command<'a>, AllocError>
+    ensures { IfOk result (λ command. TakesFiles (app_of command)) }
+{
+    let run = Command::new(alloc, "run").arg(Arg::new(alloc, "FILE").required(true))?;
+    let threads = Command::new(alloc, "threads").arg(Arg::new(alloc, "FILE").required(true))?;
+    Command::new(alloc, "finalize")
+        .no_binary_name(true)
+        .subcommand_required(true)
+        .subcommand(run)?
+        .subcommand(threads)
+}
+
+/// The file that the words name. An error says that they are wrong, or that memory was short.
+fn file_of<'a, S: AsStr>(alloc: Global, words: &'a [S]) -> Result<Option<&'a str>, Error>
+    ensures found { (program : Program) → (file : List ℕ) → map S.text words.now ≡ name_of program ∷ file ∷ [] → IsFile file → IfOk result (λ some. option_map (λ word. word.now) some ≡ Some file) }
+    ensures taken { (program : Program) → (file : List ℕ) → map S.text words.now ≡ name_of program ∷ file ∷ [] → IsFile file → IfErr result (λ error. kind_of error ≡ ErrorKind.OutOfMemory) }
+{
+    let command = command(alloc)?;
+    let matches = command.try_get_matches_from(words)?;
+    Ok(match matches.subcommand() {
+        Some((_, program)) => program.get_str("FILE"),
+        None => None,
+    })
+}
