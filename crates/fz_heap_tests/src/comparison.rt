@@ -150,13 +150,13 @@ fn clear_both(
         }
         4 => {
             let places = random.next() & random.next();
-            let expected = plain.condemn_in(block as u16, places)?;
+            let expected = plain.condemn_in(block as u32, places)?;
             let count = heap.condemn_in(block, places);
             must_equal(rt, &count, &expected, &("condemned", block, places));
         }
         _ => {
             heap.sweep(block);
-            plain.sweep(block as u16);
+            plain.sweep(block as u32);
         }
     }
     Ok(())

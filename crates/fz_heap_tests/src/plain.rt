@@ -2,7 +2,7 @@
 //! It is proved to be safe and to end, no more: nothing but a test rests on it.
 
 ghost use Rattle.std.specs.Prelude.{◌≡◌, ◌<◌, ◌+◌, ◌*◌, IfSome};
-ghost use Rattle.fz_model.specs.declared.limits.TheConstants.{BLOCK_WORDS};
+ghost use Rattle.fz_model.specs.declared.limits.TheConstants.{BLOCK_WORDS, HEAP_START};
 
 use fz_model::{
     Addr, BLOCK_WORDS, COUNT_LIMIT, HEAP_START, MAX_BLOCKS, MAX_OBJECT_WORDS, ObjKind, Refusal,
@@ -23,21 +23,21 @@ struct Object {
 #[derive(Drop)]
 pub(crate) struct PlainHeap {
     alloc: Global,
-    blocks: u16,
+    blocks: u32,
     objects: Vec<Object>,
     condemned: Vec<Addr>,
     next_birth: u64,
 }
 
 /// The first address of a block.
-fn block_start(block: u16) -> Addr
-    ensures { result ≡ 65536 + 64 * block }
+fn block_start(block: u32) -> Addr
+    ensures { result ≡ HEAP_START + BLOCK_WORDS * block }
 {
     HEAP_START + BLOCK_WORDS * u64::from(block)
 }
 
 /// The place of the address in the block, if it stands there.
-fn place_in(address: u64, block: u16) -> Option<u64>
+fn place_in(address: u64, block: u32) -> Option<u64>
     ensures { IfSome result (λ place. place < BLOCK_WORDS) }
 {
     let place = address.checked_sub(block_start(block))?;
@@ -45,7 +45,7 @@ fn place_in(address: u64, block: u16) -> Option<u64>
 }
 
 /// Whether the address stands in the block, at one of these places: a bit each, the first place's lowest.
-fn stands_at(address: u64, block: u16, places: u64) -> bool {
+fn stands_at(address: u64, block: u32, places: u64) -> bool {
     match place_in(address, block) {
         Some(place) => places >> place & 1 == 1,
         None => false,
@@ -61,12 +61,12 @@ impl Object {
         self.start <= address && address - self.start < self.size()
     }
 
-    fn starts_in(&self, block: u16) -> bool {
+    fn starts_in(&self, block: u32) -> bool {
         place_in(self.start, block).is_some()
     }
 
     /// Whether the object has a word in the block.
-    fn meets(&self, block: u16) -> bool {
+    fn meets(&self, block: u32) -> bool {
         self.starts_in(block) || self.covers(block_start(block))
     }
 
@@ -78,7 +78,7 @@ impl Object {
 }
 
 /// The condemned cells lose those in blocks that the object meets.
-fn sweep_under(condemned: &mut Vec<Addr>, blocks: u16, object: &Object) {
+fn sweep_under(condemned: &mut Vec<Addr>, blocks: u32, object: &Object) {
     for block in 0..blocks {
         if object.meets(block) {
             condemned.retain(|start| place_in(*start, block).is_none());
@@ -93,7 +93,7 @@ impl PlainHeap {
         }
         Ok(PlainHeap {
             alloc,
-            blocks: blocks as u16,
+            blocks: blocks as u32,
             objects: Vec::new(alloc),
             condemned: Vec::new(alloc),
             next_birth: 0,
@@ -101,7 +101,7 @@ impl PlainHeap {
     }
 
     /// The least free cell of a block with cells of this size.
-    fn free_cell(&self, block: u16, size: u64) -> Option<Addr>
+    fn free_cell(&self, block: u32, size: u64) -> Option<Addr>
         requires { 0 < size }
     {
         for index in 0..BLOCK_WORDS / size {
@@ -131,12 +131,12 @@ impl PlainHeap {
         None
     }
 
-    fn is_bare(&self, block: u16) -> bool {
+    fn is_bare(&self, block: u32) -> bool {
         !self.objects.iter().any(|object| object.meets(block))
     }
 
     /// Whether a run of `count` blocks without objects begins with this one.
-    fn has_run(&self, block: u16, count: u64) -> bool {
+    fn has_run(&self, block: u32, count: u64) -> bool {
         let bare = (block..self.blocks)
             .take(count as usize)
             .filter(|each| self.is_bare(*each))
@@ -221,7 +221,7 @@ impl PlainHeap {
     }
 
     /// Condemns the objects at these places of a block; returns their number.
-    pub(crate) fn condemn_in(&mut self, block: u16, places: u64) -> Result<u64, AllocError> {
+    pub(crate) fn condemn_in(&mut self, block: u32, places: u64) -> Result<u64, AllocError> {
         let mut starts = self.starts()?;
         starts.retain(|start| stands_at(*start, block, places));
         for start in starts.iter() {
@@ -230,7 +230,7 @@ impl PlainHeap {
         Ok(starts.len() as u64)
     }
 
-    pub(crate) fn sweep(&mut self, block: u16) {
+    pub(crate) fn sweep(&mut self, block: u32) {
         self.condemned
             .retain(|start| place_in(*start, block).is_none());
     }

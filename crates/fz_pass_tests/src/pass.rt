@@ -25,6 +25,12 @@ const THIRD: Addr = HEAP_START + 2;
 
 const FOURTH: Addr = HEAP_START + 3;
 
+/// How many objects of half a block fill the largest heap.
+const FULL: u64 = 2 * MAX_BLOCKS;
+
+/// How many of these have each rank, where they have all ranks in turn.
+const OF_A_RANK: u64 = FULL / 256;
+
 /// What a pass goes over.
 #[derive(Drop)]
 struct Parts {
@@ -259,13 +265,13 @@ fn long_link_waits(alloc: Global, parts: &mut Parts) -> Result<bool, Fail> {
 fn picks_by_address(alloc: Global, parts: &mut Parts) -> Result<bool, Fail> {
     fill(parts)?;
     let (queue, kept) = pass(alloc, parts, 0)?;
-    let all = queue.len() == 8_192 && first_out_of_place(&queue).is_none();
+    let all = queue.len() as u64 == FULL && first_out_of_place(&queue).is_none();
     let (none, reclaimed) = pass(alloc, parts, 0)?;
-    Ok(all && kept == 0 && none.is_empty() && reclaimed == 8_192)
+    Ok(all && kept == 0 && none.is_empty() && reclaimed == FULL)
 }
 
 fn fill(parts: &mut Parts) -> Result<(), Fail> {
-    for _ in 0..2 * MAX_BLOCKS {
+    for _ in 0..FULL {
         let (start, _) = parts.heap.alloc(32, ObjKind::Scanned)?;
         parts.table.register(start, NoOrder, 7, 8, 3)?;
     }
@@ -290,11 +296,12 @@ fn picks_behind_earlier(alloc: Global, parts: &mut Parts) -> Result<bool, Fail> 
 fn picks_by_rank(alloc: Global, parts: &mut Parts) -> Result<bool, Fail> {
     fill_in_turn(parts)?;
     let (queue, kept) = pass(alloc, parts, 0)?;
-    Ok(queue.len() == 8_192 && kept == 0 && are_in_turn(&queue) && parts.table.is_empty())
+    let all = queue.len() as u64 == FULL && are_in_turn(&queue);
+    Ok(all && kept == 0 && parts.table.is_empty())
 }
 
 fn fill_in_turn(parts: &mut Parts) -> Result<(), Fail> {
-    for turn in 0..2 * MAX_BLOCKS {
+    for turn in 0..FULL {
         let (start, _) = parts.heap.alloc(32, ObjKind::Scanned)?;
         let rank = 255 - (turn % 256) as u8;
         parts.table.register(start, NoOrder, 7, 8, rank)?;
@@ -302,12 +309,12 @@ fn fill_in_turn(parts: &mut Parts) -> Result<(), Fail> {
     Ok(())
 }
 
-/// Whether the entries are those of the ranks 0 to 255, 32 of each, by rising address, and have the numbers of their places.
+/// Whether the entries are those of the ranks 0 to 255, as many of each, by rising address, and have the numbers of their places.
 fn are_in_turn(queue: &[Entry]) -> bool {
     let mut place = 0u64;
     for entry in queue {
-        let rank = place / 32 % 256;
-        let turn = 256 * (place % 32) + 255 - rank;
+        let rank = place / OF_A_RANK % 256;
+        let turn = 256 * (place % OF_A_RANK) + 255 - rank;
         if entry.obj != HEAP_START + 32 * turn || entry.seq != place {
             return false;
         }
