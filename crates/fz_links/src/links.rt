@@ -9,7 +9,7 @@ ghost use Rattle.fz_model.specs.Steps.{move_answer, moved_to};
 ghost use Rattle.fz_links.specs.Dropped.{ComputesTest, without};
 
 use fz_model::{Addr, LinkAnswer, MoveAnswer, Refusal, TABLE_LIMIT};
-use fz_pairs::{Pairs, grow_for};
+use fz_pairs::Pairs;
 use indexmap::IndexMap;
 use indexmap::map::Entry;
 use std::alloc::Global;
@@ -71,7 +71,6 @@ impl Links {
         if self.is_full_for(link) {
             return Err(Refusal::TableFull);
         }
-        grow_for(&mut self.entries, &link, TABLE_LIMIT as usize);
         let replaced = self.entries.insert(link, target)?;
         Ok(answer_of(replaced.is_some()))
     }

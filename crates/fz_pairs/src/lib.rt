@@ -1,13 +1,10 @@
-//! What the tables share over an ordered map: an iterator over its entries, as pairs of values, and how it grows.
+//! The iterator over the entries of an ordered map, as pairs of values.
 #![tactic(auto)]
 
 ghost use Rattle.std.specs.Prelude.{◌≡◌, length, Some, IfSome};
 ghost use Rattle.std.specs.Iterator.{YieldsFirst, UpTo, at_most, item_count};
 ghost use Rattle.std.specs.Iterator.SizeHint.{IsWithinCount};
 
-mod growth;
-
-pub use growth::grow_for;
 use indexmap::map::Iter;
 use std::marker::Model;
 

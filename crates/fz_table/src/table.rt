@@ -12,7 +12,7 @@ ghost use Rattle.fz_model.specs.Steps.{old_of};
 ghost use Rattle.fz_table.specs.Ranked.{ranked, has_rank};
 
 use fz_model::{Addr, COUNT_LIMIT, Old, Refusal, RegKind, Registration, TABLE_LIMIT, Word};
-use fz_pairs::{Pairs, grow_for};
+use fz_pairs::Pairs;
 use indexmap::IndexMap;
 use std::alloc::Global;
 use std::marker::Model;
@@ -146,7 +146,6 @@ impl Table {
             cd,
             rank,
         };
-        grow_for(&mut self.entries, &object, TABLE_LIMIT as usize);
         // A refused insertion leaves the entries as they were.
         let replaced = self.entries.insert(object, registration)?;
         self.next_number = number + 1;

@@ -10,23 +10,20 @@ use Rattle.fz_links.proofs.links.Links.register.Goals as goal
 
 pub returns-in_err-replaced-clause-fresh : goal.returns-in_err-replaced-clause-fresh
 returns-in_err-replaced-clause-fresh c =
-    let absent : get c.args.self.now.links c.args.link ≡ None = ap (λ (t : Linked). get t.links c.args.link) (sym c.self.view_is) ∙ get_made c.self.inside.entries.entries c.args.link ∙ (rw c.grow_for.ensures.same at c.in_err-replaced.ensures.absent) in
+    let absent : get c.args.self.now.links c.args.link ≡ None = ap (λ (t : Linked). get t.links c.args.link) (sym c.self.view_is) ∙ get_made c.self.inside.entries.entries c.args.link ∙ c.in_err-replaced.ensures.absent in
     search rules
 
 pub invariant_of-self-2 : goal.invariant_of-self-2
 invariant_of-self-2 c =
     let free = ap (λ (t : Linked). (full t.links c.args.link).0) c.self.view_is ∙ sym c.is_full_for.ensures ∙ c.if-is_full_for.false in
-    let updates = (rw c.grow_for.ensures.same at c.in_ok-replaced.ensures.updates) in
-    subst (λ m. len m ≤ TABLE_LIMIT) (sym (made_inserted c.self.inside.entries.entries _ c.args.link _ updates.0)) (limit_inserted _ c.args.link _ free c.self.invariant)
+    subst (λ m. len m ≤ TABLE_LIMIT) (sym (made_inserted c.self.inside.entries.entries _ c.args.link _ c.in_ok-replaced.ensures.updates.0)) (limit_inserted _ c.args.link _ free c.self.invariant)
 
 pub returns-clause-answer : goal.returns-clause-answer
 returns-clause-answer c =
-    let old = (rw c.grow_for.ensures.same at c.in_ok-replaced.ensures.old) in
     c.answer_of.ensures
     ∙ ap (λ b. cond b Duplicate Success)
-    (c.is_some.ensures ∙ ap is_some (old ∙ sym (get_made c.self.inside.entries.entries c.args.link) ∙ ap (λ (t : Linked). get t.links c.args.link) c.self.view_is))
+    (c.is_some.ensures ∙ ap is_some (c.in_ok-replaced.ensures.old ∙ sym (get_made c.self.inside.entries.entries c.args.link) ∙ ap (λ (t : Linked). get t.links c.args.link) c.self.view_is))
 
 pub returns-clause-registered : goal.returns-clause-registered
 returns-clause-registered c =
-    let updates = (rw c.grow_for.ensures.same at c.in_ok-replaced.ensures.updates) in
-    made_inserted c.self.inside.entries.entries _ c.args.link _ updates.0 ∙ ap (λ (t : Linked). insert t.links c.args.link c.args.target) c.self.view_is
+    made_inserted c.self.inside.entries.entries _ c.args.link _ c.in_ok-replaced.ensures.updates.0 ∙ ap (λ (t : Linked). insert t.links c.args.link c.args.target) c.self.view_is

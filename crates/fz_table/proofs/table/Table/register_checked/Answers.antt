@@ -21,7 +21,7 @@ IfErr-always (Err e) h = h e
 pub returns-in_err-replaced-clause-growth : goal.returns-in_err-replaced-clause-growth
 returns-in_err-replaced-clause-growth c =
     let absent : get c.args.self.now.registrations c.args.object ≡ None = ap (λ (t : Tabled). get t.registrations c.args.object) (sym c.self.view_is)
-    ∙ get_made c.self.inside.entries.entries c.args.object ∙ (rw c.grow_for.ensures.same at c.in_err-replaced.ensures.absent) in
+    ∙ get_made c.self.inside.entries.entries c.args.object ∙ c.in_err-replaced.ensures.absent in
     IfErr-always c.from_residual.result (λ _ _. subst IsNone (sym absent) (search rules))
 
 pub overflow_add-self-2 : goal.overflow_add-self-2
@@ -29,34 +29,28 @@ overflow_add-self-2 c = let s = small _ _ _ _ c.self.invariant.0 c.self.invarian
 
 pub overflow_sub-self : goal.overflow_sub-self
 overflow_sub-self c =
-    let old = (rw c.grow_for.ensures.same at c.in_ok-replaced.ensures.old) in
-    let updates = (rw c.grow_for.ensures.same at c.in_ok-replaced.ensures.updates) in
     let e =
-    counted_more c.self.inside.entries.entries _ c.args.object _ updates.0 c.self.inside.ranked_count c.ranked_in.result c.ranked_in-2.result c.self.invariant.1 c.ranked_in.ensures
-    (c.ranked_in-2.ensures ∙ ap (λ (o : Option Registration). one_if (has_rank o)) old) in
+    counted_more c.self.inside.entries.entries _ c.args.object _ c.in_ok-replaced.ensures.updates.0 c.self.inside.ranked_count c.ranked_in.result c.ranked_in-2.result c.self.invariant.1 c.ranked_in.ensures
+    (c.ranked_in-2.ensures ∙ ap (λ (o : Option Registration). one_if (has_rank o)) c.in_ok-replaced.ensures.old) in
     omega (arith, e)
 
 pub invariant_of-self-2 : goal.invariant_of-self-2
 invariant_of-self-2 c =
-    let old = (rw c.grow_for.ensures.same at c.in_ok-replaced.ensures.old) in
-    let updates = (rw c.grow_for.ensures.same at c.in_ok-replaced.ensures.updates) in
     let e =
-    counted_more c.self.inside.entries.entries _ c.args.object _ updates.0 c.self.inside.ranked_count c.ranked_in.result c.ranked_in-2.result c.self.invariant.1 c.ranked_in.ensures
-    (c.ranked_in-2.ensures ∙ ap (λ (o : Option Registration). one_if (has_rank o)) old) in
+    counted_more c.self.inside.entries.entries _ c.args.object _ c.in_ok-replaced.ensures.updates.0 c.self.inside.ranked_count c.ranked_in.result c.ranked_in-2.result c.self.invariant.1 c.ranked_in.ensures
+    (c.ranked_in-2.ensures ∙ ap (λ (o : Option Registration). one_if (has_rank o)) c.in_ok-replaced.ensures.old) in
     let free = ap (λ (t : Tabled). (full t.registrations c.args.object).0) c.self.view_is ∙ c.requires.room in
-    (subst (λ m. len m ≤ TABLE_LIMIT) (sym (made_inserted c.self.inside.entries.entries _ c.args.object _ updates.0)) (limit_inserted _ c.args.object _ free c.self.invariant.0), omega (arith, e))
+    (subst (λ m. len m ≤ TABLE_LIMIT) (sym (made_inserted c.self.inside.entries.entries _ c.args.object _ c.in_ok-replaced.ensures.updates.0)) (limit_inserted _ c.args.object _ free c.self.invariant.0), omega (arith, e))
 
 pub returns-clause-replaced : goal.returns-clause-replaced
 returns-clause-replaced c =
-    let old = (rw c.grow_for.ensures.same at c.in_ok-replaced.ensures.old) in
     let mapped : c.map.result ≡ option_map pair_of c.in_ok-replaced.replaced = search rules in
-    mapped ∙ ap (option_map pair_of) (old ∙ sym (get_made c.self.inside.entries.entries c.args.object))
+    mapped ∙ ap (option_map pair_of) (c.in_ok-replaced.ensures.old ∙ sym (get_made c.self.inside.entries.entries c.args.object))
     ∙ ap (λ (t : Tabled). old_of t.registrations c.args.object) c.self.view_is
 
 pub returns-clause-registered : goal.returns-clause-registered
 returns-clause-registered c =
-    let updates = (rw c.grow_for.ensures.same at c.in_ok-replaced.ensures.updates) in
-    ap (λ m. record { registrations = m; next_number = c.self.inside.next_number + 1 }) (made_inserted c.self.inside.entries.entries _ c.args.object _ updates.0)
+    ap (λ m. record { registrations = m; next_number = c.self.inside.next_number + 1 }) (made_inserted c.self.inside.entries.entries _ c.args.object _ c.in_ok-replaced.ensures.updates.0)
     ∙ ap (λ (t : Tabled). record {
       registrations = insert t.registrations c.args.object (record { number = t.next_number; kind = c.args.kind; proc = c.args.proc; cd = c.args.cd; rank = c.args.rank });
       next_number = t.next_number + 1;
