@@ -27,11 +27,12 @@ class Verdicts:
 
     def __init__(self, crates, anew):
         self.kept = rt.Kept(crates, anew) if hasattr(rt, 'Kept') and hasattr(rt.Kept, 'keep_tried') else None
+        self.stamps = {}
         self.judges = hashlib.sha256(b''.join(open(it, 'rb').read() for it in (sys.argv[0], __file__)))
 
     def name_of(self, crate, path):
         sum = self.judges.copy()
-        sum.update(self.kept.of_edit(path, rt.stamp_of(crate, {})).encode())
+        sum.update(self.kept.of_edit(path, rt.stamp_of(crate, self.stamps)).encode())
         return sum.hexdigest()
 
     def told(self, crate, path):
