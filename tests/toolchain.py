@@ -59,8 +59,10 @@ def take_libraries(crates, folder):
     if not all(os.path.isfile(f'{at}/{it.name}.rlib/format') and not os.path.exists(f'{at}/stamp') for it, at in rlibs):
         return False
     for it, at in rlibs:
-        shutil.rmtree(f'{it.folder}/out/rlib', ignore_errors=True)
-        shutil.copytree(at, f'{it.folder}/out/rlib')
+        own = f'{it.folder}/out/rlib'
+        if os.path.realpath(at) != os.path.realpath(own):
+            shutil.rmtree(own, ignore_errors=True)
+            shutil.copytree(at, own)
     return True
 
 

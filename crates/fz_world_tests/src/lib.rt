@@ -1,7 +1,12 @@
-//! Tests of `fz_world`, in a crate of their own: a crate with tests in it is proved twice.
+//! Tests of a world and of what stands over it: the service, and runs of scripts and of threads files. They stand in one crate of their own, as those of the
+//! libraries below do.
 #![tactic(auto)]
 
 #[cfg(test)]
-mod shown;
+mod drive;
 #[cfg(test)]
-mod tests;
+mod service;
+#[cfg(test)]
+mod threads;
+#[cfg(test)]
+mod world;

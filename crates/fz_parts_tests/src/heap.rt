@@ -1,0 +1,6 @@
+//! Tests of a heap.
+
+mod calls;
+mod comparison;
+mod plain;
+mod tests;

@@ -1,0 +1,24 @@
+//! Tests of the libraries below the world, and of scripts, by their public calls. They stand in one crate of their own: a crate with tests in it is proved
+//! twice, and each crate of tests takes a minute or two to read what it uses.
+#![tactic(auto)]
+
+#[cfg(test)]
+mod blocks;
+#[cfg(test)]
+mod dirty;
+#[cfg(test)]
+mod equal;
+#[cfg(test)]
+mod heap;
+#[cfg(test)]
+mod line;
+#[cfg(test)]
+mod links;
+#[cfg(test)]
+mod marker;
+#[cfg(test)]
+mod pass;
+#[cfg(test)]
+mod script;
+#[cfg(test)]
+mod table;

@@ -1,0 +1,4 @@
+//! Tests of runs of scripts.
+
+mod rows;
+mod tests;

@@ -1,0 +1,437 @@
+//! Runs of whole scripts.
+
+mod cuts;
+
+ghost use Rattle.std.specs.Prelude.{◌≡◌, ◌≤◌, ◌<◌, ◌^◌, length};
+
+use crate::drive::rows::Row;
+use crate::drive::rows::cycles::{
+    CLOSE_INSIDE_A_CYCLE, CYCLE_REFUSALS, DIRTY_SECOND_PAGE, SWAP_BEHIND_THE_MARKER,
+};
+use crate::drive::rows::limits::{EIGHT_WORKERS, LAST_FRAME_AND_SLOT, NUMBERS_AT_THE_LIMIT};
+use crate::drive::rows::links::{MOVED_LINKS, SHORT_AND_LONG_LINKS};
+use crate::drive::rows::objects::{
+    EMPTY_HEAP, INTERIOR_POINTER, LARGE_OBJECTS, LARGE_SIZE_AND_FULL_HEAP, SIZES_AND_FULL_HEAP,
+    SWEPT_CELL_REUSED,
+};
+use crate::drive::rows::order::{
+    CHAIN_IN_ORDER, CHAIN_IN_ORDER_RANKED, CYCLE_CUT_BY_SHORT_LINK, CYCLE_NEVER_PICKED,
+    NO_ORDER_CYCLE_BY_ADDRESS, NO_ORDER_LEADS_BACK, NORMAL_LEADS_TO_NO_ORDER, RANKS,
+    SELF_REFERENCE_BY_KIND,
+};
+use crate::drive::rows::refused::{EMPTY_FILE, LEADING_ZERO, NO_BLOCKS, RANK_TOO_LARGE};
+use crate::drive::rows::registrations::{
+    CLIENT_DATA_IS_A_ROOT, CLOSED_WORLD_KEEPS, FORFEITED_ENTRY, HELD_UNTIL_FINISHED,
+    ONE_OBJECT_LIFE, REPLACED_AND_REMOVED_REGISTRATION,
+};
+use arrayvec::ArrayVec;
+use fz_devices::{Limits, MemorySink, MemorySource, Pieces, WHOLE, bytewise};
+use fz_drive::{Summary, drive};
+use fz_model::{MAX_BLOCKS, MAX_FRAMES, MAX_WORKERS, Refusal};
+use fz_text::{DriveFault, Failures};
+use std::alloc::{AllocError, Global};
+use std::marker::Brand;
+use std::process::Abort;
+use std::sync::ledger::{Blank, Ledger};
+use std::test::Fail;
+
+/// Scripts over objects and their order, and such as end early.
+const OBJECTS: [Row; 18] = [
+    EMPTY_HEAP,
+    CHAIN_IN_ORDER,
+    CHAIN_IN_ORDER_RANKED,
+    RANKS,
+    RANK_TOO_LARGE,
+    CYCLE_NEVER_PICKED,
+    LEADING_ZERO,
+    NO_BLOCKS,
+    EMPTY_FILE,
+    INTERIOR_POINTER,
+    SIZES_AND_FULL_HEAP,
+    LARGE_SIZE_AND_FULL_HEAP,
+    LARGE_OBJECTS,
+    NUMBERS_AT_THE_LIMIT,
+    SELF_REFERENCE_BY_KIND,
+    NO_ORDER_CYCLE_BY_ADDRESS,
+    NORMAL_LEADS_TO_NO_ORDER,
+    NO_ORDER_LEADS_BACK,
+];
+
+/// Scripts over links, cycles in steps, and registrations with their entries.
+const LINKS: [Row; 14] = [
+    MOVED_LINKS,
+    SHORT_AND_LONG_LINKS,
+    CYCLE_CUT_BY_SHORT_LINK,
+    SWAP_BEHIND_THE_MARKER,
+    DIRTY_SECOND_PAGE,
+    CYCLE_REFUSALS,
+    CLOSE_INSIDE_A_CYCLE,
+    CLOSED_WORLD_KEEPS,
+    ONE_OBJECT_LIFE,
+    CLIENT_DATA_IS_A_ROOT,
+    REPLACED_AND_REMOVED_REGISTRATION,
+    HELD_UNTIL_FINISHED,
+    FORFEITED_ENTRY,
+    SWEPT_CELL_REUSED,
+];
+
+/// Scripts over the largest world.
+const LIMITS: [Row; 2] = [EIGHT_WORKERS, LAST_FRAME_AND_SLOT];
+
+#[derive(Drop)]
+struct Outcome {
+    result: Result<Summary, DriveFault>,
+    text: ArrayVec<u8, 4096>,
+}
+
+/// Runs the script over devices in memory.
+fn run(alloc: Global, script: &[u8], limits: Limits) -> Outcome {
+    run_counted::<Brand, Brand>(alloc, script, limits, Blank::new(1), Blank::new(1))
+}
+
+fn run_counted<I: Ledger, O: Ledger>(
+    alloc: Global,
+    script: &[u8],
+    limits: Limits,
+    input: Blank,
+    output: Blank,
+) -> Outcome
+    requires input_name { input.name ≡ I.name }
+    requires input_parts { (input.parts ≡ I.parts) × (I.parts ≡ 1) }
+    requires output_name { output.name ≡ O.name }
+    requires output_parts { (output.parts ≡ O.parts) × (O.parts ≡ 1) }
+{
+    let mut reader = MemorySource::new(
+        script,
+        limits.pieces,
+        limits.reads,
+        Failures::<I>::none(input),
+    );
+    let mut writer = MemorySink::new(limits.pieces, limits.writes, Failures::<O>::none(output));
+    let result = drive(alloc, &mut reader, &mut writer);
+    Outcome {
+        result,
+        text: writer.into_bytes(),
+    }
+}
+
+fn fault(refusal: Refusal, line: u64) -> Result<Summary, DriveFault> {
+    Err(DriveFault { refusal, line })
+}
+
+/// The number of lines that end in these bytes.
+fn lines_in(bytes: &[u8]) -> usize
+    ensures { result ≤ length bytes.now }
+{
+    bytes.iter().filter(|byte| **byte == b'\n').count()
+}
+
+/// The first lines, as many as are asked for.
+fn first_lines(bytes: &[u8], count: usize) -> &[u8] {
+    if count == 0 {
+        return &[];
+    }
+    let mut left = count;
+    for (place, byte) in bytes.iter().enumerate() {
+        if *byte == b'\n' {
+            left = left.saturating_sub(1);
+        }
+        if left == 0 {
+            return &bytes[..place + 1];
+        }
+    }
+    bytes
+}
+
+/// Stops the test where a run has another report. Here and in the next two stand the only asserts, since each is proved again wherever it stands.
+fn must_report(rt: &impl Abort, outcome: &Outcome, report: &[u8], row: usize) {
+    assert_eq!(rt; outcome.text.as_slice(), report, "row {row}");
+}
+
+/// Stops the test where a run ends otherwise.
+fn must_end(rt: &impl Abort, outcome: &Outcome, end: Result<Summary, DriveFault>, row: usize) {
+    assert!(rt; outcome.result == end, "row {row}");
+}
+
+/// Stops the test where something isn't so.
+fn must_hold(rt: &impl Abort, holds: bool, row: usize, place: usize) {
+    assert!(rt; holds, "row {row}, place {place}");
+}
+
+/// Runs the row's script over devices with these limits.
+fn must_run(rt: &impl Abort, alloc: Global, row: Row, limits: Limits, number: usize) {
+    let outcome = run(alloc, row.script, limits);
+    must_report(rt, &outcome, row.report, number);
+    must_hold(rt, outcome.result.err() == row.fault, number, 0);
+}
+
+/// The same for each of these rows.
+fn must_run_all(rt: &impl Abort, alloc: Global, rows: &[Row], limits: Limits) {
+    for (number, row) in rows.iter().enumerate() {
+        must_run(rt, alloc, *row, limits, number);
+    }
+}
+
+#[test]
+fn rows_are_reported(rt: HostRuntime) {
+    for limits in [WHOLE, bytewise(usize::MAX, usize::MAX)] {
+        must_run_all(&rt, rt.alloc(), &OBJECTS, limits);
+        must_run_all(&rt, rt.alloc(), &LINKS, limits);
+    }
+}
+
+#[test]
+fn the_limits_are_reported(rt: HostRuntime) {
+    must_run_all(&rt, rt.alloc(), &LIMITS, WHOLE);
+}
+
+#[test]
+fn a_summary_has_the_numbers_of_the_end(rt: HostRuntime) {
+    let outcome = run(rt.alloc(), CHAIN_IN_ORDER.script, WHOLE);
+    let summary = Summary {
+        steps: 14,
+        refused: 0,
+        enqueued: 2,
+        finished: 1,
+        forfeited: 0,
+        in_hand: 1,
+        left: 0,
+    };
+    must_end(&rt, &outcome, Ok(summary), 0);
+}
+
+/// Whether a run of the script ends with this fault, in the line after the given ones, and has written just this text.
+fn fails(alloc: Global, limits: Limits, refusal: Refusal, lines: usize, text: &[u8]) -> bool
+    requires { lines < 2 ^ 32 }
+{
+    let outcome = run(alloc, ONE_OBJECT_LIFE.script, limits);
+    outcome.result == fault(refusal, lines as u64 + 1) && outcome.text.as_slice() == text
+}
+
+/// Each read of the script fails in turn: whole lines before it are answered, and nothing else.
+#[test]
+fn each_read_fails(rt: HostRuntime) {
+    let Row { script, report, .. } = ONE_OBJECT_LIFE;
+    for reads in 0..script.len() + 1 {
+        let lines = lines_in(&script[..reads]);
+        let replies = first_lines(report, lines);
+        let limits = bytewise(reads, usize::MAX);
+        let fails = fails(rt.alloc(), limits, Refusal::Input, lines, replies);
+        must_hold(&rt, fails, 0, reads);
+    }
+}
+
+/// Each write of the report fails in turn.
+#[test]
+fn each_write_fails(rt: HostRuntime) {
+    let Row { report, .. } = ONE_OBJECT_LIFE;
+    for writes in 0..report.len() {
+        let lines = lines_in(&report[..writes]);
+        let limits = bytewise(usize::MAX, writes);
+        let written = &report[..writes];
+        let fails = fails(rt.alloc(), limits, Refusal::Output, lines, written);
+        must_hold(&rt, fails, 0, writes);
+    }
+}
+
+/// A writer that takes all that it is offered is called once for each line.
+#[test]
+fn a_reply_is_one_write(rt: HostRuntime) {
+    let row = ONE_OBJECT_LIFE;
+    let all = lines_in(row.report);
+    for writes in 0..all {
+        let limits = Limits {
+            writes: writes as u64,
+            ..WHOLE
+        };
+        let replies = first_lines(row.report, writes);
+        let fails = fails(rt.alloc(), limits, Refusal::Output, writes, replies);
+        must_hold(&rt, fails, 0, writes);
+    }
+    let limits = Limits {
+        writes: all as u64,
+        ..WHOLE
+    };
+    must_run(&rt, rt.alloc(), row, limits, 0);
+}
+
+/// Ends each of these scripts behind any of its lines, with and without the line feed.
+fn must_end_alike(rt: &impl Abort, alloc: Global, rows: &[Row]) {
+    for (number, row) in rows.iter().enumerate() {
+        if row.fault.is_some() {
+            continue;
+        }
+        for (place, byte) in row.script.iter().enumerate() {
+            if *byte == b'\n' {
+                must_hold(rt, ends_alike(alloc, *row, place), number, place);
+            }
+        }
+    }
+}
+
+#[test]
+fn a_last_line_needs_no_line_feed(rt: HostRuntime) {
+    must_end_alike(&rt, rt.alloc(), &OBJECTS);
+    must_end_alike(&rt, rt.alloc(), &LINKS);
+}
+
+/// Whether the script ends alike before and behind the line feed at this place, with the replies to its lines so far.
+fn ends_alike(alloc: Global, row: Row, place: usize) -> bool
+    requires { place < length row.script.now }
+{
+    let cut = run(alloc, &row.script[..place], WHOLE);
+    let ended = run(alloc, &row.script[..place + 1], WHOLE);
+    let replies = first_lines(row.report, lines_in(&row.script[..place + 1]));
+    let text = cut.text.as_slice();
+    cut.result == ended.result
+        && text == ended.text.as_slice()
+        && text.starts_with(replies)
+        && text[replies.len()..].starts_with(b"end enqueued ")
+}
+
+/// Scripts with a malformed line, their reports, and the number of that line.
+const MALFORMED: [(&[u8], &[u8], u64); 12] = [
+    (b"#\n\n", b"line 3 refused 15 BadLine\n", 3),
+    (b"set 0 0 1\n", b"line 1 refused 15 BadLine\n", 1),
+    (b"open 1 1 1 \n", b"line 1 refused 15 BadLine\n", 1),
+    (b"\nopen 1 1 1\r\n", b"line 2 refused 15 BadLine\n", 2),
+    (
+        b"open 1 1 1\nopen 1 1 1\n",
+        b"ok\nline 2 refused 15 BadLine\n",
+        2,
+    ),
+    (
+        b"open 1 1 1\nset 0 0 1\r\n",
+        b"ok\nline 2 refused 15 BadLine\n",
+        2,
+    ),
+    (
+        b"open 1 1 1\n#\r\nset  0 0 1",
+        b"ok\nline 3 refused 15 BadLine\n",
+        3,
+    ),
+    (
+        b"open 1 1 1\nset 0 0 18446744073709551616",
+        b"ok\nline 2 refused 15 BadLine\n",
+        2,
+    ),
+    (
+        b"open 1 1 1\nset 0 0 +1",
+        b"ok\nline 2 refused 15 BadLine\n",
+        2,
+    ),
+    (
+        b"open 1 1 1\nset 0 0",
+        b"ok\nline 2 refused 15 BadLine\n",
+        2,
+    ),
+    (
+        b"open 1 1 1\n set 0 0 1",
+        b"ok\nline 2 refused 15 BadLine\n",
+        2,
+    ),
+    (
+        b"open 1 1 1\nnew 0 0 1 Scanned\n",
+        b"ok\nline 2 refused 15 BadLine\n",
+        2,
+    ),
+];
+
+#[test]
+fn malformed_lines(rt: HostRuntime) {
+    for (number, (script, report, line)) in MALFORMED.iter().enumerate() {
+        let outcome = run(rt.alloc(), *script, WHOLE);
+        must_report(&rt, &outcome, *report, number);
+        must_end(&rt, &outcome, fault(Refusal::BadLine, *line), number);
+    }
+}
+
+/// A comment of 200 bytes is skipped, and one of 201 is malformed as soon as its last byte was read.
+#[test]
+fn long_lines(rt: HostRuntime) {
+    let mut bytes = [b'#'; 202];
+    bytes[201] = b'\n';
+    let runs: [(&[u8], usize, Refusal, u64); 5] = [
+        (&bytes[1..], usize::MAX, Refusal::BadLine, 2),
+        (&bytes[..200], usize::MAX, Refusal::BadLine, 2),
+        (&bytes, usize::MAX, Refusal::BadLine, 1),
+        (&bytes, 201, Refusal::BadLine, 1),
+        (&bytes, 200, Refusal::Input, 1),
+    ];
+    for (number, (script, reads, refusal, line)) in runs.iter().enumerate() {
+        let outcome = run(rt.alloc(), *script, bytewise(*reads, usize::MAX));
+        must_end(&rt, &outcome, fault(*refusal, *line), number);
+    }
+}
+
+/// Blocks, frames and workers, one of them outside its limits.
+const OUTSIDE: [(u64, u64, u64); 6] = [
+    (0, 1, 1),
+    (MAX_BLOCKS + 1, 1, 1),
+    (1, 0, 1),
+    (1, MAX_FRAMES + 1, 1),
+    (1, 1, 0),
+    (1, 1, MAX_WORKERS + 1),
+];
+
+/// The same, all within their limits: each number of workers, and some of frames.
+const WITHIN: [(u64, u64, u64); 8] = [
+    (1, 1, MAX_WORKERS),
+    (2, 2, 7),
+    (3, 3, 6),
+    (64, 4, 5),
+    (65, 5, 4),
+    (MAX_BLOCKS - 2, 6, 3),
+    (MAX_BLOCKS - 1, 7, 2),
+    (MAX_BLOCKS, MAX_FRAMES, 1),
+];
+
+/// Runs a script that opens a world, and does no more.
+fn opened(alloc: Global, opening: (u64, u64, u64)) -> Result<Outcome, AllocError> {
+    let (blocks, frames, workers) = opening;
+    let script = format!(in alloc; "open {blocks} {frames} {workers}\n")?;
+    Ok(run(alloc, script.as_str().as_bytes(), WHOLE))
+}
+
+#[test]
+fn openings_outside_the_limits(rt: HostRuntime) -> Result<(), Fail> {
+    for (number, opening) in OUTSIDE.iter().enumerate() {
+        let outcome = opened(rt.alloc(), *opening)?;
+        must_report(&rt, &outcome, b"refused 7 BadCount\n", number);
+        must_end(&rt, &outcome, fault(Refusal::BadCount, 1), number);
+    }
+    Ok(())
+}
+
+#[test]
+fn openings_within_the_limits(rt: HostRuntime) -> Result<(), Fail> {
+    let report = b"ok\nend enqueued 0 finished 0 forfeited 0 in_hand 0 left 0\n";
+    for (number, opening) in WITHIN.iter().enumerate() {
+        must_report(&rt, &opened(rt.alloc(), *opening)?, report, number);
+    }
+    Ok(())
+}
+
+/// What the workers are refused, and what stays in their hands.
+#[test]
+fn workers_are_refused(rt: HostRuntime) {
+    let script =
+        b"open 4 1 1\ntake 1\nfinish 1\nfinish 0\ntake 0\nnew 0 0 2 scanned\nregister 0 0 normal 7 0\n\
+        set 0 0 0\ncollect\ntake 0\ntake 0\nfinish 0\nfinish 0\n";
+    let report =
+        b"ok\nrefused 16 SeatsMissing\nrefused 16 SeatsMissing\nrefused 10 NotHeld\nempty\nnew 65536 0\nreg 0\n\
+        ok\npass 1 picked 1 reclaimed 0\nentry 0 1 0 65536 0 7 0\nrefused 16 SeatsMissing\nok\nrefused 10 NotHeld\n\
+        end enqueued 1 finished 1 forfeited 0 in_hand 0 left 0\n";
+    let outcome = run(rt.alloc(), script, WHOLE);
+    must_report(&rt, &outcome, report, 0);
+    let summary = Summary {
+        steps: 13,
+        refused: 5,
+        enqueued: 1,
+        finished: 1,
+        forfeited: 0,
+        in_hand: 0,
+        left: 0,
+    };
+    must_end(&rt, &outcome, Ok(summary), 0);
+}

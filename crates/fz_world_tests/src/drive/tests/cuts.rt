@@ -1,0 +1,166 @@
+//! Scripts that are cut, or have a byte changed: the lines before that place get their replies, and the line there is a step or malformed.
+
+ghost use Rattle.std.specs.Prelude.{◌≤◌, length};
+
+use super::{LINKS, OBJECTS, Outcome, fault, first_lines, lines_in, must_hold, run};
+use crate::drive::rows::Row;
+use crate::drive::rows::cycles::{FOUND_BY_ITS_OWN_PASS, FOUND_BY_THE_NEXT_PASS};
+use crate::drive::rows::order::CHAIN_IN_ORDER;
+use fz_devices::WHOLE;
+use fz_model::Refusal;
+use std::alloc::{AllocError, Global};
+use std::process::Abort;
+use std::test::Fail;
+
+/// What stands before the first line feed.
+fn first_line(bytes: &[u8]) -> &[u8] {
+    bytes.split(|byte| *byte == b'\n').next().unwrap_or(bytes)
+}
+
+/// What stands behind the last line feed.
+fn last_line(bytes: &[u8]) -> &[u8] {
+    bytes.rsplit(|byte| *byte == b'\n').next().unwrap_or(bytes)
+}
+
+/// Whether a line is a registration's, but for a rank.
+fn can_have_a_rank(line: &[u8]) -> bool {
+    line.starts_with(b"register ") && line.iter().filter(|byte| **byte == b' ').count() == 5
+}
+
+/// Whether a cut line is no fault: nothing is left of it, or nothing was cut off, or its rank was, or digits of its last number.
+fn is_no_fault(line: &[u8], cut_off: &[u8]) -> bool {
+    match (line, cut_off) {
+        ([], _) => true,
+        (_, []) => true,
+        (_, [b' ', ..]) => can_have_a_rank(line),
+        ([.., last], _) => {
+            last.is_ascii_digit() && cut_off.iter().all(|byte| byte.is_ascii_digit())
+        }
+    }
+}
+
+/// Whether the run stopped at this line, which is malformed, with these replies before it.
+fn stops_at(
+    alloc: Global,
+    outcome: &Outcome,
+    replies: &[u8],
+    line: usize,
+) -> Result<bool, AllocError> {
+    let told = format!(in alloc; "line {line} refused 15 BadLine\n")?;
+    let Some(rest) = outcome.text.as_slice().strip_prefix(replies) else {
+        return Ok(false);
+    };
+    Ok(rest == told.as_str().as_bytes() && outcome.result == fault(Refusal::BadLine, line as u64))
+}
+
+/// Whether the run came to its end after this many replies, of which these are the first.
+fn ends_after(outcome: &Outcome, replies: &[u8], steps: usize) -> bool {
+    let text = outcome.text.as_slice();
+    let Some(lines) = text.strip_suffix(b"\n") else {
+        return false;
+    };
+    outcome.result.is_ok()
+        && text.starts_with(replies)
+        && lines_in(lines) == steps
+        && last_line(lines).starts_with(b"end enqueued ")
+}
+
+/// Whether the first bytes of the row's script, this many, get the report that they should.
+fn is_cut_well(alloc: Global, row: Row, place: usize) -> Result<bool, AllocError>
+    requires { place ≤ length row.script.now }
+{
+    let (script, rest) = row.script.split_at(place);
+    let outcome = run(alloc, script, WHOLE);
+    // The last line needs no line feed.
+    if rest.len() < 2 {
+        return Ok(outcome.text.as_slice() == row.report && outcome.result.err() == row.fault);
+    }
+    let (line, cut_off) = (last_line(script), first_line(rest));
+    let whole = lines_in(script);
+    let number = whole.saturating_add(1);
+    // A script has an opening.
+    if script.is_empty() || !is_no_fault(line, cut_off) {
+        return stops_at(alloc, &outcome, first_lines(row.report, whole), number);
+    }
+    let steps = if line.is_empty() { whole } else { number };
+    let known = if cut_off.is_empty() { steps } else { whole };
+    Ok(ends_after(&outcome, first_lines(row.report, known), steps))
+}
+
+/// Cuts the row's script after each of its bytes.
+fn cut_everywhere(
+    rt: &impl Abort,
+    alloc: Global,
+    number: usize,
+    row: Row,
+) -> Result<(), AllocError> {
+    for place in 0..row.script.len() + 1 {
+        let is_well = is_cut_well(alloc, row, place)?;
+        must_hold(rt, is_well, number, place);
+    }
+    Ok(())
+}
+
+/// The same for each of these rows.
+fn cut_all(rt: &impl Abort, alloc: Global, rows: &[Row]) -> Result<(), AllocError> {
+    for (number, row) in rows.iter().enumerate() {
+        cut_everywhere(rt, alloc, number, *row)?;
+    }
+    Ok(())
+}
+
+#[test]
+fn scripts_over_objects_are_cut(rt: HostRuntime) -> Result<(), Fail> {
+    cut_all(&rt, rt.alloc(), &OBJECTS)?;
+    Ok(())
+}
+
+#[test]
+fn scripts_over_links_are_cut(rt: HostRuntime) -> Result<(), Fail> {
+    cut_all(&rt, rt.alloc(), &LINKS)?;
+    Ok(())
+}
+
+/// What is dropped inside a cycle is found by either of two passes, in a script that is cut too.
+#[test]
+fn what_is_dropped_inside_a_cycle_is_found(rt: HostRuntime) -> Result<(), Fail> {
+    let next = FOUND_BY_THE_NEXT_PASS;
+    let own = Row {
+        report: FOUND_BY_ITS_OWN_PASS,
+        ..next
+    };
+    for place in 0..next.script.len() + 1 {
+        let is_well = is_cut_well(rt.alloc(), next, place)? || is_cut_well(rt.alloc(), own, place)?;
+        must_hold(&rt, is_well, 0, place);
+    }
+    Ok(())
+}
+
+/// Whether a carriage return in place of this byte of the row's script makes the byte's line malformed. The line goes on behind a line feed that it
+/// takes the place of.
+fn is_malformed_by_a_return(alloc: Global, row: Row, place: usize) -> Result<bool, AllocError>
+    requires { place ≤ length row.script.now }
+{
+    let (before, rest) = row.script.split_at(place);
+    let Some((_, after)) = rest.split_first() else {
+        return Ok(false);
+    };
+    let mut script = Vec::new(alloc);
+    script.extend_from_slice(before)?;
+    script.push(b'\r')?;
+    script.extend_from_slice(after)?;
+    let outcome = run(alloc, script.as_slice(), WHOLE);
+    let whole = lines_in(before);
+    let replies = first_lines(row.report, whole);
+    stops_at(alloc, &outcome, replies, whole.saturating_add(1))
+}
+
+#[test]
+fn a_carriage_return_makes_its_line_malformed(rt: HostRuntime) -> Result<(), Fail> {
+    let row = CHAIN_IN_ORDER;
+    for place in 0..row.script.len() {
+        let is_malformed = is_malformed_by_a_return(rt.alloc(), row, place)?;
+        must_hold(&rt, is_malformed, 0, place);
+    }
+    Ok(())
+}

@@ -1,0 +1,4 @@
+//! Tests of a world.
+
+mod shown;
+mod tests;
