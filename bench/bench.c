@@ -15,7 +15,7 @@
 #include <time.h>
 #define NOINLINE __attribute__((noinline, noclone))
 
-/* crates/call_bench */
+/* crates/heap_bench */
 typedef struct { uint64_t sum; bool done; } Outcome;
 Outcome heap_bench_new(uint64_t count, uint64_t size);
 Outcome heap_bench_fill(uint64_t count, uint64_t size);

@@ -1,12 +1,12 @@
 /* world.c - times the world's calls.
  *   world ROW N          the nanoseconds of a row of rows.h for each of N objects, or "-" where N is too large for it
  *   world open BLOCKS    the nanoseconds in which a world of so many blocks is opened and dropped
- * bench/run builds it with crates/call_bench, and runs it beside bdwgc.c.
+ * bench/run builds it with crates/world_bench, and runs it beside bdwgc.c.
  */
 #include <malloc.h>
 #include "rows.h"
 
-/* crates/call_bench */
+/* crates/world_bench */
 typedef struct {
     uint64_t blocks, frames, objects, size, registered;
     bool no_order, ranked;

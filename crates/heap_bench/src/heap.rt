@@ -1,6 +1,6 @@
 //! The heap's calls.
 
-use crate::answered::Answered;
+use crate::outcome::Outcome;
 use fz_heap::Heap;
 use fz_model::ObjKind::Scanned;
 use fz_model::{Addr, BLOCK_WORDS, MAX_BLOCKS, Refusal, Word};
@@ -162,32 +162,32 @@ fn read(alloc: Global, count: u64, size: u64, words: &[Word], times: u64) -> Res
 
 /// Makes a heap for `count` objects of this size. The sum is the number of its blocks.
 #[unsafe(no_mangle)]
-pub extern "C" fn heap_bench_new(alloc: Global, count: u64, size: u64) -> Answered {
-    Answered::of(make(alloc, count, size))
+pub extern "C" fn heap_bench_new(alloc: Global, count: u64, size: u64) -> Outcome {
+    Outcome::of(make(alloc, count, size))
 }
 
 /// The same, and makes the objects. The sum is that of their starts, here and in the next three.
 #[unsafe(no_mangle)]
-pub extern "C" fn heap_bench_fill(alloc: Global, count: u64, size: u64) -> Answered {
-    Answered::of(make_and_fill(alloc, count, size))
+pub extern "C" fn heap_bench_fill(alloc: Global, count: u64, size: u64) -> Outcome {
+    Outcome::of(make_and_fill(alloc, count, size))
 }
 
 /// The same, and lists the objects and looks each up.
 #[unsafe(no_mangle)]
-pub extern "C" fn heap_bench_list(alloc: Global, count: u64, size: u64) -> Answered {
-    Answered::of(list(alloc, count, size))
+pub extern "C" fn heap_bench_list(alloc: Global, count: u64, size: u64) -> Outcome {
+    Outcome::of(list(alloc, count, size))
 }
 
 /// The same; condemns each object once it is looked up, and then sweeps all blocks.
 #[unsafe(no_mangle)]
-pub extern "C" fn heap_bench_empty(alloc: Global, count: u64, size: u64) -> Answered {
-    Answered::of(empty(alloc, count, size))
+pub extern "C" fn heap_bench_empty(alloc: Global, count: u64, size: u64) -> Outcome {
+    Outcome::of(empty(alloc, count, size))
 }
 
 /// The same, and makes as many objects again.
 #[unsafe(no_mangle)]
-pub extern "C" fn heap_bench_refill(alloc: Global, count: u64, size: u64) -> Answered {
-    Answered::of(refill(alloc, count, size))
+pub extern "C" fn heap_bench_refill(alloc: Global, count: u64, size: u64) -> Outcome {
+    Outcome::of(refill(alloc, count, size))
 }
 
 /// Looks the words up `times` times, in a new heap with `count` objects of this size. The sum is that of the starts to which they point.
@@ -198,8 +198,8 @@ pub extern "C" fn heap_bench_resolve(
     size: u64,
     words: &[Word],
     times: u64,
-) -> Answered {
-    Answered::of(resolve(alloc, count, size, words, times))
+) -> Outcome {
+    Outcome::of(resolve(alloc, count, size, words, times))
 }
 
 /// Writes each word to where it points, in a new heap with `count` objects of this size, and reads them back `times` times. The sum is that
@@ -211,6 +211,6 @@ pub extern "C" fn heap_bench_read(
     size: u64,
     words: &[Word],
     times: u64,
-) -> Answered {
-    Answered::of(read(alloc, count, size, words, times))
+) -> Outcome {
+    Outcome::of(read(alloc, count, size, words, times))
 }

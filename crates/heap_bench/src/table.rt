@@ -1,6 +1,6 @@
 //! The table's calls.
 
-use crate::answered::Answered;
+use crate::outcome::Outcome;
 use fz_model::{Addr, Refusal, RegKind};
 use fz_table::Table;
 use std::alloc::Global;
@@ -38,12 +38,12 @@ fn register_and_remove(alloc: Global, objects: &[Addr]) -> Result<u64, Refusal> 
 
 /// Registers the objects in a new table. The sum is that of the numbers.
 #[unsafe(no_mangle)]
-pub extern "C" fn heap_bench_register(alloc: Global, objects: &[Addr]) -> Answered {
-    Answered::of(register(alloc, objects))
+pub extern "C" fn heap_bench_register(alloc: Global, objects: &[Addr]) -> Outcome {
+    Outcome::of(register(alloc, objects))
 }
 
 /// The same, and removes their registrations in the same order. Each object's client data is its start, and the sum is that of the starts.
 #[unsafe(no_mangle)]
-pub extern "C" fn heap_bench_remove(alloc: Global, objects: &[Addr]) -> Answered {
-    Answered::of(register_and_remove(alloc, objects))
+pub extern "C" fn heap_bench_remove(alloc: Global, objects: &[Addr]) -> Outcome {
+    Outcome::of(register_and_remove(alloc, objects))
 }
