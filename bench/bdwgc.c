@@ -13,7 +13,7 @@ static void *volatile root;    /* the one pointer to them that it sees */
 static void **volatile words;  /* an atomic object, in whose words links stand */
 static void finalizer(void *object, void *data) { (void)object; (void)data; }
 
-/* works as long as the busy procedure of crates/wall_bench, by as many turns of a word */
+/* works as long as the busy procedure of crates/service_bench, by as many turns of a word */
 enum { TURNS = 1000 };
 static volatile uint64_t turned = 1;
 static void busy_finalizer(void *object, void *data) {

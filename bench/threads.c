@@ -1,5 +1,5 @@
-/* threads.c - what threads that share nothing take for the work of the busy procedure of crates/wall_bench.
- *   threads COUNT N    the nanoseconds of one turn of work on the wall, of N that COUNT threads share out; their start and end count
+/* threads.c - what threads that share nothing take for the work of the busy procedure of crates/service_bench.
+ *   threads N COUNT    the nanoseconds on the wall in which COUNT threads do the work N times, and start and end
  * bench/run builds it. It shows how much of several processors the machine really gives.
  */
 #include <pthread.h>
@@ -29,12 +29,12 @@ static void *work(void *first)
 
 int main(int words, char **word)
 {
-    uint64_t count = words == 3 ? strtoull(word[1], NULL, 10) : 0, n = count ? strtoull(word[2], NULL, 10) : 0;
+    uint64_t count = words == 3 ? strtoull(word[2], NULL, 10) : 0, n = count ? strtoull(word[1], NULL, 10) : 0;
     pthread_t threads[MOST];
     double t;
 
     if (!n || count > MOST) {
-        fprintf(stderr, "usage: threads COUNT N\n");
+        fprintf(stderr, "usage: threads N COUNT\n");
         return 2;
     }
     share = (n + count - 1) / count;
@@ -54,6 +54,6 @@ int main(int words, char **word)
         }
     }
     t = now() - t;
-    printf("%.3f\n", t / n);
+    printf("%.0f\n", t);
     return 0;
 }

@@ -1,4 +1,8 @@
-//! The ready line: entries published, taken and finished.
+//! line_bench ENTRIES TAKERS: prints the nanoseconds in which the entries are published to a ready line, taken and finished.
+//!
+//! With one taker, one thread publishes, takes and finishes one entry after another. With more of them (up to eight), one thread publishes
+//! while each taker takes in a thread of its own. It stands beside `bench/run`, which calls it.
+#![tactic(auto)]
 
 mod publisher;
 mod taker;
@@ -9,32 +13,38 @@ use fz_line::{Owner, Seat, line, retire_all};
 use fz_model::MAX_WORKERS;
 use publisher::Publisher;
 use std::alloc::{AllocError, Global};
+use std::process::ExitCode;
 use std::rt::Clock;
 use std::sync::atomic::{AtomicBool, Ordering};
 use std::thread::Threads;
 use std::time::Instant;
-use std::{io, thread};
+use std::{env, io, thread};
 use taker::{Taker, take_one};
 
 /// The entries for which the line has room from the first, as a service's has over a heap of 1,024 blocks or more.
 const ROOM: usize = 65_536;
 
-/// Publishes this number of entries to a line with this number of takers, and has them taken and finished. Returns the nanoseconds, or nothing where the line
-/// can't be opened.
-pub(crate) fn run<R: Clock + Threads + Alloc<A = Global> + Sync>(
-    rt: &R,
-    entries: u64,
-    takers: u64,
-) -> io::Result<Option<u128>> {
+fn main(rt: HostRuntime) -> io::Result<ExitCode> {
+    let mut numbers = env::args(&rt)?.skip(1).map(|word| word.parse::<u64>());
+    let (Some(Ok(entries)), Some(Ok(takers)), None) = (
+        numbers.next(),
+        numbers.next(),
+        numbers.next(),
+    ) else {
+        eprintln!(rt; "line_bench: want ENTRIES TAKERS")?;
+        return Ok(ExitCode::from(2));
+    };
     let Ok((owner, seats)) = line(rt.alloc(), takers, ROOM) else {
-        return Ok(None);
+        eprintln!(rt; "line_bench: no line with {takers} takers")?;
+        return Ok(ExitCode::from(1));
     };
     let nanoseconds = if takers == 1 {
-        alone(rt, owner, seats, entries)?
+        alone(&rt, owner, seats, entries)?
     } else {
-        together(rt, owner, seats, entries)?
+        together(&rt, owner, seats, entries)?
     };
-    Ok(Some(nanoseconds))
+    println!(rt; "{nanoseconds}")?;
+    Ok(ExitCode::from(0))
 }
 
 /// The nanoseconds in which one thread publishes, takes and finishes the entries, one by one.

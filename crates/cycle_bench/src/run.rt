@@ -1,7 +1,7 @@
 //! What is timed.
 
-use super::calls::{Call, Kind, time};
-use super::chain::{Chance, make_chain};
+use crate::calls::{Call, Kind, time};
+use crate::chain::{Chance, make_chain};
 use fz_model::BLOCK_WORDS;
 use fz_world::{Config, World};
 use std::alloc::Global;

@@ -1,6 +1,6 @@
 //! From one collection to the last finished entry.
 
-use super::finalizers::{Busy, Nothing, Procedure};
+use crate::finalizers::{Busy, Nothing, Procedure};
 use fz_model::{ObjKind, RegKind};
 use fz_service::{OpenGate, Opening, Proc, Seat, Service, procedures, retire_all};
 use std::alloc::Global;

@@ -1,5 +1,5 @@
 use Rattle.std.proofs.Common.{vec_len}
-use Rattle.wall_bench.proofs.line.takers.Given as goal
+use Rattle.line_bench.proofs.takers.Given as goal
 
 abbrev pub decreases-loop-seat : goal.decreases-loop-seat
 decreases-loop-seat l = vec_len l.seats

@@ -1,6 +1,6 @@
 //! Collections of an empty heap after a long past.
 
-use super::calls::{Call, Kind, time};
+use crate::calls::{Call, Kind, time};
 use fz_model::ObjKind::Atomic;
 use fz_model::{BLOCK_WORDS, Refusal, RegKind};
 use fz_world::{Config, World};

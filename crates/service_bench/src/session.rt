@@ -2,9 +2,9 @@
 
 ghost use Rattle.std.specs.Prelude.{◌≡◌};
 
-use super::finalizers::Procedure;
-use super::finishing::finish_all;
-use super::steps::enter_and_set;
+use crate::finalizers::Procedure;
+use crate::finishing::finish_all;
+use crate::steps::enter_and_set;
 use fz_service::{Opening, Prepared, Service};
 use std::alloc::Global;
 use std::io;

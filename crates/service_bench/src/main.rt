@@ -1,0 +1,82 @@
+//! service_bench TEST COUNT WORKERS: prints the nanoseconds that a test of the service takes.
+//!
+//! `mutex` takes a bare lock COUNT times and writes a word each time. `step` enters a service COUNT times and sets a slot each time. `workers` collects
+//! COUNT registered objects to which nothing leads, beside WORKERS workers on threads of their own, and ends when the workers have finished all of their
+//! entries. `busy` is the same with a procedure that works for about 2 microseconds. The other tests have no use for workers. It stands beside
+//! `bench/run`, which calls it.
+#![tactic(auto)]
+
+mod bare;
+mod finalizers;
+mod finishing;
+mod session;
+mod steps;
+
+use bare::lock_bare;
+use finalizers::Procedure;
+use fz_service::Service;
+use fz_world::Config;
+use session::{Test, run};
+use std::alloc::Global;
+use std::marker::Brand;
+use std::process::ExitCode;
+use std::rt::Clock;
+use std::sync::Wait;
+use std::thread::Threads;
+use std::{env, io};
+
+fn main(rt: HostRuntime) -> io::Result<ExitCode> {
+    let mut words = env::args(&rt)?.skip(1);
+    let (Some(test), Some(count), Some(workers), None) = (
+        words.next(),
+        words.next(),
+        words.next(),
+        words.next(),
+    ) else {
+        return wrong(&rt);
+    };
+    let (Ok(count), Ok(workers)) = (count.parse::<u64>(), workers.parse::<u64>()) else {
+        return wrong(&rt);
+    };
+    let nanoseconds = match test.as_str() {
+        "mutex" => Some(lock_bare(&rt, count)?),
+        "step" => of_service(&rt, rt.alloc(), Test::Steps, count, workers)?,
+        "workers" => {
+            let test = Test::Workers(Procedure::Nothing);
+            of_service(&rt, rt.alloc(), test, count, workers)?
+        }
+        "busy" => {
+            let test = Test::Workers(Procedure::Busy);
+            of_service(&rt, rt.alloc(), test, count, workers)?
+        }
+        _ => return wrong(&rt),
+    };
+    match nanoseconds {
+        Some(nanoseconds) => println!(rt; "{nanoseconds}")?,
+        None => println!(rt; "-")?,
+    }
+    Ok(ExitCode::from(0))
+}
+
+fn wrong(rt: &impl Eprint) -> io::Result<ExitCode> {
+    eprintln!(rt; "service_bench: want mutex, step, workers or busy, COUNT and WORKERS")?;
+    Ok(ExitCode::from(2))
+}
+
+/// The nanoseconds of a test over a service; nothing where the test is too large for one.
+fn of_service<R: Clock + Threads + Wait + Sync>(
+    rt: &R,
+    alloc: Global,
+    test: Test,
+    count: u64,
+    workers: u64,
+) -> io::Result<Option<u128>> {
+    let config = Config {
+        blocks: 1_024,
+        frames: 1,
+    };
+    match Service::prepare(alloc, config, workers) {
+        Ok(prepared) => run::<Brand, R>(rt, alloc, prepared, test, count),
+        Err(_) => Ok(None),
+    }
+}
