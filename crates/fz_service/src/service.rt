@@ -19,9 +19,13 @@ use fz_line::{line, retire_all};
 use fz_model::{BLOCK_WORDS, MAX_BLOCKS, MAX_FRAMES, Refusal, TABLE_LIMIT};
 use fz_world::{Config, World};
 use std::alloc::Global;
+use std::hint;
 use std::marker::Brand;
 use std::sync::ledger::Blank;
 use std::sync::{Mutex, MutexGuard, Wait};
+
+/// How often a thread asks for the lock, for some 10 microseconds in all, before it sleeps until it is free.
+const TRIES: u32 = 64;
 
 /// The lock, held: it lends `Locked`.
 pub type Guard<'a, O> = MutexGuard<'a, Locked<O>>;
@@ -108,10 +112,21 @@ impl<O: Opening> Service<O> {
     pub fn enter<'a, R: Wait>(&'a self, rt: &R) -> Guard<'a, O>
         ensures { IsInOrder O.origin (mutex_guard_value result) }
     {
-        let guard = self.lock.lock(rt);
+        let guard = self.take_lock(rt);
         let locked: &Locked<O> = &guard;
         let _ = &locked.published;
         guard
+    }
+
+    /// Takes the lock. A hold is shorter than a sleep, and a lock for which one thread sleeps sends the next one to sleep too.
+    fn take_lock<'a, R: Wait>(&'a self, rt: &R) -> Guard<'a, O> {
+        for _ in 0..TRIES {
+            if let Some(guard) = self.lock.try_lock() {
+                return guard;
+            }
+            hint::spin_loop();
+        }
+        self.lock.lock(rt)
     }
 
     /// Ends the service, with all its seats, as `Locked::end` says of what the lock held. No pass is carried out, and the world ends with it.
