@@ -24,7 +24,7 @@ use std::marker::Brand;
 use std::sync::ledger::Blank;
 use std::sync::{Mutex, MutexGuard, Wait};
 
-/// How often a thread asks for the lock, for some 10 microseconds in all, before it sleeps until it is free.
+/// How often a thread asks for the lock before it sleeps until it is free. That takes one to three microseconds.
 const TRIES: u32 = 64;
 
 /// The lock, held: it lends `Locked`.
