@@ -23,7 +23,7 @@ some_objects : (block : Block) (place : ℕ) → starts_at block place ≡ true 
 some_objects block place on = ne_eqb block.objects 0 (λ none. both_ways _ (no_bits place) (ap (λ n. has_bit n place) (sym none) ∙ on))
 
 -- a block of a cell longer than a block has no other, so it isn't unfull where it has an object
-roomy : (block : Block) (place : ℕ) → starts_at block place ≡ true → is_full block ≡ false → has_free_cell block ≡ true
+pub roomy : (block : Block) (place : ℕ) → starts_at block place ≡ true → is_full block ≡ false → has_free_cell block ≡ true
 roomy block place on unfull =
     and_from (not (block.objects == 0)) _ (not_from_false _ (some_objects block place on)) (and_from (not (is_full block)) _ (not_from_false _ unfull) (le-leb block.size 64 small))
   where
@@ -48,7 +48,7 @@ roomy_own block on =
     (λ (none : block.back ≤ 0). omega (arith, none))
     (cases_lt 0 block.back)
 
-started_bare : (block : Block) (place : ℕ) → starts_at block place ≡ true → is_bare block ≡ false
+pub started_bare : (block : Block) (place : ℕ) → starts_at block place ≡ true → is_bare block ≡ false
 started_bare block place on = and_left (block.objects == 0) (block.back == 0) (some_objects block place on)
 
 module _ (old new : Block) where

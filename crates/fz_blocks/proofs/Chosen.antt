@@ -1,5 +1,5 @@
 -- The cells of a block at chosen places are condemned.
-use Rattle.std.proofs.Common.{◌≡◌, ℕ, ◌+◌, ◌^◌, ◌<◌, Bool, true, false, not, ◌||◌, ◌&&◌, bit_and, bit_or, refl, sym, ap, ◌∙◌, ⊎_elim, arith, w64}
+use Rattle.std.proofs.Common.{◌≡◌, ◌≢◌, ℕ, ◌+◌, ◌^◌, ◌<◌, Bool, true, false, not, ◌||◌, ◌&&◌, bit_and, bit_or, refl, sym, ap, ◌∙◌, ⊎_elim, arith, w64}
 use Rattle.std.proofs.lemmas.Bool.{cases_Bool, and_parts, and_from, both_ways, not-true, not_from_false}
 use Rattle.std.proofs.lemmas.Nat.{and_le_l, or_lt, zero_from_ones, ones_le_self}
 use Rattle.std.specs.Int.{bit_not, trailing_zeros}
@@ -78,3 +78,18 @@ module _ (block : Block) (places : ℕ) where
       let low = lowest (bit_and block.objects places) (trailing_zeros w64 (bit_and block.objects places)) (λ zero. omega (arith, few, some, zero)) chosen_fits refl in
       let parts = and_bits block.objects places (trailing_zeros w64 (bit_and block.objects places)) low.1 in
       (trailing_zeros w64 (bit_and block.objects places), parts.0, kept_bit (trailing_zeros w64 (bit_and block.objects places)) ∙ ap (λ t. not t && starts_at block (trailing_zeros w64 (bit_and block.objects places))) parts.1)
+
+  pub some_chosen : bit_and block.objects places ≢ 0 → (place : ℕ) × (starts_at block place ≡ true) × (has_bit places place ≡ true)
+  some_chosen some =
+      let low = lowest (bit_and block.objects places) (trailing_zeros w64 (bit_and block.objects places)) some chosen_fits refl in
+      let parts = and_bits block.objects places (trailing_zeros w64 (bit_and block.objects places)) low.1 in
+      (trailing_zeros w64 (bit_and block.objects places), parts.0, parts.1)
+
+  pub some_others : places < 2 ^ 64 → bit_and block.objects (bit_not w64 places) ≢ 0 → (place : ℕ) × (starts_at block place ≡ true) × (has_bit places place ≡ false)
+  some_others small some =
+      let le = and_le_l block.objects (bit_not w64 places) in
+      let fits = objects_fit block in
+      let z = trailing_zeros w64 (bit_and block.objects (bit_not w64 places)) in
+      let low = lowest (bit_and block.objects (bit_not w64 places)) z some (omega (arith, le, fits)) refl in
+      let parts = and_parts (not (has_bit places z)) (has_bit block.objects z) (sym (without_is block.objects places z fits small) ∙ low.1) in
+      (z, parts.1, not-true _ parts.0)

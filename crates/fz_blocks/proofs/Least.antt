@@ -1,5 +1,5 @@
 -- The least member of a set, as blocks come and go.
-use Rattle.std.proofs.Common.{◌≡◌, ℕ, ◌<◌, ◌≤◌, Bool, true, false, cond, not, ◌||◌, ◌&&◌, ◌==◌, nat_le, Option, Some, None, MatchOption, refl, sym, ap, ◌∙◌, subst, ⊎_elim, arith, IsTrue, IsFalse}
+use Rattle.std.proofs.Common.{◌≡◌, ℕ, ◌<◌, ◌≤◌, Bool, true, false, cond, not, ◌||◌, ◌&&◌, ◌==◌, nat_le, Option, Some, None, MatchOption, refl, sym, ap, ◌∙◌, ⊎_elim, arith, IsFalse}
 use Rattle.std.proofs.lemmas.Bool.{cases_lt, eq-eqb, eqb-true, ne_eqb, leb-true, leb-false, true≢false}
 use Rattle.std.specs.Option.{option_map_or}
 use Rattle.std.specs.FinSet.{contains, insert, remove}

@@ -21,3 +21,4 @@ pub mod Condemned
 pub mod Searching
 pub mod Freed
 pub mod Chosen
+pub mod Staying

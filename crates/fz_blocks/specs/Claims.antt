@@ -1,11 +1,13 @@
 -- What a claim leaves in the blocks, and what is left where objects are condemned.
-use Rattle.std.specs.Prelude.{◌≡◌, ℕ, ◌+◌, ◌&&◌, ◌||◌, not, List, length, Some}
+use Rattle.std.specs.Prelude.{◌≡◌, ℕ, ◌+◌, ◌&&◌, ◌||◌, not, List, length, slice_get, slice_set, Some}
 use Rattle.std.specs.FinMap as maps
 use Rattle.std.specs.FinMap.{insert, retain_keys, contains_key}
 use Rattle.std.specs.FinSet.{contains, len}
 use Rattle.fz_model.specs.declared.kinds.ObjKind.{ObjKind}
 use Rattle.fz_model.specs.Allocation.{place_in, block_of, blocks_for}
+use Rattle.std.specs.Int.Count.{ones}
 use Rattle.fz_blocks.specs.declared.block.Block.{Block}
+use Rattle.fz_blocks.specs.Blocks.{Claims, CondemnsAll}
 use Rattle.fz_blocks.specs.Claimed.{stands_at, swept}
 use Rattle.fz_blocks.specs.Layout.{extents_in, condemned_in, AreRuns}
 
@@ -23,3 +25,20 @@ pub record IsCondemned (old new : List Block) (b places many : ℕ) : Type 0 whe
   pub condemned : (a : ℕ) → contains (condemned_in new) a ≡ (contains_key (extents_in old) a && stands_at b places a || contains (condemned_in old) a)
   pub count : len (condemned_in new) ≡ len (condemned_in old) + many
   pub fewer : maps.len (extents_in new) + many ≡ maps.len (extents_in old)
+
+-- the least free cell of one block of the list is claimed, and no other changes
+pub record ClaimsIn (old new : List Block) (b place : ℕ) : Type 0 where
+  pub was : Block
+  pub now : Block
+  pub here : slice_get old b ≡ Some was
+  pub claims : Claims was now place
+  pub new_is : new ≡ slice_set old b now
+
+-- one block of the list loses its objects at some of these places, and no other changes
+pub record CondemnsIn (old new : List Block) (b places many : ℕ) : Type 0 where
+  pub was : Block
+  pub left : Block
+  pub here : slice_get old b ≡ Some was
+  pub all : CondemnsAll was left places
+  pub count : ones left.condemned ≡ ones was.condemned + many
+  pub new_is : new ≡ slice_set old b left

@@ -36,6 +36,7 @@ impl Block {
     ghost use Rattle.fz_blocks.specs.Starts.{IsFirstStart};
     ghost use Rattle.fz_blocks.specs.Blocks.{starts_at, is_bare, is_full, has_free_cell, has_same_room, extent_of, IsCellOf, IsAlike, Claims, CondemnsAll, Detaches};
     ghost use Rattle.fz_model.specs.Allocation.{blocks_for};
+    ghost use Rattle.fz_model.specs.Bits.{has_bit};
     ghost use Rattle.std.specs.Int.Count.{ones};
 
     /// A block without objects, ready for this size and kind.
@@ -120,6 +121,15 @@ impl Block {
         self.objects >> place & 1 == 1
     }
 
+    /// Whether a cell is free beside the least that is.
+    pub(crate) fn has_two_free(&self) -> bool
+        requires room { IsFalse (is_full self.now) }
+        ensures { IsTrue result → (new : Block) (place : ℕ) → Claims self.now new place → IsFalse (is_full new) }
+    {
+        let least = (self.cells & !self.objects).trailing_zeros();
+        self.objects | 1 << least != self.cells
+    }
+
     /// Sweeps the block, claims the least cell at which no object starts, and returns its place.
     pub(crate) fn claim_least(&mut self) -> u64
         requires own { self.old.back ≡ 0 }
@@ -130,6 +140,15 @@ impl Block {
         self.condemned = 0;
         self.objects |= 1 << place;
         u64::from(place)
+    }
+
+    /// Whether it isn't full, objects start at some of these places, and others start elsewhere: without those it stands in the same sets.
+    pub(crate) fn stays_alike_without(&self, places: u64) -> bool
+        ensures unfull { IsTrue result → IsFalse (is_full self.now) }
+        ensures gone { IsTrue result → (place : ℕ) × IsTrue (starts_at self.now place) × IsTrue (has_bit places place) }
+        ensures left { IsTrue result → (place : ℕ) × IsTrue (starts_at self.now place) × IsFalse (has_bit places place) }
+    {
+        !self.is_full() && self.objects & places != 0 && self.objects & !places != 0
     }
 
     /// Condemns the cells at these places at which objects start; returns their number.

@@ -124,6 +124,8 @@ impl Blocks {
     ghost use Rattle.fz_blocks.specs.declared.block.Block.{Block};
     ghost use Rattle.fz_blocks.specs.declared.block.TheConstants.{MAX_SPAN};
     ghost use Rattle.fz_blocks.specs.Classes.{class_of};
+    ghost use Rattle.fz_blocks.specs.Blocks.{is_full, Claims, CondemnsAll};
+    ghost use Rattle.fz_blocks.specs.Claims.{ClaimsIn, CondemnsIn};
     ghost use Rattle.fz_blocks.specs.Layout.{waiting_in};
     ghost use Rattle.fz_blocks.specs.Runs.{IsRun, IsFirstRun};
     ghost use Rattle.fz_model.specs.declared.limits.TheConstants.{BLOCK_WORDS};
@@ -152,6 +154,14 @@ impl Blocks {
         ensures { result.now ≡ self.now }
     {
         &self.blocks
+    }
+
+    /// The block at a place of the list, where it stands.
+    pub(crate) fn block(&self, at: u64) -> &Block
+        requires { at < length self.now }
+        ensures { slice_get self.now at ≡ Some result.now }
+    {
+        &self.blocks[at as usize]
     }
 
     /// The block at a place of the list.
@@ -212,16 +222,29 @@ impl Blocks {
         self.blocks[at as usize] = block;
     }
 
-    /// A block becomes another. The caller knows whether it may stand in other sets.
-    pub(crate) fn change(&mut self, at: u64, block: Block, moves: bool)
+    /// Claims, where it stands, the least free cell of a block, and sweeps the block; returns the cell's place. Asked only where the block then stands
+    /// in the same sets.
+    pub(crate) fn claim_alike(&mut self, at: u64) -> u64
         requires within { at < length self.old }
-        requires alike { IsFalse moves → IsListedAlike self.old at block }
-        ensures { self.new ≡ slice_set self.old at block }
+        requires own { (was : Block) → slice_get self.old at ≡ Some was → was.back ≡ 0 }
+        requires room { (was : Block) → slice_get self.old at ≡ Some was → IsFalse (is_full was) }
+        requires alike { (was new : Block) (place : ℕ) → slice_get self.old at ≡ Some was → Claims was new place → IsListedAlike self.old at new }
+        ensures { ClaimsIn self.old self.new at result }
     {
-        if moves {
-            self.put(at, block);
-        } else {
-            self.put_alike(at, block);
-        }
+        let block = &mut self.blocks[at as usize];
+        self.condemned -= block.waiting();
+        block.claim_least()
+    }
+
+    /// Condemns, where it stands, each object that starts in a block at one of these places; returns their number. Asked only where the block then
+    /// stands in the same sets.
+    pub(crate) fn condemn_alike(&mut self, at: u64, places: u64) -> u64
+        requires within { at < length self.old }
+        requires alike { (was left : Block) → slice_get self.old at ≡ Some was → CondemnsAll was left places → IsListedAlike self.old at left }
+        ensures { CondemnsIn self.old self.new at places result }
+    {
+        let count = self.blocks[at as usize].condemn(places);
+        self.condemned += count;
+        count
     }
 }

@@ -24,9 +24,12 @@ fn claim_in_room(blocks: &mut Blocks, at: u64, size: u64, kind: ObjKind) -> Addr
     requires first { IsFirst (has_room (class_of size kind)) blocks.old at }
     ensures { IsClaimed blocks.old blocks.new size kind result }
 {
+    if blocks.block(at).has_two_free() {
+        return HEAP_START + BLOCK_WORDS * at + blocks.claim_alike(at);
+    }
     let mut block = blocks.get(at);
     let place = block.claim_least();
-    blocks.change(at, block, block.is_full());
+    blocks.put(at, block);
     HEAP_START + BLOCK_WORDS * at + place
 }
 
@@ -100,13 +103,15 @@ pub(crate) fn condemn_at(blocks: &mut Blocks, at: u64, places: u64) -> u64
     ensures map { IsMap blocks.new }
     ensures condemned { IsCondemned blocks.old blocks.new at places result }
 {
+    if blocks.block(at).stays_alike_without(places) {
+        return blocks.condemn_alike(at, places);
+    }
     let mut left = blocks.get(at);
-    let was_full = left.is_full();
     let count = left.condemn(places);
     if count == 0 {
         return 0;
     }
-    blocks.change(at, left, was_full | left.is_bare());
+    blocks.put(at, left);
     free_later(blocks, at, left.span());
     count
 }

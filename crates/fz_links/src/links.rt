@@ -1,6 +1,6 @@
 //! The links of one kind.
 
-ghost use Rattle.std.specs.Prelude.{◌≡◌, ◌≤◌, ◌+◌, ◌↔◌, ℕ, Bool, [], ◌∷◌, nat_eq, if◌then◌else◌, length, IsTrue, IsSome, None, IfOk, IfErr, OnOk, OnErr};
+ghost use Rattle.std.specs.Prelude.{◌≡◌, ◌≤◌, ◌<◌, ◌+◌, ◌↔◌, ℕ, Bool, [], ◌∷◌, nat_eq, if◌then◌else◌, length, IsTrue, IsSome, None, IfOk, IfErr, OnOk, OnErr};
 ghost use Rattle.std.specs.FinMap.{get, insert, remove, len, empty, contains_key, from_entries};
 ghost use Rattle.std.specs.List.{IsDistinct};
 ghost use Rattle.std.specs.Map.{keys_of};
@@ -54,6 +54,18 @@ impl Links {
         Links {
             entries: IndexMap::new(alloc),
         }
+    }
+
+    /// Makes room for so many more links. `NoMemory` when there is less room, and the memory for more can't be had.
+    pub fn reserve(&mut self, more: usize) -> Result<(), Refusal>
+        ensures refused { IfErr result (λ r. r ≡ Refusal.NoMemory) }
+        ensures wanting { OnErr result (self.old.room < more) }
+        ensures same { self.new.links ≡ self.old.links }
+        ensures kept { self.old.room ≤ self.new.room }
+        ensures room { OnOk result (more ≤ self.new.room) }
+    {
+        self.entries.reserve(more)?;
+        Ok(())
     }
 
     /// Registers a link, or gives a registered one a new target.

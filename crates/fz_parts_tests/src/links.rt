@@ -10,6 +10,9 @@ fn registers_and_unregisters(rt: HostRuntime) {
     let mut links = Links::new(rt.alloc());
     must_be(&rt, links.is_empty(), true, "empty at first");
     must_be(&rt, links.unregister(70_000), false, "an unknown link");
+    let whole = links.reserve(TABLE_LIMIT as usize);
+    must_be(&rt, whole, Ok(()), "room for as many as there may be");
+    must_be(&rt, links.is_empty(), true, "still empty");
 
     let success = Ok(LinkAnswer::Success);
     must_be(&rt, links.register(70_000, 80_000), success, "a link");

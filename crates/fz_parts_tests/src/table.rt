@@ -11,6 +11,9 @@ fn registers_replaces_and_takes(rt: HostRuntime) {
     must_be(&rt, table.is_empty(), true, "empty at first");
     must_be(&rt, table.get(70_000), None, "get an unknown object");
     must_be(&rt, table.remove(70_000), None, "remove it");
+    let whole = table.reserve(TABLE_LIMIT as usize);
+    must_be(&rt, whole, Ok(()), "room for as many as there may be");
+    must_be(&rt, table.is_empty(), true, "still empty");
 
     let first = table.register(70_000, RegKind::Normal, 7, 8, 5);
     must_be(&rt, first, Ok((0, None)), "the first object");

@@ -66,6 +66,18 @@ impl Table {
         }
     }
 
+    /// Makes room for so many more registrations. `NoMemory` when there is less room, and the memory for more can't be had.
+    pub fn reserve(&mut self, more: usize) -> Result<(), Refusal>
+        ensures refused { IfErr result (λ r. r ≡ NoMemory) }
+        ensures wanting { OnErr result (self.old.room < more) }
+        ensures same { self.new.registered ≡ self.old.registered }
+        ensures kept { self.old.room ≤ self.new.room }
+        ensures room { OnOk result (more ≤ self.new.room) }
+    {
+        self.entries.reserve(more)?;
+        Ok(())
+    }
+
     /// Refuses an object that `register` would refuse for another cause than want of memory.
     ///
     /// The refusals, in this order: `Exhausted` once 2^48 numbers are given out, `TableFull` when 65,536 other objects are registered.

@@ -1,6 +1,6 @@
 //! Disappearing links.
 
-ghost use Rattle.std.specs.Prelude.{◌≡◌, ◌+◌, ◌++◌, IfOk, IfErr, OnErr, IsSome};
+ghost use Rattle.std.specs.Prelude.{◌≡◌, ◌≤◌, ◌+◌, ◌++◌, IfOk, IfErr, OnErr, IsSome};
 ghost use Rattle.std.specs.Option.{IsNone};
 ghost use Rattle.std.specs.FinMap.{get};
 ghost use Rattle.fz_model.specs.Memory.{slot_word, address_of};
@@ -12,9 +12,10 @@ ghost use Rattle.fz_world.specs.World.{KeepsMarks};
 ghost use Rattle.fz_world.specs.Does.{Does};
 
 use crate::frames::Frames;
-use crate::registrations::check_start;
+use crate::registrations::{check_start, most_entries};
 use crate::world::World;
 use fz_heap::Heap;
+use fz_links::Links;
 use fz_model::{Addr, LinkAnswer, LinkKind, MoveAnswer, Place, Refusal, Slot};
 
 /// The places at an offset from where two slots point. Refusals, in their order: `BadSlot` of either slot, then `NotPointer` and `OutsideObject` of the
@@ -43,6 +44,17 @@ fn ends(frames: &Frames, heap: &Heap, place: Place, target: Slot) -> Result<(Add
     let link = heap.place(word, place.offset)?;
     check_start(heap, start)?;
     Ok((link, start))
+}
+
+/// Makes room for `most` links, where there is none yet. So the links grow once, and not again and again.
+fn make_first_room(links: &mut Links, most: usize)
+    ensures same { links.new.links ≡ links.old.links }
+    ensures roomier { links.old.room ≤ links.new.room }
+{
+    if links.is_empty() {
+        // Where so much memory can't be had, each link asks for its own.
+        let _ = links.reserve(most);
+    }
 }
 
 #[tactic(auto, using(fz_model::proofs::Judged::judged_more, fz_model::proofs::Judged::judged_err, crate::proofs::Does::link_refused, crate::proofs::Does::link_judged, crate::proofs::Does::does_refused, crate::proofs::Does::does_accepted))]
@@ -77,9 +89,16 @@ impl World {
             slot: target_slot,
         };
         let (link, target) = ends(&self.frames, &self.heap, place, target)?;
+        let most = most_entries(&self.heap);
         match which {
-            LinkKind::Short => self.short.register(link, target),
-            LinkKind::Long => self.long.register(link, target),
+            LinkKind::Short => {
+                make_first_room(&mut self.short, most);
+                self.short.register(link, target)
+            }
+            LinkKind::Long => {
+                make_first_room(&mut self.long, most);
+                self.long.register(link, target)
+            }
         }
     }
 

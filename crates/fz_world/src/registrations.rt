@@ -43,6 +43,27 @@ pub(crate) fn check_start(heap: &Heap, word: Word) -> Result<(), Refusal>
     Ok(())
 }
 
+/// The most registrations, or links of a kind, that there can be at one time: one for each word of the heap, up to a table's limit.
+pub(crate) fn most_entries(heap: &Heap) -> usize
+    ensures { result ≤ TABLE_LIMIT }
+{
+    (BLOCK_WORDS * heap.blocks()).min(TABLE_LIMIT) as usize
+}
+
+/// Makes room for `most` registrations and their entries, where there is no registration yet. So tables and queue grow once, and not again and again.
+fn make_first_room(table: &mut Table, ready: &mut Ready, most: usize)
+    requires { most ≤ TABLE_LIMIT }
+    ensures registered { table.new.registered ≡ table.old.registered }
+    ensures queue { (ready.new.queue ≡ ready.old.queue) × (ready.new.held ≡ ready.old.held) }
+    ensures roomier { (table.old.room ≤ table.new.room) × (ready.old.room ≤ ready.new.room) }
+{
+    if table.is_empty() {
+        // Where so much memory can't be had, each registration asks for its own.
+        let _ = table.reserve(most);
+        let _ = ready.reserve(most);
+    }
+}
+
 /// Makes room for the entry of an object's registration, if the object isn't registered: so no pass needs memory. `NoMemory` where an allocation
 /// failed. The table is searched for the object only then.
 fn make_room(table: &Table, ready: &mut Ready, object: Addr) -> Result<(), Refusal>
@@ -124,6 +145,7 @@ impl World {
             return Ok(RegAnswer::Outside);
         }
         check_start(&self.heap, word)?;
+        make_first_room(&mut self.table, &mut self.ready, most_entries(&self.heap));
         let (number, old) = enroll(
             &mut self.table,
             &mut self.ready,
