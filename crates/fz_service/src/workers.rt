@@ -89,6 +89,11 @@ fn has_work(procs: &[Box<dyn Proc + Send>], entry: &Entry) -> bool {
     entry.proc < procs.len() as u64 && procs[entry.proc as usize].has_work()
 }
 
+/// Whether nothing happens with an entry outside of the lock.
+fn needs_nothing_else<G: Gate>(procs: &[Box<dyn Proc + Send>], gate: &G, entry: &Entry) -> bool {
+    gate.is_open() && !has_work(procs, entry)
+}
+
 /// What a turn leaves of the lock for the next: nothing each 32nd time, so that others come to it.
 pub(crate) fn held_on<T: Drop>(held: Option<T>, turns: u64) -> Option<T> {
     if turns % HOLD == HOLD - 1 { None } else { held }
@@ -139,7 +144,7 @@ impl<O: Opening> Service<O> {
         rt: &R,
         held: Option<Guard<'a, O>>,
     ) -> Guard<'a, O> {
-        if !gate.is_open() || has_work(procs, entry) {
+        if !needs_nothing_else(procs, gate, entry) {
             drop(held);
             gate.entered(entry.seq);
             work(procs, entry);
@@ -180,8 +185,10 @@ impl<O: Opening> Service<O> {
     {
         match taken {
             Take::Taken(duty) => {
+                let keeps = needs_nothing_else(procs, gate, duty.entry());
                 let (seat, finished, locked) = self.attend(duty, procs, gate, rt, held);
-                (seat, Turn::Served(finished), Some(locked))
+                let kept = if keeps { Some(locked) } else { None };
+                (seat, Turn::Served(finished), kept)
             }
             Take::Empty(seat) => (seat, Turn::Empty, None),
             Take::Busy(seat) => (seat, Turn::Busy, None),
