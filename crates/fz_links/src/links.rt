@@ -56,7 +56,7 @@ impl Links {
         }
     }
 
-    /// Makes room for so many more links. `NoMemory` when there is less room, and the memory for more can't be had.
+    /// Makes room for `more` further links. `NoMemory` where there is less room, and the memory for it can't be had.
     pub fn reserve(&mut self, more: usize) -> Result<(), Refusal>
         ensures refused { IfErr result (λ r. r ≡ Refusal.NoMemory) }
         ensures wanting { OnErr result (self.old.room < more) }

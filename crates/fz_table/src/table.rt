@@ -66,7 +66,7 @@ impl Table {
         }
     }
 
-    /// Makes room for so many more registrations. `NoMemory` when there is less room, and the memory for more can't be had.
+    /// Makes room for `more` further registrations. `NoMemory` where there is less room, and the memory for it can't be had.
     pub fn reserve(&mut self, more: usize) -> Result<(), Refusal>
         ensures refused { IfErr result (λ r. r ≡ NoMemory) }
         ensures wanting { OnErr result (self.old.room < more) }
