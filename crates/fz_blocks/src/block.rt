@@ -22,7 +22,7 @@ pub(crate) struct Block {
     /// The words of a cell.
     pub(crate) size: u32,
     /// How many blocks before this one the object starts that reaches into it; 0 where none does.
-    pub(crate) back: u32,
+    pub(crate) back: u16,
     pub(crate) kind: ObjKind,
     pub(crate) ghost sized: { 1 ≤ size },
     pub(crate) ghost cells_are: { AreCells cells size },
@@ -70,7 +70,7 @@ impl Block {
         ensures { (result.back ≡ back) × (result.condemned ≡ 0) }
     {
         let mut block = Block::of(BLOCK_WORDS, ObjKind::Scanned);
-        block.back = back as u32;
+        block.back = back as u16;
         block
     }
 
@@ -199,9 +199,6 @@ impl Block {
         requires { place < BLOCK_WORDS }
         ensures { MatchOption result ((start : ℕ) → IsTrue (starts_at self.now start) → start ≤ place → start + self.now.size ≤ place) (λ start. IsCellOf self.now place start) }
     {
-        if self.starts_at(place) {
-            return Some(place);
-        }
         let below = self.objects & (u64::MAX >> (63 - place));
         if below == 0 {
             return None;

@@ -11,8 +11,8 @@ use std::marker::Model;
 
 /// Up to 4,096 blocks of 64 words each, from address 65,536 on, and the extents of the objects in them.
 ///
-/// It takes all its memory at `new`, and no other call takes or frees any: 40 bytes for each block, and 129 sets by which a place is
-/// found, each of 32 bytes and 8 for every 64 blocks begun. So a map of one block takes some 5 KB, and one of 4,096 blocks 240 KB.
+/// It takes all its memory at `new`, and no other call takes or frees any: 32 bytes for each block, and 129 sets by which a place is
+/// found, each of 48 bytes and 8 for every 64 blocks begun. So a map of one block takes some 7 KB, and one of 4,096 blocks 203 KB.
 ///
 /// An object that is condemned is out of the map; its cell stays condemned until it is swept, or claimed again.
 pub struct BlockMap {
@@ -145,6 +145,10 @@ impl BlockMap {
         let index = offset / BLOCK_WORDS;
         let block = all.get(index as usize)?;
         let place = offset % BLOCK_WORDS;
+        // Most words that point into an object are its start.
+        if block.starts_at(place) {
+            return Some((word, block.extent()));
+        }
         if let Some(start) = block.cell_start(place) {
             return Some((word - place + start, block.extent()));
         }

@@ -7,7 +7,7 @@ ghost use Rattle.fz_model.specs.declared.limits.TheConstants.{MAX_BLOCKS};
 ghost use Rattle.fz_blocks.specs.declared.block_set.TheConstants.{BITS};
 ghost use Rattle.fz_blocks.specs.BlockSets.{lesser, IsLeast, AreRunsOf, HasRun, IsLeastRun};
 
-use fz_dirty::SparseFlags;
+use fz_dirty::SmallFlags;
 use fz_model::Refusal;
 use std::alloc::Global;
 use std::marker::Model;
@@ -18,7 +18,7 @@ const BITS: u64 = 64;
 /// A set of block numbers.
 #[derive(Drop)]
 pub(crate) struct BlockSet {
-    blocks: SparseFlags,
+    blocks: SmallFlags,
     /// The least of them, for which most claims ask.
     least: Option<u64>,
 }
@@ -79,7 +79,7 @@ impl BlockSet {
         ensures refused { IfErr result (λ r. r ≡ Refusal.NoMemory) }
         ensures made { IfOk result (λ s. (s.members ≡ empty) × (blocks ≤ s.size)) }
     {
-        let blocks = SparseFlags::new(alloc, blocks.div_ceil(BITS))?;
+        let blocks = SmallFlags::new(alloc, blocks.div_ceil(BITS))?;
         Ok(BlockSet {
             blocks,
             least: None,

@@ -48,7 +48,7 @@ fn no_rooms(alloc: Global, blocks: u64) -> Result<Vec<BlockSet>, Refusal>
     ensures long { IfOk result (λ rooms. length rooms.items ≡ CLASSES) }
     ensures made { IfOk result (λ rooms. All (λ s. (s.members ≡ sets.empty) × (blocks ≤ s.size)) rooms.items) }
 {
-    let mut rooms = Vec::new(alloc);
+    let mut rooms = Vec::with_capacity(alloc, CLASSES)?;
     while rooms.len() < CLASSES {
         let room = BlockSet::new(alloc, blocks)?;
         rooms.push(room)?;

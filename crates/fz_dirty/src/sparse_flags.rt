@@ -1,9 +1,8 @@
 //! A set of numbers of which few, far apart, are members.
 
-ghost use Rattle.std.specs.Prelude.{◌≡◌, ◌≤◌, ◌<◌, ◌+◌, ◌*◌, ◌^◌, not, ℕ, IsTrue, IsFalse, IfOk, IfErr, OnOk, OnErr, IfSome, MatchOption};
+ghost use Rattle.std.specs.Prelude.{◌≡◌, ◌≤◌, ◌<◌, ◌+◌, ◌*◌, ◌^◌, not, ℕ, IsFalse, IfOk, IfErr, OnOk, OnErr, IfSome, MatchOption};
 ghost use Rattle.std.specs.FinSet.{contains, insert, remove, empty};
 ghost use Rattle.fz_dirty.specs.Flags.{IsNext};
-ghost use Rattle.fz_model.specs.Bits.{has_bit};
 
 use crate::flags::Flags;
 use fz_model::Refusal;
@@ -59,21 +58,6 @@ impl SparseFlags {
     {
         self.words.extend_to(words.div_ceil(BITS))?;
         self.flags.extend_to(words)
-    }
-
-    /// How many words it has, for 64 numbers each. No member lies past them.
-    pub fn words(&self) -> u64
-        ensures size { self.now.size ≡ 64 * result }
-        ensures within { (n : ℕ) → IsTrue (contains self.now.members n) → n < self.now.size }
-    {
-        self.flags.words()
-    }
-
-    /// The members among the 64 numbers of a word, the least number's bit lowest.
-    pub fn word(&self, index: u64) -> u64
-        ensures { (place : ℕ) → place < 64 → has_bit result place ≡ contains self.now.members (64 * index + place) }
-    {
-        self.flags.word(index)
     }
 
     /// Whether the number is in the set.

@@ -34,6 +34,8 @@ impl Cycle {
     }
 
     /// Marks the children of an object. It is a scan if there are words to read.
+    // As with `visit`: the loop of `step` comes here for each object, and a call costs as much as reading one of few words.
+    #[inline(always)]
     fn read(&mut self, heap: &Heap, start: Addr)
         requires size { self.old.marks.size ≡ BLOCK_WORDS * heap.now.blocks }
         requires room { len self.old.marks.members ≤ self.old.marks.size }
@@ -49,6 +51,7 @@ impl Cycle {
     }
 
     /// Scans a marked object that wasn't scanned, and returns whether it is now: it isn't where that would take more than `limit` scans.
+    #[inline(always)]
     fn visit(&mut self, heap: &Heap, start: Addr, limit: u64) -> bool
         requires size { self.old.marks.size ≡ BLOCK_WORDS * heap.now.blocks }
         requires cycle { IsCycle self.old }

@@ -150,6 +150,7 @@ impl Frontier {
     }
 
     /// Adds the children of the object at a start.
+    #[inline(always)]
     fn add_children(&mut self, heap: &Heap, start: Addr)
         requires size { self.old.size ≡ BLOCK_WORDS * heap.now.blocks }
         requires room { len self.old.members ≤ self.old.size }

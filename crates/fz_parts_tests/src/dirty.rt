@@ -1,7 +1,7 @@
 //! What no clause says: that memory for the flags can be had, and examples of each call.
 
 use crate::equal::must_be;
-use fz_dirty::{Dirty, Flags, SparseFlags};
+use fz_dirty::{Dirty, Flags, SmallFlags, SparseFlags};
 use fz_model::{HEAP_START, MAX_BLOCKS};
 use std::test::Fail;
 
@@ -131,6 +131,31 @@ fn finds_members_far_apart(rt: HostRuntime) -> Result<(), Fail> {
         Some((1 << 26) - 1),
         "the least that is left",
     );
+    must_be(&rt, flags.remove(u64::MAX), false, "what has no room");
+    Ok(())
+}
+
+#[test]
+fn finds_members_in_two_levels_of_a_word(rt: HostRuntime) -> Result<(), Fail> {
+    let mut flags = SmallFlags::new(rt.alloc(), 64)?;
+    must_be(&rt, flags.words(), 64, "words");
+    must_be(&rt, flags.next(0), None, "none at first");
+    must_be(&rt, flags.insert(4095), true, "the last");
+    must_be(&rt, flags.insert(4095), false, "once more");
+    must_be(&rt, flags.insert(3), true, "one in the first word");
+    must_be(&rt, flags.insert(1), true, "one before it");
+    must_be(&rt, flags.word(0), 10, "the first word");
+    must_be(&rt, flags.word(63), 1 << 63, "the last word");
+    must_be(&rt, flags.word(64), 0, "past the last word");
+    must_be(&rt, flags.next(3), Some(3), "from a member");
+    must_be(&rt, flags.next(4), Some(4095), "from behind it");
+    must_be(&rt, flags.next(4096), None, "from behind the end");
+    must_be(&rt, flags.next(u64::MAX), None, "from the greatest number");
+    must_be(&rt, flags.remove(1), true, "a member out");
+    must_be(&rt, flags.remove(1), false, "no member");
+    must_be(&rt, flags.next(0), Some(3), "another in its word");
+    must_be(&rt, flags.remove(3), true, "the last of its word out");
+    must_be(&rt, flags.next(0), Some(4095), "the least that is left");
     must_be(&rt, flags.remove(u64::MAX), false, "what has no room");
     Ok(())
 }

@@ -6,6 +6,8 @@ use fz_model::ObjKind::Scanned;
 use fz_model::{Addr, BLOCK_WORDS, MAX_BLOCKS, Refusal, Word};
 use std::alloc::Global;
 
+// The loops over a heap's calls are not inlined: a program's heap stands in memory, and where nothing else sees it the compiler would keep its fields in registers.
+
 /// A heap of just the blocks that `count` objects of this size take.
 fn heap_for(alloc: Global, count: u64, size: u64) -> Result<Heap, Refusal> {
     let blocks = match BLOCK_WORDS.checked_div(size) {
@@ -17,6 +19,7 @@ fn heap_for(alloc: Global, count: u64, size: u64) -> Result<Heap, Refusal> {
 }
 
 /// Makes `count` objects; returns the sum of their starts.
+#[inline(never)]
 fn fill(heap: &mut Heap, count: u64, size: u64) -> Result<u64, Refusal> {
     let mut sum = 0u64;
     for _ in 0..count {
@@ -34,6 +37,7 @@ fn filled(alloc: Global, count: u64, size: u64) -> Result<Heap, Refusal> {
 }
 
 /// Looks each object up; returns the sum of the starts.
+#[inline(never)]
 fn list_all(heap: &Heap, starts: &[Addr]) -> Result<u64, Refusal> {
     let mut sum = 0u64;
     for start in starts {
@@ -46,6 +50,7 @@ fn list_all(heap: &Heap, starts: &[Addr]) -> Result<u64, Refusal> {
 }
 
 /// The same; condemns each object once it is looked up, and then sweeps all blocks.
+#[inline(never)]
 fn reclaim_all(heap: &mut Heap, starts: &[Addr]) -> Result<u64, Refusal> {
     let sum = condemn_all(heap, starts)?;
     for block in 0..MAX_BLOCKS {
@@ -70,6 +75,7 @@ fn condemn_all(heap: &mut Heap, starts: &[Addr]) -> Result<u64, Refusal> {
 }
 
 /// Adds the starts to which the words point to the sum.
+#[inline(never)]
 fn resolve_all(heap: &Heap, words: &[Word], before: u64) -> Result<u64, Refusal> {
     let mut sum = before;
     for word in words {
@@ -80,6 +86,7 @@ fn resolve_all(heap: &Heap, words: &[Word], before: u64) -> Result<u64, Refusal>
 }
 
 /// Writes each word to where it points.
+#[inline(never)]
 fn write_all(heap: &mut Heap, words: &[Word]) -> Result<(), Refusal> {
     for word in words {
         heap.write(*word, 0, *word)?;
@@ -88,6 +95,7 @@ fn write_all(heap: &mut Heap, words: &[Word]) -> Result<(), Refusal> {
 }
 
 /// Adds the words that stand where the words point to the sum.
+#[inline(never)]
 fn read_all(heap: &Heap, words: &[Word], before: u64) -> Result<u64, Refusal> {
     let mut sum = before;
     for word in words {

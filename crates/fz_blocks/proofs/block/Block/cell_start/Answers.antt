@@ -1,9 +1,6 @@
-use Rattle.std.proofs.Common.{◌∙◌, sym, arith, refl}
+use Rattle.std.proofs.Common.{arith, refl}
 use Rattle.fz_blocks.proofs.Bits.{none_below, start_below, highest_below}
 use Rattle.fz_blocks.proofs.block.Block.cell_start.Goals as goal
-
-pub returns-then-starts_at : goal.returns-then-starts_at
-returns-then-starts_at c = let sized = c.args.self.now.sized in record { starts = sym c.starts_at.ensures ∙ c.if-starts_at.true; first = omega arith; inside = omega (arith, sized) }
 
 pub returns-then-below-eq0 : goal.returns-then-below-eq0
 returns-then-below-eq0 c = λ start on le. absurd (none_below c.args.self.now.objects c.args.place _ _ (omega arith) c.requires refl refl c.if-below-eq0.true start on le)

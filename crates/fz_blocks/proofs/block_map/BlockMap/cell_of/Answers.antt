@@ -1,4 +1,4 @@
-use Rattle.std.proofs.Common.{◌≡◌, ◌/◌, ◌-◌, ◌+◌, ◌*◌, ◌%◌, ℕ, Option, Some, None, MatchOption, subst, sym, arith, slice_get}
+use Rattle.std.proofs.Common.{◌≡◌, ◌∙◌, ◌/◌, ◌-◌, ◌+◌, ◌*◌, ◌%◌, ℕ, Option, Some, None, MatchOption, subst, sym, arith, slice_get}
 use Rattle.std.specs.FinMap.{get}
 use Rattle.fz_model.specs.declared.extent.Extent.{Extent}
 use Rattle.fz_model.specs.Extents.{points_in}
@@ -23,11 +23,21 @@ returns-in_err-block c =
     (subst (λ r. Answer c.args.word r (extents_in c.self.inside.blocks)) (sym c.from_residual-in_err-block.ensures)
     (points_past c.self.inside.blocks c.self.invariant.runs c.args.word c.in_ok-offset.offset c.in_ok-offset.ensures.0 c.in_ok-offset.ensures.1 (read_none c.self.inside.blocks c.as_slice-all.result.now (c.in_ok-offset.offset / 64) c.as_slice-all.ensures c.in_err-block.ensures.lookup.0)))
 
+pub returns-then-starts_at : goal.returns-then-starts_at
+returns-then-starts_at c =
+    let place = c.in_ok-offset.offset % 64 in
+    let here = read_block c.self.inside.blocks c.as_slice-all.result.now (c.in_ok-offset.offset / 64) c.in_ok-block.block.now c.as_slice-all.ensures c.in_ok-block.ensures.lookup.0 c.in_ok-block.ensures.lookup.1 in
+    let sized = c.in_ok-block.block.now.sized in
+    let found = points_here c.self.inside.blocks c.self.invariant.runs c.args.word c.in_ok-offset.offset c.in_ok-offset.ensures.0 c.in_ok-offset.ensures.1 c.in_ok-block.block.now here place (record { starts = sym c.starts_at.ensures ∙ c.if-starts_at.true; first = omega arith; inside = omega (arith, sized) }) in
+    let same : c.args.word - place + place ≡ c.args.word = omega (arith, c.in_ok-offset.ensures.0, c.in_ok-offset.ensures.1) in
+    subst (λ (v : Claimed). Answer c.args.word (Some (c.args.word, c.extent.result)) v.extents) c.self.view_is
+    (subst (λ w. Answer c.args.word (Some (w, c.extent.result)) (extents_in c.self.inside.blocks)) same (found.0, subst (λ x. get (extents_in c.self.inside.blocks) (c.args.word - place + place) ≡ Some x) (sym c.extent.ensures) found.1))
+
 pub returns-in-Some : goal.returns-in-Some
 returns-in-Some c =
     let here = read_block c.self.inside.blocks c.as_slice-all.result.now (c.in_ok-offset.offset / 64) c.in_ok-block.block.now c.as_slice-all.ensures c.in_ok-block.ensures.lookup.0 c.in_ok-block.ensures.lookup.1 in
     let found = points_here c.self.inside.blocks c.self.invariant.runs c.args.word c.in_ok-offset.offset c.in_ok-offset.ensures.0 c.in_ok-offset.ensures.1 c.in_ok-block.block.now here c.in-Some.start c.in-Some.ensures in
-    subst (λ (v : Claimed). Answer c.args.word (Some (c.args.word - c.in_ok-offset.offset % 64 + c.in-Some.start, c.extent.result)) v.extents) c.self.view_is (found.0, subst (λ x. get (extents_in c.self.inside.blocks) (c.args.word - c.in_ok-offset.offset % 64 + c.in-Some.start) ≡ Some x) (sym c.extent.ensures) found.1)
+    subst (λ (v : Claimed). Answer c.args.word (Some (c.args.word - c.in_ok-offset.offset % 64 + c.in-Some.start, c.extent-in-Some.result)) v.extents) c.self.view_is (found.0, subst (λ x. get (extents_in c.self.inside.blocks) (c.args.word - c.in_ok-offset.offset % 64 + c.in-Some.start) ≡ Some x) (sym c.extent-in-Some.ensures) found.1)
 
 pub returns-then-block-eq0 : goal.returns-then-block-eq0
 returns-then-block-eq0 c =
