@@ -1,4 +1,14 @@
 //! Tests of runs of scripts.
 
-mod rows;
+mod scripts;
 mod tests;
+
+use fz_text::DriveFault;
+
+/// A script, its report, and how its run ends.
+#[derive(Clone, Copy)]
+struct Row {
+    script: &'static [u8],
+    report: &'static [u8],
+    fault: Option<DriveFault>,
+}

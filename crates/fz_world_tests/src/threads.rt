@@ -30,6 +30,15 @@ struct Row {
     fault: Option<DriveFault>,
 }
 
+/// A threads file whose summary leaves one number free, from 0 to `most`, between two parts.
+#[derive(Clone, Copy)]
+struct FreeRow {
+    file: &'static [u8],
+    before: &'static [u8],
+    most: u64,
+    after: &'static [u8],
+}
+
 #[derive(Drop)]
 struct Outcome {
     result: Result<(), DriveFault>,

@@ -4,26 +4,8 @@ mod cuts;
 
 ghost use Rattle.std.specs.Prelude.{◌≡◌, ◌≤◌, ◌<◌, ◌^◌, length};
 
-use crate::drive::rows::Row;
-use crate::drive::rows::cycles::{
-    CLOSE_INSIDE_A_CYCLE, CYCLE_REFUSALS, DIRTY_SECOND_PAGE, SWAP_BEHIND_THE_MARKER,
-};
-use crate::drive::rows::limits::{EIGHT_WORKERS, LAST_FRAME_AND_SLOT, NUMBERS_AT_THE_LIMIT};
-use crate::drive::rows::links::{MOVED_LINKS, SHORT_AND_LONG_LINKS};
-use crate::drive::rows::objects::{
-    EMPTY_HEAP, INTERIOR_POINTER, LARGE_OBJECTS, LARGE_SIZE_AND_FULL_HEAP, SIZES_AND_FULL_HEAP,
-    SWEPT_CELL_REUSED,
-};
-use crate::drive::rows::order::{
-    CHAIN_IN_ORDER, CHAIN_IN_ORDER_RANKED, CYCLE_CUT_BY_SHORT_LINK, CYCLE_NEVER_PICKED,
-    NO_ORDER_CYCLE_BY_ADDRESS, NO_ORDER_LEADS_BACK, NORMAL_LEADS_TO_NO_ORDER, RANKS,
-    SELF_REFERENCE_BY_KIND,
-};
-use crate::drive::rows::refused::{EMPTY_FILE, LEADING_ZERO, NO_BLOCKS, RANK_TOO_LARGE};
-use crate::drive::rows::registrations::{
-    CLIENT_DATA_IS_A_ROOT, CLOSED_WORLD_KEEPS, FORFEITED_ENTRY, HELD_UNTIL_FINISHED,
-    ONE_OBJECT_LIFE, REPLACED_AND_REMOVED_REGISTRATION,
-};
+use crate::drive::Row;
+use crate::drive::scripts::{LARGE, ONE_OBJECT, SMALL, TWO_IN_ORDER};
 use arrayvec::ArrayVec;
 use fz_devices::{Limits, MemorySink, MemorySource, Pieces, WHOLE, bytewise};
 use fz_drive::{Summary, drive};
@@ -34,49 +16,6 @@ use std::marker::Brand;
 use std::process::Abort;
 use std::sync::ledger::{Blank, Ledger};
 use std::test::Fail;
-
-/// Scripts over objects and their order, and such as end early.
-const OBJECTS: [Row; 18] = [
-    EMPTY_HEAP,
-    CHAIN_IN_ORDER,
-    CHAIN_IN_ORDER_RANKED,
-    RANKS,
-    RANK_TOO_LARGE,
-    CYCLE_NEVER_PICKED,
-    LEADING_ZERO,
-    NO_BLOCKS,
-    EMPTY_FILE,
-    INTERIOR_POINTER,
-    SIZES_AND_FULL_HEAP,
-    LARGE_SIZE_AND_FULL_HEAP,
-    LARGE_OBJECTS,
-    NUMBERS_AT_THE_LIMIT,
-    SELF_REFERENCE_BY_KIND,
-    NO_ORDER_CYCLE_BY_ADDRESS,
-    NORMAL_LEADS_TO_NO_ORDER,
-    NO_ORDER_LEADS_BACK,
-];
-
-/// Scripts over links, cycles in steps, and registrations with their entries.
-const LINKS: [Row; 14] = [
-    MOVED_LINKS,
-    SHORT_AND_LONG_LINKS,
-    CYCLE_CUT_BY_SHORT_LINK,
-    SWAP_BEHIND_THE_MARKER,
-    DIRTY_SECOND_PAGE,
-    CYCLE_REFUSALS,
-    CLOSE_INSIDE_A_CYCLE,
-    CLOSED_WORLD_KEEPS,
-    ONE_OBJECT_LIFE,
-    CLIENT_DATA_IS_A_ROOT,
-    REPLACED_AND_REMOVED_REGISTRATION,
-    HELD_UNTIL_FINISHED,
-    FORFEITED_ENTRY,
-    SWEPT_CELL_REUSED,
-];
-
-/// Scripts over the largest world.
-const LIMITS: [Row; 2] = [EIGHT_WORKERS, LAST_FRAME_AND_SLOT];
 
 #[derive(Drop)]
 struct Outcome {
@@ -175,19 +114,18 @@ fn must_run_all(rt: &impl Abort, alloc: Global, rows: &[Row], limits: Limits) {
 #[test]
 fn rows_are_reported(rt: HostRuntime) {
     for limits in [WHOLE, bytewise(usize::MAX, usize::MAX)] {
-        must_run_all(&rt, rt.alloc(), &OBJECTS, limits);
-        must_run_all(&rt, rt.alloc(), &LINKS, limits);
+        must_run_all(&rt, rt.alloc(), &SMALL, limits);
     }
 }
 
 #[test]
 fn the_limits_are_reported(rt: HostRuntime) {
-    must_run_all(&rt, rt.alloc(), &LIMITS, WHOLE);
+    must_run_all(&rt, rt.alloc(), &LARGE, WHOLE);
 }
 
 #[test]
 fn a_summary_has_the_numbers_of_the_end(rt: HostRuntime) {
-    let outcome = run(rt.alloc(), CHAIN_IN_ORDER.script, WHOLE);
+    let outcome = run(rt.alloc(), TWO_IN_ORDER.script, WHOLE);
     let summary = Summary {
         steps: 14,
         refused: 0,
@@ -204,14 +142,14 @@ fn a_summary_has_the_numbers_of_the_end(rt: HostRuntime) {
 fn fails(alloc: Global, limits: Limits, refusal: Refusal, lines: usize, text: &[u8]) -> bool
     requires { lines < 2 ^ 32 }
 {
-    let outcome = run(alloc, ONE_OBJECT_LIFE.script, limits);
+    let outcome = run(alloc, ONE_OBJECT.script, limits);
     outcome.result == fault(refusal, lines as u64 + 1) && outcome.text.as_slice() == text
 }
 
 /// Each read of the script fails in turn: whole lines before it are answered, and nothing else.
 #[test]
 fn each_read_fails(rt: HostRuntime) {
-    let Row { script, report, .. } = ONE_OBJECT_LIFE;
+    let Row { script, report, .. } = ONE_OBJECT;
     for reads in 0..script.len() + 1 {
         let lines = lines_in(&script[..reads]);
         let replies = first_lines(report, lines);
@@ -224,7 +162,7 @@ fn each_read_fails(rt: HostRuntime) {
 /// Each write of the report fails in turn.
 #[test]
 fn each_write_fails(rt: HostRuntime) {
-    let Row { report, .. } = ONE_OBJECT_LIFE;
+    let Row { report, .. } = ONE_OBJECT;
     for writes in 0..report.len() {
         let lines = lines_in(&report[..writes]);
         let limits = bytewise(usize::MAX, writes);
@@ -237,7 +175,7 @@ fn each_write_fails(rt: HostRuntime) {
 /// A writer that takes all that it is offered is called once for each line.
 #[test]
 fn a_reply_is_one_write(rt: HostRuntime) {
-    let row = ONE_OBJECT_LIFE;
+    let row = ONE_OBJECT;
     let all = lines_in(row.report);
     for writes in 0..all {
         let limits = Limits {
@@ -271,8 +209,7 @@ fn must_end_alike(rt: &impl Abort, alloc: Global, rows: &[Row]) {
 
 #[test]
 fn a_last_line_needs_no_line_feed(rt: HostRuntime) {
-    must_end_alike(&rt, rt.alloc(), &OBJECTS);
-    must_end_alike(&rt, rt.alloc(), &LINKS);
+    must_end_alike(&rt, rt.alloc(), &SMALL);
 }
 
 /// Whether the script ends alike before and behind the line feed at this place, with the replies to its lines so far.

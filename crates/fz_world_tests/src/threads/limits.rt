@@ -1,21 +1,28 @@
 //! Files and runs at their limits.
 
-use super::files::{FULL_HEAP, LONG_CHURN, SEVEN_CHURNS};
-use super::wanted::{ends, prints_and_ends, runs_rows};
-use super::{Row, fault, joined, run};
-use fz_devices::WHOLE;
+use super::wanted::{ends, prints_and_ends};
+use super::{fault, joined, run};
 use fz_model::{Refusal, TABLE_LIMIT};
 use std::alloc::{AllocError, Global};
 use std::test::Fail;
 
-/// Runs that fill a heap, and a line's count.
-const LIMITS: [Row; 2] = [FULL_HEAP, LONG_CHURN];
-
-#[test]
-fn the_limits_are_summarized(rt: HostRuntime) -> Result<(), Fail> {
-    runs_rows(&rt, &LIMITS, WHOLE)?;
-    Ok(())
-}
+/// Seven mutators register 70,000 objects at one time.
+const SEVEN_CHURNS: &[u8] = b"open 4096 8 8\n\
+  settle 1\n\
+  mutator\n\
+  churn 10000 0 0 1 scanned normal 0\n\
+  mutator\n\
+  churn 10000 1 0 1 scanned normal 0\n\
+  mutator\n\
+  churn 10000 2 0 1 scanned normal 0\n\
+  mutator\n\
+  churn 10000 3 0 1 scanned normal 0\n\
+  mutator\n\
+  churn 10000 4 0 1 scanned normal 0\n\
+  mutator\n\
+  churn 10000 5 0 1 scanned normal 0\n\
+  mutator\n\
+  churn 10000 6 0 1 scanned normal 0\n";
 
 /// Objects for which the table has no room are refused, and reclaimed by the pass that queues the others.
 #[test]

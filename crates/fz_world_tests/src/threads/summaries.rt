@@ -1,31 +1,14 @@
 //! What the summaries of whole runs say.
 
-use super::files::{
-    ALL_ACTORS, FOUR_MUTATORS, FreeRow, KEPT_OBJECT, MUTATORS_AND_COLLECTOR, NEVER_COLLECTED,
-    NO_FRAMES, NO_OPENING, NO_SECTIONS, NO_SUCH_PROCEDURE, OPEN_CYCLE, REFUSED_CYCLES,
-    REFUSED_STEPS,
-};
+use super::files::{ALL_ACTORS, MUTATORS_AND_COLLECTOR, ROWS};
 use super::wanted::{prints, runs_rows};
-use super::{Outcome, Row, joined, run};
+use super::{FreeRow, Outcome, joined, run};
 use fz_devices::WHOLE;
 use std::alloc::AllocError;
 use std::process::Abort;
 use std::sync::Wait;
 use std::test::Fail;
 use std::thread::Threads;
-
-const ROWS: [Row; 10] = [
-    FOUR_MUTATORS,
-    NO_SECTIONS,
-    NEVER_COLLECTED,
-    KEPT_OBJECT,
-    NO_SUCH_PROCEDURE,
-    OPEN_CYCLE,
-    REFUSED_STEPS,
-    REFUSED_CYCLES,
-    NO_OPENING,
-    NO_FRAMES,
-];
 
 #[test]
 fn rows_are_summarized(rt: HostRuntime) -> Result<(), Fail> {

@@ -2,10 +2,11 @@
 
 ghost use Rattle.std.specs.Prelude.{◌≤◌, length};
 
-use super::{LINKS, OBJECTS, Outcome, fault, first_lines, lines_in, must_hold, run};
-use crate::drive::rows::Row;
-use crate::drive::rows::cycles::{FOUND_BY_ITS_OWN_PASS, FOUND_BY_THE_NEXT_PASS};
-use crate::drive::rows::order::CHAIN_IN_ORDER;
+use super::{Outcome, fault, first_lines, lines_in, must_hold, run};
+use crate::drive::Row;
+use crate::drive::scripts::{
+    DROPPED_IN_A_CYCLE, DROPPED_IN_A_CYCLE_OTHERWISE, SMALL, TWO_IN_ORDER,
+};
 use fz_devices::WHOLE;
 use fz_model::Refusal;
 use std::alloc::{AllocError, Global};
@@ -110,23 +111,17 @@ fn cut_all(rt: &impl Abort, alloc: Global, rows: &[Row]) -> Result<(), AllocErro
 }
 
 #[test]
-fn scripts_over_objects_are_cut(rt: HostRuntime) -> Result<(), Fail> {
-    cut_all(&rt, rt.alloc(), &OBJECTS)?;
-    Ok(())
-}
-
-#[test]
-fn scripts_over_links_are_cut(rt: HostRuntime) -> Result<(), Fail> {
-    cut_all(&rt, rt.alloc(), &LINKS)?;
+fn scripts_are_cut(rt: HostRuntime) -> Result<(), Fail> {
+    cut_all(&rt, rt.alloc(), &SMALL)?;
     Ok(())
 }
 
 /// What is dropped inside a cycle is found by either of two passes, in a script that is cut too.
 #[test]
 fn what_is_dropped_inside_a_cycle_is_found(rt: HostRuntime) -> Result<(), Fail> {
-    let next = FOUND_BY_THE_NEXT_PASS;
+    let next = DROPPED_IN_A_CYCLE;
     let own = Row {
-        report: FOUND_BY_ITS_OWN_PASS,
+        report: DROPPED_IN_A_CYCLE_OTHERWISE,
         ..next
     };
     for place in 0..next.script.len() + 1 {
@@ -157,7 +152,7 @@ fn is_malformed_by_a_return(alloc: Global, row: Row, place: usize) -> Result<boo
 
 #[test]
 fn a_carriage_return_makes_its_line_malformed(rt: HostRuntime) -> Result<(), Fail> {
-    let row = CHAIN_IN_ORDER;
+    let row = TWO_IN_ORDER;
     for place in 0..row.script.len() {
         let is_malformed = is_malformed_by_a_return(rt.alloc(), row, place)?;
         must_hold(&rt, is_malformed, 0, place);
