@@ -10,7 +10,7 @@ use Rattle.fz_model.specs.Allocation.{same_kind}
 use Rattle.fz_model.specs.Bits.{has_bit}
 use Rattle.fz_model.proofs.Bits.{no_bits}
 use Rattle.fz_blocks.specs.declared.block.Block.{Block}
-use Rattle.fz_dirty.specs.Flags.{Flagged}
+use Rattle.fz_bits.specs.Flags.{Flagged}
 use Rattle.fz_blocks.specs.Cells.{is_cell}
 use Rattle.fz_blocks.specs.Blocks.{starts_at, is_bare, is_full, has_free_cell, has_same_room, IsAlike, Claims}
 use Rattle.fz_blocks.specs.Layout.{has_room}

@@ -4,7 +4,7 @@ use Rattle.std.proofs.lemmas.Bool.{cases_lt, eq-eqb, eqb-true, ne_eqb, leb-true,
 use Rattle.std.specs.Option.{option_map_or}
 use Rattle.std.specs.FinSet.{contains, insert, remove}
 use Rattle.fz_model.proofs.Sets.{has_inserted, has_removed}
-use Rattle.fz_dirty.specs.Flags.{IsNext}
+use Rattle.fz_bits.specs.Flags.{IsNext}
 use Rattle.fz_blocks.specs.BlockSets.{BlockNumbers, IsLeast, IsLeastOf, lesser}
 
 module _ (set : BlockNumbers) (block : ℕ) where

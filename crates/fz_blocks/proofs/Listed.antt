@@ -12,7 +12,7 @@ use Rattle.fz_model.specs.Allocation.{same_kind}
 use Rattle.fz_model.proofs.Sets.{has_inserted, has_removed}
 use Rattle.fz_blocks.specs.declared.block.Block.{Block}
 use Rattle.fz_blocks.specs.BlockSets.{BlockNumbers, no_room, members_at, room_at, IsLeast}
-use Rattle.fz_dirty.specs.Flags.{Flagged}
+use Rattle.fz_bits.specs.Flags.{Flagged}
 use Rattle.fz_blocks.specs.Classes.{class_of}
 use Rattle.fz_blocks.specs.Blocks.{is_full, has_free_cell, has_same_room, is_bare}
 use Rattle.fz_blocks.specs.Layout.{has_room}

@@ -7,7 +7,7 @@ use Rattle.std.specs.FinSet.{contains}
 use Rattle.fz_blocks.specs.declared.block.Block.{Block}
 use Rattle.fz_blocks.specs.Blocks.{is_bare}
 use Rattle.fz_blocks.specs.BlockSets.{BlockNumbers, has_pair_bit, AreRunsOf, HasRun, IsLeastRun}
-use Rattle.fz_dirty.specs.Flags.{IsNext}
+use Rattle.fz_bits.specs.Flags.{IsNext}
 use Rattle.fz_model.specs.Bits.{has_bit}
 use Rattle.fz_blocks.specs.Runs.{IsRun, IsFirstRun}
 use Rattle.fz_blocks.proofs.Bits.{lowest}

@@ -2,7 +2,7 @@
 use Rattle.std.specs.Prelude.{ℕ, ◌+◌, ◌-◌, nat_lt, nat_le, ◌<◌, Option, Some, None, Bool, if◌then◌else◌, List, slice_index_or, IsTrue, IsFalse}
 use Rattle.std.specs.FinSet.{empty, contains}
 use Rattle.fz_model.specs.Bits.{has_bit}
-use Rattle.fz_dirty.specs.Flags.{Set, Flagged}
+use Rattle.fz_bits.specs.Flags.{Set, Flagged}
 
 abbrev pub BlockNumbers : Type 0
 BlockNumbers = Set

@@ -7,7 +7,7 @@ ghost use Rattle.fz_model.specs.declared.limits.TheConstants.{MAX_BLOCKS};
 ghost use Rattle.fz_blocks.specs.declared.block_set.TheConstants.{BITS};
 ghost use Rattle.fz_blocks.specs.BlockSets.{lesser, IsLeast, AreRunsOf, HasRun, IsLeastRun};
 
-use fz_dirty::SmallFlags;
+use fz_bits::SmallFlags;
 use fz_model::Refusal;
 use std::alloc::Global;
 use std::marker::Model;
@@ -59,7 +59,7 @@ pub(crate) fn runs_of(word: u64, next: u64, count: u64) -> u64
 }
 
 impl Model for BlockSet {
-    ghost use Rattle.fz_dirty.specs.Flags.{Flagged, flagged_code};
+    ghost use Rattle.fz_bits.specs.Flags.{Flagged, flagged_code};
 
     ghost Value = { Flagged };
 

@@ -3,7 +3,7 @@ use Rattle.std.specs.Prelude.{◌≡◌, ℕ, ◌<◌, ◌≤◌, IsTrue, refl}
 use Rattle.std.specs.Coded.{Coded, code_by, coded×, coded_ℕ}
 use Rattle.std.specs.FinSet as sets
 use Rattle.std.specs.FinSet.{contains, len}
-use Rattle.fz_dirty.specs.Flags.{Set, Flagged}
+use Rattle.fz_bits.specs.Flags.{Set, Flagged}
 
 pub record Pages : Type 0 where
   pub pages : ℕ

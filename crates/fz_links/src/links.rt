@@ -9,7 +9,7 @@ ghost use Rattle.fz_model.specs.Steps.{move_answer, moved_to};
 ghost use Rattle.fz_links.specs.Dropped.{ComputesTest, without};
 
 use fz_model::{Addr, LinkAnswer, MoveAnswer, Refusal, TABLE_LIMIT};
-use fz_pairs::Pairs;
+use fz_table::Pairs;
 use indexmap::IndexMap;
 use indexmap::map::Entry;
 use std::alloc::Global;

@@ -9,7 +9,7 @@ use Rattle.fz_model.specs.State.{Map, Object}
 use Rattle.fz_model.specs.Extents.{extents, AreApart}
 use Rattle.fz_model.specs.Memory.{points}
 use Rattle.fz_model.specs.Allocation.{block_of, block_start}
-use Rattle.fz_dirty.specs.Flags.{Set, word_of}
+use Rattle.fz_bits.specs.Flags.{Set, word_of}
 use Rattle.fz_model.proofs.Sets.{has_removed}
 use Rattle.fz_marker.specs.Standing.{HasWordOn, StandsOn}
 use Rattle.fz_marker.proofs.Standing.{word_stands}

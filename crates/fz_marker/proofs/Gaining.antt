@@ -7,7 +7,7 @@ use Rattle.std.specs.FinSet.{contains, insert, len}
 use Rattle.fz_model.specs.declared.limits.TheConstants.{HEAP_START}
 use Rattle.fz_model.specs.State.{Map, Object}
 use Rattle.fz_model.specs.Memory.{points}
-use Rattle.fz_dirty.specs.Flags.{Set}
+use Rattle.fz_bits.specs.Flags.{Set}
 use Rattle.fz_model.proofs.Sets.{has_inserted, len_inserted}
 use Rattle.fz_marker.specs.Frontiers.{Frontier, Gains, IsAmong, IsPointedAt}
 

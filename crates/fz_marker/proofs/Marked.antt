@@ -5,7 +5,7 @@ use Rattle.std.specs.FinSet.{contains, insert, len, empty, len-empty, contains-e
 use Rattle.std.specs.FinMap.{keys}
 use Rattle.fz_model.specs.declared.limits.TheConstants.{BLOCK_WORDS, MAX_BLOCKS}
 use Rattle.fz_model.specs.State.{Map, Object}
-use Rattle.fz_dirty.specs.Flags.{Set, Flagged}
+use Rattle.fz_bits.specs.Flags.{Set, Flagged}
 use Rattle.fz_model.proofs.Sets.{same_members}
 use Rattle.fz_marker.specs.declared.cycle.Cycle.{Cycle}
 use Rattle.fz_marker.specs.Frontiers.{Frontier, Gains}

@@ -14,7 +14,7 @@ use Rattle.std.specs.FinSet.{contains, empty, from_list, items, len, remove, con
 use Rattle.fz_model.specs.State.{Map}
 use Rattle.fz_model.proofs.Lists.{count_cons, map_at}
 use Rattle.fz_model.proofs.MapEntries.{T-first, T-second, below_at, own_key, other_key}
-use Rattle.fz_dirty.specs.Flags.{Set}
+use Rattle.fz_bits.specs.Flags.{Set}
 use Rattle.fz_model.proofs.Sets.{same_members}
 
 -- ---- a map's keys stand in their list once each

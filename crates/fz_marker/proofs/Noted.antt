@@ -11,7 +11,7 @@ use Rattle.fz_model.specs.State.{Map, Object}
 use Rattle.fz_model.specs.Extents.{extents, extent_of, AreApart}
 use Rattle.fz_model.specs.Allocation.{block_of, block_start}
 use Rattle.fz_model.proofs.Objects.{to_covers}
-use Rattle.fz_dirty.specs.Flags.{Set}
+use Rattle.fz_bits.specs.Flags.{Set}
 use Rattle.fz_marker.specs.Marking.{is_newly_in, is_on_noted, is_readable, readable_count}
 use Rattle.fz_marker.proofs.Counts.{count_is, count_either}
 use Rattle.fz_marker.proofs.Members.{keys_once, member_of, still_in, one_fewer, len_listed, count_members}

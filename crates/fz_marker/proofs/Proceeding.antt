@@ -10,7 +10,7 @@ use Rattle.fz_model.specs.Allocation.{same_kind}
 use Rattle.fz_model.specs.Reachability.{Child, Leads, Itself, OneMore}
 use Rattle.fz_model.specs.declared.kinds.ObjKind.TheVariants.{Scanned}
 use Rattle.fz_model.proofs.MapEntries.{key_in}
-use Rattle.fz_dirty.specs.Flags.{Set, Flagged}
+use Rattle.fz_bits.specs.Flags.{Set, Flagged}
 use Rattle.fz_model.proofs.Sets.{len_inserted}
 use Rattle.fz_marker.specs.declared.cycle.Cycle.{Cycle}
 use Rattle.fz_marker.specs.Frontiers.{Frontier}

@@ -13,7 +13,7 @@ use Rattle.fz_model.specs.Allocation.{block_of, block_start}
 use Rattle.fz_model.proofs.Lists.{any_in_range, any_of_range}
 use Rattle.fz_model.proofs.Maps.{get-extents}
 use Rattle.fz_model.proofs.Objects.{points_target, points_at, from_covers, to_covers}
-use Rattle.fz_dirty.specs.Flags.{Set}
+use Rattle.fz_bits.specs.Flags.{Set}
 use Rattle.fz_marker.specs.Marking.{is_on_noted}
 use Rattle.fz_marker.specs.Cycles.{has_pointers}
 use Rattle.fz_marker.specs.Standing.{HasWordOn, StandsOn}

@@ -2,7 +2,7 @@
 use Rattle.std.proofs.Common.{◌≡◌, ℕ, ◌↔◌, ◌⊎◌, Bool, true, false, [], ◌∷◌, ◌++◌, refl, sym, ap, ◌∙◌, subst, inl, inr, ⊎_elim, arith, IsTrue, Contains}
 use Rattle.std.proofs.lemmas.List.Elements.{Contains-append_left, Contains-push, Contains-push_cases}
 use Rattle.std.specs.FinSet.{contains, insert}
-use Rattle.fz_dirty.specs.Flags.{Set}
+use Rattle.fz_bits.specs.Flags.{Set}
 use Rattle.fz_marker.proofs.Gaining.{inserted_cases}
 use Rattle.fz_model.specs.State.{Map, Object}
 use Rattle.fz_model.specs.Reachability.{Child, Leads, Itself, OneMore}

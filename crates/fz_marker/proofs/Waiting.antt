@@ -8,7 +8,7 @@ use Rattle.fz_model.specs.declared.limits.TheConstants.{HEAP_START}
 use Rattle.fz_model.specs.State.{Map, Object}
 use Rattle.fz_model.specs.Memory.{points}
 use Rattle.fz_model.specs.Allocation.{block_of, block_start}
-use Rattle.fz_dirty.specs.Flags.{Set, Flagged, IsNext}
+use Rattle.fz_bits.specs.Flags.{Set, Flagged, IsNext}
 use Rattle.fz_marker.specs.declared.cycle.Cycle.{Cycle}
 use Rattle.fz_marker.specs.Frontiers.{Frontier}
 use Rattle.fz_marker.specs.Cycles.{AllWait, IsSettled, WaitsOr, Visits, Scans}

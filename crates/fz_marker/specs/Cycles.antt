@@ -6,7 +6,7 @@ use Rattle.fz_model.specs.declared.limits.TheConstants.{HEAP_START, BLOCK_WORDS,
 use Rattle.fz_model.specs.State.{Map, Object}
 use Rattle.fz_model.specs.Reachability.{Child}
 use Rattle.fz_heap.specs.Contents.{pointers_of}
-use Rattle.fz_dirty.specs.Flags.{IsWithin}
+use Rattle.fz_bits.specs.Flags.{IsWithin}
 use Rattle.fz_marker.specs.declared.cycle.Cycle.{Cycle}
 use Rattle.fz_marker.specs.Frontiers.{Gains}
 use Rattle.fz_marker.specs.Marking.{IsLedFrom, HasChildrenIn, is_readable, is_newly_in}

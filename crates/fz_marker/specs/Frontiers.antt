@@ -6,7 +6,7 @@ use Rattle.std.specs.FinSet.{contains, len}
 use Rattle.fz_model.specs.declared.limits.TheConstants.{HEAP_START}
 use Rattle.fz_model.specs.State.{Map, Object}
 use Rattle.fz_model.specs.Memory.{points}
-use Rattle.fz_dirty.specs.Flags.{Set, Flagged, IsWithin}
+use Rattle.fz_bits.specs.Flags.{Set, Flagged, IsWithin}
 use Rattle.fz_marker.specs.Marking.{IsLedFrom, HasChildrenIn}
 
 pub record Frontier : Type 0 where

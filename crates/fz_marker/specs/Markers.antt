@@ -1,7 +1,7 @@
 -- What a marker keeps.
 use Rattle.std.specs.Prelude.{◌≡◌, ◌≤◌, []}
 use Rattle.std.specs.FinSet.{len}
-use Rattle.fz_dirty.specs.Flags.{Flagged}
+use Rattle.fz_bits.specs.Flags.{Flagged}
 use Rattle.fz_marker.specs.declared.cycle.Cycle.{Cycle}
 use Rattle.fz_marker.specs.Frontiers.{Frontier}
 use Rattle.fz_marker.specs.Cycles.{IsCycle, AllWait}

@@ -10,7 +10,7 @@ use Rattle.fz_model.specs.State.{Map, Object}
 use Rattle.fz_model.specs.Reachability.{Child, Leads}
 use Rattle.fz_model.specs.Allocation.{same_kind, block_of}
 use Rattle.fz_model.specs.declared.kinds.ObjKind.TheVariants.{Scanned}
-use Rattle.fz_dirty.specs.Flags.{Set}
+use Rattle.fz_bits.specs.Flags.{Set}
 
 pub record Marking : Type 0 where
   pub size : ℕ  -- how many addresses it has room for

@@ -5,7 +5,7 @@ use Rattle.std.specs.FinMap.{get}
 use Rattle.fz_model.specs.State.{Map, Object}
 use Rattle.fz_model.specs.Memory.{points}
 use Rattle.fz_model.specs.Allocation.{block_of, block_start}
-use Rattle.fz_dirty.specs.Flags.{Set}
+use Rattle.fz_bits.specs.Flags.{Set}
 
 -- a word of the object that starts at `a` stands on the page
 pub record HasWordOn (objects : Map Object) (page a : ℕ) : Type 0 where

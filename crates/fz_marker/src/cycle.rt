@@ -6,14 +6,15 @@ ghost use Rattle.fz_model.specs.declared.limits.TheConstants.{BLOCK_WORDS, MAX_B
 ghost use Rattle.fz_model.specs.Allocation.{block_start};
 ghost use Rattle.fz_model.specs.Extents.{extents, AreApart};
 ghost use Rattle.fz_model.specs.Reachability.{Child};
-ghost use Rattle.fz_dirty.specs.Flags.{Set};
+ghost use Rattle.fz_bits.specs.Flags.{Set};
 ghost use Rattle.fz_marker.specs.Frontiers.{Gains, IsAmong};
 ghost use Rattle.fz_marker.specs.Marking.{IsLeft, is_on_noted, is_readable};
 ghost use Rattle.fz_marker.specs.Cycles.{IsCycle, AllWait, WaitsOr, Visits, Proceeds, has_pointers};
 ghost use Rattle.fz_marker.specs.Standing.{HasWordOn, StandsOn, IsOnNotedFrom, IsAhead};
 
 use crate::frontier::Frontier;
-use fz_dirty::{Dirty, Flags};
+use fz_bits::Flags;
+use fz_dirty::Dirty;
 use fz_heap::Heap;
 use fz_model::{Addr, BLOCK_WORDS, HEAP_START, Progress};
 

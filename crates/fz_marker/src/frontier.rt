@@ -5,11 +5,11 @@ ghost use Rattle.std.specs.FinSet.{contains, insert, empty, len};
 ghost use Rattle.fz_model.specs.declared.limits.TheConstants.{HEAP_START, BLOCK_WORDS, MAX_BLOCKS};
 ghost use Rattle.fz_model.specs.Reachability.{Child, Leads};
 ghost use Rattle.fz_model.specs.Allocation.{block_of};
-ghost use Rattle.fz_dirty.specs.Flags.{IsNext};
+ghost use Rattle.fz_bits.specs.Flags.{IsNext};
 ghost use Rattle.fz_marker.specs.Frontiers.{Gains, IsAmong, IsPointedAt, IsTracing};
 ghost use Rattle.fz_marker.specs.Marking.{IsClosed};
 
-use fz_dirty::Flags;
+use fz_bits::Flags;
 use fz_heap::Heap;
 use fz_model::{Addr, BLOCK_WORDS, HEAP_START, Refusal, Word};
 use std::alloc::Global;

@@ -7,12 +7,13 @@ ghost use Rattle.fz_model.specs.declared.limits.TheConstants.{HEAP_START, BLOCK_
 ghost use Rattle.fz_model.specs.Extents.{IsInHeap};
 ghost use Rattle.fz_model.specs.Memory.{points};
 ghost use Rattle.fz_model.specs.Reachability.{Leads};
-ghost use Rattle.fz_dirty.specs.Flags.{IsNext, IsWithin};
+ghost use Rattle.fz_bits.specs.Flags.{IsNext, IsWithin};
 ghost use Rattle.fz_marker.specs.Marking.{IsLedFrom, IsLeft, HasChildrenIn, IsClosed, AllScanned, CleanAreClosed, is_newly_in, is_to_scan, readable_count, with_target};
 
 use crate::cycle::Cycle;
 use crate::frontier::Frontier;
-use fz_dirty::{Dirty, Flags};
+use fz_bits::Flags;
+use fz_dirty::Dirty;
 use fz_heap::Heap;
 use fz_model::{Addr, HEAP_START, Progress, Refusal, Word};
 use std::alloc::Global;

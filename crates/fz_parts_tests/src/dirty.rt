@@ -1,7 +1,8 @@
 //! What no clause says: that memory for the flags can be had, and examples of each call.
 
 use crate::equal::must_be;
-use fz_dirty::{Dirty, Flags, SmallFlags, SparseFlags};
+use fz_bits::{Flags, SmallFlags, SparseFlags};
+use fz_dirty::Dirty;
 use fz_model::{HEAP_START, MAX_BLOCKS};
 use std::test::Fail;
 

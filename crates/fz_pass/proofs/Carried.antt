@@ -11,7 +11,7 @@ use Rattle.fz_model.specs.Pass.{is_outside, cleared, is_dead, links_within}
 use Rattle.fz_heap.specs.Contents.{Contents}
 use Rattle.fz_table.specs.Registered.{Registered}
 use Rattle.fz_links.specs.Linked.{Linked}
-use Rattle.fz_dirty.specs.Flags.{Set}
+use Rattle.fz_bits.specs.Flags.{Set}
 use Rattle.fz_marker.specs.Marking.{Marking, IsClosed}
 use Rattle.fz_pass.specs.Leading.{Traces, AreLeading, AreReaching, is_unreachable}
 use Rattle.fz_pass.specs.Picking.{is_free, AreReady, Picks}

@@ -18,7 +18,7 @@ use Rattle.fz_model.specs.State.{Map, Object}
 use Rattle.fz_model.specs.Memory.{points}
 use Rattle.fz_model.specs.Reachability.{Leads, OneMore}
 use Rattle.fz_marker.specs.Marking.{Marking, IsClosed}
-use Rattle.fz_dirty.specs.Flags.{Set, IsNext}
+use Rattle.fz_bits.specs.Flags.{Set, IsNext}
 use Rattle.fz_model.proofs.Tables.{get_made}
 use Rattle.fz_model.proofs.KeyedEntries.{listed, got}
 use Rattle.fz_pass.specs.Leading.{Traces, AnyOf, IsTargetOf, IsLeadingBut, IsLeading, AreLeading, AreReaching}

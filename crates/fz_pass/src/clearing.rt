@@ -6,7 +6,7 @@ ghost use Rattle.fz_model.specs.Extents.{IsInHeap};
 ghost use Rattle.fz_model.specs.Memory.{filled, written};
 ghost use Rattle.fz_model.specs.Pass.{is_outside, cleared};
 
-use fz_dirty::Flags;
+use fz_bits::Flags;
 use fz_heap::Heap;
 use fz_links::Links;
 use fz_model::{Addr, HEAP_START, Word};

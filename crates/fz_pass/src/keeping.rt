@@ -6,7 +6,7 @@ ghost use Rattle.std.specs.FinSet.{contains};
 ghost use Rattle.fz_model.specs.Memory.{points};
 ghost use Rattle.fz_model.specs.Pass.{links_within};
 
-use fz_dirty::Flags;
+use fz_bits::Flags;
 use fz_heap::Heap;
 use fz_links::Links;
 use fz_model::{Addr, HEAP_START};

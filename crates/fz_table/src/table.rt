@@ -11,8 +11,8 @@ ghost use Rattle.fz_model.specs.Causes.{IsJudgedBy, IsJudgedOrLacks, full, regis
 ghost use Rattle.fz_model.specs.Steps.{old_of};
 ghost use Rattle.fz_table.specs.Ranked.{ranked, has_rank};
 
+use crate::pairs::Pairs;
 use fz_model::{Addr, COUNT_LIMIT, Old, Refusal, RegKind, Registration, TABLE_LIMIT, Word};
-use fz_pairs::Pairs;
 use indexmap::IndexMap;
 use std::alloc::Global;
 use std::marker::Model;

@@ -22,7 +22,7 @@ use Rattle.fz_model.proofs.SeenAfter.{IsShown, accepted_seen, is_pause, whatever
 use Rattle.fz_model.proofs.SeenKept.{FramesWhole, still_seen, now_seen, put_root}
 use Rattle.fz_model.proofs.Parts.{none_stands}
 use Rattle.fz_model.specs.Memory.{points, slot_word, with_slot, address_of}
-use Rattle.fz_dirty.specs.Flags.{Set}
+use Rattle.fz_bits.specs.Flags.{Set}
 use Rattle.fz_model.proofs.Sets.{has_inserted}
 use Rattle.fz_marker.specs.Marking.{IsLedFrom, IsClosed}
 use Rattle.fz_world.specs.World.{WorldView, with_in_cycle}

@@ -12,7 +12,7 @@ use Rattle.fz_model.specs.Allocation.{block_of}
 use Rattle.fz_model.specs.Reachability.{Child}
 use Rattle.fz_model.proofs.Maps.{length-fill, filled_back, get-insert_same, get-insert_other}
 use Rattle.fz_model.proofs.SeenKept.{points-filled, Child-insert}
-use Rattle.fz_dirty.specs.Flags.{Set}
+use Rattle.fz_bits.specs.Flags.{Set}
 use Rattle.fz_model.proofs.Sets.{has_inserted}
 use Rattle.fz_marker.specs.Marking.{Marking, CleanAreClosed, is_on_noted}
 use Rattle.fz_marker.specs.Standing.{HasWordOn}

@@ -10,7 +10,7 @@ use Rattle.fz_model.specs.Parts.{AreSound}
 use Rattle.fz_model.specs.Pass.{Passes}
 use Rattle.fz_model.specs.declared.answers.Passed.{Passed}
 use Rattle.fz_model.proofs.Sound.{is_some_of}
-use Rattle.fz_dirty.specs.Flags.{Set}
+use Rattle.fz_bits.specs.Flags.{Set}
 use Rattle.fz_marker.specs.Marking.{Marking, IsClosed}
 use Rattle.fz_world.specs.Roots.{Marks, IsRootHere}
 

@@ -14,7 +14,7 @@ use Rattle.fz_model.specs.Memory.{fill, filled, written}
 use Rattle.fz_model.specs.Allocation.{same_kind}
 use Rattle.fz_model.proofs.MapEntries.{at_key, key_in}
 use Rattle.fz_model.proofs.Maps.{filled_here, get-insert_other}
-use Rattle.fz_dirty.specs.Flags.{Set, IsWithin}
+use Rattle.fz_bits.specs.Flags.{Set, IsWithin}
 use Rattle.fz_marker.specs.Marking.{IsLeft, is_newly_in, is_readable, readable_count}
 use Rattle.fz_marker.proofs.Counts.{count_is, count_less, count_two}
 use Rattle.fz_marker.proofs.Members.{count_among, count_members, keys_once}

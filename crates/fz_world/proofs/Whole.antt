@@ -29,7 +29,7 @@ use Rattle.fz_model.specs.Pass.{Passes, Decision, IsPicked, without_picks}
 use Rattle.fz_model.proofs.Sets.{same_members}
 use Rattle.fz_heap.specs.Contents.{Contents}
 use Rattle.fz_table.specs.Registered.{Registered}
-use Rattle.fz_dirty.specs.Flags.{Set, IsWithin}
+use Rattle.fz_bits.specs.Flags.{Set, IsWithin}
 use Rattle.fz_dirty.specs.Pages.{Pages}
 use Rattle.fz_marker.specs.Marking.{Marking, CleanAreClosed, HasChildrenIn, is_newly_in, is_on_noted, readable_count}
 use Rattle.fz_pass.specs.Decides.{Parts, Decides}

@@ -9,7 +9,7 @@ use Rattle.fz_model.specs.Reachability.{WasSeen}
 use Rattle.fz_model.specs.Causes.{Causes, bad_count}
 use Rattle.fz_model.specs.Events.{Event, Answer}
 use Rattle.fz_model.specs.Steps.{Step}
-use Rattle.fz_dirty.specs.Flags.{Set}
+use Rattle.fz_bits.specs.Flags.{Set}
 use Rattle.fz_world.specs.World.{WorldView}
 
 -- in an open cycle each marked object was seen

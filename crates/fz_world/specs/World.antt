@@ -12,7 +12,7 @@ use Rattle.fz_model.specs.Parts.{AreSound}
 use Rattle.fz_heap.specs.Contents.{Contents}
 use Rattle.fz_table.specs.Registered.{Registered}
 use Rattle.fz_links.specs.Linked.{Linked}
-use Rattle.fz_dirty.specs.Flags.{Set}
+use Rattle.fz_bits.specs.Flags.{Set}
 use Rattle.fz_dirty.specs.Pages.{Pages}
 use Rattle.fz_marker.specs.Marking.{Marking, CleanAreClosed, readable_count}
 use Rattle.fz_world.specs.Ready.{Ready}

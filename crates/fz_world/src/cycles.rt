@@ -10,7 +10,7 @@ ghost use Rattle.fz_model.specs.Pass.{Passes};
 ghost use Rattle.fz_model.specs.Causes.{IsJudgedBy};
 ghost use Rattle.fz_model.specs.declared.call.Call.TheVariants as calls;
 ghost use Rattle.fz_model.specs.Events.{Make, causes};
-ghost use Rattle.fz_dirty.specs.Flags.{IsWithin};
+ghost use Rattle.fz_bits.specs.Flags.{IsWithin};
 ghost use Rattle.fz_marker.specs.Marking.{IsClosed};
 ghost use Rattle.fz_world.specs.World.{KeepsMarks};
 ghost use Rattle.fz_world.specs.Cycles.{IsBegun, AreScanned, IsLedFromMarks};

@@ -12,7 +12,7 @@ ghost use Rattle.fz_marker.specs.Marking.{IsClosed};
 ghost use Rattle.fz_pass.specs.Decides.{Decides, parts};
 ghost use Rattle.fz_world.specs.Ready.{IsNextHeld, GainsPicks, is_between};
 
-use fz_dirty::SparseFlags;
+use fz_bits::SparseFlags;
 use fz_heap::Heap;
 use fz_links::Links;
 use fz_marker::Marker;

@@ -1,6 +1,6 @@
 use Rattle.std.proofs.Common.{◌≡◌, ◌∙◌, ◌||◌, ◌&&◌, Bool, true, false, nat_eq, refl, sym, ap, subst}
 use Rattle.std.specs.FinSet.{contains, insert}
-use Rattle.fz_dirty.specs.Flags.{Flagged}
+use Rattle.fz_bits.specs.Flags.{Flagged}
 use Rattle.fz_model.proofs.Sets.{has_inserted}
 use Rattle.fz_marker.specs.Marking.{Marking, IsClosed}
 use Rattle.fz_model.specs.Pass.{is_outside}

@@ -1,7 +1,7 @@
 use Rattle.std.proofs.Common.{◌≡◌, ◌+◌, ◌∙◌, ap, sym, subst}
 use Rattle.std.specs.FinSet.{contains}
 use Rattle.fz_model.specs.Reachability.{Leads}
-use Rattle.fz_dirty.specs.Flags.{Set, IsNext}
+use Rattle.fz_bits.specs.Flags.{Set, IsNext}
 use Rattle.fz_marker.specs.Marking.{Marking}
 use Rattle.fz_pass.proofs.Traced.{traces_none, traces_one, traces_then, traces_as, below_none, below_next, below_all, ReachesBelow}
 use Rattle.fz_pass.proofs.leading.trace_listed.Goals as goal

@@ -5,7 +5,7 @@ use Rattle.std.specs.FinSet.{contains}
 use Rattle.std.specs.FinMap.{retain_keys}
 use Rattle.fz_model.specs.Pass.{is_outside, links_within, entries_of}
 use Rattle.fz_heap.specs.Contents.{Contents}
-use Rattle.fz_dirty.specs.Flags.{Set, Flagged}
+use Rattle.fz_bits.specs.Flags.{Set, Flagged}
 use Rattle.fz_marker.specs.Marking.{Marking, IsClosed}
 use Rattle.fz_pass.specs.Leading.{is_unreachable}
 use Rattle.fz_pass.specs.Picking.{Picks, is_free}

@@ -1,7 +1,7 @@
 use Rattle.std.proofs.Common.{◌≡◌, ◌||◌, ◌==◌, ap, ◌∙◌, arith}
 use Rattle.std.specs.FinSet.{contains}
 use Rattle.fz_model.proofs.Sets.{has_inserted}
-use Rattle.fz_dirty.specs.Flags.{Flagged}
+use Rattle.fz_bits.specs.Flags.{Flagged}
 use Rattle.fz_world.specs.Ready.{is_between}
 use Rattle.fz_world.proofs.Queues.{between_more}
 use Rattle.fz_world.proofs.ready.hold.Goals as goal

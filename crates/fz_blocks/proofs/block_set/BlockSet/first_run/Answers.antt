@@ -1,6 +1,6 @@
 use Rattle.std.proofs.Common.{◌+◌, ◌*◌, ◌∙◌, ap, arith}
 use Rattle.std.specs.FinSet.{contains}
-use Rattle.fz_dirty.specs.Flags.{Flagged}
+use Rattle.fz_bits.specs.Flags.{Flagged}
 use Rattle.fz_blocks.proofs.Searching.{least_run, none_in_row}
 use Rattle.fz_blocks.proofs.block_set.BlockSet.first_run.Goals as goal
 

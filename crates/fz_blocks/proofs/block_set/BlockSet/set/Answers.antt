@@ -1,6 +1,6 @@
 use Rattle.std.proofs.Common.{◌∙◌, ap, sym, cond, nat_eq}
 use Rattle.std.specs.FinSet.{contains}
-use Rattle.fz_dirty.specs.Flags.{Flagged}
+use Rattle.fz_bits.specs.Flags.{Flagged}
 use Rattle.fz_model.proofs.Sets.{contains-inserted, contains-removed}
 use Rattle.fz_blocks.proofs.block_set.BlockSet.set.Goals as goal
 

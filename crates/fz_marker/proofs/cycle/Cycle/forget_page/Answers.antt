@@ -1,6 +1,6 @@
 use Rattle.std.proofs.Common.{◌≤◌, ◌⊎◌, ℕ, IsTrue, sym, ◌∙◌, subst}
 use Rattle.std.specs.FinSet.{contains, len}
-use Rattle.fz_dirty.specs.Flags.{Flagged}
+use Rattle.fz_bits.specs.Flags.{Flagged}
 use Rattle.fz_marker.specs.Standing.{HasWordOn, StandsOn}
 use Rattle.fz_marker.proofs.Forgetting.{fewer_removed, none_gone, first_gone, none_others, first_others}
 use Rattle.fz_marker.proofs.cycle.Cycle.forget_page.Goals as goal

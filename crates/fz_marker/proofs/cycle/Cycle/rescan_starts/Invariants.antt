@@ -1,6 +1,6 @@
 use Rattle.std.proofs.Common.{◌≤◌, ◌-◌}
 use Rattle.fz_model.specs.Allocation.{block_start}
-use Rattle.fz_dirty.specs.Flags.{Set}
+use Rattle.fz_bits.specs.Flags.{Set}
 use Rattle.fz_marker.specs.Cycles.{Proceeds, WaitsOr}
 use Rattle.fz_marker.specs.Standing.{IsAhead}
 use Rattle.fz_marker.proofs.cycle.Cycle.rescan_starts.Given as goal

@@ -1,6 +1,6 @@
 use Rattle.std.proofs.Common.{◌≡◌, inl, sym, ap, ◌∙◌}
 use Rattle.std.specs.FinSet.{contains}
-use Rattle.fz_dirty.specs.Flags.{Flagged}
+use Rattle.fz_bits.specs.Flags.{Flagged}
 use Rattle.fz_model.proofs.Sets.{inserted_again}
 use Rattle.fz_marker.proofs.Gaining.{not_off}
 use Rattle.fz_marker.proofs.cycle.Cycle.visit.Goals as goal

@@ -1,6 +1,6 @@
 use Rattle.std.proofs.Common.{◌≡◌, ◌≤◌, ◌+◌, ◌∷◌, [], ◌++◌, ◌∙◌, IsTrue, Contains, length, length-append, sym, ap, subst, arith, vec_capacity}
 use Rattle.std.specs.FinSet.{contains, len}
-use Rattle.fz_dirty.specs.Flags.{Flagged}
+use Rattle.fz_bits.specs.Flags.{Flagged}
 use Rattle.fz_model.proofs.Sets.{len_inserted, inserted_again}
 use Rattle.fz_marker.specs.Frontiers.{Frontier, Gains, HasRoom, IsAmong}
 use Rattle.fz_marker.proofs.Gaining.{gains_known, gains_one, push_within, not_on, not_off}

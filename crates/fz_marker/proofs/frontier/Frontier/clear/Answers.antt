@@ -1,6 +1,6 @@
 use Rattle.std.proofs.Common.{◌≡◌, ◌∙◌, nat_cmp, length, ap, arith}
 use Rattle.std.specs.FinSet.{len, len-empty}
-use Rattle.fz_dirty.specs.Flags.{Flagged}
+use Rattle.fz_bits.specs.Flags.{Flagged}
 use Rattle.fz_marker.proofs.frontier.Frontier.clear.Goals as goal
 
 pub invariant_of-self : goal.invariant_of-self

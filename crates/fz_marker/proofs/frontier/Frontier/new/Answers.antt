@@ -1,7 +1,7 @@
 use Rattle.std.proofs.Common.{◌≡◌, ◌*◌, ◌∙◌, nat_cmp, length, ap, arith}
 use Rattle.std.specs.FinSet.{len, len-empty}
 use Rattle.fz_model.specs.declared.limits.TheConstants.{BLOCK_WORDS}
-use Rattle.fz_dirty.specs.Flags.{Flagged}
+use Rattle.fz_bits.specs.Flags.{Flagged}
 use Rattle.fz_marker.proofs.frontier.Frontier.new.Goals as goal
 
 pub invariant_of-result : goal.invariant_of-result

@@ -1,6 +1,6 @@
 use Rattle.std.proofs.Common.{◌∙◌, [], ap}
 use Rattle.std.specs.FinSet.{empty}
-use Rattle.fz_dirty.specs.Flags.{Flagged}
+use Rattle.fz_bits.specs.Flags.{Flagged}
 use Rattle.fz_marker.proofs.Marked.{empty_marker}
 use Rattle.fz_marker.proofs.marker.Marker.begin.Goals as goal
 

@@ -1,7 +1,7 @@
 use Rattle.std.proofs.Common.{◌≡◌, ◌≤◌, ◌+◌, ◌*◌, ℕ, nat_cmp, IsTrue, Contains, subst, sym, ap, ◌∙◌, refl, arith, ⊎_elim}
 use Rattle.std.specs.FinSet.{contains, len, len-empty}
 use Rattle.fz_model.specs.declared.limits.TheConstants.{BLOCK_WORDS}
-use Rattle.fz_dirty.specs.Flags.{Flagged}
+use Rattle.fz_bits.specs.Flags.{Flagged}
 use Rattle.fz_model.specs.declared.answers.Progress.TheVariants.{More, Done}
 use Rattle.fz_marker.specs.Frontiers.{Frontier}
 use Rattle.fz_marker.specs.Marking.{Marking, IsLedFrom, CleanAreClosed, is_newly_in, is_to_scan, readable_count}

@@ -1,6 +1,6 @@
 use Rattle.std.proofs.Common.{◌*◌, ap, arith}
 use Rattle.fz_model.specs.declared.limits.TheConstants.{BLOCK_WORDS}
-use Rattle.fz_dirty.specs.Flags.{Flagged}
+use Rattle.fz_bits.specs.Flags.{Flagged}
 use Rattle.fz_marker.proofs.Marked.{empty_marker}
 use Rattle.fz_marker.proofs.marker.Marker.new.Goals as goal
 

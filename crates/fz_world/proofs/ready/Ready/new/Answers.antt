@@ -1,5 +1,5 @@
 use Rattle.std.proofs.Common.{ap}
-use Rattle.fz_dirty.specs.Flags.{Flagged}
+use Rattle.fz_bits.specs.Flags.{Flagged}
 use Rattle.fz_world.proofs.Queues.{ready_empty}
 use Rattle.fz_world.proofs.ready.Ready.new.Goals as goal
 

@@ -6,7 +6,7 @@ use Rattle.fz_model.specs.Reachability.{IsRoot, IsReachable, Computes}
 use Rattle.fz_model.specs.Pass.{Passes}
 use Rattle.fz_model.specs.declared.call.Call.TheVariants.{Collect}
 use Rattle.fz_model.specs.Events.{Make}
-use Rattle.fz_dirty.specs.Flags.{Set}
+use Rattle.fz_bits.specs.Flags.{Set}
 use Rattle.fz_marker.specs.Marking.{IsClosed, is_to_scan}
 use Rattle.fz_world.specs.World.{WorldView, IsWorld}
 use Rattle.fz_world.proofs.Does.{does_ended}

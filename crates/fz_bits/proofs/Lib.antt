@@ -1,0 +1,4 @@
+pub mod Words
+mod TwoLevels
+mod InOrder
+mod OneWord

@@ -1,0 +1,51 @@
+//! The members of a set, in order.
+
+ghost use Rattle.std.specs.Prelude.{◌≡◌};
+ghost use Rattle.std.specs.Iterator.{YieldsFirst, item_count};
+
+use crate::flags::Flags;
+use std::marker::Model;
+
+/// The members of a set, by rising number. A contract sees the list of those that are left.
+#[derive(Drop)]
+pub struct Members<'a, const FIRST: u64> {
+    flags: &'a Flags<FIRST>,
+    from: Option<u64>,
+}
+
+impl<'a, const FIRST: u64> Model for Members<'a, FIRST> {
+    ghost use Rattle.std.specs.Prelude.{List, ℕ};
+    ghost use Rattle.fz_bits.specs.Flags.{members_left};
+
+    ghost Value = { List ℕ };
+
+    ghost view = { λ m. members_left FIRST m.flags.now m.from };
+}
+
+impl<'a, const FIRST: u64> Members<'a, FIRST> {
+    ghost use Rattle.fz_bits.specs.Flags.{members_from};
+
+    /// All members of a set.
+    pub(crate) fn of(flags: &'a Flags<FIRST>) -> Members<'a, FIRST>
+        ensures { result ≡ members_from FIRST flags.now FIRST }
+    {
+        Members {
+            flags,
+            from: Some(FIRST),
+        }
+    }
+}
+
+impl<const FIRST: u64> Iterator for Members<'_, FIRST> {
+    type Item = u64;
+
+    ghost next_gives = { YieldsFirst (λ rest. rest) };
+
+    ghost remaining = { item_count (λ rest. rest) };
+
+    fn next(&mut self) -> Option<u64> {
+        let member = self.flags.next(self.from?)?;
+        self.from = member.checked_add(1);
+        Some(member)
+    }
+}

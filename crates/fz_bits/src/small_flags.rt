@@ -1,0 +1,107 @@
+//! A set of numbers below 4,096 of which few are members.
+
+ghost use Rattle.std.specs.Prelude.{◌≡◌, ◌≤◌, ◌<◌, ◌+◌, ◌*◌, not, ℕ, IsTrue, IsFalse, IfOk, IfErr, IfSome, MatchOption};
+ghost use Rattle.std.specs.FinSet.{contains, insert, remove, empty};
+ghost use Rattle.fz_bits.specs.Flags.{IsNext};
+ghost use Rattle.fz_model.specs.Bits.{has_bit};
+
+use crate::flags::Flags;
+use crate::word_flags::WordFlags;
+use fz_model::Refusal;
+use std::alloc::Global;
+use std::marker::Model;
+
+/// The numbers whose bits stand in one word.
+const BITS: u64 = 64;
+
+/// A set of numbers from 0 to at most 4,095, in two levels of bits as `SparseFlags` has them, of which the second is one word.
+///
+/// So a look for the next member reads three words at most. `new` takes its memory, in one piece, and no other call takes any.
+#[derive(Drop)]
+pub struct SmallFlags {
+    flags: Flags<0>,
+    /// The words of `flags` that have members.
+    words: WordFlags,
+}
+
+impl Model for SmallFlags {
+    ghost use Rattle.std.specs.Prelude.{◌≡◌};
+    ghost use Rattle.fz_bits.specs.Flags.{Flagged, flagged_code, AreWordsOf};
+
+    ghost Value = { Flagged };
+
+    ghost coded = { flagged_code };
+
+    ghost view = { λ s. s.flags };
+
+    ghost invariant = { λ s. AreWordsOf s.flags s.words × (s.words.size ≡ 64) };
+}
+
+impl SmallFlags {
+    /// The empty set, with room for 64 numbers a word. `NoMemory` when the memory for its words can't be had.
+    pub fn new(alloc: Global, words: u64) -> Result<SmallFlags, Refusal>
+        requires few { words ≤ 64 }
+        ensures refused { IfErr result (λ r. r ≡ Refusal.NoMemory) }
+        ensures made { IfOk result (λ s. s ≡ record { size = 64 * words; members = empty }) }
+    {
+        let flags = Flags::new(alloc, words)?;
+        Ok(SmallFlags {
+            flags,
+            words: WordFlags::new(),
+        })
+    }
+
+    /// How many words it has, for 64 numbers each. No member lies past them.
+    pub fn words(&self) -> u64
+        ensures size { self.now.size ≡ 64 * result }
+        ensures within { (n : ℕ) → IsTrue (contains self.now.members n) → n < self.now.size }
+        ensures few { result ≤ 64 }
+    {
+        self.flags.words()
+    }
+
+    /// The members among the 64 numbers of a word, the least number's bit lowest.
+    pub fn word(&self, index: u64) -> u64
+        ensures { (place : ℕ) → place < 64 → has_bit result place ≡ contains self.now.members (64 * index + place) }
+    {
+        self.flags.word(index)
+    }
+
+    /// Puts a number in, and returns whether it is new.
+    pub fn insert(&mut self, number: u64) -> bool
+        requires { number < self.old.size }
+        ensures new { result ≡ not (contains self.old.members number) }
+        ensures inserted { self.new ≡ record self.old { members = insert self.old.members number } }
+    {
+        self.words.insert(number / BITS);
+        self.flags.insert(number)
+    }
+
+    /// Takes a number out, and returns whether it was in the set.
+    pub fn remove(&mut self, number: u64) -> bool
+        ensures found { result ≡ contains self.old.members number }
+        ensures removed { self.new ≡ record self.old { members = remove self.old.members number } }
+    {
+        if !self.flags.remove(number) {
+            return false;
+        }
+        let word = number / BITS;
+        if self.flags.next_in_word(BITS * word).is_none() {
+            self.words.remove(word);
+        }
+        true
+    }
+
+    /// The least member from a number on.
+    pub fn next(&self, from: u64) -> Option<u64>
+        ensures next { MatchOption result ((n : ℕ) → from ≤ n → IsFalse (contains self.now.members n)) (λ next. IsNext self.now.members from next) }
+        ensures within { IfSome result (λ next. next < self.now.size) }
+    {
+        let near = self.flags.next_in_word(from);
+        if near.is_some() {
+            return near;
+        }
+        let word = self.words.next(from / BITS + 1)?;
+        self.flags.next_in_word(BITS * word)
+    }
+}
