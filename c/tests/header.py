@@ -22,8 +22,8 @@ def read(pattern):
 
 
 def named(rust):
-    """The name in C of a type of the crate: fz_old of Old."""
-    return PLAIN.get(rust) or HANDLES.get(rust) or 'fz_' + re.sub(r'(?<!^)(?=[A-Z])', '_', rust).lower()
+    """The name in C of a type of the crate: fz_old of Old, fz_slot of CSlot."""
+    return PLAIN.get(rust) or HANDLES.get(rust) or 'fz_' + re.sub(r'(?<!^)(?=[A-Z])', '_', re.sub(r'^C(?=[A-Z])', '', rust)).lower()
 
 
 def of_rust(rust):

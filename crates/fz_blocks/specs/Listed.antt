@@ -24,6 +24,10 @@ pub record AreNew (blocks : List Block) (count : ℕ) : Type 0 where
   pub bare : (b : ℕ) (block : Block) → slice_get blocks b ≡ Some block → IsTrue (is_bare block)
   pub clean : (b : ℕ) (block : Block) → slice_get blocks b ≡ Some block → block.condemned ≡ 0
 
+-- no block of a list passes
+abbrev pub NonePasses : (Block → Bool) → List Block → Type 0
+NonePasses test blocks = (b : ℕ) (block : Block) → slice_get blocks b ≡ Some block → IsFalse (test block)
+
 -- the least block of a list that passes
 pub record IsFirst (test : Block → Bool) (blocks : List Block) (b : ℕ) : Type 0 where
   pub block : Block

@@ -129,7 +129,7 @@ impl Blocks {
     ghost use Rattle.fz_blocks.specs.Layout.{waiting_in};
     ghost use Rattle.fz_blocks.specs.Runs.{IsRun, IsFirstRun};
     ghost use Rattle.fz_model.specs.declared.limits.TheConstants.{BLOCK_WORDS};
-    ghost use Rattle.fz_blocks.specs.Listed.{IsFirst, IsListedAlike, AreNew};
+    ghost use Rattle.fz_blocks.specs.Listed.{IsFirst, IsListedAlike, AreNew, NonePasses};
 
     /// So many blocks that no object meets.
     pub(crate) fn new(alloc: Global, blocks: u64) -> Result<Blocks, Refusal>
@@ -191,7 +191,7 @@ impl Blocks {
     /// The least block with objects of this size and kind and a free cell. No block has cells of more than its own words.
     pub(crate) fn first_room(&self, size: u64, kind: ObjKind) -> Option<u64>
         requires { 1 ≤ size }
-        ensures { MatchOption result (size ≤ BLOCK_WORDS → (b : ℕ) (block : Block) → slice_get self.now b ≡ Some block → IsFalse (has_room (class_of size kind) block)) (λ b. (size ≤ BLOCK_WORDS) × IsFirst (has_room (class_of size kind)) self.now b) }
+        ensures { MatchOption result (size ≤ BLOCK_WORDS → NonePasses (has_room (class_of size kind)) self.now) (λ b. (size ≤ BLOCK_WORDS) × IsFirst (has_room (class_of size kind)) self.now b) }
     {
         if size > BLOCK_WORDS {
             return None;

@@ -11,7 +11,7 @@ ghost use Rattle.fz_c.specs.Takes.{Takes};
 
 use crate::codes::{Code, EMPTY, NO_WORLD, OK, tell};
 use crate::handle::Handle;
-use crate::slots::Slot;
+use crate::slots::CSlot;
 use std::alloc::Global;
 
 /// An entry of the queue.
@@ -113,7 +113,7 @@ pub extern "C" fn fz_outstanding(alloc: Global, world: &mut Handle, count: &mut 
 /// `World::hold`.
 #[tactic(auto, using(crate::proofs::Told::not_called, crate::proofs::Told::called, crate::proofs::Told::none_taken))]
 #[unsafe(no_mangle)]
-pub extern "C" fn fz_hold(alloc: Global, world: &mut Handle, slot: Slot, entry: &Entry) -> Code
+pub extern "C" fn fz_hold(alloc: Global, world: &mut Handle, slot: CSlot, entry: &Entry) -> Code
     ensures { Calls world.old.value (Hold (slot_at slot.frame slot.slot) (entry_of entry.now)) world.new.value result (λ _. Unit {0}) (Unit {0}) }
 {
     let Some(mut session) = world.take(alloc) else {

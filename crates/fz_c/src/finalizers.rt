@@ -1,8 +1,8 @@
 //! Registrations of finalizers.
 
-ghost use Rattle.std.specs.Prelude.{◌≡◌, Some};
+ghost use Rattle.std.specs.Prelude.{◌≡◌};
 ghost use Rattle.fz_model.specs.declared.call.Call.TheVariants.{Register, Unregister};
-ghost use Rattle.fz_model.specs.Places.{slot_at};
+ghost use Rattle.fz_model.specs.Places.{slot_at, finalizer_of};
 ghost use Rattle.fz_model.specs.Events.{Make};
 ghost use Rattle.fz_model.specs.declared.kinds.RegKind.TheVariants.{Normal, IgnoreSelf, NoOrder};
 ghost use Rattle.fz_c.specs.Told.{Calls, IsTold};
@@ -10,8 +10,8 @@ ghost use Rattle.fz_c.specs.Places.{TellsRegistered, TellsOld};
 
 use crate::codes::{Code, NO_WORLD, OK};
 use crate::handle::Handle;
-use crate::slots::Slot;
-use fz_model::{Refusal, RegAnswer, RegKind, Word};
+use crate::slots::CSlot;
+use fz_model::{Finalizer, Refusal, RegAnswer, RegKind, Slot};
 use std::alloc::Global;
 
 /// A registration that went away, if there was one: else both words are 0.
@@ -54,16 +54,16 @@ fn old_of(old: Option<fz_model::Old>) -> Old
 pub extern "C" fn fz_register(
     alloc: Global,
     world: &mut Handle,
-    slot: Slot,
+    slot: CSlot,
     proc: u64,
     cd: u64,
     rank: u8,
     registered: &mut Registered,
 ) -> Code
-    ensures { Calls world.old.value (Make (Register (slot_at slot.frame slot.slot) Normal proc cd (Some rank))) world.new.value result (TellsRegistered registered.new) (registered.new ≡ registered.old) }
+    ensures { Calls world.old.value (Make (Register (slot_at slot.frame slot.slot) (finalizer_of Normal proc cd rank))) world.new.value result (TellsRegistered registered.new) (registered.new ≡ registered.old) }
 {
-    let kind = RegKind::Normal;
-    register(alloc, world, slot, kind, (proc, cd, rank), registered)
+    let finalizer = Finalizer::new(RegKind::Normal, proc, cd, rank);
+    register(alloc, world, slot, finalizer, registered)
 }
 
 fn tell_registered(reply: Result<RegAnswer, Refusal>, registered: &mut Registered) -> Code
@@ -95,36 +95,36 @@ fn tell_registered(reply: Result<RegAnswer, Refusal>, registered: &mut Registere
 pub extern "C" fn fz_register_ignore_self(
     alloc: Global,
     world: &mut Handle,
-    slot: Slot,
+    slot: CSlot,
     proc: u64,
     cd: u64,
     rank: u8,
     registered: &mut Registered,
 ) -> Code
-    ensures { Calls world.old.value (Make (Register (slot_at slot.frame slot.slot) IgnoreSelf proc cd (Some rank))) world.new.value result (TellsRegistered registered.new) (registered.new ≡ registered.old) }
+    ensures { Calls world.old.value (Make (Register (slot_at slot.frame slot.slot) (finalizer_of IgnoreSelf proc cd rank))) world.new.value result (TellsRegistered registered.new) (registered.new ≡ registered.old) }
 {
-    let kind = RegKind::IgnoreSelf;
-    register(alloc, world, slot, kind, (proc, cd, rank), registered)
+    let finalizer = Finalizer::new(RegKind::IgnoreSelf, proc, cd, rank);
+    register(alloc, world, slot, finalizer, registered)
 }
 
 #[tactic(auto, using(crate::proofs::Told::not_called, crate::proofs::Told::called, crate::proofs::Told::none_taken))]
 fn register(
     alloc: Global,
     world: &mut Handle,
-    slot: Slot,
-    kind: RegKind,
-    finalizer: (u64, Word, u8),
+    slot: CSlot,
+    finalizer: Finalizer,
     registered: &mut Registered,
 ) -> Code
-    ensures { Calls world.old.value (Make (Register (slot_at slot.frame slot.slot) kind finalizer.0 finalizer.1 (Some finalizer.2))) world.new.value result (TellsRegistered registered.new) (registered.new ≡ registered.old) }
+    ensures { Calls world.old.value (Make (Register (slot_at slot.frame slot.slot) finalizer)) world.new.value result (TellsRegistered registered.new) (registered.new ≡ registered.old) }
 {
     let Some(mut session) = world.take(alloc) else {
         return NO_WORLD;
     };
-    let (proc, cd, rank) = finalizer;
-    let reply = session
-        .world
-        .register(slot.frame, slot.slot, kind, proc, cd, rank);
+    let slot = Slot {
+        frame: slot.frame,
+        slot: slot.slot,
+    };
+    let reply = session.world.register_finalizer(slot, finalizer);
     world.put(session);
     tell_registered(reply, registered)
 }
@@ -134,16 +134,16 @@ fn register(
 pub extern "C" fn fz_register_no_order(
     alloc: Global,
     world: &mut Handle,
-    slot: Slot,
+    slot: CSlot,
     proc: u64,
     cd: u64,
     rank: u8,
     registered: &mut Registered,
 ) -> Code
-    ensures { Calls world.old.value (Make (Register (slot_at slot.frame slot.slot) NoOrder proc cd (Some rank))) world.new.value result (TellsRegistered registered.new) (registered.new ≡ registered.old) }
+    ensures { Calls world.old.value (Make (Register (slot_at slot.frame slot.slot) (finalizer_of NoOrder proc cd rank))) world.new.value result (TellsRegistered registered.new) (registered.new ≡ registered.old) }
 {
-    let kind = RegKind::NoOrder;
-    register(alloc, world, slot, kind, (proc, cd, rank), registered)
+    let finalizer = Finalizer::new(RegKind::NoOrder, proc, cd, rank);
+    register(alloc, world, slot, finalizer, registered)
 }
 
 fn tell_old(reply: Result<Option<fz_model::Old>, Refusal>, old: &mut Old) -> Code
@@ -164,7 +164,7 @@ fn tell_old(reply: Result<Option<fz_model::Old>, Refusal>, old: &mut Old) -> Cod
 pub extern "C" fn fz_unregister(
     alloc: Global,
     world: &mut Handle,
-    slot: Slot,
+    slot: CSlot,
     old: &mut Old,
 ) -> Code
     ensures { Calls world.old.value (Make (Unregister (slot_at slot.frame slot.slot))) world.new.value result (TellsOld old.new) (old.new ≡ old.old) }

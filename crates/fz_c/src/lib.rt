@@ -33,5 +33,5 @@ pub use shown::{
     Counts, Linked, Object, Registration, fz_count, fz_next_held, fz_next_link, fz_next_object,
     fz_next_registration, fz_queued,
 };
-pub use slots::{Slot, fz_copy, fz_get, fz_set};
+pub use slots::{CSlot, fz_copy, fz_get, fz_set};
 pub use worlds::{fz_close, fz_destroy, fz_open};

@@ -9,7 +9,7 @@ ghost use Rattle.fz_c.specs.Places.{link_kind_of, TellsLinkAnswer, TellsUnlinked
 
 use crate::codes::{Code, NO_WORLD, OK};
 use crate::handle::Handle;
-use crate::slots::Slot;
+use crate::slots::CSlot;
 use fz_model::{LinkAnswer, LinkKind, MoveAnswer, Refusal};
 use std::alloc::Global;
 
@@ -82,9 +82,9 @@ pub extern "C" fn fz_link(
     alloc: Global,
     world: &mut Handle,
     is_long: bool,
-    slot: Slot,
+    slot: CSlot,
     offset: u64,
-    target: Slot,
+    target: CSlot,
     answer: &mut u8,
 ) -> Code
     ensures { Calls world.old.value (Make (Link (link_kind_of is_long) (place_at slot.frame slot.slot offset) (slot_at target.frame target.slot))) world.new.value result (TellsLinkAnswer answer.new) (answer.new ≡ answer.old) }
@@ -111,7 +111,7 @@ pub extern "C" fn fz_unlink(
     alloc: Global,
     world: &mut Handle,
     is_long: bool,
-    slot: Slot,
+    slot: CSlot,
     offset: u64,
     was: &mut bool,
 ) -> Code
@@ -134,9 +134,9 @@ pub extern "C" fn fz_move_link(
     alloc: Global,
     world: &mut Handle,
     is_long: bool,
-    slot: Slot,
+    slot: CSlot,
     offset: u64,
-    to: Slot,
+    to: CSlot,
     to_offset: u64,
     answer: &mut u8,
 ) -> Code

@@ -10,7 +10,7 @@ ghost use Rattle.fz_c.specs.Shows.{IsWordAt};
 
 use crate::codes::{Code, NO_WORLD, OK, tell, tell_word};
 use crate::handle::Handle;
-use crate::slots::Slot;
+use crate::slots::CSlot;
 use fz_model::{Addr, ObjKind, Refusal};
 use std::alloc::Global;
 
@@ -50,7 +50,7 @@ fn tell_made(reply: Result<(Addr, u64), Refusal>, made: &mut Made) -> Code
 pub extern "C" fn fz_alloc(
     alloc: Global,
     world: &mut Handle,
-    slot: Slot,
+    slot: CSlot,
     size: u64,
     atomic: bool,
     made: &mut Made,
@@ -73,9 +73,9 @@ pub extern "C" fn fz_alloc(
 pub extern "C" fn fz_load(
     alloc: Global,
     world: &mut Handle,
-    slot: Slot,
+    slot: CSlot,
     offset: u64,
-    to: Slot,
+    to: CSlot,
     word: &mut u64,
 ) -> Code
     ensures { Calls world.old.value (Make (Load (place_at slot.frame slot.slot offset) (slot_at to.frame to.slot))) world.new.value result (TellsWord word.new) (word.new ≡ word.old) }
@@ -96,9 +96,9 @@ pub extern "C" fn fz_load(
 pub extern "C" fn fz_store(
     alloc: Global,
     world: &mut Handle,
-    slot: Slot,
+    slot: CSlot,
     offset: u64,
-    from: Slot,
+    from: CSlot,
 ) -> Code
     ensures { Calls world.old.value (Make (Store (place_at slot.frame slot.slot offset) (slot_at from.frame from.slot))) world.new.value result (λ _. Unit {0}) (Unit {0}) }
 {

@@ -8,13 +8,13 @@ use crate::entries::Entry;
 use crate::finalizers::{Old, Registered};
 use crate::objects::Made;
 use crate::shown::{Counts, Linked, Object, Registration};
-use crate::slots::Slot;
+use crate::slots::CSlot;
 
 /// One of each struct.
 #[repr(C)]
 #[derive(Clone, Copy)]
 pub struct Samples {
-    pub slot: Slot,
+    pub slot: CSlot,
     pub made: Made,
     pub replaced: Old,
     pub registered: Registered,
@@ -33,7 +33,7 @@ const SAMPLE_OLD: Old = Old {
 };
 
 const SAMPLE: Samples = Samples {
-    slot: Slot { frame: 1, slot: 2 },
+    slot: CSlot { frame: 1, slot: 2 },
     made: Made {
         address: 1,
         birth: 2,

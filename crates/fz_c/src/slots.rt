@@ -12,10 +12,10 @@ use crate::codes::{Code, NO_WORLD, tell, tell_word};
 use crate::handle::Handle;
 use std::alloc::Global;
 
-/// A slot of a frame, both counted from 0.
+/// A slot of a frame, both counted from 0: `fz_slot` of the header.
 #[repr(C)]
 #[derive(Clone, Copy)]
-pub struct Slot {
+pub struct CSlot {
     pub frame: u64,
     pub slot: u64,
 }
@@ -23,7 +23,7 @@ pub struct Slot {
 /// `World::set`.
 #[tactic(auto, using(crate::proofs::Told::not_called, crate::proofs::Told::called, crate::proofs::Told::none_taken))]
 #[unsafe(no_mangle)]
-pub extern "C" fn fz_set(alloc: Global, world: &mut Handle, slot: Slot, word: u64) -> Code
+pub extern "C" fn fz_set(alloc: Global, world: &mut Handle, slot: CSlot, word: u64) -> Code
     ensures { Calls world.old.value (Make (Set (slot_at slot.frame slot.slot) word)) world.new.value result (λ _. Unit {0}) (Unit {0}) }
 {
     let Some(mut session) = world.take(alloc) else {
@@ -37,7 +37,7 @@ pub extern "C" fn fz_set(alloc: Global, world: &mut Handle, slot: Slot, word: u6
 /// `World::slot`.
 #[tactic(auto, using(crate::proofs::Looking::not_read, crate::proofs::Looking::reads, crate::proofs::Told::none_taken))]
 #[unsafe(no_mangle)]
-pub extern "C" fn fz_get(alloc: Global, world: &mut Handle, slot: Slot, word: &mut u64) -> Code
+pub extern "C" fn fz_get(alloc: Global, world: &mut Handle, slot: CSlot, word: &mut u64) -> Code
     ensures { Reads world.old.value world.new.value result (λ session. IsWordOfSlot session.world slot.frame slot.slot) (TellsWord word.new) (word.new ≡ word.old) }
 {
     let Some(session) = world.take(alloc) else {
@@ -51,7 +51,7 @@ pub extern "C" fn fz_get(alloc: Global, world: &mut Handle, slot: Slot, word: &m
 /// `World::copy`.
 #[tactic(auto, using(crate::proofs::Told::not_called, crate::proofs::Told::called, crate::proofs::Told::none_taken))]
 #[unsafe(no_mangle)]
-pub extern "C" fn fz_copy(alloc: Global, world: &mut Handle, slot: Slot, to: Slot) -> Code
+pub extern "C" fn fz_copy(alloc: Global, world: &mut Handle, slot: CSlot, to: CSlot) -> Code
     ensures { Calls world.old.value (Make (Copy (slot_at slot.frame slot.slot) (slot_at to.frame to.slot))) world.new.value result (λ _. Unit {0}) (Unit {0}) }
 {
     let Some(mut session) = world.take(alloc) else {

@@ -114,7 +114,7 @@ impl Machine {
     {
         match step {
             Step::Open { .. } => Ok(None),
-            Step::Call(call) => Ok(Some(StepReply::Called(self.world.carry_out(call)?))),
+            Step::Call(call) => Ok(Some(StepReply::Called(self.world.make(call)?))),
             Step::Take { worker } => Ok(Some(StepReply::Taken(self.take(worker)?))),
             Step::Hold { worker, slot } => {
                 self.hold(worker, slot)?;

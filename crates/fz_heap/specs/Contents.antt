@@ -1,16 +1,18 @@
 -- What contracts see of a heap: its size in blocks, its objects by their starts, where condemned cells start, and the next birth.
-use Rattle.std.specs.Prelude.{ℕ, List, [], if◌then◌else◌, refl, IsTrue, IsFalse}
+use Rattle.std.specs.Prelude.{ℕ, ◌+◌, List, [], if◌then◌else◌, refl, IsTrue, IsFalse}
 use Rattle.std.specs.Coded.{Coded, code_by, coded×, coded_ℕ}
 use Rattle.std.specs.FinMap as map
 use Rattle.std.specs.FinMap.{get, contains_key}
 use Rattle.std.specs.FinSet as sets
 use Rattle.std.specs.FinSet.{contains}
 use Rattle.std.specs.Option.{option_map_or}
+use Rattle.fz_model.specs.declared.kinds.ObjKind.{ObjKind}
 use Rattle.fz_model.specs.declared.kinds.ObjKind.TheVariants.{Scanned}
 use Rattle.fz_model.specs.State.{Map, Object}
 use Rattle.fz_model.specs.Codes.{object_code}
-use Rattle.fz_model.specs.Allocation.{same_kind}
-use Rattle.fz_model.specs.Condemned.{Addresses}
+use Rattle.fz_model.specs.Allocation.{same_kind, block_of, blocks_for}
+use Rattle.fz_model.specs.Condemned.{Addresses, swept}
+use Rattle.fz_model.specs.Memory.{new_object}
 
 pub record Contents : Type 0 where
   pub blocks : ℕ
@@ -22,6 +24,14 @@ abbrev pub contents_code : Coded Contents
 contents_code =
     code_by (ℕ × (Map Object × (Addresses × ℕ))) (coded× coded_ℕ (coded× (map.code coded_ℕ object_code) (coded× (sets.code coded_ℕ) coded_ℕ))) (λ c. (c.blocks, (c.objects, (c.condemned, c.next_birth))))
     (λ p. record { blocks = p.0; objects = p.1.0; condemned = p.1.1.0; next_birth = p.1.1.1 }) (λ _. refl)
+
+-- with a new object at the start, whose blocks are swept
+abbrev pub with_made : Contents → ℕ → ℕ → ObjKind → Contents
+with_made heap start size kind = record heap {
+  objects = map.insert heap.objects start (new_object kind heap.next_birth size);
+  condemned = swept heap.condemned (block_of start) (blocks_for size);
+  next_birth = heap.next_birth + 1;
+}
 
 -- no object starts where a condemned cell does
 abbrev pub AreGone : Contents → Type 0

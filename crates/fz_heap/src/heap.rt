@@ -5,11 +5,11 @@ ghost use Rattle.std.specs.FinMap.{get, insert, remove, retain_keys, contains_ke
 ghost use Rattle.std.specs.FinSet as sets;
 ghost use Rattle.fz_model.specs.declared.limits.TheConstants.{BLOCK_WORDS, MAX_BLOCKS};
 ghost use Rattle.fz_model.specs.Extents.{IsInHeap, extents, AreApart};
-ghost use Rattle.fz_model.specs.Memory.{points, word_at, written, new_object};
-ghost use Rattle.fz_model.specs.Allocation.{place_for, block_of, block_start, blocks_for};
+ghost use Rattle.fz_model.specs.Memory.{points, word_at, written};
+ghost use Rattle.fz_model.specs.Allocation.{place_for, block_start};
 ghost use Rattle.fz_model.specs.Condemned.{stands_at, swept};
 ghost use Rattle.fz_model.specs.Bits.{has_bit};
-ghost use Rattle.fz_heap.specs.Contents.{AreGone, pointers_of};
+ghost use Rattle.fz_heap.specs.Contents.{AreGone, pointers_of, with_made};
 ghost use Rattle.fz_model.specs.Causes.{IsJudgedBy, IsJudgedOrLacks, bad_count, alloc_causes, place_causes};
 
 use crate::places::{place_of, zero};
@@ -107,7 +107,7 @@ impl Heap {
         ensures judged { IsJudgedBy (alloc_causes self.old.objects self.old.blocks self.old.next_birth size kind) result }
         ensures unchanged { OnErr result (self.new ≡ self.old) }
         ensures place { IfOk result (λ made. (place_for self.old.objects self.old.blocks size kind ≡ Some made.0) × (made.1 ≡ self.old.next_birth)) }
-        ensures made { IfOk result (λ made. self.new ≡ record self.old { objects = insert self.old.objects made.0 (new_object kind self.old.next_birth size); condemned = swept self.old.condemned (block_of made.0) (blocks_for size); next_birth = self.old.next_birth + 1 }) }
+        ensures made { IfOk result (λ made. self.new ≡ with_made self.old made.0 size kind) }
         ensures start { IfOk result (λ made. points self.new.objects made.0 ≡ Some made.0) }
         ensures within { IfOk result (λ made. IsInHeap self.old.blocks made.0) }
     {

@@ -1,5 +1,5 @@
 -- What an accepted call leaves, in classes: each call names its class once, and what all calls keep is proved of each class.
-use Rattle.std.proofs.Common.{◌≡◌, ℕ, ◌+◌, ◌≤◌, ◌<◌, unwrap_or, Bool, true, false, not, if◌then◌else◌, [], ◌∷◌, ◌++◌, length, replicate, filter, Some, None, Result, Ok, Err, refl, sym, subst, arith, IsTrue, nat_le, true≢false}
+use Rattle.std.proofs.Common.{◌≡◌, ℕ, ◌+◌, ◌≤◌, ◌<◌, Bool, true, false, not, if◌then◌else◌, [], ◌∷◌, ◌++◌, length, replicate, filter, Some, None, Result, Ok, Err, refl, sym, subst, arith, IsTrue, nat_le, true≢false}
 use Rattle.std.proofs.lemmas.Bool.{not-false, leb-true, and_parts}
 use Rattle.std.proofs.lemmas.List.{length-replicate}
 use Rattle.std.specs.FinMap.{get, insert, remove}
@@ -19,7 +19,7 @@ use Rattle.fz_model.specs.Pass.{Passes}
 use Rattle.fz_model.specs.Causes.{Causes, first_cause, slot_causes, place_causes, start_causes, register_causes, alloc_causes, bad_size, full, is_off_heap}
 use Rattle.fz_model.specs.declared.call.Call.TheVariants as calls
 use Rattle.fz_model.specs.Events.{Event, Make, Hold, Finish, Queue, Answer, same_entry, links_of, causes}
-use Rattle.fz_model.specs.Steps.{Accepts, Step, StepsTo, NoStep, OneMore, any_call, IsReached, with_links, moved_to}
+use Rattle.fz_model.specs.Steps.{Accepts, Step, StepsTo, NoStep, OneMore, any_call, IsReached, registration_of, with_links, moved_to}
 use Rattle.fz_model.specs.Joint.{is_finish}
 use Rattle.fz_model.specs.Headline.{is_pass}
 use Rattle.fz_model.proofs.Sound.{first_none}
@@ -109,10 +109,10 @@ effect s (Make (calls.Copy slot to)) answer new a = becomes a (Put to (slot_word
 effect s (Make (calls.Load place to)) answer new a = becomes a.1 (Put to answer)
 effect s (Make (calls.Store place from)) answer new a = becomes a (Wrote (address_of s.frames place) (slot_word s.frames from) refl)
 effect s (Make (calls.Set slot word)) answer new a = becomes a (Put slot word)
-effect s (Make (calls.Register slot kind procedure client_data rank)) answer new a =
+effect s (Make (calls.Register slot finalizer)) answer new a =
     let w = slot_word s.frames slot in
     let all = λ (b : Bool). slot_causes s.frames slot ++ (if b then [] else (start_causes s.objects w ++ register_causes s.registrations s.next_number w)) in
-    entered s.core new (Make (calls.Register slot kind procedure client_data rank)) (is_off_heap s.blocks w) w (record { number = s.next_number; kind = kind; proc = procedure; cd = client_data; rank = unwrap_or rank 0 }) refl a.1
+    entered s.core new (Make (calls.Register slot finalizer)) (is_off_heap s.blocks w) w (registration_of s.next_number finalizer) refl a.1
     (λ within none. (none_stands (all false) (subst (λ b. first_cause (all b) ≡ None) within none)).1)
 effect s (Make (calls.Unregister slot)) answer new a = let w = slot_word s.frames slot in dropped s.core new (Make (calls.Unregister slot)) (is_off_heap s.blocks w) w a.1
 effect s (Make (calls.Link which place target)) answer new a =

@@ -70,7 +70,7 @@ place_there s slot size kind none = is_some_of (place_for s.objects s.blocks siz
 can_accept : (s : State) → IsReached s → (e : Event) → first_cause (causes s.core e) ≡ None → CanAccept s e
 can_accept s r (Make (calls.Alloc slot size kind)) none = let at = place_there s slot size kind none in ((at.0, s.next_birth), _, (at.0, at.1, refl, refl))
 can_accept s r (Make (calls.Load place to)) none = (_, _, (refl, refl))
-can_accept s r (Make (calls.Register slot kind procedure client_data rank)) none = (_, _, (refl, refl))
+can_accept s r (Make (calls.Register slot finalizer)) none = (_, _, (refl, refl))
 can_accept s r (Make (calls.Unregister slot)) none = (_, _, (refl, refl))
 can_accept s r (Make (calls.Link which place target)) none = (_, _, (refl, refl))
 can_accept s r (Make (calls.Unlink which place)) none = (_, _, (refl, refl))

@@ -10,7 +10,7 @@ use Rattle.fz_model.specs.declared.call.Call.TheVariants.{Alloc, Load, Store, Se
 use Rattle.fz_model.specs.declared.places.Slot.{Slot}
 use Rattle.fz_model.specs.declared.places.Place.{Place}
 use Rattle.fz_model.specs.declared.kinds.ObjKind.{ObjKind}
-use Rattle.fz_model.specs.declared.kinds.RegKind.{RegKind}
+use Rattle.fz_model.specs.declared.finalizer.Finalizer.{Finalizer}
 use Rattle.fz_model.specs.declared.refusal.Refusal.{Refusal}
 use Rattle.fz_model.specs.declared.refusal.Refusal.TheVariants.{BadSlot, NotPointer, OutsideObject, BadSize, BadCount, CycleOpen, NotStart, Exhausted, SeatsMissing}
 use Rattle.fz_model.specs.declared.limits.TheConstants.{MAX_OBJECT_WORDS, COUNT_LIMIT, HEAP_START}
@@ -70,7 +70,7 @@ slots_come_first s slot lacks = record {
   set = λ word. told_call s (Set slot word) BadSlot (first _);
   copy = λ to. told_call s (Copy slot to) BadSlot (first _);
   copy_to = λ from. told_call s (Copy from slot) BadSlot (second from _);
-  register = λ kind procedure client_data rank. told_call s (Register slot kind procedure client_data rank) BadSlot (first _);
+  register = λ finalizer. told_call s (Register slot finalizer) BadSlot (first _);
   unregister = told_call s (Unregister slot) BadSlot (first _);
   link = λ which offset target. told_call s (Link which (at offset) target) BadSlot (first _);
   link_to = λ which place. told_call s (Link which place slot) BadSlot (second place.slot _);
@@ -188,8 +188,8 @@ sizes_come_first s slot size kind here = record {
 
 -- ---- objects and numbers
 
-objects_come_first : (s : State) (slot : Slot) (kind : RegKind) (procedure client_data : ℕ) (rank : Option ℕ) (here : HasSlot s slot) (low : HEAP_START ≤ slot_word s.frames slot) (high : slot_word s.frames slot < heap_end s.blocks) → ObjectsComeFirst s slot kind procedure client_data rank here low high
-objects_come_first s slot kind procedure client_data rank here low high = record {
+objects_come_first : (s : State) (slot : Slot) (finalizer : Finalizer) (here : HasSlot s slot) (low : HEAP_START ≤ slot_word s.frames slot) (high : slot_word s.frames slot < heap_end s.blocks) → ObjectsComeFirst s slot finalizer here low high
+objects_come_first s slot finalizer here low high = record {
   nowhere = λ none. told_call s call NotPointer (there (others ++ more) ∙ nowhere s.objects word _ none);
   inside = λ within. told_call s call NotStart (there (others ++ more) ∙ inside s.objects word _ within.0 within.1 within.2);
   numbers = λ start o points_there here used. told_call s call Exhausted (there (others ++ more) ∙ passes (no_object s.objects word) _ (ap is_none points_there) ∙ passes (no_start s.objects word) _ (ap is_none here) ∙ stands (exhausted s.next_number) _ (le-leb COUNT_LIMIT s.next_number used));
@@ -201,7 +201,7 @@ objects_come_first s slot kind procedure client_data rank here low high = record
     word = slot_word s.frames slot
 
     call : Call
-    call = Register slot kind procedure client_data rank
+    call = Register slot finalizer
 
     others : Causes
     others = start_causes s.objects word

@@ -2,7 +2,7 @@
 use Rattle.std.proofs.Common.{◌≡◌, ◌+◌, ℕ, Bool, List, [], filter, Some, None, refl, IsTrue}
 use Rattle.std.specs.FinMap.{get, insert, remove, empty}
 use Rattle.fz_model.specs.declared.kinds.ObjKind.{ObjKind}
-use Rattle.fz_model.specs.declared.kinds.RegKind.{RegKind}
+use Rattle.fz_model.specs.declared.finalizer.Finalizer.{Finalizer}
 use Rattle.fz_model.specs.declared.answers.Entry.{Entry}
 use Rattle.fz_model.specs.declared.answers.Registration.{Registration}
 use Rattle.fz_model.specs.State.{Map, Object, Core}
@@ -10,6 +10,7 @@ use Rattle.fz_model.specs.Memory.{written, new_object}
 use Rattle.fz_model.specs.Allocation.{place_for}
 use Rattle.fz_model.specs.Causes.{first_cause, alloc_causes, start_causes}
 use Rattle.fz_model.specs.Parts.{AreSound}
+use Rattle.fz_model.specs.Steps.{registration_of}
 use Rattle.fz_model.proofs.Maps.{free_place}
 use Rattle.fz_model.proofs.Runs.{opening_sound}
 use Rattle.fz_model.proofs.Sound as sound
@@ -48,8 +49,8 @@ module _ (objects : Map Object) (registrations : Map Registration) (next_number 
   sound_made blocks next_birth birth size kind a none place h =
       other_objects _ _ _ _ _ _ h (new_sized objects a (new_object kind birth size) (some_words size (none_stands (alloc_causes objects blocks next_birth size kind) none).0) h.sized) (sound.new_object objects a (new_object kind birth size) (free_place objects blocks size a kind place))
 
-  pub sound_registered : (word : ℕ) (kind : RegKind) (proc cd rank : ℕ) → first_cause (start_causes objects word) ≡ None → AreSound objects registrations next_number queue held → AreSound objects (insert registrations word (record { number = next_number; kind = kind; proc = proc; cd = cd; rank = rank })) (next_number + 1) queue held
+  pub sound_registered : (word : ℕ) (finalizer : Finalizer) → first_cause (start_causes objects word) ≡ None → AreSound objects registrations next_number queue held → AreSound objects (insert registrations word (registration_of next_number finalizer)) (next_number + 1) queue held
   unfolding AreSound
-  sound_registered word kind proc cd rank none h =
+  sound_registered word finalizer none h =
       let o = is_some_of (get objects word) (none_stands (start_causes objects word) none).1.0 in
-      register_sound objects registrations next_number queue held word (record { number = next_number; kind = kind; proc = proc; cd = cd; rank = rank }) o.0 refl o.1 h
+      register_sound objects registrations next_number queue held word (registration_of next_number finalizer) o.0 refl o.1 h

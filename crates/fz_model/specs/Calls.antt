@@ -10,7 +10,7 @@ use Rattle.fz_model.specs.Events.{CallAnswer}
 abbrev pub reply_of : (c : Call) → CallAnswer c → Reply
 reply_of (calls.Alloc slot size kind) made = replies.Allocated made.0 made.1
 reply_of (calls.Load place to) word = replies.Word word
-reply_of (calls.Register slot kind procedure client_data rank) answer = replies.Registered answer
+reply_of (calls.Register slot finalizer) answer = replies.Registered answer
 reply_of (calls.Unregister slot) old = replies.Unregistered old
 reply_of (calls.Link which place target) answer = replies.Linked answer
 reply_of (calls.Unlink which place) there = replies.Unlinked there

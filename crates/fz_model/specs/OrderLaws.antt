@@ -1,12 +1,12 @@
 -- Laws that test the order of the causes: where a call could be refused for two of them, which is told.
-use Rattle.std.specs.Prelude.{◌≡◌, ℕ, ◌+◌, ◌<◌, ◌≤◌, ◌⊎◌, length, Option, None, Some, Result, Err, IsTrue}
+use Rattle.std.specs.Prelude.{◌≡◌, ℕ, ◌+◌, ◌<◌, ◌≤◌, ◌⊎◌, length, None, Some, Result, Err, IsTrue}
 use Rattle.std.specs.FinMap.{get}
 use Rattle.fz_model.specs.declared.call.Call.{Call}
 use Rattle.fz_model.specs.declared.call.Call.TheVariants.{Alloc, Load, Store, Set, Copy, Register, Unregister, Link, Unlink, Move, Begin, Mark, Collect}
 use Rattle.fz_model.specs.declared.places.Slot.{Slot}
 use Rattle.fz_model.specs.declared.places.Place.{Place}
 use Rattle.fz_model.specs.declared.kinds.ObjKind.{ObjKind}
-use Rattle.fz_model.specs.declared.kinds.RegKind.{RegKind}
+use Rattle.fz_model.specs.declared.finalizer.Finalizer.{Finalizer}
 use Rattle.fz_model.specs.declared.kinds.LinkKind.{LinkKind}
 use Rattle.fz_model.specs.declared.answers.Entry.{Entry}
 use Rattle.fz_model.specs.declared.refusal.Refusal.{Refusal}
@@ -61,7 +61,7 @@ pub record SlotsComeFirst (s : State) (slot : Slot) (lacks : LacksSlot s slot) :
   pub set : (word : ℕ) → AlwaysRefusesCall s (Set slot word) BadSlot
   pub copy : (to : Slot) → AlwaysRefusesCall s (Copy slot to) BadSlot
   pub copy_to : (first : Slot) → AlwaysRefusesCall s (Copy first slot) BadSlot
-  pub register : (kind : RegKind) (procedure client_data : ℕ) (rank : Option ℕ) → AlwaysRefusesCall s (Register slot kind procedure client_data rank) BadSlot
+  pub register : (finalizer : Finalizer) → AlwaysRefusesCall s (Register slot finalizer) BadSlot
   pub unregister : AlwaysRefusesCall s (Unregister slot) BadSlot
   pub link : (which : LinkKind) (offset : ℕ) (target : Slot) → AlwaysRefusesCall s (Link which (record { slot = slot; offset = offset }) target) BadSlot
   pub link_to : (which : LinkKind) (place : Place) → AlwaysRefusesCall s (Link which place slot) BadSlot
@@ -94,10 +94,10 @@ pub record SizesComeFirst (s : State) (slot : Slot) (size : ℕ) (kind : ObjKind
   pub births : 1 ≤ size → size ≤ MAX_OBJECT_WORDS → COUNT_LIMIT ≤ s.next_birth → AlwaysRefusesCall s (Alloc slot size kind) Exhausted
 
 -- where the slot's word lies in the heap, what it points to comes before numbers that are used up, and these before a full table
-pub record ObjectsComeFirst (s : State) (slot : Slot) (kind : RegKind) (procedure client_data : ℕ) (rank : Option ℕ) (here : HasSlot s slot) (low : HEAP_START ≤ slot_word s.frames slot) (high : slot_word s.frames slot < heap_end s.blocks) : Type 0 where
-  pub nowhere : PointsNowhere s slot → AlwaysRefusesCall s (Register slot kind procedure client_data rank) NotPointer
-  pub inside : PointsInside s slot → AlwaysRefusesCall s (Register slot kind procedure client_data rank) NotStart
-  pub numbers : (start : ℕ) (o : Object) → points s.objects (slot_word s.frames slot) ≡ Some start → get s.objects (slot_word s.frames slot) ≡ Some o → COUNT_LIMIT ≤ s.next_number → AlwaysRefusesCall s (Register slot kind procedure client_data rank) Exhausted
+pub record ObjectsComeFirst (s : State) (slot : Slot) (finalizer : Finalizer) (here : HasSlot s slot) (low : HEAP_START ≤ slot_word s.frames slot) (high : slot_word s.frames slot < heap_end s.blocks) : Type 0 where
+  pub nowhere : PointsNowhere s slot → AlwaysRefusesCall s (Register slot finalizer) NotPointer
+  pub inside : PointsInside s slot → AlwaysRefusesCall s (Register slot finalizer) NotStart
+  pub numbers : (start : ℕ) (o : Object) → points s.objects (slot_word s.frames slot) ≡ Some start → get s.objects (slot_word s.frames slot) ≡ Some o → COUNT_LIMIT ≤ s.next_number → AlwaysRefusesCall s (Register slot finalizer) Exhausted
   pub unregister_nowhere : PointsNowhere s slot → AlwaysRefusesCall s (Unregister slot) NotPointer
   pub unregister_inside : PointsInside s slot → AlwaysRefusesCall s (Unregister slot) NotStart
 
@@ -112,7 +112,7 @@ pub record FirstIsTold (s : State) : Type 0 where
   pub slots : (slot : Slot) (lacks : LacksSlot s slot) → SlotsComeFirst s slot lacks
   pub places : (place to : Place) (here : HasSlot s place.slot) (there : HasSlot s to.slot) → PlacesComeFirst s place to here there
   pub sizes : (slot : Slot) (size : ℕ) (kind : ObjKind) (here : HasSlot s slot) → SizesComeFirst s slot size kind here
-  pub objects : (slot : Slot) (kind : RegKind) (procedure client_data : ℕ) (rank : Option ℕ) (here : HasSlot s slot) (low : HEAP_START ≤ slot_word s.frames slot) (high : slot_word s.frames slot < heap_end s.blocks) → ObjectsComeFirst s slot kind procedure client_data rank here low high
+  pub objects : (slot : Slot) (finalizer : Finalizer) (here : HasSlot s slot) (low : HEAP_START ≤ slot_word s.frames slot) (high : slot_word s.frames slot < heap_end s.blocks) → ObjectsComeFirst s slot finalizer here low high
   pub cycles : CyclesComeFirst s
 
 -- the same of an event of a joint run

@@ -1,7 +1,8 @@
 //! The calls of a world as values, and what they answer.
 
 use crate::answers::{LinkAnswer, MoveAnswer, Old, Passed, Progress, RegAnswer};
-use crate::kinds::{LinkKind, ObjKind, RegKind};
+use crate::finalizer::Finalizer;
+use crate::kinds::{LinkKind, ObjKind};
 use crate::places::{Place, Slot};
 use crate::{Addr, Word};
 
@@ -38,11 +39,7 @@ pub enum Call {
     /// Registers a finalizer of the slot's object (`GC_register_finalizer` and its kinds).
     Register {
         slot: Slot,
-        kind: RegKind,
-        procedure: u64,
-        client_data: Word,
-        /// 0 where none is named.
-        rank: Option<u8>,
+        finalizer: Finalizer,
     },
     /// Removes the registration of the slot's object.
     Unregister(Slot),

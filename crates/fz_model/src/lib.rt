@@ -6,6 +6,7 @@
 mod answers;
 mod call;
 mod extent;
+mod finalizer;
 mod headline;
 mod kinds;
 mod laws;
@@ -18,6 +19,7 @@ pub use answers::{
 };
 pub use call::{Call, Reply};
 pub use extent::Extent;
+pub use finalizer::Finalizer;
 pub use headline::every_run;
 pub use kinds::{LinkKind, ObjKind, RegKind};
 pub use laws::every_call;

@@ -10,7 +10,7 @@ use fz_heap::Heap;
 use fz_links::Links;
 use fz_marker::Marker;
 use fz_model::RegKind::{IgnoreSelf, NoOrder, Normal};
-use fz_model::{Addr, Entry, HEAP_START, MAX_BLOCKS, ObjKind, RegKind, Word};
+use fz_model::{Addr, Entry, Finalizer, HEAP_START, MAX_BLOCKS, ObjKind, RegKind, Word};
 use fz_pass::decide;
 use fz_table::Table;
 use std::alloc::Global;
@@ -61,7 +61,7 @@ fn make(parts: &mut Parts, words: &[Word]) -> Result<(), Fail> {
 /// Registers these objects with their kinds and ranks, numbered from 0 in this order.
 fn register(parts: &mut Parts, registered: &[(Addr, RegKind, u8)]) -> Result<(), Fail> {
     for (object, kind, rank) in registered {
-        parts.table.register(*object, *kind, 7, 8, *rank)?;
+        parts.table.register(*object, Finalizer::new(*kind, 7, 8, *rank))?;
     }
     Ok(())
 }
@@ -273,7 +273,7 @@ fn picks_by_address(alloc: Global, parts: &mut Parts) -> Result<bool, Fail> {
 fn fill(parts: &mut Parts) -> Result<(), Fail> {
     for _ in 0..FULL {
         let (start, _) = parts.heap.alloc(32, ObjKind::Scanned)?;
-        parts.table.register(start, NoOrder, 7, 8, 3)?;
+        parts.table.register(start, Finalizer::new(NoOrder, 7, 8, 3))?;
     }
     Ok(())
 }
@@ -304,7 +304,7 @@ fn fill_in_turn(parts: &mut Parts) -> Result<(), Fail> {
     for turn in 0..FULL {
         let (start, _) = parts.heap.alloc(32, ObjKind::Scanned)?;
         let rank = 255 - (turn % 256) as u8;
-        parts.table.register(start, NoOrder, 7, 8, rank)?;
+        parts.table.register(start, Finalizer::new(NoOrder, 7, 8, rank))?;
     }
     Ok(())
 }

@@ -1,6 +1,6 @@
 //! Lines of each verb and each job, and lines that are none.
 
-use fz_model::{Call, LinkKind, ObjKind, Place, RegKind, Slot};
+use fz_model::{Call, Finalizer, LinkKind, ObjKind, Place, RegKind, Slot};
 use fz_script::{Job, Step, job_of, step_of};
 use std::process::Abort;
 use std::str;
@@ -69,10 +69,12 @@ const EACH_VERB: [(&[u8], Step); 21] = [
         b"register 0 1 ignore_self 7 65536",
         Step::Call(Call::Register {
             slot: Slot { frame: 0, slot: 1 },
-            kind: RegKind::IgnoreSelf,
-            procedure: 7,
-            client_data: 65536,
-            rank: None,
+            finalizer: Finalizer {
+                kind: RegKind::IgnoreSelf,
+                procedure: 7,
+                client_data: 65536,
+                rank: None,
+            },
         }),
     ),
     (
@@ -153,10 +155,12 @@ fn reads_the_other_kinds(rt: HostRuntime) {
     ] {
         let register = Step::Call(Call::Register {
             slot: Slot { frame: 0, slot: 0 },
-            kind,
-            procedure: 1,
-            client_data: 2,
-            rank: None,
+            finalizer: Finalizer {
+                kind,
+                procedure: 1,
+                client_data: 2,
+                rank: None,
+            },
         });
         must_read_step(&rt, line, Some(register));
     }
@@ -170,10 +174,7 @@ fn reads_ranks(rt: HostRuntime) {
     ] {
         let register = Step::Call(Call::Register {
             slot: Slot { frame: 0, slot: 0 },
-            kind: RegKind::Normal,
-            procedure: 1,
-            client_data: 2,
-            rank: Some(rank),
+            finalizer: Finalizer::new(RegKind::Normal, 1, 2, rank),
         });
         must_read_step(&rt, line, Some(register));
     }

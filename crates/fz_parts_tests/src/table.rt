@@ -1,7 +1,7 @@
 //! What no clause says: that calls succeed, and what they return when an allocation failed.
 
 use crate::equal::must_be;
-use fz_model::{Addr, HEAP_START, Old, Refusal, RegKind, Registration, TABLE_LIMIT};
+use fz_model::{Addr, Finalizer, HEAP_START, Old, Refusal, RegKind, Registration, TABLE_LIMIT};
 use fz_table::Table;
 use std::process::Abort;
 
@@ -15,11 +15,11 @@ fn registers_replaces_and_takes(rt: HostRuntime) {
     must_be(&rt, whole, Ok(()), "room for as many as there may be");
     must_be(&rt, table.is_empty(), true, "still empty");
 
-    let first = table.register(70_000, RegKind::Normal, 7, 8, 5);
+    let first = table.register(70_000, Finalizer::new(RegKind::Normal, 7, 8, 5));
     must_be(&rt, first, Ok((0, None)), "the first object");
-    let second = table.register(70_064, RegKind::NoOrder, 9, 10, 0);
+    let second = table.register(70_064, Finalizer::new(RegKind::NoOrder, 9, 10, 0));
     must_be(&rt, second, Ok((1, None)), "the second object");
-    let replaced = table.register(70_000, RegKind::IgnoreSelf, 11, 12, 255);
+    let replaced = table.register(70_000, Finalizer::new(RegKind::IgnoreSelf, 11, 12, 255));
     let old = Old { proc: 7, cd: 8 };
     must_be(&rt, replaced, Ok((2, Some(old))), "the first again");
     must_be(&rt, table.len(), 2, "two objects");
@@ -39,7 +39,7 @@ fn registers_replaces_and_takes(rt: HostRuntime) {
     must_be(&rt, table.len(), 1, "one object");
     must_be(&rt, table.ranked(), 0, "none with a rank");
     // Numbers aren't used again.
-    let next = table.register(70_000, RegKind::Normal, 1, 2, 0);
+    let next = table.register(70_000, Finalizer::new(RegKind::Normal, 1, 2, 0));
     must_be(&rt, next, Ok((3, None)), "the first after that");
 }
 
@@ -60,7 +60,7 @@ fn iterates_over_all(rt: HostRuntime) {
     let mut table = Table::new(rt.alloc());
     must_be(&rt, table.iter().next(), None, "none at first");
     for object in 100_000..100_010u64 {
-        let answer = table.register(object, RegKind::Normal, object, 0, 0);
+        let answer = table.register(object, Finalizer::new(RegKind::Normal, object, 0, 0));
         must_be(&rt, answer.is_ok(), true, "one of ten objects");
     }
     table.remove(100_003);
@@ -84,10 +84,10 @@ const FURTHER: Addr = HEAP_START + 2 * TABLE_LIMIT;
 fn holds_as_many_as_the_limit(rt: HostRuntime) {
     let mut table = Table::new(rt.alloc());
     for number in 0..TABLE_LIMIT {
-        let answer = table.register(HEAP_START + number, RegKind::Normal, number, 0, 0);
+        let answer = table.register(HEAP_START + number, Finalizer::new(RegKind::Normal, number, 0, 0));
         must_be(&rt, answer, Ok((number, None)), "one of all objects");
     }
-    let refused = table.register(FURTHER, RegKind::Normal, 1, 2, 0);
+    let refused = table.register(FURTHER, Finalizer::new(RegKind::Normal, 1, 2, 0));
     let full = Err(Refusal::TableFull);
     must_be(&rt, refused, full, "one object too many");
     must_be(
@@ -97,12 +97,12 @@ fn holds_as_many_as_the_limit(rt: HostRuntime) {
         "all that there is room for",
     );
 
-    let replaced = table.register(HEAP_START + 1, RegKind::NoOrder, 3, 4, 0);
+    let replaced = table.register(HEAP_START + 1, Finalizer::new(RegKind::NoOrder, 3, 4, 0));
     let old = Old { proc: 1, cd: 0 };
     must_be(&rt, replaced, Ok((TABLE_LIMIT, Some(old))), "one again");
     let old = Old { proc: 4, cd: 0 };
     must_be(&rt, table.remove(HEAP_START + 4), Some(old), "room for one");
-    let accepted = table.register(FURTHER, RegKind::Normal, 1, 2, 0);
+    let accepted = table.register(FURTHER, Finalizer::new(RegKind::Normal, 1, 2, 0));
     must_be(
         &rt,
         accepted,
@@ -113,7 +113,7 @@ fn holds_as_many_as_the_limit(rt: HostRuntime) {
 
 /// Registers an object with a number, which is how many there are, and again where memory was wanting.
 fn register_soon(rt: &impl Abort, table: &mut Table, object: Addr, number: u64) {
-    let mut answer = table.register(object, RegKind::Normal, number, 0, 0);
+    let mut answer = table.register(object, Finalizer::new(RegKind::Normal, number, 0, 0));
     if answer == Err(Refusal::NoMemory) {
         must_be(rt, table.len() as u64, number, "as many as before");
         must_be(rt, table.get(object), None, "a refused object");
@@ -121,7 +121,7 @@ fn register_soon(rt: &impl Abort, table: &mut Table, object: Addr, number: u64) 
             let old = table.get(70_000).map(|registration| registration.proc);
             must_be(rt, old, Some(0), "the procedure of the first");
         }
-        answer = table.register(object, RegKind::Normal, number, 0, 0);
+        answer = table.register(object, Finalizer::new(RegKind::Normal, number, 0, 0));
     }
     must_be(rt, answer, Ok((number, None)), "one of 1,000 objects");
 }

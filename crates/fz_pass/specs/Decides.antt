@@ -1,9 +1,11 @@
 -- What a pass makes of the parts that it goes over.
 use Rattle.std.specs.Prelude.{◌≡◌, ℕ, ◌+◌, ◌++◌, Bool, false, List, length}
+use Rattle.std.specs.FinMap.{len}
+use Rattle.fz_model.specs.declared.answers.Entry.{Entry}
 use Rattle.fz_model.specs.declared.answers.Pick.{Pick}
 use Rattle.fz_model.specs.declared.answers.Registration.{Registration}
 use Rattle.fz_model.specs.State.{Map, Object, Core}
-use Rattle.fz_model.specs.Pass.{Decision, remaining_objects, without_picks, links_within, entries_of}
+use Rattle.fz_model.specs.Pass.{Passes, Decision, remaining_objects, without_picks, links_within, entries_of}
 use Rattle.fz_heap.specs.Contents.{Contents}
 use Rattle.fz_table.specs.Registered.{Registered}
 use Rattle.fz_links.specs.Linked.{Linked}
@@ -29,6 +31,11 @@ pub record Decides (old : Parts) (found : ℕ → Bool) (picks : List Pick) (new
     long = links_within old.objects old.long decision.kept decision.kept;
   }
 
+-- the pass of this number decides so, and the entries of its picks come to the end of the queue
+abbrev pub DecidesInto : ℕ → Parts → (ℕ → Bool) → Parts → List Entry → List Entry → Type 0
+DecidesInto pass old found new queue new_queue =
+    (picks : List Pick) × (new_queue ≡ queue ++ entries_of pass (length queue) picks) × Decides old found picks new
+
 -- the parts of a core
 abbrev pub parts_of : Core → Parts
 parts_of c = record { objects = c.objects; registrations = c.registrations; short = c.short; long = c.long }
@@ -45,3 +52,9 @@ passed_core c new picks = record c {
   passes = c.passes + 1;
   cycle = false;
 }
+
+-- a decision for the core that is carried out, with its picks queued and held, is a pass of the model
+abbrev pub DecisionsPass : Core → Type 0
+DecisionsPass c = (found : ℕ → Bool) (picks : List Pick) (new : Parts) (reclaimed : ℕ)
+    → Decides (parts_of c) found picks new → len new.objects + reclaimed ≡ len c.objects
+    → Passes c found (record { pass = c.passes + 1; picked = length picks; reclaimed = reclaimed }) (passed_core c new picks)

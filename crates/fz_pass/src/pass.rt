@@ -1,14 +1,12 @@
 //! One pass over heap, marks, table and links.
 
-ghost use Rattle.std.specs.Prelude.{◌≡◌, ◌≤◌, ◌+◌, ◌*◌, ◌++◌, ◌||◌, ◌&&◌, not, ℕ, List, length, vec_len, vec_capacity};
+ghost use Rattle.std.specs.Prelude.{◌≡◌, ◌≤◌, ◌+◌, ◌*◌, ◌||◌, ◌&&◌, not, ℕ, vec_len, vec_capacity};
 ghost use Rattle.std.specs.FinSet.{contains};
 ghost use Rattle.std.specs.FinSet as sets;
 ghost use Rattle.std.specs.FinMap.{len, contains_key};
-ghost use Rattle.fz_model.specs.declared.answers.Pick.{Pick};
 ghost use Rattle.fz_model.specs.declared.limits.TheConstants.{BLOCK_WORDS};
-ghost use Rattle.fz_model.specs.Pass.{entries_of};
 ghost use Rattle.fz_marker.specs.Marking.{IsClosed};
-ghost use Rattle.fz_pass.specs.Decides.{Decides, parts};
+ghost use Rattle.fz_pass.specs.Decides.{DecidesInto, parts};
 
 use crate::clearing::clear_dead;
 use crate::keeping::keep_within;
@@ -37,7 +35,7 @@ pub fn decide(
     requires size { marker.old.size ≡ BLOCK_WORDS * heap.old.blocks }
     requires closed { IsClosed heap.old.objects marker.old.marked }
     requires room { vec_len queue.old + len table.old.registrations ≤ vec_capacity queue.old }
-    ensures decided { (picks : List Pick) × (queue.new.items ≡ queue.old.items ++ entries_of pass (length queue.old.items) picks) × Decides (parts heap.old table.old.registered short.old long.old) (contains marker.old.marked) picks (parts heap.new table.new.registered short.new long.new) }
+    ensures decided { DecidesInto pass (parts heap.old table.old.registered short.old long.old) (contains marker.old.marked) (parts heap.new table.new.registered short.new long.new) queue.old.items queue.new.items }
     // The objects that it reclaims are condemned, and no other.
     ensures condemned { (a : ℕ) → contains heap.new.condemned a ≡ (contains_key heap.old.objects a && not (contains_key heap.new.objects a) || contains heap.old.condemned a) }
     ensures count { sets.len heap.new.condemned ≡ sets.len heap.old.condemned + result }

@@ -160,7 +160,7 @@ verbs =
     ∷ call_verb (codes "copy") (two a_slot a_slot) (λ x. calls.Copy x.0 x.1)
     ∷ call_verb (codes "load") (two a_place a_slot) (λ x. calls.Load x.0 x.1)
     ∷ call_verb (codes "store") (two a_place a_slot) (λ x. calls.Store x.0 x.1)
-    ∷ call_verb (codes "register") (three a_slot a_reg_kind (three a_number a_number a_rank)) (λ x. calls.Register x.0 x.1 x.2.0 x.2.1 x.2.2)
+    ∷ call_verb (codes "register") (three a_slot a_reg_kind (three a_number a_number a_rank)) (λ x. calls.Register x.0 (record { kind = x.1; procedure = x.2.0; client_data = x.2.1; rank = x.2.2 }))
     ∷ call_verb (codes "unregister") a_slot (λ x. calls.Unregister x)
     ∷ call_verb (codes "link") (three a_link_kind a_place a_slot) (λ x. calls.Link x.0 x.1 x.2)
     ∷ call_verb (codes "unlink") (two a_link_kind a_place) (λ x. calls.Unlink x.0 x.1)

@@ -7,6 +7,7 @@ use Rattle.fz_model.specs.declared.kinds.RegKind.{RegKind}
 use Rattle.fz_model.specs.declared.kinds.RegKind.TheVariants.{Normal, IgnoreSelf, NoOrder}
 use Rattle.fz_model.specs.declared.kinds.LinkKind.{LinkKind}
 use Rattle.fz_model.specs.declared.kinds.LinkKind.TheVariants.{Short, Long}
+use Rattle.fz_model.specs.declared.finalizer.Finalizer.{Finalizer}
 use Rattle.fz_model.specs.declared.places.Slot.{Slot}
 use Rattle.fz_model.specs.declared.places.Place.{Place}
 use Rattle.fz_script.specs.declared.step.Step.{Step}
@@ -45,6 +46,9 @@ abbrev pub rank_words : Option ℕ → List Token
 rank_words None = []
 rank_words (Some rank) = Rank rank ∷ []
 
+abbrev pub finalizer_words : Finalizer → List Token
+finalizer_words finalizer = Text (reg_kind finalizer.kind) ∷ Number finalizer.procedure ∷ Number finalizer.client_data ∷ rank_words finalizer.rank
+
 -- The words of a call's line, in their order: the verb, then its fields.
 -- A further verb is one more clause here; all else that is said of a line follows from it.
 abbrev pub call_words : WorldCall → List Token
@@ -53,8 +57,7 @@ call_words (calls.Copy slot to) = Text (codes "copy") ∷ slot_words slot ++ slo
 call_words (calls.Load place to) = Text (codes "load") ∷ place_words place ++ slot_words to
 call_words (calls.Store place from) = Text (codes "store") ∷ place_words place ++ slot_words from
 call_words (calls.Set slot word) = Text (codes "set") ∷ slot_words slot ++ Number word ∷ []
-call_words (calls.Register slot kind procedure client_data rank) =
-    Text (codes "register") ∷ slot_words slot ++ Text (reg_kind kind) ∷ Number procedure ∷ Number client_data ∷ rank_words rank
+call_words (calls.Register slot finalizer) = Text (codes "register") ∷ slot_words slot ++ finalizer_words finalizer
 call_words (calls.Unregister slot) = Text (codes "unregister") ∷ slot_words slot
 call_words (calls.Link which place target) = Text (codes "link") ∷ Text (link_kind which) ∷ place_words place ++ slot_words target
 call_words (calls.Unlink which place) = Text (codes "unlink") ∷ Text (link_kind which) ∷ place_words place

@@ -7,7 +7,7 @@ ghost use Rattle.fz_script.specs.Reading.{words_of, words_left, with_rest, named
 
 use crate::step::Step;
 use crate::words::Words;
-use fz_model::Call;
+use fz_model::{Call, Finalizer};
 
 /// The step that a line asks for, if it asks for one.
 ///
@@ -131,13 +131,13 @@ fn read_register(words: &mut Words<'_>) -> Option<Step>
     ensures { named_at (codes "register") (words_left words.old) ≡ with_rest result (words_left words.new) }
 {
     let (slot, kind, (procedure, client_data, rank)) = words.read()?;
-    Some(Step::Call(Call::Register {
-        slot,
+    let finalizer = Finalizer {
         kind,
         procedure,
         client_data,
         rank,
-    }))
+    };
+    Some(Step::Call(Call::Register { slot, finalizer }))
 }
 
 #[tactic(auto, unfolding(crate::specs::Reading::named_at))]

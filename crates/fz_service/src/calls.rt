@@ -1,22 +1,23 @@
 //! The calls of a world, under the lock.
 
-ghost use Rattle.std.specs.Prelude.{Some, ◌≡◌, ◌≤◌, ◌+◌, ◌*◌, ◌↔◌, ℕ, IsTrue, IsFalse, IfOk, IfErr, IsSome, OnOk, OnErr, length};
+ghost use Rattle.std.specs.Prelude.{◌≡◌, ◌≤◌, ◌+◌, ◌*◌, ◌↔◌, ℕ, IsTrue, IsFalse, IfOk, IfErr, IsSome, OnOk, OnErr, length};
 ghost use Rattle.std.specs.Option.{IsNone};
-ghost use Rattle.std.specs.FinMap.{get, len};
+ghost use Rattle.std.specs.FinMap.{len};
 ghost use Rattle.std.specs.FinSet.{contains};
 ghost use Rattle.std.specs.FinSet as sets;
 ghost use Rattle.std.specs.declared.result.Result.TheVariants.{Ok};
 ghost use Rattle.fz_model.specs.declared.limits.TheConstants.{BLOCK_WORDS};
-ghost use Rattle.fz_model.specs.Allocation.{block_of};
-ghost use Rattle.fz_model.specs.Memory.{slot_word, address_of};
-ghost use Rattle.fz_model.specs.Causes.{IsJudgedBy, is_off_heap};
-ghost use Rattle.fz_model.specs.declared.call.Call.TheVariants.{Alloc, Load, Store, Set, Copy, Register, Unregister, Link, Unlink, Move, Begin, Mark, Pause, Collect, Close, Outstanding};
-ghost use Rattle.fz_model.specs.Places.{slot_at, place_at};
-ghost use Rattle.fz_model.specs.Events.{Make, Hold, Queue, causes, links_of};
+ghost use Rattle.fz_model.specs.Memory.{address_of};
+ghost use Rattle.fz_model.specs.Causes.{IsJudgedBy};
+ghost use Rattle.fz_model.specs.declared.call.Call.TheVariants.{Alloc, Load, Store, Set, Copy, Unregister, Link, Unlink, Move, Begin, Mark, Pause, Collect, Close, Outstanding};
+ghost use Rattle.fz_model.specs.Places.{slot_at, place_at, finalizer_of};
+ghost use Rattle.fz_model.specs.Events.{Make, Hold, Queue, causes};
 ghost use Rattle.fz_world.specs.Cycles.{IsBegun, AreScanned};
 ghost use Rattle.fz_world.specs.Does.{Does};
+ghost use Rattle.fz_world.specs.Links.{link_at};
+ghost use Rattle.fz_world.specs.Registering.{RegistersFinalizer};
 ghost use Rattle.fz_world.specs.Replies.{Replies};
-ghost use Rattle.fz_world.specs.World.{KeepsMarks, with_in_cycle};
+ghost use Rattle.fz_world.specs.World.{KeepsMarks, MarksMade, NotesWritten};
 ghost use Rattle.fz_service.specs.States.{ends_cycle, KeepsLine, SendsMore};
 
 use crate::locked::Locked;
@@ -38,16 +39,16 @@ fn ends_cycle(call: Call) -> bool
 
 /// Each call is the step of the same name of the world, and leaves the line as it is, but for what `pause` and `collect` send.
 impl<O: Opening> Locked<O> {
-    /// Carries out the call, and tells its answer; `pause` and `collect` send what they queued.
+    /// Makes the call, and tells its answer; `pause` and `collect` send what they queued.
     ///
     /// It is refused as the call of its name is.
-    pub fn carry_out(&mut self, call: Call) -> Result<Reply, Refusal>
+    pub fn make(&mut self, call: Call) -> Result<Reply, Refusal>
         ensures step { Replies self.old.world call result self.new.world }
         ensures line { IsFalse (ends_cycle call) → KeepsLine self.old self.new }
         ensures sent { IsTrue (ends_cycle call) → OnOk result (SendsMore O.origin self.old self.new) }
         ensures refused { OnErr result (self.new ≡ self.old) }
     {
-        let reply = self.world.carry_out(call)?;
+        let reply = self.world.make(call)?;
         if ends_cycle(call) {
             self.publish();
         }
@@ -68,7 +69,7 @@ impl<O: Opening> Locked<O> {
         ensures line { KeepsLine self.old self.new }
         ensures caused { IsJudgedBy (causes self.old.world.core (Make (Alloc (slot_at frame slot) size kind))) result }
         ensures refused { OnErr result (self.new ≡ self.old) }
-        ensures marks { IfOk result (λ made. self.new.world ≡ record self.old.world { core = self.new.world.core; marked = with_in_cycle self.old.world.cycle self.old.world.marked made.0; noted = with_in_cycle self.old.world.cycle self.old.world.noted (block_of made.0) }) }
+        ensures marks { IfOk result (λ made. MarksMade self.old.world made.0 self.new.world) }
     {
         self.world.alloc(frame, slot, size, kind)
     }
@@ -105,7 +106,7 @@ impl<O: Opening> Locked<O> {
         ensures step { Does self.old.world (Make (Store (place_at frame slot offset) (slot_at from_frame from_slot))) result self.new.world }
         ensures line { KeepsLine self.old self.new }
         ensures refused { OnErr result (self.new ≡ self.old) }
-        ensures marks { OnOk result (self.new.world ≡ record self.old.world { core = self.new.world.core; noted = with_in_cycle self.old.world.cycle self.old.world.noted (block_of (address_of self.old.world.frames (place_at frame slot offset))) }) }
+        ensures marks { OnOk result (NotesWritten self.old.world (address_of self.old.world.frames (place_at frame slot offset)) self.new.world) }
     {
         self.world.store(frame, slot, offset, from_frame, from_slot)
     }
@@ -150,11 +151,8 @@ impl<O: Opening> Locked<O> {
         cd: Word,
         rank: u8,
     ) -> Result<RegAnswer, Refusal>
-        ensures step { Does self.old.world (Make (Register (slot_at frame slot) kind proc cd (Some rank))) result self.new.world }
+        ensures registers { RegistersFinalizer self.old.world (slot_at frame slot) (finalizer_of kind proc cd rank) result self.new.world }
         ensures line { KeepsLine self.old self.new }
-        ensures inside { IfErr result (λ r. r ≡ Refusal.NoMemory → IsFalse (is_off_heap self.old.world.blocks (slot_word self.old.world.frames (slot_at frame slot)))) }
-        ensures growth { IfErr result (λ r. r ≡ Refusal.NoMemory → IsNone (get self.old.world.registrations (slot_word self.old.world.frames (slot_at frame slot)))) }
-        ensures marks { KeepsMarks self.old.world self.new.world }
     {
         self.world.register(frame, slot, kind, proc, cd, rank)
     }
@@ -185,7 +183,7 @@ impl<O: Opening> Locked<O> {
     ) -> Result<LinkAnswer, Refusal>
         ensures step { Does self.old.world (Make (Link which (place_at frame slot offset) (slot_at target_frame target_slot))) result self.new.world }
         ensures line { KeepsLine self.old self.new }
-        ensures growth { IfErr result (λ r. r ≡ Refusal.NoMemory → IsNone (get (links_of self.old.world.core which) (address_of self.old.world.frames (place_at frame slot offset)))) }
+        ensures growth { IfErr result (λ r. r ≡ Refusal.NoMemory → IsNone (link_at self.old.world.core which (place_at frame slot offset))) }
         ensures marks { KeepsMarks self.old.world self.new.world }
     {
         self.world
@@ -224,7 +222,7 @@ impl<O: Opening> Locked<O> {
     ) -> Result<MoveAnswer, Refusal>
         ensures step { Does self.old.world (Make (Move which (place_at frame slot offset) (place_at to_frame to_slot to_offset))) result self.new.world }
         ensures line { KeepsLine self.old self.new }
-        ensures growth { IfErr result (λ r. r ≡ Refusal.NoMemory → IsSome (get (links_of self.old.world.core which) (address_of self.old.world.frames (place_at frame slot offset))) × IsNone (get (links_of self.old.world.core which) (address_of self.old.world.frames (place_at to_frame to_slot to_offset)))) }
+        ensures growth { IfErr result (λ r. r ≡ Refusal.NoMemory → IsSome (link_at self.old.world.core which (place_at frame slot offset)) × IsNone (link_at self.old.world.core which (place_at to_frame to_slot to_offset))) }
         ensures marks { KeepsMarks self.old.world self.new.world }
     {
         self.world

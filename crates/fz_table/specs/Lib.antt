@@ -1,3 +1,4 @@
 pub mod Registered
 pub mod Tabled
 pub mod Ranked
+pub mod Registers

@@ -1,18 +1,18 @@
 //! The table and its calls.
 
-ghost use Rattle.std.specs.Prelude.{◌≡◌, ◌+◌, ◌≤◌, ◌<◌, ◌↔◌, cond, nat_eq, length, IsTrue, IsFalse, IfSome, IfOk, IfErr, OnOk, OnErr};
-ghost use Rattle.std.specs.Option.{IsNone};
-ghost use Rattle.std.specs.FinMap.{get, insert, remove, len, empty, from_entries};
+ghost use Rattle.std.specs.Prelude.{◌≡◌, ◌+◌, ◌≤◌, ◌<◌, ◌↔◌, cond, nat_eq, length, IsTrue, IsFalse, IfSome, IfErr, OnOk, OnErr};
+ghost use Rattle.std.specs.FinMap.{get, remove, len, empty, from_entries};
 ghost use Rattle.std.specs.List.{IsDistinct};
 ghost use Rattle.std.specs.Map.{keys_of};
 ghost use Rattle.fz_model.specs.declared.limits.TheConstants.{TABLE_LIMIT, COUNT_LIMIT};
 ghost use Rattle.fz_model.specs.declared.refusal.Refusal.TheVariants.{NoMemory};
-ghost use Rattle.fz_model.specs.Causes.{IsJudgedBy, IsJudgedOrLacks, full, register_causes};
-ghost use Rattle.fz_model.specs.Steps.{old_of};
+ghost use Rattle.fz_model.specs.Causes.{IsJudgedBy, full, register_causes};
+ghost use Rattle.fz_model.specs.Steps.{old_of, registration_of};
 ghost use Rattle.fz_table.specs.Ranked.{ranked, has_rank};
+ghost use Rattle.fz_table.specs.Registers.{Registers};
 
+use fz_model::{Addr, COUNT_LIMIT, Finalizer, Old, Refusal, Registration, TABLE_LIMIT};
 use crate::pairs::Pairs;
-use fz_model::{Addr, COUNT_LIMIT, Old, Refusal, RegKind, Registration, TABLE_LIMIT, Word};
 use indexmap::IndexMap;
 use std::alloc::Global;
 use std::marker::Model;
@@ -95,69 +95,41 @@ impl Table {
         Ok(())
     }
 
-    /// Registers the object, with a new number; returns the number and what was replaced.
+    /// Registers the object's finalizer, with a new number; returns the number and what was replaced.
     ///
     /// The refusals, in this order: `Exhausted` once 2^48 numbers are given out, `TableFull` when 65,536 other objects are registered,
     /// and `NoMemory` when no room is left for a new object and none can be had. A replacement takes no memory.
     pub fn register(
         &mut self,
         object: Addr,
-        kind: RegKind,
-        proc: u64,
-        cd: Word,
-        rank: u8,
+        finalizer: Finalizer,
     ) -> Result<(u64, Option<Old>), Refusal>
-        ensures judged { IsJudgedOrLacks (register_causes self.old.registrations self.old.next_number object) result }
-        // Only an object's first registration can lack memory, and that where no room is left.
-        ensures growth { IfErr result (λ r. r ≡ NoMemory → IsNone (get self.old.registrations object)) }
+        ensures registers { Registers self.old.registered object finalizer result self.new.registered }
+        // Memory can be lacking only where no room is left.
         ensures wanting { IfErr result (λ r. r ≡ NoMemory → self.old.room ≡ 0) }
-        ensures unchanged { OnErr result (self.new.registered ≡ self.old.registered) }
-        ensures number { IfOk result (λ answer. answer.0 ≡ self.old.next_number) }
-        ensures replaced { IfOk result (λ answer. answer.1 ≡ old_of self.old.registrations object) }
-        ensures registered { OnOk result (self.new.registered ≡ record {
-          registrations = insert self.old.registrations object (record { number = self.old.next_number; kind = kind; proc = proc; cd = cd; rank = rank });
-          next_number = self.old.next_number + 1;
-        }) }
         ensures room { self.old.room ≤ self.new.room + 1 }
     {
         self.check(object)?;
-        self.register_checked(object, kind, proc, cd, rank)
+        self.register_checked(object, finalizer)
     }
 
-    /// Registers an object, as `register` does. Asked only where `check` refuses nothing.
+    /// Registers the object's finalizer, as `register` does. Asked only where `check` refuses nothing.
     ///
     /// Refused `NoMemory` when no room is left for a new object and none can be had.
     pub fn register_checked(
         &mut self,
         object: Addr,
-        kind: RegKind,
-        proc: u64,
-        cd: Word,
-        rank: u8,
+        finalizer: Finalizer,
     ) -> Result<(u64, Option<Old>), Refusal>
         requires few { self.old.next_number < COUNT_LIMIT }
         requires room { IsFalse (full self.old.registrations object).0 }
-        ensures judged { IsJudgedOrLacks (register_causes self.old.registrations self.old.next_number object) result }
-        // Only an object's first registration can lack memory, and that where no room is left.
-        ensures growth { IfErr result (λ r. r ≡ NoMemory → IsNone (get self.old.registrations object)) }
+        ensures registers { Registers self.old.registered object finalizer result self.new.registered }
+        // Memory can be lacking only where no room is left.
         ensures wanting { IfErr result (λ r. r ≡ NoMemory → self.old.room ≡ 0) }
-        ensures unchanged { OnErr result (self.new.registered ≡ self.old.registered) }
-        ensures number { IfOk result (λ answer. answer.0 ≡ self.old.next_number) }
-        ensures replaced { IfOk result (λ answer. answer.1 ≡ old_of self.old.registrations object) }
-        ensures registered { OnOk result (self.new.registered ≡ record {
-          registrations = insert self.old.registrations object (record { number = self.old.next_number; kind = kind; proc = proc; cd = cd; rank = rank });
-          next_number = self.old.next_number + 1;
-        }) }
         ensures room { self.old.room ≤ self.new.room + 1 }
     {
         let number = self.next_number;
-        let registration = Registration {
-            number,
-            kind,
-            proc,
-            cd,
-            rank,
-        };
+        let registration = registration_of(number, finalizer);
         // A refused insertion leaves the entries as they were.
         let replaced = self.entries.insert(object, registration)?;
         self.next_number = number + 1;
@@ -241,6 +213,19 @@ fn ranked_in(registration: Option<Registration>) -> usize
     match registration {
         Some(registration) => (registration.rank != 0) as usize,
         None => 0,
+    }
+}
+
+/// What is registered of a finalizer under the number. One that names no rank has rank 0.
+fn registration_of(number: u64, finalizer: Finalizer) -> Registration
+    ensures { result ≡ registration_of number finalizer }
+{
+    Registration {
+        number,
+        proc: finalizer.procedure,
+        cd: finalizer.client_data,
+        kind: finalizer.kind,
+        rank: finalizer.rank.unwrap_or(0),
     }
 }
 

@@ -43,7 +43,7 @@ pub data AreTurns {origin : Origin} (new register drop : Event) : ℕ → List (
 abbrev pub Carries : {origin : Origin} → Job → List (Hold origin) → Type 0
 Carries (Call call) holds = map event_in holds ≡ Make call ∷ []
 Carries (Churn count slot size kind finalizer_kind procedure) holds =
-    AreTurns (Make (calls.Alloc slot size kind)) (Make (calls.Register slot finalizer_kind procedure 0 None)) (Make (calls.Set slot 0)) count holds
+    AreTurns (Make (calls.Alloc slot size kind)) (Make (calls.Register slot (record { kind = finalizer_kind; procedure = procedure; client_data = 0; rank = None }))) (Make (calls.Set slot 0)) count holds
 Carries _ holds = holds ≡ []
 
 -- the holds of these jobs, one after another

@@ -12,5 +12,5 @@ pub(crate) fn hold_for<O: Opening, R: Wait>(service: &Service<O>, call: Call, rt
     ensures { Held O.origin (Make call) result }
 {
     let mut locked = service.enter(rt);
-    locked.carry_out(call).is_err()
+    locked.make(call).is_err()
 }

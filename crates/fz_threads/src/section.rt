@@ -9,7 +9,7 @@ ghost use Rattle.fz_threads.specs.Holds.{HasRefused, IsTurn, AreTurns, Carries, 
 ghost use Rattle.std.specs.List.{count_by};
 
 use crate::holds::hold_for;
-use fz_model::Call;
+use fz_model::{Call, Finalizer};
 use fz_script::Job;
 use fz_service::{Opening, Service};
 use std::sync::Wait;
@@ -74,10 +74,12 @@ fn carry<O: Opening, R: Wait>(service: &Service<O>, job: Job, rt: &R) -> u64
             Call::Alloc { slot, size, kind },
             Call::Register {
                 slot,
-                kind: finalizer_kind,
-                procedure,
-                client_data: 0,
-                rank: None,
+                finalizer: Finalizer {
+                    kind: finalizer_kind,
+                    procedure,
+                    client_data: 0,
+                    rank: None,
+                },
             },
             Call::Set { slot, word: 0 },
             rt,

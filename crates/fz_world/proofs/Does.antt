@@ -1,19 +1,23 @@
 -- A reply of a world is a step of the model from each state that the world stands for.
-use Rattle.std.proofs.Common.{◌≡◌, ◌⊎◌, ◌||◌, ◌++◌, append_assoc, ℕ, Bool, true, false, if◌then◌else◌, [], ◌∷◌, Option, None, Some, Result, Ok, Err, IsErrAnd, refl, sym, ap, subst, ◌∙◌, inl, inr, ⊎_elim, IsTrue, IsFalse, Any}
+use Rattle.std.proofs.Common.{◌≡◌, ◌⊎◌, ◌||◌, ◌++◌, append_assoc, ℕ, Bool, true, false, if◌then◌else◌, [], ◌∷◌, None, Some, Result, Ok, Err, IsErrAnd, refl, sym, ap, subst, ◌∙◌, inl, inr, ⊎_elim, IsTrue, IsFalse, Any}
 use Rattle.std.proofs.lemmas.Bool.{cond-true, cases_eq, ne_eqb, both_ways}
 use Rattle.std.specs.FinSet.{contains}
 use Rattle.fz_model.specs.declared.kinds.ObjKind.{ObjKind}
+use Rattle.std.specs.FinMap.{get}
+use Rattle.std.specs.Option.{IsNone}
+use Rattle.fz_model.specs.declared.answers.RegAnswer.{RegAnswer}
 use Rattle.fz_model.specs.declared.refusal.Refusal.{Refusal}
+use Rattle.fz_model.specs.declared.refusal.Refusal.TheVariants.{NoMemory}
 use Rattle.fz_model.specs.State.{Core, State}
 use Rattle.fz_model.specs.Reachability.{IsReachable, IsRoot, WasSeen, Leads, Itself, OneMore, Slot, ClientData, HeldObject, HeldData, Registered}
 use Rattle.fz_model.specs.Pass.{IsFinding, Passes}
 use Rattle.fz_model.specs.declared.answers.Passed.{Passed}
 use Rattle.fz_model.specs.declared.answers.Progress.{Progress}
-use Rattle.fz_model.specs.Causes.{Causes, IsJudgedBy, first_cause, slot_causes, start_causes, register_causes, is_off_heap, full}
-use Rattle.fz_model.proofs.Judged.{judged_more, judged_err}
+use Rattle.fz_model.specs.Causes.{Causes, IsJudgedBy, IsRefusedFor, first_cause, slot_causes, start_causes, register_causes, is_off_heap, full}
+use Rattle.fz_model.proofs.Judged.{judged_more, judged_err, refused_more}
 use Rattle.fz_model.specs.declared.kinds.LinkKind.{LinkKind}
-use Rattle.fz_model.specs.declared.kinds.RegKind.{RegKind}
 use Rattle.fz_model.specs.declared.call.Call.TheVariants.{Alloc, Register, Link, Begin, Mark, Pause}
+use Rattle.fz_model.specs.declared.finalizer.Finalizer.{Finalizer}
 use Rattle.fz_model.specs.declared.places.Slot as places
 use Rattle.fz_model.specs.Places.{slot_at, place_at}
 use Rattle.fz_model.specs.Events.{Event, Make, links_of, causes_at, Answer, causes}
@@ -27,6 +31,7 @@ use Rattle.fz_model.proofs.Sets.{has_inserted}
 use Rattle.fz_marker.specs.Marking.{IsLedFrom, IsClosed}
 use Rattle.fz_world.specs.World.{WorldView, with_in_cycle}
 use Rattle.fz_world.specs.Does.{AreSeen, StandsFor, Does}
+use Rattle.fz_world.specs.Registering.{RegistersFinalizer}
 
 -- a refused call leaves the world as it was
 pub does_refused : (old new : WorldView) (e : Event) (r : Refusal) → IsRefusedAs old.core e r → new ≡ old → Does old e (Err r) new
@@ -188,10 +193,34 @@ module _ (c : Core) (which : LinkKind) (frame slot offset target_frame target_sl
   link_judged h = ap first_cause (sym all_causes) ∙ judged_more of_ends of_table h
 
 -- a word in the heap that isn't the start of an object is refused before the table is asked
-pub start_refused : (c : Core) (slot : places.Slot) (kind : RegKind) (procedure client_data : ℕ) (rank : Option ℕ) (r : Refusal) → first_cause (slot_causes c.frames slot) ≡ None → is_off_heap c.blocks (slot_word c.frames slot) ≡ false → first_cause (start_causes c.objects (slot_word c.frames slot)) ≡ Some r → first_cause (causes c (Make (Register slot kind procedure client_data rank))) ≡ Some r
-start_refused c slot kind procedure client_data rank r slots inside h =
+pub start_refused : (c : Core) (slot : places.Slot) (finalizer : Finalizer) (r : Refusal) → first_cause (slot_causes c.frames slot) ≡ None → is_off_heap c.blocks (slot_word c.frames slot) ≡ false → first_cause (start_causes c.objects (slot_word c.frames slot)) ≡ Some r → first_cause (causes c (Make (Register slot finalizer))) ≡ Some r
+start_refused c slot finalizer r slots inside h =
     let word = slot_word c.frames slot in
     let rest = start_causes c.objects word ++ register_causes c.registrations c.next_number word in
     judged_more (slot_causes c.frames slot) (if is_off_heap c.blocks word then [] else rest) slots
     ∙ ap (λ b. first_cause (if b then [] else rest)) inside
     ∙ judged_err (start_causes c.objects word) (register_causes c.registrations c.next_number word) r h
+
+-- the start of an object in the heap is refused as the table refuses it
+pub table_refuses : (c : Core) (slot : places.Slot) (finalizer : Finalizer) (r : Refusal) → first_cause (slot_causes c.frames slot) ≡ None → is_off_heap c.blocks (slot_word c.frames slot) ≡ false → first_cause (start_causes c.objects (slot_word c.frames slot)) ≡ None → IsRefusedFor (register_causes c.registrations c.next_number (slot_word c.frames slot)) true r → IsRefusedAs c (Make (Register slot finalizer)) r
+table_refuses c slot finalizer r slots inside starts h =
+    let word = slot_word c.frames slot in
+    let rest = start_causes c.objects word ++ register_causes c.registrations c.next_number word in
+    refused_more (slot_causes c.frames slot) (if is_off_heap c.blocks word then [] else rest) true r slots
+    (subst (λ b. IsRefusedFor (if b then [] else rest) true r) (sym inside) (refused_more (start_causes c.objects word) (register_causes c.registrations c.next_number word) true r starts h))
+
+pub registers_nothing : (old new : WorldView) (slot : places.Slot) (finalizer : Finalizer) (r : Refusal) (result : Result RegAnswer Refusal) → IsErrAnd result (λ x. x ≡ r)
+    → IsRefusedAs old.core (Make (Register slot finalizer)) r → new ≡ old
+    → (r ≡ NoMemory → IsFalse (is_off_heap old.blocks (slot_word old.frames slot))) → (r ≡ NoMemory → IsNone (get old.registrations (slot_word old.frames slot)))
+    → RegistersFinalizer old slot finalizer result new
+registers_nothing old new slot finalizer r (Ok answer) is refused same inside growth = absurd is
+registers_nothing old new slot finalizer r (Err x) is refused same inside growth =
+    let judged : IsRefusedAs old.core (Make (Register slot finalizer)) x = subst (IsRefusedAs old.core (Make (Register slot finalizer))) (sym is) refused in
+    record {
+      step = does_refused old new (Make (Register slot finalizer)) x judged same;
+      caused = judged;
+      refused = same;
+      inside = λ e. inside (sym is ∙ e);
+      growth = λ e. growth (sym is ∙ e);
+      marks = subst (λ (w : WorldView). w ≡ record old { core = w.core }) (sym same) refl;
+    }

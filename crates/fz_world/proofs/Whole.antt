@@ -7,7 +7,7 @@ use Rattle.std.specs.FinMap as map
 use Rattle.std.specs.FinMap.{get, contains_key, len-insert, len-remove, len-empty, empty_of_len, get-empty}
 use Rattle.std.specs.FinSet as sets
 use Rattle.fz_model.specs.declared.kinds.ObjKind.{ObjKind}
-use Rattle.fz_model.specs.declared.kinds.RegKind.{RegKind}
+use Rattle.fz_model.specs.declared.finalizer.Finalizer.{Finalizer}
 use Rattle.fz_model.specs.declared.answers.Entry.{Entry}
 use Rattle.fz_model.specs.declared.answers.Pick.{Pick}
 use Rattle.fz_model.specs.declared.answers.Registration.{Registration}
@@ -18,6 +18,7 @@ use Rattle.fz_model.specs.Allocation.{block_of, blocks_for, place_for}
 use Rattle.fz_model.specs.Condemned.{swept}
 use Rattle.fz_model.specs.Causes.{first_cause, alloc_causes, start_causes}
 use Rattle.fz_model.specs.Parts.{AreSound}
+use Rattle.fz_model.specs.Steps.{registration_of}
 use Rattle.fz_model.proofs.Maps.{free_place, get-remove_other}
 use Rattle.fz_model.proofs.Parts.{none_stands, sound_opening, sound_made, sound_written, sound_registered, sound_removed, sound_filtered, sound_passed}
 use Rattle.fz_model.proofs.Lists.{contains_at}
@@ -208,13 +209,13 @@ module _ (heap : Contents) (table : Registered) (ready : Ready) (marker : Markin
       fewer = let n = len-remove nat_cmp_total table.registrations object in elim (contains_key table.registrations object) as (λ b. map.len (map.remove table.registrations object) ≡ cond b (map.len table.registrations - 1) (map.len table.registrations) → map.len (map.remove table.registrations object) ≤ map.len table.registrations) [ true ↦ λ e. omega (arith, e) | false ↦ λ e. omega (arith, e) ] n
 
   -- with room for one more registration
-  pub world_registered : (object : ℕ) (kind : RegKind) (proc cd rank : ℕ) (roomier : Ready) → first_cause (start_causes heap.objects object) ≡ None → (roomier.queue ≡ ready.queue) × (roomier.held ≡ ready.held)
-      → map.len (map.insert table.registrations object (record { number = table.next_number; kind = kind; proc = proc; cd = cd; rank = rank })) ≤ roomier.room
-      → IsWorld heap table ready marker pages cycle → IsWorld heap (record { registrations = map.insert table.registrations object (record { number = table.next_number; kind = kind; proc = proc; cd = cd; rank = rank }); next_number = table.next_number + 1 }) roomier marker pages cycle
+  pub world_registered : (object : ℕ) (finalizer : Finalizer) (roomier : Ready) → first_cause (start_causes heap.objects object) ≡ None → (roomier.queue ≡ ready.queue) × (roomier.held ≡ ready.held)
+      → map.len (map.insert table.registrations object (registration_of table.next_number finalizer)) ≤ roomier.room
+      → IsWorld heap table ready marker pages cycle → IsWorld heap (record { registrations = map.insert table.registrations object (registration_of table.next_number finalizer); next_number = table.next_number + 1 }) roomier marker pages cycle
   unfolding IsWorld
-  world_registered object kind proc cd rank roomier none same room h = (
+  world_registered object finalizer roomier none same room h = (
     record {
-      sound = subst (Sound roomier.held) (sym same.0) (subst (λ held. Sound held ready.queue) (sym same.1) (sound_registered heap.objects table.registrations table.next_number ready.queue ready.held object kind proc cd rank none h.0.sound));
+      sound = subst (Sound roomier.held) (sym same.0) (subst (λ held. Sound held ready.queue) (sym same.1) (sound_registered heap.objects table.registrations table.next_number ready.queue ready.held object finalizer none h.0.sound));
       size = h.0.size;
       pages_are = h.0.pages_are;
       room = room;
@@ -223,7 +224,7 @@ module _ (heap : Contents) (table : Registered) (ready : Ready) (marker : Markin
   )
     where
       Sound : List Entry → List Entry → Type 0
-      Sound held queue = AreSound heap.objects (map.insert table.registrations object (record { number = table.next_number; kind = kind; proc = proc; cd = cd; rank = rank })) (table.next_number + 1) queue held
+      Sound held queue = AreSound heap.objects (map.insert table.registrations object (registration_of table.next_number finalizer)) (table.next_number + 1) queue held
 
   -- more room alone
   pub world_roomier : (roomier : Ready) → (roomier.queue ≡ ready.queue) × (roomier.held ≡ ready.held) → ready.room ≤ roomier.room → IsWorld heap table ready marker pages cycle → IsWorld heap table roomier marker pages cycle

@@ -7,6 +7,7 @@ use Rattle.std.specs.FinSet.{contains, insert}
 use Rattle.std.specs.FinMap as map
 use Rattle.fz_model.specs.declared.limits.TheConstants.{BLOCK_WORDS, COUNT_LIMIT}
 use Rattle.fz_model.specs.State.{Map, Object, Core}
+use Rattle.fz_model.specs.Allocation.{block_of}
 use Rattle.fz_model.specs.Codes.{core_code}
 use Rattle.fz_model.specs.Parts.{AreSound}
 use Rattle.fz_heap.specs.Contents.{Contents}
@@ -58,6 +59,15 @@ KeepsMarks old new = new ≡ record old { core = new.core }
 -- in an open cycle, the set with a number
 abbrev pub with_in_cycle : Bool → Set → ℕ → Set
 with_in_cycle cycle set n = if cycle then insert set n else set
+
+-- a call that makes the object at an address: in an open cycle it is marked, and its page noted
+abbrev pub MarksMade : WorldView → ℕ → WorldView → Type 0
+MarksMade old address new =
+    new ≡ record old { core = new.core; marked = with_in_cycle old.cycle old.marked address; noted = with_in_cycle old.cycle old.noted (block_of address) }
+
+-- a call that writes the word at an address: in an open cycle its page is noted
+abbrev pub NotesWritten : WorldView → ℕ → WorldView → Type 0
+NotesWritten old address new = new ≡ record old { core = new.core; noted = with_in_cycle old.cycle old.noted (block_of address) }
 
 -- what a world keeps of its parts, with marks for a number of addresses and a number of pages
 pub record IsWhole (objects : Map Object) (blocks : ℕ) (table : Registered) (ready : Ready) (addresses pages : ℕ) : Type 0 where

@@ -1,4 +1,4 @@
-//! Calls that come as values, each carried out by the call of its name.
+//! Calls that come as values, each made by the call of its name.
 #![tactic(auto, using(crate::proofs::Replying::replies, crate::proofs::Replying::refuses))]
 
 ghost use Rattle.std.specs.Prelude.{◌≡◌, OnErr};
@@ -6,11 +6,11 @@ ghost use Rattle.fz_model.specs.declared.call.Call.TheVariants as calls;
 ghost use Rattle.fz_world.specs.Replies.{Replies};
 
 use crate::world::World;
-use fz_model::{Call, LinkKind, ObjKind, Place, Refusal, RegKind, Reply, Slot, Word};
+use fz_model::{Call, Finalizer, LinkKind, ObjKind, Place, Refusal, Reply, Slot, Word};
 
 impl World {
-    /// Carries out the call, and tells its answer. It is refused as the call of its name is, and then changes nothing.
-    pub fn carry_out(&mut self, call: Call) -> Result<Reply, Refusal>
+    /// Makes the call, and tells its answer. It is refused as the call of its name is, and then changes nothing.
+    pub fn make(&mut self, call: Call) -> Result<Reply, Refusal>
         ensures told { Replies self.old call result self.new }
         ensures refused { OnErr result (self.new ≡ self.old) }
     {
@@ -20,13 +20,7 @@ impl World {
             Call::Load { place, to } => load(self, place, to),
             Call::Store { place, from } => store(self, place, from),
             Call::Set { slot, word } => set(self, slot, word),
-            Call::Register {
-                slot,
-                kind,
-                procedure,
-                client_data,
-                rank,
-            } => register(self, slot, kind, procedure, client_data, rank),
+            Call::Register { slot, finalizer } => register(self, slot, finalizer),
             Call::Unregister(slot) => unregister(self, slot),
             Call::Link {
                 which,
@@ -88,27 +82,11 @@ fn set(world: &mut World, slot: Slot, word: Word) -> Result<Reply, Refusal>
     Ok(Reply::Done)
 }
 
-#[tactic(auto, using(crate::proofs::Replying::registers, crate::proofs::Replying::registers_nothing))]
 #[inline(never)]
-fn register(
-    world: &mut World,
-    slot: Slot,
-    kind: RegKind,
-    procedure: u64,
-    client_data: Word,
-    rank: Option<u8>,
-) -> Result<Reply, Refusal>
-    ensures { Replies world.old (calls.Register slot kind procedure client_data rank) result world.new }
+fn register(world: &mut World, slot: Slot, finalizer: Finalizer) -> Result<Reply, Refusal>
+    ensures { Replies world.old (calls.Register slot finalizer) result world.new }
 {
-    let rank = rank.unwrap_or(0);
-    Ok(Reply::Registered(world.register(
-        slot.frame,
-        slot.slot,
-        kind,
-        procedure,
-        client_data,
-        rank,
-    )?))
+    Ok(Reply::Registered(world.register_finalizer(slot, finalizer)?))
 }
 
 #[inline(never)]

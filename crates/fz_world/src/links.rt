@@ -1,15 +1,15 @@
 //! Disappearing links.
 
-ghost use Rattle.std.specs.Prelude.{◌≡◌, ◌≤◌, ◌+◌, ◌++◌, IfOk, IfErr, OnErr, IsSome};
+ghost use Rattle.std.specs.Prelude.{◌≡◌, ◌≤◌, IfOk, IfErr, OnErr, IsSome};
 ghost use Rattle.std.specs.Option.{IsNone};
-ghost use Rattle.std.specs.FinMap.{get};
 ghost use Rattle.fz_model.specs.Memory.{slot_word, address_of};
-ghost use Rattle.fz_model.specs.Causes.{IsJudgedBy, IsJudgedOrLacks, slot_causes, place_causes, start_causes};
+ghost use Rattle.fz_model.specs.Causes.{IsJudgedBy, IsJudgedOrLacks};
 ghost use Rattle.fz_model.specs.declared.call.Call.TheVariants as calls;
 ghost use Rattle.fz_model.specs.Places.{slot_at, place_at};
-ghost use Rattle.fz_model.specs.Events.{Make, causes, links_of};
+ghost use Rattle.fz_model.specs.Events.{Make, causes};
 ghost use Rattle.fz_world.specs.World.{KeepsMarks};
 ghost use Rattle.fz_world.specs.Does.{Does};
+ghost use Rattle.fz_world.specs.Links.{link_at, two_place_causes, end_causes};
 
 use crate::frames::Frames;
 use crate::registrations::{check_start, most_entries};
@@ -21,7 +21,7 @@ use fz_model::{Addr, LinkAnswer, LinkKind, MoveAnswer, Place, Refusal, Slot};
 /// The places at an offset from where two slots point. Refusals, in their order: `BadSlot` of either slot, then `NotPointer` and `OutsideObject` of the
 /// first place, then those of the second.
 fn places(frames: &Frames, heap: &Heap, from: Place, to: Place) -> Result<(Addr, Addr), Refusal>
-    ensures judged { IsJudgedBy (slot_causes frames.now from.slot ++ (slot_causes frames.now to.slot ++ (place_causes heap.now.objects (slot_word frames.now from.slot) from.offset ++ place_causes heap.now.objects (slot_word frames.now to.slot) to.offset))) result }
+    ensures judged { IsJudgedBy (two_place_causes frames.now heap.now.objects from to) result }
     ensures first { IfOk result (λ places. places.0 ≡ address_of frames.now from) }
     ensures second { IfOk result (λ places. places.1 ≡ address_of frames.now to) }
 {
@@ -35,7 +35,7 @@ fn places(frames: &Frames, heap: &Heap, from: Place, to: Place) -> Result<(Addr,
 /// The two ends of a link: the place at an offset from where a slot points, and the start that another slot holds. Refusals, in their order:
 /// `BadSlot` of either slot, then `NotPointer` and `OutsideObject` of the place, then `NotPointer` and `NotStart` of the target.
 fn ends(frames: &Frames, heap: &Heap, place: Place, target: Slot) -> Result<(Addr, Addr), Refusal>
-    ensures judged { IsJudgedBy (slot_causes frames.now place.slot ++ (slot_causes frames.now target ++ (place_causes heap.now.objects (slot_word frames.now place.slot) place.offset ++ start_causes heap.now.objects (slot_word frames.now target)))) result }
+    ensures judged { IsJudgedBy (end_causes frames.now heap.now.objects place target) result }
     ensures place { IfOk result (λ ends. ends.0 ≡ address_of frames.now place) }
     ensures target { IfOk result (λ ends. ends.1 ≡ slot_word frames.now target) }
 {
@@ -77,7 +77,7 @@ impl World {
         ensures caused { IsJudgedOrLacks (causes self.old.core (Make (calls.Link which (place_at frame slot offset) (slot_at target_frame target_slot)))) result }
         ensures refused { OnErr result (self.new ≡ self.old) }
         // Only a new link can want memory.
-        ensures growth { IfErr result (λ r. r ≡ Refusal.NoMemory → IsNone (get (links_of self.old.core which) (address_of self.old.frames (place_at frame slot offset)))) }
+        ensures growth { IfErr result (λ r. r ≡ Refusal.NoMemory → IsNone (link_at self.old.core which (place_at frame slot offset))) }
         ensures marks { KeepsMarks self.old self.new }
     {
         let place = Place {
@@ -143,7 +143,7 @@ impl World {
         ensures caused { IsJudgedOrLacks (causes self.old.core (Make (calls.Move which (place_at frame slot offset) (place_at to_frame to_slot to_offset)))) result }
         ensures refused { OnErr result (self.new ≡ self.old) }
         // Only a link that comes to another place, where none stands, can want memory.
-        ensures growth { IfErr result (λ r. r ≡ Refusal.NoMemory → IsSome (get (links_of self.old.core which) (address_of self.old.frames (place_at frame slot offset))) × IsNone (get (links_of self.old.core which) (address_of self.old.frames (place_at to_frame to_slot to_offset)))) }
+        ensures growth { IfErr result (λ r. r ≡ Refusal.NoMemory → IsSome (link_at self.old.core which (place_at frame slot offset)) × IsNone (link_at self.old.core which (place_at to_frame to_slot to_offset))) }
         ensures marks { KeepsMarks self.old self.new }
     {
         let place = Place {

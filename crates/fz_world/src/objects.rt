@@ -9,7 +9,7 @@ ghost use Rattle.fz_model.specs.Causes.{IsJudgedBy};
 ghost use Rattle.fz_model.specs.declared.call.Call.TheVariants as calls;
 ghost use Rattle.fz_model.specs.Places.{slot_at, place_at};
 ghost use Rattle.fz_model.specs.Events.{Make, causes};
-ghost use Rattle.fz_world.specs.World.{KeepsMarks, with_in_cycle};
+ghost use Rattle.fz_world.specs.World.{KeepsMarks, MarksMade, NotesWritten, with_in_cycle};
 ghost use Rattle.fz_world.specs.Does.{Does};
 
 use crate::world::World;
@@ -55,7 +55,7 @@ impl World {
         // It takes no memory, since `open` made its room: so each refusal has its cause.
         ensures caused { IsJudgedBy (causes self.old.core (Make (calls.Alloc (slot_at frame slot) size kind))) result }
         ensures refused { OnErr result (self.new ≡ self.old) }
-        ensures marks { IfOk result (λ made. self.new ≡ record self.old { core = self.new.core; marked = with_in_cycle self.old.cycle self.old.marked made.0; noted = with_in_cycle self.old.cycle self.old.noted (block_of made.0) }) }
+        ensures marks { IfOk result (λ made. MarksMade self.old made.0 self.new) }
     {
         self.frames.check(Slot { frame, slot })?;
         let (address, birth) = self.heap.alloc(size, kind)?;
@@ -107,7 +107,7 @@ impl World {
         ensures step { Does self.old (Make (calls.Store (place_at frame slot offset) (slot_at from_frame from_slot))) result self.new }
         ensures caused { IsJudgedBy (causes self.old.core (Make (calls.Store (place_at frame slot offset) (slot_at from_frame from_slot)))) result }
         ensures refused { OnErr result (self.new ≡ self.old) }
-        ensures marks { OnOk result (self.new ≡ record self.old { core = self.new.core; noted = with_in_cycle self.old.cycle self.old.noted (block_of (address_of self.old.frames (place_at frame slot offset))) }) }
+        ensures marks { OnOk result (NotesWritten self.old (address_of self.old.frames (place_at frame slot offset)) self.new) }
     {
         let word = self.frames.get(Slot { frame, slot })?;
         let value = self.frames.get(Slot {

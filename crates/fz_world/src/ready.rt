@@ -1,16 +1,15 @@
 //! The queue of finalizers that are ready, and those of its entries that are held.
 
-ghost use Rattle.std.specs.Prelude.{◌≡◌, ◌≤◌, ◌<◌, ◌+◌, ◌*◌, ◌^◌, [], ◌∷◌, ◌||◌, not, ℕ, List, filter, length, Contains, vec_len, vec_capacity, OnOk, OnErr, IfOk, IfErr, IfSome, MatchOption};
+ghost use Rattle.std.specs.Prelude.{◌≡◌, ◌≤◌, ◌<◌, ◌+◌, ◌*◌, ◌^◌, [], ◌∷◌, ◌||◌, not, ℕ, filter, length, Contains, vec_len, vec_capacity, OnOk, OnErr, IfOk, IfErr, IfSome, MatchOption};
 ghost use Rattle.std.specs.FinSet.{contains};
 ghost use Rattle.std.specs.FinMap.{len};
 ghost use Rattle.fz_model.specs.declared.answers.Entry.{Entry};
-ghost use Rattle.fz_model.specs.declared.answers.Pick.{Pick};
 ghost use Rattle.fz_model.specs.declared.limits.TheConstants.{TABLE_LIMIT, BLOCK_WORDS};
 ghost use Rattle.fz_model.specs.Causes.{IsJudgedBy};
 ghost use Rattle.fz_model.specs.Events.{same_entry, not_held};
 ghost use Rattle.fz_marker.specs.Marking.{IsClosed};
-ghost use Rattle.fz_pass.specs.Decides.{Decides, parts};
-ghost use Rattle.fz_world.specs.Ready.{IsNextHeld, GainsPicks, is_between};
+ghost use Rattle.fz_pass.specs.Decides.{parts};
+ghost use Rattle.fz_world.specs.Ready.{IsNextHeld, GainsDecided, is_between};
 
 use fz_bits::SparseFlags;
 use fz_heap::Heap;
@@ -139,7 +138,7 @@ impl Ready {
         requires size { marker.old.size ≡ BLOCK_WORDS * heap.old.blocks }
         requires closed { IsClosed heap.old.objects marker.old.marked }
         requires room { len table.old.registrations ≤ self.old.room }
-        ensures decided { (picks : List Pick) × (result.picked ≡ length picks) × GainsPicks number picks self.old self.new × Decides (parts heap.old table.old.registered short.old long.old) (contains marker.old.marked) picks (parts heap.new table.new.registered short.new long.new) }
+        ensures decided { GainsDecided number (parts heap.old table.old.registered short.old long.old) (contains marker.old.marked) (parts heap.new table.new.registered short.new long.new) result.picked self.old self.new }
         ensures number { result.pass ≡ number }
         ensures reclaimed { len heap.new.objects + result.reclaimed ≡ len heap.old.objects }
         ensures room { len table.new.registrations ≤ self.new.room }

@@ -1,24 +1,25 @@
 //! Registrations of finalizers.
 
-ghost use Rattle.std.specs.Prelude.{Some, ◌≡◌, ◌≤◌, ◌+◌, ◌⊎◌, IsFalse, IfOk, IfErr, OnOk, OnErr};
+ghost use Rattle.std.specs.Prelude.{◌≡◌, ◌≤◌, ◌⊎◌, IsFalse, IfErr, OnOk, OnErr};
 ghost use Rattle.std.specs.Option.{IsNone};
 ghost use Rattle.std.specs.FinMap.{get, len, insert};
 ghost use Rattle.fz_model.specs.declared.answers.Registration.{Registration};
 ghost use Rattle.fz_model.specs.declared.limits.TheConstants.{TABLE_LIMIT};
-ghost use Rattle.fz_model.specs.Memory.{slot_word};
-ghost use Rattle.fz_model.specs.Causes.{IsJudgedBy, IsJudgedOrLacks, start_causes, register_causes, is_off_heap, full};
-ghost use Rattle.fz_model.specs.Steps.{old_of};
+ghost use Rattle.fz_model.specs.Causes.{IsJudgedBy, start_causes, is_off_heap, full};
 ghost use Rattle.fz_model.specs.declared.call.Call.TheVariants as calls;
-ghost use Rattle.fz_model.specs.Places.{slot_at};
+ghost use Rattle.fz_model.specs.Places.{slot_at, finalizer_of};
 ghost use Rattle.fz_model.specs.Events.{Make, causes};
+ghost use Rattle.fz_table.specs.Registers.{Registers};
 ghost use Rattle.fz_world.specs.World.{KeepsMarks};
 ghost use Rattle.fz_world.specs.Does.{Does};
+ghost use Rattle.fz_world.specs.Registering.{RegistersFinalizer};
 
 use crate::ready::Ready;
 use crate::world::World;
 use fz_heap::Heap;
 use fz_model::{
-    Addr, BLOCK_WORDS, HEAP_START, Old, Refusal, RegAnswer, RegKind, Slot, TABLE_LIMIT, Word,
+    Addr, BLOCK_WORDS, Finalizer, HEAP_START, Old, Refusal, RegAnswer, RegKind, Slot, TABLE_LIMIT,
+    Word,
 };
 use fz_table::Table;
 
@@ -87,33 +88,24 @@ fn make_room(table: &Table, ready: &mut Ready, object: Addr) -> Result<(), Refus
     Err(refusal)
 }
 
-/// Registers an object, once there is room for its entry; returns the number and what was replaced. Refused as `Table::register` is; a refused call
+/// Registers an object's finalizer, once there is room for its entry; returns the number and what was replaced. Refused as `Table::register` is; a refused call
 /// leaves no more than room behind.
 fn enroll(
     table: &mut Table,
     ready: &mut Ready,
     object: Addr,
-    registration: (RegKind, u64, Word, u8),
+    finalizer: Finalizer,
 ) -> Result<(u64, Option<Old>), Refusal>
     requires room { len table.old.registrations ≤ ready.old.room }
-    ensures judged { IsJudgedOrLacks (register_causes table.old.registrations table.old.next_number object) result }
-    ensures growth { IfErr result (λ r. r ≡ Refusal.NoMemory → IsNone (get table.old.registrations object)) }
+    ensures registers { Registers table.old.registered object finalizer result table.new.registered }
     ensures wanting { IfErr result (λ r. r ≡ Refusal.NoMemory → (table.old.room ≡ 0) ⊎ (ready.old.room ≤ len table.old.registrations)) }
-    ensures unchanged { OnErr result (table.new.registered ≡ table.old.registered) }
-    ensures number { IfOk result (λ answer. answer.0 ≡ table.old.next_number) }
-    ensures replaced { IfOk result (λ answer. answer.1 ≡ old_of table.old.registrations object) }
-    ensures registered { OnOk result (table.new.registered ≡ record {
-      registrations = insert table.old.registrations object (record { number = table.old.next_number; kind = registration.0; proc = registration.1; cd = registration.2; rank = registration.3 });
-      next_number = table.old.next_number + 1;
-    }) }
     ensures same { (ready.new.queue ≡ ready.old.queue) × (ready.new.held ≡ ready.old.held) }
     ensures roomier { ready.old.room ≤ ready.new.room }
     ensures room { OnOk result (len table.new.registrations ≤ ready.new.room) }
 {
-    let (kind, proc, cd, rank) = registration;
     table.check(object)?;
     make_room(table, ready, object)?;
-    table.register_checked(object, kind, proc, cd, rank)
+    table.register_checked(object, finalizer)
 }
 
 #[tactic(auto, using(fz_model::proofs::Judged::judged_more, fz_model::proofs::Judged::judged_err, crate::proofs::Whole::world_room, crate::proofs::Whole::world_registered, crate::proofs::Whole::world_roomier, crate::proofs::Whole::world_removed, crate::proofs::Does::start_refused, crate::proofs::Does::does_refused, crate::proofs::Does::does_accepted))]
@@ -132,26 +124,27 @@ impl World {
         cd: Word,
         rank: u8,
     ) -> Result<RegAnswer, Refusal>
-        ensures step { Does self.old (Make (calls.Register (slot_at frame slot) kind proc cd (Some rank))) result self.new }
-        ensures caused { IsJudgedOrLacks (causes self.old.core (Make (calls.Register (slot_at frame slot) kind proc cd (Some rank)))) result }
-        ensures refused { OnErr result (self.new ≡ self.old) }
-        // Only the first registration of an object can want memory.
-        ensures inside { IfErr result (λ r. r ≡ Refusal.NoMemory → IsFalse (is_off_heap self.old.blocks (slot_word self.old.frames (slot_at frame slot)))) }
-        ensures growth { IfErr result (λ r. r ≡ Refusal.NoMemory → IsNone (get self.old.registrations (slot_word self.old.frames (slot_at frame slot)))) }
-        ensures marks { KeepsMarks self.old self.new }
+        ensures { RegistersFinalizer self.old (slot_at frame slot) (finalizer_of kind proc cd rank) result self.new }
     {
-        let word = self.frames.get(Slot { frame, slot })?;
+        let finalizer = Finalizer::new(kind, proc, cd, rank);
+        self.register_finalizer(Slot { frame, slot }, finalizer)
+    }
+
+    /// The same call, with slot and finalizer as values. A finalizer that names no rank has rank 0.
+    pub fn register_finalizer(
+        &mut self,
+        slot: Slot,
+        finalizer: Finalizer,
+    ) -> Result<RegAnswer, Refusal>
+        ensures { RegistersFinalizer self.old slot finalizer result self.new }
+    {
+        let word = self.frames.get(slot)?;
         if is_off_heap(&self.heap, word) {
             return Ok(RegAnswer::Outside);
         }
         check_start(&self.heap, word)?;
         make_first_room(&mut self.table, &mut self.ready, most_entries(&self.heap));
-        let (number, old) = enroll(
-            &mut self.table,
-            &mut self.ready,
-            word,
-            (kind, proc, cd, rank),
-        )?;
+        let (number, old) = enroll(&mut self.table, &mut self.ready, word, finalizer)?;
         Ok(RegAnswer::Number(number, old))
     }
 

@@ -31,7 +31,7 @@ abbrev pub is_quiet : Event → Bool
 is_quiet (Make (Alloc slot size kind)) = is_hand slot
 is_quiet (Make (Load place to)) = is_hand to
 is_quiet (Make (Set slot word)) = is_hand slot
-is_quiet (Make (Register slot kind procedure client_data rank)) = true
+is_quiet (Make (Register slot finalizer)) = true
 is_quiet (Finish entry) = true
 is_quiet _ = false
 
@@ -79,7 +79,7 @@ accepted keys s (Make (Load place to)) answer new (told, is) quiet h =
     onto keys s.core _ new is (same_parts keys s.core (record s.core { frames = with_slot s.frames to answer }) (at_hand s.frames to answer quiet) refl refl refl h)
 accepted keys s (Make (Set slot word)) answer new is quiet h =
     onto keys s.core _ new is (same_parts keys s.core (record s.core { frames = with_slot s.frames slot word }) (at_hand s.frames slot word quiet) refl refl refl h)
-accepted keys s (Make (Register slot kind procedure client_data rank)) answer new (told, is) quiet h =
+accepted keys s (Make (Register slot finalizer)) answer new (told, is) quiet h =
     registered keys s.core new (is_off_heap s.blocks (slot_word s.frames slot)) _ _ is h
 accepted keys s (Finish entry) answer new is quiet h = onto keys s.core _ new is (same_parts keys s.core _ refl refl refl refl h)
 accepted keys s e answer new is quiet h = absurd (true≢false (sym quiet))

@@ -6,7 +6,7 @@ use Rattle.fz_model.specs.declared.answers.RegAnswer.{RegAnswer}
 use Rattle.fz_model.specs.declared.kinds.ObjKind.TheVariants.{Atomic}
 use Rattle.fz_model.specs.declared.kinds.RegKind.TheVariants.{Normal}
 use Rattle.fz_model.specs.declared.call.Call.TheVariants.{Alloc, Register}
-use Rattle.fz_model.specs.Places.{slot_at}
+use Rattle.fz_model.specs.Places.{slot_at, finalizer_of}
 use Rattle.fz_model.specs.Events.{Make}
 use Rattle.fz_model.specs.State.{Object, Core, State}
 use Rattle.fz_model.specs.Memory.{slot_word}
@@ -47,7 +47,7 @@ KeepsCached old new = SameIn old.core new.core
 abbrev pub Makes : WorldView → ℕ → WorldView → Type 0
 Makes old client_data new =
     (mid : WorldView) × (made : ℕ × ℕ) × (answer : RegAnswer)
-    × Does old (Make (Alloc (slot_at 0 HAND) 1 Atomic)) (Ok made) mid × Does mid (Make (Register (slot_at 0 HAND) Normal 0 client_data (Some 0))) (Ok answer) new
+    × Does old (Make (Alloc (slot_at 0 HAND) 1 Atomic)) (Ok made) mid × Does mid (Make (Register (slot_at 0 HAND) (finalizer_of Normal 0 client_data 0))) (Ok answer) new
 
 -- the list has a word for each key, what is cached under it or zero; and no long link stands anywhere
 pub record IsCache (keys : ℕ) (c : Core) : Type 0 where

@@ -86,6 +86,7 @@ impl Cache {
         ensures same { KeepsCached self.old.world self.new.world }
         ensures keys { self.new.keys ≡ self.old.keys }
     {
+        // For the prover alone: the laws of the definitions.
         every_call();
         let word = self.world.load(0, LIST, key, 0, HAND)?;
         if word == 0 {
@@ -112,6 +113,7 @@ impl Cache {
         ensures reachable { (key a : ℕ) → key < self.old.keys → cached self.old key ≡ Some a → IsReachable self.old.world.core a → cached self.new key ≡ Some a }
         ensures keys { self.new.keys ≡ self.old.keys }
     {
+        // For the prover alone: the laws of the definitions.
         every_call();
         self.world.collect()
     }

@@ -4,4 +4,4 @@ use Rattle.fz_threads.proofs.Holding.{held}
 use Rattle.fz_threads.proofs.holds.hold_for.Goals as goal
 
 pub returns : goal.returns
-returns g c = held _ _ c.args.call _ _ _ (subst (λ s. IsInOrder g.O.Opening.origin s) (sym c.deref_mut.ensures.value) c.enter-locked.ensures) c.carry_out.ensures.step c.is_err.ensures.value
+returns g c = held _ _ c.args.call _ _ _ (subst (λ s. IsInOrder g.O.Opening.origin s) (sym c.deref_mut.ensures.value) c.enter-locked.ensures) c.make.ensures.step c.is_err.ensures.value

@@ -3,11 +3,11 @@ use Rattle.fz_drive.proofs.Machines.{asks, accepted, refuses}
 use Rattle.fz_drive.proofs.Calls.{call_answers, call_refuses}
 use Rattle.fz_drive.proofs.machine.Machine.carry_out.Goals as goal
 
-pub returns-in_err-carry_out-in-Call : goal.returns-in_err-carry_out-in-Call
-returns-in_err-carry_out-in-Call c = call_refuses _ _ _ c.in-Call.call _ _ c.in-Call.is c.in_err-carry_out-in-Call.ensures.told c.from_residual.ensures.1
+pub returns-in_err-make-in-Call : goal.returns-in_err-make-in-Call
+returns-in_err-make-in-Call c = call_refuses _ _ _ c.in-Call.call _ _ c.in-Call.is c.in_err-make-in-Call.ensures.told c.from_residual.ensures.1
 
-pub returns-in_ok-carry_out-in-Call : goal.returns-in_ok-carry_out-in-Call
-returns-in_ok-carry_out-in-Call c = call_answers _ _ _ c.in-Call.call _ c.in-Call.is c.in_ok-carry_out-in-Call.ensures.told
+pub returns-in_ok-make-in-Call : goal.returns-in_ok-make-in-Call
+returns-in_ok-make-in-Call c = call_answers _ _ _ c.in-Call.call _ c.in-Call.is c.in_ok-make-in-Call.ensures.told
 
 pub returns-in_err-take-in-Take : goal.returns-in_err-take-in-Take
 returns-in_err-take-in-Take c = refuses _ _ _ _ _ _ (asks c.in-Take.is refl) c.in_err-take-in-Take.ensures c.from_residual-in_err-take-in-Take.ensures.1

@@ -1,0 +1,24 @@
+-- What a call does that registers a finalizer of a slot's object.
+use Rattle.std.specs.Prelude.{◌≡◌, Result, IfErr, OnErr, IsFalse}
+use Rattle.std.specs.Option.{IsNone}
+use Rattle.std.specs.FinMap.{get}
+use Rattle.fz_model.specs.declared.answers.RegAnswer.{RegAnswer}
+use Rattle.fz_model.specs.declared.call.Call.TheVariants.{Register}
+use Rattle.fz_model.specs.declared.finalizer.Finalizer.{Finalizer}
+use Rattle.fz_model.specs.declared.places.Slot.{Slot}
+use Rattle.fz_model.specs.declared.refusal.Refusal.{Refusal}
+use Rattle.fz_model.specs.declared.refusal.Refusal.TheVariants.{NoMemory}
+use Rattle.fz_model.specs.Causes.{IsJudgedOrLacks, is_off_heap}
+use Rattle.fz_model.specs.Events.{Make, causes}
+use Rattle.fz_model.specs.Memory.{slot_word}
+use Rattle.fz_world.specs.Does.{Does}
+use Rattle.fz_world.specs.World.{WorldView, KeepsMarks}
+
+pub record RegistersFinalizer (old : WorldView) (slot : Slot) (finalizer : Finalizer) (result : Result RegAnswer Refusal) (new : WorldView) : Type 0 where
+  pub step : Does old (Make (Register slot finalizer)) result new
+  pub caused : IsJudgedOrLacks (causes old.core (Make (Register slot finalizer))) result
+  pub refused : OnErr result (new ≡ old)
+  -- only the first registration of an object can want memory
+  pub inside : IfErr result (λ r. r ≡ NoMemory → IsFalse (is_off_heap old.blocks (slot_word old.frames slot)))
+  pub growth : IfErr result (λ r. r ≡ NoMemory → IsNone (get old.registrations (slot_word old.frames slot)))
+  pub marks : KeepsMarks old new
