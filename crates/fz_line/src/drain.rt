@@ -37,11 +37,11 @@ pub(crate) fn gather(worker: &mut LineWorker, seats: &mut [Seat], out: &mut Vec<
     let (front, rest) = seats.split_at_mut(1);
     let seat = &mut front[0];
     let blank = worker.another::<Blank>();
-    let pass = mem::replace(&mut seat.place.pass, blank);
+    let pass = mem::replace(&mut seat.taker.pass, blank);
     worker.absorb::<SeatList>(pass);
     gather(worker, rest, out);
     let pass = worker.another::<SeatList>();
-    let blank = mem::replace(&mut seat.place.pass, pass);
+    let blank = mem::replace(&mut seat.taker.pass, pass);
     drop(blank);
 }
 

@@ -2,8 +2,8 @@
 
 ghost use Rattle.std.specs.Prelude.{◌≡◌, ◌+◌};
 
-use crate::place::Place;
 use crate::seat::Seat;
+use crate::taker::Taker;
 use fz_model::Entry;
 use std::marker::Model;
 
@@ -12,7 +12,7 @@ use std::marker::Model;
 /// A duty can't be copied, cloned or dropped, so that its entry isn't forgotten: it becomes a seat again by `done` or `forfeit`.
 /// A contract sees the seat, whose list ends with the entry, and the entry.
 pub struct Duty {
-    pub(crate) place: Place,
+    pub(crate) taker: Taker,
     pub(crate) entry: Entry,
 }
 
@@ -22,9 +22,9 @@ impl Model for Duty {
 
     ghost Value = { DutyState };
 
-    ghost view = { λ d. record { seat = d.place; entry = d.entry } };
+    ghost view = { λ d. record { seat = d.taker; entry = d.entry } };
 
-    ghost invariant = { λ d. length d.place.took ≡ d.place.finished + d.place.forfeited + 1 };
+    ghost invariant = { λ d. length d.taker.took ≡ d.taker.finished + d.taker.forfeited + 1 };
 }
 
 impl Duty {
@@ -40,11 +40,11 @@ impl Duty {
         ensures { result ≡ record self.seat { forfeited = self.seat.forfeited + 1 } }
     {
         let Duty {
-            mut place,
+            mut taker,
             entry: _,
         } = self;
-        place.forfeited += 1;
-        Seat { place }
+        taker.forfeited += 1;
+        Seat { taker }
     }
 
     /// Puts the entry away with its work done, which counts as finished.
@@ -52,10 +52,10 @@ impl Duty {
         ensures { result ≡ record self.seat { finished = self.seat.finished + 1 } }
     {
         let Duty {
-            mut place,
+            mut taker,
             entry: _,
         } = self;
-        place.finished += 1;
-        Seat { place }
+        taker.finished += 1;
+        Seat { taker }
     }
 }

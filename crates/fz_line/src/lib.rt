@@ -8,10 +8,10 @@ mod drain;
 mod duty;
 mod opening;
 mod owner;
-mod place;
 mod plain_line;
 mod protocol;
 mod seat;
+mod taker;
 
 pub use duty::Duty;
 pub use opening::{line, retire_all};

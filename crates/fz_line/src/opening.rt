@@ -8,9 +8,9 @@ ghost use Rattle.fz_line.specs.Passes.{IsOwnerEnd};
 ghost use Rattle.fz_line.specs.States.{owner_state, seat_state, new_seats};
 
 use crate::owner::Owner;
-use crate::place::Place;
 use crate::protocol::{LineWorker, SeatList};
 use crate::seat::Seat;
+use crate::taker::Taker;
 use fz_model::{MAX_WORKERS, Refusal};
 use std::alloc::Global;
 
@@ -57,14 +57,14 @@ fn new_seat(worker: &mut LineWorker, index: usize) -> Option<Seat>
         return None;
     };
     let pass = worker.another::<SeatList>();
-    let place = Place {
+    let taker = Taker {
         stealer,
         pass,
         index,
         finished: 0,
         forfeited: 0,
     };
-    Some(Seat { place })
+    Some(Seat { taker })
 }
 
 /// Retires all these seats.

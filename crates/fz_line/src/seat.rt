@@ -4,8 +4,8 @@ ghost use Rattle.std.specs.Prelude.{◌≡◌, ◌+◌, length};
 ghost use Rattle.fz_line.specs.Takes.{MatchTake, GainsEntry};
 
 use crate::duty::Duty;
-use crate::place::Place;
 use crate::protocol::Taking;
+use crate::taker::Taker;
 use crossbeam_deque::Steal;
 use std::marker::Model;
 
@@ -14,7 +14,7 @@ use std::marker::Model;
 /// A seat can't be copied, cloned or dropped, so that no entry that it took is forgotten: it ends by `retire` alone.
 /// A contract sees the list of all entries that it took, and that each of them was finished or forfeited.
 pub struct Seat {
-    pub(crate) place: Place,
+    pub(crate) taker: Taker,
 }
 
 impl Model for Seat {
@@ -23,9 +23,9 @@ impl Model for Seat {
 
     ghost Value = { SeatState };
 
-    ghost view = { λ s. s.place };
+    ghost view = { λ s. s.taker };
 
-    ghost invariant = { λ s. length s.place.took ≡ s.place.finished + s.place.forfeited };
+    ghost invariant = { λ s. length s.taker.took ≡ s.taker.finished + s.taker.forfeited };
 }
 
 /// What a take returns.
@@ -43,19 +43,19 @@ impl Seat {
     pub fn take(self) -> Take
         ensures { MatchTake result (GainsEntry self) (λ seat. seat ≡ self) }
     {
-        let Seat { mut place } = self;
-        match place.stealer.steal_as::<Taking>(&mut place.pass) {
-            Steal::Success(entry) => Take::Taken(Duty { place, entry }),
-            Steal::Empty => Take::Empty(Seat { place }),
-            Steal::Retry => Take::Busy(Seat { place }),
+        let Seat { mut taker } = self;
+        match taker.stealer.steal_as::<Taking>(&mut taker.pass) {
+            Steal::Success(entry) => Take::Taken(Duty { taker, entry }),
+            Steal::Empty => Take::Empty(Seat { taker }),
+            Steal::Retry => Take::Busy(Seat { taker }),
         }
     }
 
-    /// Its place among the seats of its line, counted from 0.
+    /// Its number among the seats of its line, counted from 0.
     pub fn index(&self) -> usize
         ensures { result ≡ self.now.index }
     {
-        self.place.index
+        self.taker.index
     }
 
     /// The number of entries that it took.
@@ -63,33 +63,33 @@ impl Seat {
         ensures taken { result ≡ length self.now.took }
         ensures idle { result ≡ self.now.finished + self.now.forfeited }
     {
-        self.place.finished + self.place.forfeited
+        self.taker.finished + self.taker.forfeited
     }
 
     /// The number of entries whose work it did.
     pub fn finished(&self) -> u64
         ensures { result ≡ self.now.finished }
     {
-        self.place.finished
+        self.taker.finished
     }
 
     /// The number of entries that it gave up.
     pub fn forfeited(&self) -> u64
         ensures { result ≡ self.now.forfeited }
     {
-        self.place.forfeited
+        self.taker.forfeited
     }
 
     /// Ends the seat for good. Its line can't be drained after that.
     pub fn retire(self) {
-        let Seat { place } = self;
-        let Place {
+        let Seat { taker } = self;
+        let Taker {
             stealer,
             pass,
             index: _,
             finished: _,
             forfeited: _,
-        } = place;
+        } = taker;
         drop(pass);
         drop(stealer);
     }

@@ -7,8 +7,8 @@ use Rattle.fz_line.specs.Takes.{GainsEntry}
 use Rattle.fz_service.specs.Workers.{Extends, Serves}
 use Rattle.fz_service.specs.declared.seat.Take.{Take}
 use Rattle.fz_service.specs.declared.seat.Take.TheVariants as take
-use Rattle.fz_service.specs.declared.workers.Turn.{Turn}
-use Rattle.fz_service.specs.declared.workers.Turn.TheVariants.{Served, Empty, Busy}
+use Rattle.fz_service.specs.declared.turn.CameTo.{CameTo}
+use Rattle.fz_service.specs.declared.turn.CameTo.TheVariants.{Served, Empty, Busy}
 use Rattle.fz_service.specs.Takes.{MatchTake}
 use Rattle.fz_service.specs.Turns.{IsAnswered, Turns}
 
@@ -41,13 +41,13 @@ one_more mid new duty false gains is =
     ap (λ (s : SeatState). length s.took) is ∙ ap (λ (s : SeatState). length s.took) gains.0 ∙ length-append mid.took (duty.entry ∷ [])
 
 -- what was taken was answered
-pub turned : {O : Type 0} (taken : Take O) (turn : Turn) (old new : SeatState) → MatchTake taken (GainsEntry old) (λ seat. seat ≡ old) → IsAnswered taken turn new → Turns old turn new
+pub turned : {O : Type 0} (taken : Take O) (turn : CameTo) (old new : SeatState) → MatchTake taken (GainsEntry old) (λ seat. seat ≡ old) → IsAnswered taken turn new → Turns old turn new
 turned (take.Taken duty) (Served finished) old new gains serves = (duty, gains, serves)
-turned (take.Taken duty) Empty old new gains serves = absurd serves
+turned (take.Taken duty) (Empty found) old new gains serves = absurd serves
 turned (take.Taken duty) Busy old new gains serves = absurd serves
 turned (take.Empty seat) (Served finished) old new same is = absurd is
-turned (take.Empty seat) Empty old new same is = is ∙ same
+turned (take.Empty seat) (Empty found) old new same is = is ∙ same
 turned (take.Empty seat) Busy old new same is = absurd is
 turned (take.Busy seat) (Served finished) old new same is = absurd is
-turned (take.Busy seat) Empty old new same is = absurd is
+turned (take.Busy seat) (Empty found) old new same is = absurd is
 turned (take.Busy seat) Busy old new same is = is ∙ same

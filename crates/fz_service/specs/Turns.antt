@@ -5,25 +5,25 @@ use Rattle.fz_line.specs.Takes.{GainsEntry}
 use Rattle.fz_service.specs.Workers.{Serves}
 use Rattle.fz_service.specs.declared.seat.Take.{Take}
 use Rattle.fz_service.specs.declared.seat.Take.TheVariants as take
-use Rattle.fz_service.specs.declared.workers.Turn.{Turn}
-use Rattle.fz_service.specs.declared.workers.Turn.TheVariants.{Served, Empty, Busy}
+use Rattle.fz_service.specs.declared.turn.CameTo.{CameTo}
+use Rattle.fz_service.specs.declared.turn.CameTo.TheVariants.{Served, Empty, Busy}
 
 -- a duty became a seat again; else the seat is the one that was given back; and the turn tells which of these it was
-abbrev pub IsAnswered : {O : Type 0} → Take O → Turn → SeatState → Type 0
+abbrev pub IsAnswered : {O : Type 0} → Take O → CameTo → SeatState → Type 0
 IsAnswered (take.Taken duty) (Served finished) seat = Serves duty seat finished
-IsAnswered (take.Empty same) Empty seat = seat ≡ same
+IsAnswered (take.Empty same) (Empty found) seat = seat ≡ same
 IsAnswered (take.Busy same) Busy seat = seat ≡ same
 IsAnswered _ _ _ = ⊥
 
 -- the seat took an entry, whose duty ended; or it is the same
-abbrev pub Turns : SeatState → Turn → SeatState → Type 0
+abbrev pub Turns : SeatState → CameTo → SeatState → Type 0
 Turns old (Served finished) new = (duty : DutyState) × GainsEntry old duty × Serves duty new finished
-Turns old Empty new = new ≡ old
+Turns old (Empty found) new = new ≡ old
 Turns old Busy new = new ≡ old
 
 -- no more entries were taken than the limit; if fewer, the last turn gave none
-abbrev pub UsesUp : ℕ → SeatState → Option Turn → SeatState → Type 0
+abbrev pub UsesUp : ℕ → SeatState → Option CameTo → SeatState → Type 0
 UsesUp limit old None new = length new.took ≡ length old.took + limit
 UsesUp limit old (Some (Served finished)) new = ⊥
-UsesUp limit old (Some Empty) new = length new.took ≤ length old.took + limit
+UsesUp limit old (Some (Empty found)) new = length new.took ≤ length old.took + limit
 UsesUp limit old (Some Busy) new = length new.took ≤ length old.took + limit

@@ -24,7 +24,7 @@ use std::{mem, thread};
 
 impl<O: Opening> Service<O> {
     /// Runs workers as `run_workers` does, and `main` on the calling thread beside them. When `main` has ended, the workers take what was sent,
-    /// and stop. Returns the seats, each at its place, and what `main` returned.
+    /// and stop. Returns the seats, in their order, and what `main` returned.
     pub fn run_beside<T, F: FnOnce() -> T, G: Gate + Sync, R: Threads + Wait + Sync>(
         &self,
         seats: Vec<Seat<O>>,
@@ -68,7 +68,7 @@ pub trait Program<R: Wait, T> {
 /// Opens a service of this size with this number of workers, runs the program beside them, and ends the service. Returns what the program told, and the
 /// totals.
 ///
-/// The worker at each place has the list of procedures at that place. Refusals, in their order: `BadCount` where blocks, frames or workers are
+/// The first worker has the first list of procedures, and so on. Refusals, in their order: `BadCount` where blocks, frames or workers are
 /// outside their limits, `NoMemory` where an allocation failed. What the program told is dropped where the end is refused.
 pub fn with_service<T: Drop, P: Program<R, T> + Drop, R: Threads + Wait + Sync>(
     alloc: Global,
@@ -82,11 +82,16 @@ pub fn with_service<T: Drop, P: Program<R, T> + Drop, R: Threads + Wait + Sync>(
     ensures ended { IfOk result (λ told. IsEndOfSize config.blocks config.frames workers told.1) }
 {
     let prepared = Service::prepare(alloc, config, workers)?;
-    serve::<Brand, T, P, R>(prepared, procs.as_mut_slice(), rt, program)
+    open_and_run::<Brand, T, P, R>(prepared, procs.as_mut_slice(), rt, program)
 }
 
 /// Opens the service, runs the program beside its workers, and ends it.
-fn serve<O: Opening + Send + Sync, T: Drop, P: Program<R, T> + Drop, R: Threads + Wait + Sync>(
+fn open_and_run<
+    O: Opening + Send + Sync,
+    T: Drop,
+    P: Program<R, T> + Drop,
+    R: Threads + Wait + Sync,
+>(
     prepared: Prepared,
     procs: &mut [Vec<Box<dyn Proc + Send>>],
     rt: &R,

@@ -12,6 +12,8 @@ mod opening;
 mod prepared;
 mod seat;
 mod service;
+mod told;
+mod turn;
 mod worker_threads;
 mod workers;
 

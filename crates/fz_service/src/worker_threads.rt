@@ -1,32 +1,34 @@
 //! Worker threads.
 
-ghost use Rattle.std.specs.Prelude.{◌≡◌, ℕ, ◌<◌, ◌≤◌, [], true, Option, length, slice_index_or, vec_capacity};
+ghost use Rattle.std.specs.Prelude.{◌≡◌, ℕ, ◌<◌, ◌≤◌, [], Option, length, slice_index_or, vec_capacity};
 ghost use Rattle.fz_line.specs.States.{SeatState};
 ghost use Rattle.fz_service.specs.Workers.{Extends, ExtendEach, SlotExtends, slots_of, in_slots};
 
 use crate::opening::Opening;
 use crate::seat::Seat;
 use crate::service::Service;
-use crate::workers::{Gate, Proc, Turn, held_on};
+use crate::told::Told;
+use crate::turn::{CameTo, FoundEmpty, Turn};
+use crate::workers::{Gate, Proc, lock_for_next_turn};
 use std::alloc::Global;
 use std::marker::Model;
 use std::sync::Wait;
-use std::sync::atomic::{AtomicBool, Ordering};
+use std::sync::atomic::AtomicBool;
 use std::thread::{Parker, Threads};
 use std::time::Duration;
 use std::{hint, mem, thread};
 
 /// How often in a row a worker spins where the line is empty, before it begins to yield: for some 10 microseconds in all.
-const SPINS: u32 = 16;
+const SPINS_IN_A_ROW: u32 = 16;
 
-/// How often it tells the processor so at a time.
-const HINTS: u32 = 16;
+/// How often it tells the processor so in each spin.
+const HINTS_IN_A_SPIN: u32 = 16;
 
 /// How often in a row it yields, before it begins to sleep.
-const YIELDS: u32 = 64;
+const YIELDS_IN_A_ROW: u32 = 64;
 
 /// For how many microseconds it sleeps at a time.
-const SLEEP: u64 = 100;
+const MICROSECONDS_OF_SLEEP: u64 = 100;
 
 /// What a worker does while the line is empty: it spins at first, then yields, and then sleeps for a moment at a time, since nothing wakes it.
 #[derive(Drop)]
@@ -52,20 +54,21 @@ impl Pause {
     }
 
     fn once<R: Wait>(&mut self, rt: &R) {
-        if self.spins < SPINS {
+        if self.spins < SPINS_IN_A_ROW {
             self.spins += 1;
             spin();
-        } else if self.yields < YIELDS {
+        } else if self.yields < YIELDS_IN_A_ROW {
             self.yields += 1;
             thread::yield_now();
         } else {
-            self.parker.park_timeout(rt, Duration::from_micros(SLEEP));
+            self.parker
+                .park_timeout(rt, Duration::from_micros(MICROSECONDS_OF_SLEEP));
         }
     }
 }
 
 fn spin() {
-    for _ in 0..HINTS {
+    for _ in 0..HINTS_IN_A_SPIN {
         hint::spin_loop();
     }
 }
@@ -89,8 +92,14 @@ impl<O: Opening, L> Model for Worker<O, L> {
 }
 
 impl<O: Opening> Worker<O, List> {
-    /// Serves with the seat in the slot, and puts it back.
-    fn serve<G: Gate, R: Wait>(&mut self, service: &Service<O>, gate: &G, stop: &AtomicBool, rt: &R)
+    /// Serves with the seat in the slot until it is told to stop, and puts it back.
+    fn serve_from_slot<G: Gate, R: Wait>(
+        &mut self,
+        service: &Service<O>,
+        gate: &G,
+        stop: &AtomicBool,
+        rt: &R,
+    )
         ensures { SlotExtends self.old self.new }
     {
         if let Some(seat) = mem::replace(&mut self.slot, None) {
@@ -103,23 +112,23 @@ impl<O: Opening> Worker<O, List> {
     }
 }
 
-/// Takes the list at this place out, or an empty one where there is none.
-fn list_out(procs: &mut [List], place: usize, alloc: Global) -> List {
-    if place < procs.len() {
-        mem::replace(&mut procs[place], Vec::new(alloc))
+/// Takes the list of this number out, or an empty one where there is none.
+fn take_list(procs: &mut [List], number: usize, alloc: Global) -> List {
+    if number < procs.len() {
+        mem::replace(&mut procs[number], Vec::new(alloc))
     } else {
         Vec::new(alloc)
     }
 }
 
-/// Puts the list back at this place, if there is such a place.
-fn list_back(procs: &mut [List], place: usize, list: List) {
-    if place < procs.len() {
-        procs[place] = list;
+/// Puts the list of this number back, if there is one.
+fn put_list_back(procs: &mut [List], number: usize, list: List) {
+    if number < procs.len() {
+        procs[number] = list;
     }
 }
 
-/// Gives each seat the list at its place, in room for all.
+/// Gives each seat the list of its number in the row, in room for all.
 fn with_lists<O: Opening>(
     seats: &mut Vec<Seat<O>>,
     procs: &mut [Vec<Box<dyn Proc + Send>>],
@@ -132,7 +141,7 @@ fn with_lists<O: Opening>(
 {
     while seats.len() > 0 {
         let seat = seats.remove(0);
-        let list = list_out(procs, workers.len(), alloc);
+        let list = take_list(procs, workers.len(), alloc);
         workers.push_reserved(Worker {
             slot: Some(seat),
             procs: list,
@@ -141,7 +150,7 @@ fn with_lists<O: Opening>(
     workers
 }
 
-/// Takes the seats out of their slots, in room for them, and puts each list back at its place.
+/// Takes the seats out of their slots, in room for them, and puts each list back where it was.
 fn without_lists<O: Opening>(
     mut workers: Vec<Worker<O, List>>,
     procs: &mut [Vec<Box<dyn Proc + Send>>],
@@ -150,11 +159,11 @@ fn without_lists<O: Opening>(
     requires room { (seats.items ≡ []) × (length workers.items ≤ vec_capacity seats) }
     ensures { result.items ≡ in_slots workers.items }
 {
-    let mut place = 0;
+    let mut number = 0;
     while workers.len() > 0 {
         let Worker { slot, procs: list } = workers.remove(0);
-        list_back(procs, place, list);
-        place += 1;
+        put_list_back(procs, number, list);
+        number += 1;
         if let Some(seat) = slot {
             seats.push_reserved(seat);
         }
@@ -164,7 +173,7 @@ fn without_lists<O: Opening>(
 }
 
 impl<O: Opening> Service<O> {
-    /// Takes turns until it reads `stop` as true. Returns the seat, and what it read.
+    /// Takes turns until it reads `stop` as true.
     fn serve_until_told<G: Gate, R: Wait>(
         &self,
         seat: Seat<O>,
@@ -172,65 +181,67 @@ impl<O: Opening> Service<O> {
         gate: &G,
         stop: &AtomicBool,
         rt: &R,
-    ) -> (Seat<O>, bool)
-        ensures seat { Extends seat result.0 }
-        ensures told { result.1 ≡ true }
+    ) -> (Seat<O>, Told)
+        ensures { Extends seat result.0 }
     {
         let mut seat = seat;
-        let mut told = false;
         let mut pause = Pause::new();
         let mut held = None;
         let mut turns = 0u64;
         for _turn in rt.forever() {
-            told = stop.load(Ordering::SeqCst);
-            if told {
-                break;
+            if let Some(told) = Told::read(stop) {
+                return (seat, told);
             }
-            let (same, turn, locked) = self.turn(seat, procs, gate, rt, held);
+            let Turn {
+                seat: same,
+                came_to,
+                held: locked,
+            } = self.take_turn(seat, procs, gate, rt, held);
             seat = same;
-            held = held_on(locked, turns);
+            held = lock_for_next_turn(locked, turns);
             turns = turns.wrapping_add(1);
-            match turn {
-                Turn::Served(_) => pause.end(),
-                Turn::Busy => hint::spin_loop(),
-                Turn::Empty => pause.once(rt),
+            match came_to {
+                CameTo::Served(_) => pause.end(),
+                CameTo::Busy => hint::spin_loop(),
+                CameTo::Empty(_) => pause.once(rt),
             }
         }
-        (seat, told)
+        unreachable!()
     }
 
-    /// Takes turns until one finds the line empty. Returns the seat, and that turn.
+    /// Takes turns until one finds the line empty.
     fn serve_rest<G: Gate, R: Wait>(
         &self,
         seat: Seat<O>,
         procs: &mut [Box<dyn Proc + Send>],
         gate: &G,
         rt: &R,
-    ) -> (Seat<O>, Turn)
-        ensures seat { Extends seat result.0 }
-        ensures empty { result.1 ≡ Turn.Empty }
+    ) -> (Seat<O>, FoundEmpty)
+        ensures { Extends seat result.0 }
     {
         let mut seat = seat;
-        let mut turn = Turn::Busy;
         let mut held = None;
         let mut turns = 0u64;
         for _turn in rt.forever() {
-            let (same, now, locked) = self.turn(seat, procs, gate, rt, held);
+            let Turn {
+                seat: same,
+                came_to,
+                held: locked,
+            } = self.take_turn(seat, procs, gate, rt, held);
             seat = same;
-            held = held_on(locked, turns);
+            held = lock_for_next_turn(locked, turns);
             turns = turns.wrapping_add(1);
-            turn = now;
-            match turn {
-                Turn::Served(_) => (),
-                Turn::Busy => hint::spin_loop(),
-                Turn::Empty => break,
+            match came_to {
+                CameTo::Served(_) => (),
+                CameTo::Busy => hint::spin_loop(),
+                CameTo::Empty(found) => return (seat, found),
             }
         }
-        (seat, turn)
+        unreachable!()
     }
 
     /// Takes turns until it reads `stop` as true, and then until a further one finds the line empty: whatever was published before `stop` was set
-    /// is taken by then. Returns the seat, what it read of `stop` last, and its last turn.
+    /// is taken by then.
     fn serve_until<G: Gate, R: Wait>(
         &self,
         seat: Seat<O>,
@@ -238,13 +249,12 @@ impl<O: Opening> Service<O> {
         gate: &G,
         stop: &AtomicBool,
         rt: &R,
-    ) -> (Seat<O>, bool, Turn)
-        ensures seat { Extends seat result.0 }
-        ensures told { (result.1 ≡ true) × (result.2 ≡ Turn.Empty) }
+    ) -> (Seat<O>, Told, FoundEmpty)
+        ensures { Extends seat result.0 }
     {
         let (seat, told) = self.serve_until_told(seat, procs, gate, stop, rt);
-        let (seat, last) = self.serve_rest(seat, procs, gate, rt);
-        (seat, told, last)
+        let (seat, found) = self.serve_rest(seat, procs, gate, rt);
+        (seat, told, found)
     }
 
     /// Serves with each of these, in a thread of its own where one can be made.
@@ -266,13 +276,13 @@ impl<O: Opening> Service<O> {
         }
         let serve = |_: usize, worker: &mut Worker<O, List>|
             ensures { SlotExtends worker.old worker.new }
-        { worker.serve(self, gate, stop, rt) };
+        { worker.serve_from_slot(self, gate, stop, rt) };
         thread::for_each_mut(rt, workers.as_mut_slice(), threads, &serve);
     }
 
-    /// Runs a worker in a thread of its own with each seat, and comes back with the seats, each at its place, when all have ended.
+    /// Runs a worker in a thread of its own with each seat, and comes back with the seats, in their order, when all have ended.
     ///
-    /// The worker of the seat at a place in `seats` runs the procedures of the list at that place in `procs`, and none where `procs` is shorter.
+    /// The worker of the first seat runs the procedures of the first list, and so on, and none where `procs` is shorter.
     /// It does with each entry as `invoke_finalizers` does, and ends when it finds the line empty in a take that began after it had read
     /// `stop` as true. So what was published before `stop` was set is taken. While the line is empty and `stop` is false, it spins, then yields,
     /// and later sleeps for a moment at a time. The calling thread is one of the workers: whoever sets `stop` runs in another.

@@ -1,14 +1,14 @@
 //! Workers, which take entries and run their procedures.
 
-ghost use Rattle.std.specs.Prelude.{◌≡◌, ◌+◌, ◌<◌, ◌≤◌, Contains, length};
-ghost use Rattle.fz_service.specs.States.{line_room, RunsCalls};
-ghost use Rattle.fz_service.specs.Workers.{Extends, Serves};
-ghost use Rattle.fz_service.specs.Turns.{IsAnswered, Turns, UsesUp};
+ghost use Rattle.std.specs.Prelude.{◌≡◌, ◌+◌, ◌≤◌, length};
+ghost use Rattle.fz_service.specs.States.{RunsCalls};
+ghost use Rattle.fz_service.specs.Workers.{Extends};
+ghost use Rattle.fz_service.specs.Turns.{UsesUp};
 
-use crate::locked::Locked;
 use crate::opening::Opening;
-use crate::seat::{Duty, Seat, Take};
-use crate::service::{Guard, Service};
+use crate::seat::Seat;
+use crate::service::Service;
+use crate::turn::{CameTo, Turn};
 use fz_model::Entry;
 use fz_world::World;
 use std::sync::Wait;
@@ -54,7 +54,7 @@ pub trait Gate {
     fn entered(&self, seq: u64);
 
     /// Whether it lets each entry through, so that it need not be told.
-    fn is_open(&self) -> bool {
+    fn lets_all_through(&self) -> bool {
         false
     }
 }
@@ -65,153 +65,26 @@ pub struct OpenGate;
 impl Gate for OpenGate {
     fn entered(&self, _seq: u64) {}
 
-    fn is_open(&self) -> bool {
+    fn lets_all_through(&self) -> bool {
         true
     }
 }
 
-/// How many entries in a row are served in one hold of the lock, at most.
-const HOLD: u64 = 32;
+/// In how many turns in a row a worker keeps the lock, at most.
+const TURNS_IN_A_HOLD: u64 = 32;
 
-/// What a worker's turn came to.
-#[derive(Clone, Copy)]
-pub(crate) enum Turn {
-    /// It took an entry, and finished it, or forfeited it where that was refused.
-    Served(bool),
-    /// The line was empty at one moment of the turn.
-    Empty,
-    /// Another thread was in the way, and the take has to be tried again.
-    Busy,
-}
-
-/// Whether the entry has a procedure in the list with work to do outside of the lock.
-fn has_work(procs: &[Box<dyn Proc + Send>], entry: &Entry) -> bool {
-    entry.proc < procs.len() as u64 && procs[entry.proc as usize].has_work()
-}
-
-/// Whether nothing happens with an entry outside of the lock.
-fn needs_nothing_else<G: Gate>(procs: &[Box<dyn Proc + Send>], gate: &G, entry: &Entry) -> bool {
-    gate.is_open() && !has_work(procs, entry)
-}
-
-/// What a turn leaves of the lock for the next: nothing each 32nd time, so that others come to it.
-pub(crate) fn held_on<T: Drop>(held: Option<T>, turns: u64) -> Option<T> {
-    if turns % HOLD == HOLD - 1 { None } else { held }
-}
-
-/// Calls `work` of the entry's procedure, if the list has it.
-fn work(procs: &mut [Box<dyn Proc + Send>], entry: &Entry) {
-    if entry.proc < procs.len() as u64 {
-        procs[entry.proc as usize].work(entry);
-    }
-}
-
-/// Calls `run` of the entry's procedure, if the list has it.
-#[tactic(auto, using(crate::proofs::Running::runs_calls))]
-fn run(procs: &mut [Box<dyn Proc + Send>], entry: &Entry, world: &mut World)
-    ensures { RunsCalls world.old world.new }
-{
-    if entry.proc < procs.len() as u64 {
-        procs[entry.proc as usize].run(entry, world);
-    }
-}
-
-impl<O: Opening> Locked<O> {
-    /// Runs the procedure of the duty's entry, sends what it queued, and finishes the duty, or forfeits it where that is refused. Returns the seat,
-    /// and whether it finished.
-    fn serve(&mut self, duty: Duty<O>, procs: &mut [Box<dyn Proc + Send>]) -> (Seat<O>, bool)
-        ensures seat { Serves duty result.0 result.1 }
-        ensures answer { ¬ Contains self.new.world.held duty.entry }
-        ensures sent { self.new.published < length self.new.world.queue → line_room O.origin.blocks ≤ self.new.published }
-    {
-        run(procs, duty.entry(), &mut self.world);
-        self.publish();
-        match self.finish(duty) {
-            Ok(seat) => (seat, true),
-            Err((_, duty)) => (duty.forfeit(), false),
-        }
+/// What of the lock is kept for the next turn, by how many turns came before this one: nothing each 32nd time, so that others come to it.
+pub(crate) fn lock_for_next_turn<T: Drop>(held: Option<T>, turns_before: u64) -> Option<T> {
+    if turns_before % TURNS_IN_A_HOLD == TURNS_IN_A_HOLD - 1 {
+        None
+    } else {
+        held
     }
 }
 
 impl<O: Opening> Service<O> {
-    /// Does all that happens with an entry outside of the lock, and comes back with the lock, which may have been held before. Where nothing happens
-    /// outside of it, it isn't given back.
-    fn lock_for<'a, G: Gate, R: Wait>(
-        &'a self,
-        entry: &Entry,
-        procs: &mut [Box<dyn Proc + Send>],
-        gate: &G,
-        rt: &R,
-        held: Option<Guard<'a, O>>,
-    ) -> Guard<'a, O> {
-        if !needs_nothing_else(procs, gate, entry) {
-            drop(held);
-            gate.entered(entry.seq);
-            work(procs, entry);
-            return self.enter(rt);
-        }
-        match held {
-            Some(guard) => guard,
-            None => self.enter(rt),
-        }
-    }
-
-    /// Does with the duty what `invoke_finalizers` says. Returns the seat, whether it finished, and the lock.
-    fn attend<'a, G: Gate, R: Wait>(
-        &'a self,
-        duty: Duty<O>,
-        procs: &mut [Box<dyn Proc + Send>],
-        gate: &G,
-        rt: &R,
-        held: Option<Guard<'a, O>>,
-    ) -> (Seat<O>, bool, Guard<'a, O>)
-        ensures { Serves duty result.0 result.1 }
-    {
-        let mut locked = self.lock_for(duty.entry(), procs, gate, rt, held);
-        let (seat, finished) = locked.serve(duty, procs);
-        (seat, finished, locked)
-    }
-
-    /// Does with what a take gave what `invoke_finalizers` says. Returns the seat, what the turn came to, and the lock where it is still held.
-    fn answer<'a, G: Gate, R: Wait>(
-        &'a self,
-        taken: Take<O>,
-        procs: &mut [Box<dyn Proc + Send>],
-        gate: &G,
-        rt: &R,
-        held: Option<Guard<'a, O>>,
-    ) -> (Seat<O>, Turn, Option<Guard<'a, O>>)
-        ensures { IsAnswered taken result.1 result.0 }
-    {
-        match taken {
-            Take::Taken(duty) => {
-                let keeps = needs_nothing_else(procs, gate, duty.entry());
-                let (seat, finished, locked) = self.attend(duty, procs, gate, rt, held);
-                let kept = if keeps { Some(locked) } else { None };
-                (seat, Turn::Served(finished), kept)
-            }
-            Take::Empty(seat) => (seat, Turn::Empty, None),
-            Take::Busy(seat) => (seat, Turn::Busy, None),
-        }
-    }
-
-    /// Takes an entry, if the line has one, and does with it what `invoke_finalizers` says. The lock may be held from the turn before, and comes back
-    /// where it is still held.
-    pub(crate) fn turn<'a, G: Gate, R: Wait>(
-        &'a self,
-        seat: Seat<O>,
-        procs: &mut [Box<dyn Proc + Send>],
-        gate: &G,
-        rt: &R,
-        held: Option<Guard<'a, O>>,
-    ) -> (Seat<O>, Turn, Option<Guard<'a, O>>)
-        ensures { Turns seat result.1 result.0 }
-    {
-        self.answer(seat.take(), procs, gate, rt, held)
-    }
-
-    /// Takes turns until it took `limit` entries or a take gives none. Returns the seat, how many entries it finished, and its last turn, if that
-    /// gave no entry.
+    /// Takes turns until it took `limit` entries or a turn gives none. Returns the seat, how many entries it finished, and what its last turn came
+    /// to, if that gave no entry.
     fn serve_up_to<G: Gate, R: Wait>(
         &self,
         seat: Seat<O>,
@@ -219,7 +92,7 @@ impl<O: Opening> Service<O> {
         limit: u64,
         gate: &G,
         rt: &R,
-    ) -> (Seat<O>, u64, Option<Turn>)
+    ) -> (Seat<O>, u64, Option<CameTo>)
         ensures seat { Extends seat result.0 }
         ensures count { result.0.finished ≡ seat.finished + result.1 }
         ensures limit { result.1 ≤ limit }
@@ -229,12 +102,16 @@ impl<O: Opening> Service<O> {
         let mut finished = 0;
         let mut held = None;
         for number in 0..limit {
-            let (same, turn, locked) = self.turn(seat, procs, gate, rt, held);
+            let Turn {
+                seat: same,
+                came_to,
+                held: locked,
+            } = self.take_turn(seat, procs, gate, rt, held);
             seat = same;
-            held = held_on(locked, number);
-            match turn {
-                Turn::Served(done) => finished += done as u64,
-                Turn::Empty | Turn::Busy => return (seat, finished, Some(turn)),
+            held = lock_for_next_turn(locked, number);
+            match came_to {
+                CameTo::Served(is_finished) => finished += is_finished as u64,
+                CameTo::Empty(_) | CameTo::Busy => return (seat, finished, Some(came_to)),
             }
         }
         (seat, finished, None)
@@ -243,7 +120,7 @@ impl<O: Opening> Service<O> {
     /// Takes entries and finishes them, until it took `limit` or a take gives none; returns the seat, and how many it finished.
     ///
     /// Of each entry the gate is told, and then `work` of its procedure is called, both without the lock; then, under the lock, `run` of its
-    /// procedure. The procedure of an entry is at the place in the list that its number says; where the list is shorter there is none. A duty whose
+    /// procedure. The procedure of an entry is the one of its number in the list, counted from 0; where the list is shorter there is none. A duty whose
     /// finish is refused is forfeited.
     ///
     /// Where the gate is open and the procedures have no work outside of the lock, up to 32 entries in a row are run and finished in one hold.

@@ -6,7 +6,7 @@ abbrev pub invariant-loop-workers : goal.invariant-loop-workers
 invariant-loop-workers g l = record {
   all : l.seats.items ++ in_slots l.workers.items ≡ in_slots l.initial.workers.items;
   few : length l.seats.items + length l.workers.items ≤ length l.initial.workers.items;
-  place : l.place + length l.workers.items ≡ length l.initial.workers.items;
+  number : l.number + length l.workers.items ≡ length l.initial.workers.items;
   room : vec_capacity l.seats ≡ vec_capacity l.initial.seats;
 }
 

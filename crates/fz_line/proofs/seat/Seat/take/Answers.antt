@@ -2,4 +2,4 @@ use Rattle.fz_line.proofs.Steps.{takes_as}
 use Rattle.fz_line.proofs.seat.Seat.take.Goals as goal
 
 pub steal_as-requires-clause-takes : goal.steal_as-requires-clause-takes
-steal_as-requires-clause-takes c = takes_as _ _ _ c.place.invariant.1
+steal_as-requires-clause-takes c = takes_as _ _ _ c.taker.invariant.1

@@ -8,7 +8,7 @@ loop-number-init g c = record { seat = same_seat c.args.seat; count = omega arit
 pub loop-number-preserved : goal.loop-number-preserved
 loop-number-preserved g c =
     let i = c.loop-number.invariant in
-    let turned = rw c.in-Served.is at c.turn-same.ensures in
+    let turned = rw c.in-Served.is at c.take_turn-same.ensures in
     let more = counted _ _ turned.0 _ turned.1 turned.2 in
     let count = more.0 in
     let one = more.1 in

@@ -2,7 +2,7 @@ use Rattle.std.proofs.Common.{subst}
 use Rattle.std.proofs.lemmas.Result.{err_from_is_err_and}
 use Rattle.fz_service.specs.Workers.{ExtendEach}
 use Rattle.fz_service.proofs.Seated.{come_back, lacks_memory}
-use Rattle.fz_service.proofs.beside.serve.Goals as goal
+use Rattle.fz_service.proofs.beside.open_and_run.Goals as goal
 
 pub returns-in_err-end-clause-refused : goal.returns-in_err-end-clause-refused
 returns-in_err-end-clause-refused g c =

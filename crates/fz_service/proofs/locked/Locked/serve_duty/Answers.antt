@@ -3,7 +3,7 @@ use Rattle.fz_world.specs.World.{WorldView}
 use Rattle.fz_service.specs.States.{LockedState, IsReachedFrom, line_room}
 use Rattle.fz_service.proofs.Keeps.{ran}
 use Rattle.fz_service.proofs.Served.{let_go, not_there, same_queue, still_sent}
-use Rattle.fz_service.proofs.locked.Locked.serve.Goals as goal
+use Rattle.fz_service.proofs.locked.Locked.serve_duty.Goals as goal
 
 pub invariant_of-self : goal.invariant_of-self
 invariant_of-self g c = (ran _ _ _ _ _ _ c.run.ensures c.self.invariant.0, c.self.invariant.1)

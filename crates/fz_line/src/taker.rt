@@ -3,9 +3,9 @@
 use crate::protocol::{LinePass, LineStealer};
 use std::marker::Model;
 
-/// A seat's end of the line, the pass that carries the list of what it took, and its counts. How many entries it took is no count of its own: it is what
+/// What takes from the line for a seat: its end of the line, the pass that carries the list of what it took, and its counts. How many entries it took is no count of its own: it is what
 /// it finished and forfeited, and one more for a duty.
-pub(crate) struct Place {
+pub(crate) struct Taker {
     pub(crate) stealer: LineStealer,
     pub(crate) pass: LinePass,
     pub(crate) index: usize,
@@ -13,14 +13,14 @@ pub(crate) struct Place {
     pub(crate) forfeited: u64,
 }
 
-impl Model for Place {
+impl Model for Taker {
     ghost use Rattle.crossbeam_deque.specs.Handles.{stealer_deque};
     ghost use Rattle.fz_line.specs.Passes.{took_by, IsSeatPass};
     ghost use Rattle.fz_line.specs.States.{SeatState, seat_state};
 
     ghost Value = { SeatState };
 
-    ghost view = { λ p. seat_state (stealer_deque p.stealer).0 p.index (took_by p.pass) p.finished p.forfeited };
+    ghost view = { λ t. seat_state (stealer_deque t.stealer).0 t.index (took_by t.pass) t.finished t.forfeited };
 
-    ghost invariant = { λ p. IsSeatPass (stealer_deque p.stealer) p.pass };
+    ghost invariant = { λ t. IsSeatPass (stealer_deque t.stealer) t.pass };
 }
