@@ -1,16 +1,16 @@
 -- What the program says on standard error, and what its exit statuses mean.
-use Rattle.std.specs.Prelude.{◌≡◌, ◌⊎◌, ℕ, List, [], ◌∷◌, All, codes, length, Option}
+use Rattle.std.specs.Prelude.{◌≡◌, ◌≢◌, ◌⊎◌, ℕ, List, [], ◌∷◌, All, codes, length, Option}
 use Rattle.std.specs.declared.vec.Vec.{Vec}
 use Rattle.fz_model.specs.declared.limits.TheConstants.{MAX_WORKERS}
 use Rattle.fz_model.specs.declared.refusal.Refusal.{Refusal}
 use Rattle.fz_model.specs.declared.refusal.Refusal.TheVariants.{Input, Output, NoMemory}
 use Rattle.fz_words.specs.declared.Program.{Program}
 use Rattle.fz_words.specs.declared.Program.TheVariants.{Run, Threads}
-use Rattle.fz_words.specs.Words.{name_of, IsFile}
+use Rattle.fz_words.specs.Words.{name_of, IsFile, NameNothing, AskFor}
 use Rattle.fz_drive.specs.declared.run.Summary.{Summary}
 use Rattle.fz_text.specs.declared.fault.DriveFault.{DriveFault}
 use Rattle.std.specs.Io.KnownBytes.{Keeps}
-use Rattle.fz_text.specs.Devices.{Says}
+use Rattle.fz_text.specs.Devices.{Feed, Log, Says}
 use Rattle.fz_drive.specs.Report.{Reported, Stopped}
 use Rattle.fz_threads.specs.Threads.{Summarized, RunStopped}
 
@@ -31,31 +31,52 @@ fault_line NoMemory = memory_line
 fault_line _ = []
 
 -- the program ran on this input to its end, and wrote its whole report or summary
-abbrev pub Completes : Program → Option (List ℕ) → Option (List ℕ) → Option (List ℕ) → Type 0
-Completes Run input before after = (left : Option (List ℕ)) × (summary : Summary) × Reported input left before after summary
-Completes Threads input before after = (left : Option (List ℕ)) × Summarized input left before after
+abbrev pub Completes : Program → Feed → Log → Log → Type 0
+Completes Run input before after = (left : Feed) × (summary : Summary) × Reported input left before after summary
+Completes Threads input before after = (left : Feed) × Summarized input left before after
 
--- the program's run on this input ended early: the fault stands where its cause does, and nothing else was written
-abbrev pub Stops : Program → Option (List ℕ) → Option (List ℕ) → Option (List ℕ) → DriveFault → Type 0
-Stops Run input before after fault = (left : Option (List ℕ)) × Stopped input left before after fault
-Stops Threads input before after fault = (left : Option (List ℕ)) × RunStopped input left before after fault
+-- the program's run on this input ended early
+abbrev pub Stops : Program → Feed → Log → Log → DriveFault → Type 0
+Stops Run input before after fault = (left : Feed) × Stopped input left before after fault
+Stops Threads input before after fault = (left : Feed) × RunStopped input left before after fault
 
--- a device was given nothing, and it didn't fail
-abbrev pub IsUntouched : Option (List ℕ) → ℕ → Option (List ℕ) → ℕ → Type 0
-IsUntouched before failures after failures' = (after ≡ before) × (failures' ≡ failures)
+-- What the program did with an input, its exit status, and what standard output and standard error have then: it ran to its end; or it stopped, and said why.
+abbrev pub Runs : Program → Feed → ℕ → Log → Log → Log → Log → Type 0
+Runs program input status out out' err err' =
+    ((status ≡ 0) × Completes program input out out' × (err' ≡ err))
+    ⊎ ((status ≡ 1) × ((fault : DriveFault) × Stops program input out out' fault × Says err (fault_line fault.refusal) err'))
 
--- P holds of an input that is what this file holds, as far as that is known
-abbrev pub ReadFrom : (List ℕ → Option (List ℕ)) → List ℕ → (Option (List ℕ) → Type 0) → Type 0
-ReadFrom holds file P = (input : Option (List ℕ)) × Keeps (holds file) input × P input
+-- P holds of an input of which these bytes are known
+abbrev pub ReadFrom : Option (List ℕ) → (Feed → Type 0) → Type 0
+ReadFrom known P = (input : Feed) × Keeps known input.remaining × P input
+
+-- nothing was run, and this line says why
+abbrev pub SaysWhyNot : List ℕ → Log → Log → Log → Log → Type 0
+SaysWhyNot line out out' err err' = (out' ≡ out) × Says err line err'
+
+-- the file couldn't be opened; or the program ran on it
+abbrev pub RunsFile : Option (List ℕ) → Program → ℕ → Log → Log → Log → Log → Type 0
+RunsFile held program status out out' err err' =
+    ((status ≡ 1) × SaysWhyNot open_line out out' err err') ⊎ ReadFrom held (λ input. Runs program input status out out' err err')
 
 -- the words name a program and a file, and P holds of that program and of an input that is what this file holds, as far as that is known
-abbrev pub RanOn : (List ℕ → Option (List ℕ)) → List (List ℕ) → (Program → Option (List ℕ) → Type 0) → Type 0
+abbrev pub RanOn : (List ℕ → Option (List ℕ)) → List (List ℕ) → (Program → Feed → Type 0) → Type 0
 RanOn holds words P =
-    (program : Program) × (file : List ℕ) × (words ≡ name_of program ∷ file ∷ []) × ((input : Option (List ℕ)) × (IsFile file → Keeps (holds file) input) × P program input)
+    (program : Program) × (file : List ℕ) × (words ≡ name_of program ∷ file ∷ []) × (input : Feed) × (IsFile file → Keeps (holds file) input.remaining) × P program input
 
--- nothing could be run: there was no memory, or the file could not be opened
-abbrev pub SaysWhyNot : Option (List ℕ) → ℕ → Option (List ℕ) → ℕ → Type 0
-SaysWhyNot before failures after failures' = (line : List ℕ) × ((line ≡ memory_line) ⊎ (line ≡ open_line)) × Says before failures line after failures'
+-- the words were wrong; or nothing could be run, for want of memory or of the file; or the program that they name ran
+abbrev pub Ends : (List ℕ → Option (List ℕ)) → List (List ℕ) → ℕ → Log → Log → Log → Log → Type 0
+Ends holds words status out out' err err' =
+    ((status ≡ 2) × SaysWhyNot want_line out out' err err')
+    ⊎ (((status ≡ 1) × (SaysWhyNot memory_line out out' err err' ⊎ SaysWhyNot open_line out out' err err')) ⊎ RanOn holds words (λ program input. Runs program input status out out' err err'))
+
+-- What the program did with its words, its exit status, and what standard output and standard error have then. `holds` tells what each file holds.
+pub record Executes (holds : List ℕ → Option (List ℕ)) (words : List (List ℕ)) (status : ℕ) (out out' err err' : Log) : Type 0 where
+  -- any words but a program's name and a file are wrong
+  pub wrong : NameNothing words → status ≡ 2
+  -- a program's name and a file are right
+  pub right : (file : List ℕ) → AskFor words file → status ≢ 2
+  pub ends : Ends holds words status out out' err err'
 
 -- a list of two procedures for each worker
 abbrev pub AreForWorkers : {P A : Type 0} → List (Vec P A) → Type 0

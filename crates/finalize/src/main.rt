@@ -1,14 +1,8 @@
 //! finalize: runs a script or a threads file over the finalization service, and reports.
 #![tactic(auto)]
 
-ghost use Rattle.std.specs.Prelude.{◌≡◌, ◌≢◌, ◌≤◌, ◌⊎◌, ◌+◌, List, [], ◌∷◌, ℕ, IfOk, IsErr, codes, length, map, slice_get, Err, Some};
-ghost use Rattle.fz_model.specs.declared.refusal.Refusal.{Refusal};
-ghost use Rattle.fz_text.specs.Devices.{Says};
-ghost use Rattle.fz_text.specs.declared.fault.DriveFault.{DriveFault};
-ghost use Rattle.fz_drive.specs.Report.{failures_of};
-ghost use Rattle.fz_words.specs.declared.Program.{Program};
-ghost use Rattle.fz_words.specs.Words.{name_of, IsFile};
-ghost use Rattle.finalize.specs.Program.{want_line, fault_line, Completes, Stops, IsUntouched, RanOn, SaysWhyNot};
+ghost use Rattle.std.specs.Prelude.{◌≡◌, IfOk, IsErr, map};
+ghost use Rattle.finalize.specs.Program.{Executes};
 
 mod program;
 mod shelf;
@@ -88,16 +82,8 @@ fn with_procedures<F: Shelf, R: AllocGlobal + Threads + Wait + Sync, S: AsStr, O
     out: &mut O,
     err: &mut E,
 ) -> Result<u8, AllocError>
-    ensures known { IfOk result (λ status. status ≤ 2) }
-    ensures counted { length words.now ≢ 2 → IfOk result (λ status. status ≡ 2) }
-    ensures named { (first : S) → slice_get words.now 0 ≡ Some first → S.text first ≢ codes "run" → S.text first ≢ codes "threads" → IfOk result (λ status. status ≡ 2) }
-    ensures taken { (program : Program) → (file : List ℕ) → map S.text words.now ≡ name_of program ∷ file ∷ [] → IsFile file → IfOk result (λ status. status ≢ 2) }
-    ensures wrong { IfOk result (λ status. status ≡ 2 → IsUntouched (O.written out.old) (O.failures out.old) (O.written out.new) (O.failures out.new) × Says (E.written err.old) (E.failures err.old) want_line (E.written err.new) (E.failures err.new)) }
-    ensures reported { IfOk result (λ status. status ≡ 0 → RanOn (F.holds files.now) (map S.text words.now) (λ program input. Completes program input (O.written out.old) (O.written out.new)) × (O.failures out.new ≡ O.failures out.old) × (E.written err.new ≡ E.written err.old)) }
-    ensures failed { IfOk result (λ status. status ≡ 1 →
-        (IsUntouched (O.written out.old) (O.failures out.old) (O.written out.new) (O.failures out.new) × SaysWhyNot (E.written err.old) (E.failures err.old) (E.written err.new) (E.failures err.new))
-        ⊎ ((fault : DriveFault) × RanOn (F.holds files.now) (map S.text words.now) (λ program input. Stops program input (O.written out.old) (O.written out.new) fault) × (O.failures out.new ≡ O.failures out.old + failures_of Refusal.Output (Err fault)) × Says (E.written err.old) (E.failures err.old) (fault_line fault.refusal) (E.written err.new) (E.failures err.new))) }
-    ensures unchanged { IsErr result → IsUntouched (O.written out.old) (O.failures out.old) (O.written out.new) (O.failures out.new) × IsUntouched (E.written err.old) (E.failures err.old) (E.written err.new) (E.failures err.new) }
+    ensures executed { IfOk result (λ status. Executes (F.holds files.now) (map S.text words.now) status (O.log out.old) (O.log out.new) (E.log err.old) (E.log err.new)) }
+    ensures unchanged { IsErr result → (O.log out.new ≡ O.log out.old) × (E.log err.new ≡ E.log err.old) }
 {
     let mut procs = Vec::new(rt.alloc());
     for _worker in 0..MAX_WORKERS {

@@ -1,11 +1,8 @@
 //! The program, over its words and two writers.
 
-ghost use Rattle.std.specs.Prelude.{◌≡◌, ◌≢◌, ◌≤◌, ◌⊎◌, ◌+◌, List, [], ◌∷◌, ℕ, codes, length, map, slice_get, Err, Some};
-ghost use Rattle.fz_words.specs.Words.{name_of, IsFile};
-ghost use Rattle.finalize.specs.Program.{want_line, open_line, memory_line, fault_line, Completes, Stops, IsUntouched, ReadFrom, RanOn, SaysWhyNot, AreForWorkers};
+ghost use Rattle.std.specs.Prelude.{◌≡◌, map};
 ghost use Rattle.fz_text.specs.Devices.{Says};
-ghost use Rattle.fz_drive.specs.Report.{failures_of};
-ghost use Rattle.fz_text.specs.declared.fault.DriveFault.{DriveFault};
+ghost use Rattle.finalize.specs.Program.{want_line, memory_line, fault_line, Runs, ReadFrom, RunsFile, Executes, AreForWorkers};
 
 use crate::shelf::Shelf;
 use crate::stream::Stream;
@@ -26,7 +23,7 @@ use std::thread::Threads;
 /// Writes the line, whether or not that succeeds; returns the status.
 fn say<E: Sink>(err: &mut E, line: &[u8], status: u8) -> u8
     ensures status { result ≡ status }
-    ensures line { Says (E.written err.old) (E.failures err.old) line.now (E.written err.new) (E.failures err.new) }
+    ensures line { Says (E.log err.old) line.now (E.log err.new) }
 {
     let _ = write_all(err, line);
     status
@@ -35,7 +32,7 @@ fn say<E: Sink>(err: &mut E, line: &[u8], status: u8) -> u8
 /// Says that the words are wrong; returns the status.
 pub(crate) fn wrong_words<E: Sink>(err: &mut E) -> u8
     ensures status { result ≡ 2 }
-    ensures line { Says (E.written err.old) (E.failures err.old) want_line (E.written err.new) (E.failures err.new) }
+    ensures line { Says (E.log err.old) want_line (E.log err.new) }
 {
     say(err, b"finalize: want run FILE or threads FILE\n", 2)
 }
@@ -43,7 +40,7 @@ pub(crate) fn wrong_words<E: Sink>(err: &mut E) -> u8
 /// Says that memory is short; returns the status.
 pub(crate) fn out_of_memory<E: Sink>(err: &mut E) -> u8
     ensures status { result ≡ 1 }
-    ensures line { Says (E.written err.old) (E.failures err.old) memory_line (E.written err.new) (E.failures err.new) }
+    ensures line { Says (E.log err.old) memory_line (E.log err.new) }
 {
     say(err, b"finalize: out of memory\n", 1)
 }
@@ -60,21 +57,7 @@ pub(crate) fn execute<F: Shelf, R: AllocGlobal + Threads + Wait + Sync, S: AsStr
     procs: Vec<Vec<Box<dyn Proc + Send>>>,
 ) -> u8
     requires procs { AreForWorkers procs.items }
-    ensures known { result ≤ 2 }
-    // Any words but two are wrong.
-    ensures counted { length words.now ≢ 2 → result ≡ 2 }
-    // So are words whose first is neither `run` nor `threads`.
-    ensures named { (first : S) → slice_get words.now 0 ≡ Some first → S.text first ≢ codes "run" → S.text first ≢ codes "threads" → result ≡ 2 }
-    // A program's name and a file are right.
-    ensures taken { (program : Program) → (file : List ℕ) → map S.text words.now ≡ name_of program ∷ file ∷ [] → IsFile file → result ≢ 2 }
-    // Of wrong words nothing is written but the line that says so.
-    ensures wrong { result ≡ 2 → IsUntouched (O.written out.old) (O.failures out.old) (O.written out.new) (O.failures out.new) × Says (E.written err.old) (E.failures err.old) want_line (E.written err.new) (E.failures err.new) }
-    // Where it succeeds, the words name a program, and what was written is its whole report or summary of the file that they name.
-    ensures reported { result ≡ 0 → RanOn (F.holds files.now) (map S.text words.now) (λ program input. Completes program input (O.written out.old) (O.written out.new)) × (O.failures out.new ≡ O.failures out.old) × (E.written err.new ≡ E.written err.old) }
-    // Where it fails, either nothing could be run, or the program that the words name stopped, and what was written ends where its fault says.
-    ensures failed { result ≡ 1 →
-        (IsUntouched (O.written out.old) (O.failures out.old) (O.written out.new) (O.failures out.new) × SaysWhyNot (E.written err.old) (E.failures err.old) (E.written err.new) (E.failures err.new))
-        ⊎ ((fault : DriveFault) × RanOn (F.holds files.now) (map S.text words.now) (λ program input. Stops program input (O.written out.old) (O.written out.new) fault) × (O.failures out.new ≡ O.failures out.old + failures_of Refusal.Output (Err fault)) × Says (E.written err.old) (E.failures err.old) (fault_line fault.refusal) (E.written err.new) (E.failures err.new)) }
+    ensures { Executes (F.holds files.now) (map S.text words.now) result (O.log out.old) (O.log out.new) (E.log err.old) (E.log err.new) }
 {
     match program_and_file(rt.alloc(), words) {
         Ok((program, file)) => run_file(files, rt, program, file, out, err, procs),
@@ -94,11 +77,7 @@ fn run_file<F: Shelf, R: AllocGlobal + Threads + Wait + Sync, O: Sink, E: Sink>(
     procs: Vec<Vec<Box<dyn Proc + Send>>>,
 ) -> u8
     requires procs { AreForWorkers procs.items }
-    ensures known { result ≤ 1 }
-    ensures reported { result ≡ 0 → ReadFrom (F.holds files.now) file.now (λ input. Completes program input (O.written out.old) (O.written out.new)) × (O.failures out.new ≡ O.failures out.old) × (E.written err.new ≡ E.written err.old) }
-    ensures failed { result ≡ 1 →
-        (IsUntouched (O.written out.old) (O.failures out.old) (O.written out.new) (O.failures out.new) × Says (E.written err.old) (E.failures err.old) open_line (E.written err.new) (E.failures err.new))
-        ⊎ ((fault : DriveFault) × ReadFrom (F.holds files.now) file.now (λ input. Stops program input (O.written out.old) (O.written out.new) fault) × (O.failures out.new ≡ O.failures out.old + failures_of Refusal.Output (Err fault)) × Says (E.written err.old) (E.failures err.old) (fault_line fault.refusal) (E.written err.new) (E.failures err.new)) }
+    ensures { RunsFile (F.holds files.now file.now) program result (O.log out.old) (O.log out.new) (E.log err.old) (E.log err.new) }
 {
     let Some(opened) = files.open_named(file) else {
         return say(err, b"finalize: cannot open file\n", 1);
@@ -126,9 +105,7 @@ fn run_script<I: Read + Drop, O: Sink, E: Sink, L: Ledger>(
 ) -> u8
     requires name { ledger.name ≡ L.name }
     requires parts { (ledger.parts ≡ L.parts) × (L.parts ≡ 1) }
-    ensures known { result ≤ 1 }
-    ensures reported { result ≡ 0 → Completes Program.Run (I.remaining input) (O.written out.old) (O.written out.new) × (O.failures out.new ≡ O.failures out.old) × (E.written err.new ≡ E.written err.old) }
-    ensures failed { result ≡ 1 → (fault : DriveFault) × Stops Program.Run (I.remaining input) (O.written out.old) (O.written out.new) fault × (O.failures out.new ≡ O.failures out.old + failures_of Refusal.Output (Err fault)) × Says (E.written err.old) (E.failures err.old) (fault_line fault.refusal) (E.written err.new) (E.failures err.new) }
+    ensures { ReadFrom (I.remaining input) (λ feed. Runs Program.Run feed result (O.log out.old) (O.log out.new) (E.log err.old) (E.log err.new)) }
 {
     let mut reader = Stream::new(input, Failures::<L>::none(ledger));
     match drive(alloc, &mut reader, out) {
@@ -149,9 +126,7 @@ fn run_threads<I: Read + Drop, O: Sink, E: Sink, R: AllocGlobal + Threads + Wait
     requires procs { AreForWorkers procs.items }
     requires name { ledger.name ≡ L.name }
     requires parts { (ledger.parts ≡ L.parts) × (L.parts ≡ 1) }
-    ensures known { result ≤ 1 }
-    ensures reported { result ≡ 0 → Completes Program.Threads (I.remaining input) (O.written out.old) (O.written out.new) × (O.failures out.new ≡ O.failures out.old) × (E.written err.new ≡ E.written err.old) }
-    ensures failed { result ≡ 1 → (fault : DriveFault) × Stops Program.Threads (I.remaining input) (O.written out.old) (O.written out.new) fault × (O.failures out.new ≡ O.failures out.old + failures_of Refusal.Output (Err fault)) × Says (E.written err.old) (E.failures err.old) (fault_line fault.refusal) (E.written err.new) (E.failures err.new) }
+    ensures { ReadFrom (I.remaining input) (λ feed. Runs Program.Threads feed result (O.log out.old) (O.log out.new) (E.log err.old) (E.log err.new)) }
 {
     let mut reader = Stream::new(input, Failures::<L>::none(ledger));
     if let Err(fault) = drive_threads(rt.alloc(), &mut reader, out, procs, rt) {
@@ -163,7 +138,7 @@ fn run_threads<I: Read + Drop, O: Sink, E: Sink, R: AllocGlobal + Threads + Wait
 /// Writes why a run ended early, where what it wrote doesn't say so.
 fn explain<E: Sink>(err: &mut E, fault: DriveFault) -> u8
     ensures status { result ≡ 1 }
-    ensures line { Says (E.written err.old) (E.failures err.old) (fault_line fault.refusal) (E.written err.new) (E.failures err.new) }
+    ensures line { Says (E.log err.old) (fault_line fault.refusal) (E.log err.new) }
 {
     match fault.refusal {
         Refusal::Input => say(err, b"finalize: input failed\n", 1),

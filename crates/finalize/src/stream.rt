@@ -50,9 +50,7 @@ impl<S, L: Ledger> Stream<S, L> {
 }
 
 impl<S: io::Read, L: Ledger> Source for Stream<S, L> {
-    ghost remaining = { λ s. S.remaining s.inner };
-
-    ghost failures = { λ s. s.failures };
+    ghost feed = { λ s. record { remaining = S.remaining s.inner; failures = s.failures } };
 
     fn read(&mut self, buf: &mut [u8]) -> Option<usize> {
         match self.inner.read(buf) {
@@ -66,12 +64,10 @@ impl<S: io::Read, L: Ledger> Source for Stream<S, L> {
 }
 
 impl<S: Outlet, L: Ledger> Sink for Stream<S, L> {
-    ghost written = { λ s. S.contents s.inner };
-
-    ghost failures = { λ s. s.failures };
+    ghost log = { λ s. record { written = S.contents s.inner; failures = s.failures } };
 
     fn write(&mut self, bytes: &[u8]) -> Option<usize>
-        ensures bound { (unwrap_or result 0) ≤ length bytes.now }
+        ensures bound { unwrap_or result 0 ≤ length bytes.now }
         ensures bytes { Appends (S.contents self.old.inner) (S.contents self.new.inner) (take (unwrap_or result 0) bytes.now) }
         ensures failures { self.new.failures ≡ self.old.failures + write_failures (length bytes.now) result }
         // It fails only where the writer, asked to write these bytes, failed or took none of them.

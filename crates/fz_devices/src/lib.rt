@@ -86,9 +86,7 @@ impl<'a, L: Ledger> MemorySource<'a, L> {
 }
 
 impl<L: Ledger> Source for MemorySource<'_, L> {
-    ghost remaining = { λ s. Some s.rest.now };
-
-    ghost failures = { λ s. s.failures };
+    ghost feed = { λ s. record { remaining = Some s.rest.now; failures = s.failures } };
 
     fn read(&mut self, buf: &mut [u8]) -> Option<usize> {
         if self.reads == 0 {
@@ -135,9 +133,7 @@ impl<L: Ledger> MemorySink<L> {
 }
 
 impl<L: Ledger> Sink for MemorySink<L> {
-    ghost written = { λ p. Some p.bytes.items };
-
-    ghost failures = { λ p. p.failures };
+    ghost log = { λ p. record { written = Some p.bytes.items; failures = p.failures } };
 
     fn write(&mut self, bytes: &[u8]) -> Option<usize> {
         if self.writes == 0 || self.bytes.is_full() {
@@ -148,12 +144,7 @@ impl<L: Ledger> Sink for MemorySink<L> {
         let count = self
             .pieces
             .of(bytes.len().min(self.bytes.remaining_capacity()));
-        match self.bytes.try_extend_from_slice(&bytes[..count]) {
-            Ok(()) => Some(count),
-            Err(_) => {
-                self.failures.count();
-                None
-            }
-        }
+        self.bytes.try_extend_from_slice(&bytes[..count]).unwrap();
+        Some(count)
     }
 }

@@ -1,5 +1,5 @@
 -- Calls of the world, and the steps of a script that ask for them.
-use Rattle.std.proofs.Common.{◌≡◌, Option, Some, Result, Ok, Err, refl, sym, ap, ◌∙◌, subst}
+use Rattle.std.proofs.Common.{◌≡◌, Option, Some, Result, Ok, Err, refl, sym, ap, subst}
 use Rattle.std.specs.Result.{IsErrAnd}
 use Rattle.fz_model.specs.declared.call.Call.{Call}
 use Rattle.fz_model.specs.declared.call.Reply.{Reply}
@@ -15,7 +15,7 @@ use Rattle.fz_drive.specs.declared.machine.Machine.{Machine}
 use Rattle.fz_drive.specs.declared.reply.StepReply.{StepReply}
 use Rattle.fz_drive.specs.declared.reply.StepReply.TheVariants.{Called}
 use Rattle.fz_drive.specs.Script.{event_of}
-use Rattle.fz_drive.specs.Machines.{Tells, StepDoes, CarriesOut}
+use Rattle.fz_drive.specs.Machines.{Tells, StepDoes, TakesStep}
 use Rattle.fz_drive.proofs.Machines.{called, the_error}
 
 -- what a call gives is what its step gives
@@ -36,8 +36,8 @@ called_for m w step c result is replies = record {
   tells = subst (λ r. Tells (joint.Call (Make c)) replies.answer (of_step r)) (sym replies.told) (tells c replies.answer);
 }
 
-pub call_answers : (m : Machine) (w : World) (step : Step) (c : Call) (reply : Reply) → step ≡ script.Call c → Replies m.world c (Ok reply) w → CarriesOut m step (Ok (Some (Called reply))) (record m { world = w })
+pub call_answers : (m : Machine) (w : World) (step : Step) (c : Call) (reply : Reply) → step ≡ script.Call c → Replies m.world c (Ok reply) w → TakesStep m step (Ok (Some (Called reply))) (record m { world = w })
 call_answers m w step c reply is replies = called_for m w step c (Ok reply) is replies
 
-pub call_refuses : (m : Machine) (w : World) (step : Step) (c : Call) (r : Refusal) (result : Result (Option StepReply) Refusal) → step ≡ script.Call c → Replies m.world c (Err r) w → IsErrAnd result (λ x. x ≡ r) → CarriesOut m step result (record m { world = w })
-call_refuses m w step c r result is replies error = subst (λ x. CarriesOut m step x (record m { world = w })) (sym (the_error result r error)) (called_for m w step c (Err r) is replies)
+pub call_refuses : (m : Machine) (w : World) (step : Step) (c : Call) (r : Refusal) (result : Result (Option StepReply) Refusal) → step ≡ script.Call c → Replies m.world c (Err r) w → IsErrAnd result (λ x. x ≡ r) → TakesStep m step result (record m { world = w })
+call_refuses m w step c r result is replies error = subst (λ x. TakesStep m step x (record m { world = w })) (sym (the_error result r error)) (called_for m w step c (Err r) is replies)

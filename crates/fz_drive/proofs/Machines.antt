@@ -20,7 +20,7 @@ use Rattle.fz_drive.specs.declared.reply.StepReply.{StepReply}
 use Rattle.fz_drive.specs.Script.{event_of}
 use Rattle.fz_drive.specs.Replies.{answer_words}
 use Rattle.fz_drive.specs.Report.{finishes, forfeits}
-use Rattle.fz_drive.specs.Machines.{StandsForJoint, JointDoes, Tells, StepDoes, CarriesOut, words_of, is_forfeit}
+use Rattle.fz_drive.specs.Machines.{StandsForJoint, JointDoes, Tells, StepDoes, TakesStep, words_of, is_forfeit}
 use Rattle.fz_drive.specs.Machines as machines
 
 -- ---- own causes
@@ -212,10 +212,10 @@ refused old new step e r asked does = record { event = e; reply = Err r; asked =
     no_forfeit (Forfeit w) = refl
 
 pub accepted : (old new : Machine) (step : Step) (e : JointEvent) (answer : JointAnswer e) (reply : StepReply) → event_of step ≡ Some e → JointDoes old e (Ok answer) new
-    → words_of reply ≡ answer_words e answer → machines.is_finish (Ok reply) ≡ finishes e (Ok answer) → is_forfeit (Ok reply) ≡ forfeits e (Ok answer) → CarriesOut old step (Ok (Some reply)) new
+    → words_of reply ≡ answer_words e answer → machines.is_finish (Ok reply) ≡ finishes e (Ok answer) → is_forfeit (Ok reply) ≡ forfeits e (Ok answer) → TakesStep old step (Ok (Some reply)) new
 accepted old new step e answer reply asked does words finish forfeit =
     record { event = e; reply = Ok answer; asked = asked; does = does; tells = record { words = words; refused = refl; finish = finish; forfeit = forfeit } }
 
 -- the error that a call gives back is the step's
-pub refuses : (old new : Machine) (step : Step) (e : JointEvent) (r : Refusal) (result : Result (Option StepReply) Refusal) → event_of step ≡ Some e → JointDoes old e (Err r) new → IsErrAnd result (λ x. x ≡ r) → CarriesOut old step result new
-refuses old new step e r result asked does error = subst (λ x. CarriesOut old step x new) (sym (the_error result r error)) (refused old new step e r asked does)
+pub refuses : (old new : Machine) (step : Step) (e : JointEvent) (r : Refusal) (result : Result (Option StepReply) Refusal) → event_of step ≡ Some e → JointDoes old e (Err r) new → IsErrAnd result (λ x. x ≡ r) → TakesStep old step result new
+refuses old new step e r result asked does error = subst (λ x. TakesStep old step x new) (sym (the_error result r error)) (refused old new step e r asked does)

@@ -1,14 +1,12 @@
 -- How a run goes on by one line, and how it ends.
-use Rattle.std.proofs.Common.{◌≡◌, ◌≢◌, ℕ, ◌≤◌, ◌<◌, ◌+◌, List, [], ◌∷◌, ◌++◌, Option, Some, None, Result, Ok, Err, Bool, true, false, ◌∙◌, ap, sym, refl, subst, append-nil, arith, length, length-append, flat_map, is_some, IfOk, IfErr, IsTrue, IsFalse, inl, inr, ◌⊎◌, leb-true, nat_le}
+use Rattle.std.proofs.Common.{◌≡◌, ◌≢◌, ℕ, ◌≤◌, ◌<◌, ◌+◌, List, [], ◌∷◌, ◌++◌, Option, Some, None, Result, Ok, Err, Bool, true, false, ◌∙◌, ap, sym, refl, subst, append-nil, arith, length, length-append, is_some, IsTrue, IsFalse, inl, inr, ◌⊎◌, leb-true, nat_le}
 use Rattle.std.proofs.lemmas.Bool.{leb-false}
-use Rattle.std.proofs.lemmas.List.Elements.{All-nil, All-push}
-use Rattle.std.proofs.lemmas.List.Concat.{flat_map-append}
-use Rattle.std.specs.List.{All}
+use Rattle.std.proofs.lemmas.List.Elements.{All-push}
 use Rattle.std.specs.Bool.{MatchBool}
 use Rattle.fz_model.specs.declared.refusal.Refusal.{Refusal}
 use Rattle.fz_model.specs.declared.refusal.Refusal.TheVariants.{BadLine, BadCount, NoMemory, Output, Input}
 use Rattle.fz_model.specs.declared.limits.TheConstants.{MAX_BLOCKS, MAX_FRAMES, MAX_WORKERS}
-use Rattle.fz_model.specs.Causes.{bad_count, first_cause, IsRefusedFor}
+use Rattle.fz_model.specs.Causes.{bad_count, IsRefusedFor}
 use Rattle.fz_model.specs.Joint.{Move}
 use Rattle.fz_script.specs.Spelling.{Token}
 use Rattle.fz_text.specs.declared.input.Ending.{Ending}
@@ -20,31 +18,28 @@ use Rattle.fz_drive.specs.declared.answer.Answer.TheVariants as answers
 use Rattle.fz_drive.specs.declared.run.Counts.{Counts}
 use Rattle.fz_drive.specs.declared.run.Summary.{Summary}
 use Rattle.fz_text.specs.declared.fault.DriveFault.{DriveFault}
-use Rattle.std.specs.Io.KnownBytes.{Consumes, Appends, IsAtEnd, prepend_known}
+use Rattle.std.specs.Io.KnownBytes.{Consumes, IsAtEnd, prepend_known}
 use Rattle.fz_drive.specs.Script.{max_lines, may_come, IsMalformed}
 use Rattle.fz_text.specs.Lines.{with_lf, IsOneLine, all_lines, max_line}
 use Rattle.fz_drive.specs.Replies.{reply_words, end_words}
 use Rattle.fz_text.specs.Written.{text_line, done, refused_words, malformed_words}
-use Rattle.fz_drive.specs.Report.{Course, Reports, opening_causes, summary_of, AtEnd, IsReport, AtLine, IsRefusedOpening, IsDue, Opens, OpensNot, Replies, closing_words, Explains, Reported, Stopped, failures_of}
+use Rattle.fz_drive.specs.Report.{Course, Reports, opening_causes, summary_of, AtEnd, IsReport, AtLine, IsRefusedOpening, IsDue, Opens, OpensNot, Replies, closing_words, Explains, Stopped, Drives}
 use Rattle.fz_text.specs.Lines.{IsEnded}
 use Rattle.fz_drive.specs.Report as report
 use Rattle.fz_text.specs.Reading.{TakenFor, EndsInput}
-use Rattle.fz_text.proofs.Taking.{took_ahead, took_all}
-use Rattle.fz_drive.specs.Machines.{Gives, Given, answer_text, is_told, stop_of, bit, TellsAnswer, counts_after, counts_of, no_counts, summary_at, ending_words, Finishes}
+use Rattle.fz_text.specs.Devices.{Feed, Log, Gains}
+use Rattle.fz_text.specs.Faults.{failures_of}
+use Rattle.fz_text.proofs.Lines.{Between, line_more, ends_here, ends_last, next_at, counts_only}
+use Rattle.fz_text.proofs.Taking.{took_ahead, took_all, no_more}
+use Rattle.fz_text.proofs.Writing.{gains_more}
+use Rattle.fz_drive.specs.Machines.{Gives, Given, answer_text, is_told, stop_of, bit, TellsAnswer, counts_after, counts_of, summary_at, ending_words, Finishes}
 use Rattle.std.proofs.KnownBytes.{Appends-trans}
 use Rattle.fz_drive.proofs.Balance.{balanced}
-use Rattle.fz_drive.proofs.Scripts.{Follows, follows_some, After, at_start, carried_out, same_summary, same_ending}
+use Rattle.fz_drive.proofs.Scripts.{Follows, follows_some, After, carried_out, same_summary, same_ending}
 
 -- between two lines
-pub record Position (bytes : List ℕ) (number : ℕ) (text : List ℕ) (machine : Option Machine) (counts : Counts) : Type 0 where
-  pub lines : List (List ℕ)
-  pub is : bytes ≡ flat_map with_lf lines
-  pub each : All IsOneLine lines
-  pub place : length lines + 1 ≡ number
-  pub after : After lines text machine counts
-
-pub at_first : Position [] 1 [] None no_counts
-at_first = record { lines = []; is = refl; each = All-nil IsOneLine; place = refl; after = at_start }
+abbrev pub Position : List ℕ → ℕ → List ℕ → Option Machine → Counts → Type 0
+Position bytes number text machine counts = Between (λ lines. After lines text machine counts) bytes number
 
 -- ---- the run goes on
 
@@ -90,13 +85,11 @@ whole_taken number TooLong old new line bytes answer h go n l t = absurd (stoppe
 pub position_more : (seen text line : List ℕ) (number : ℕ) (old new : Option Machine) (counts : Counts) (answer : Answer)
     → Position seen number text old counts → IsOneLine line → length line ≤ max_line → number ≤ max_lines → Gives old line answer new → stop_of answer ≡ None
     → Position (seen ++ with_lf line) (number + 1) (text ++ answer_text number answer) new (counts_after counts answer)
-position_more seen text line number old new counts answer p one short few g go = record {
-  lines = p.lines ++ line ∷ [];
-  is = ap (λ b. b ++ with_lf line) p.is ∙ ap (λ l. flat_map with_lf p.lines ++ l) (sym (append-nil (with_lf line))) ∙ sym (flat_map-append with_lf p.lines (line ∷ []));
-  each = All-push IsOneLine p.lines line p.each one;
-  place = omega (arith, length-append p.lines (line ∷ []), p.place);
-  after = let place = p.place in carried_out p.lines text line number old new counts answer p.after.course p.after.reports p.after.follows p.after.counted short (omega (arith, place, few)) g go;
-}
+position_more seen text line number old new counts answer p one short few g go =
+    let place = p.place in
+    let after = p.holds in
+    line_more (λ lines. After lines (text ++ answer_text number answer) new (counts_after counts answer)) seen line number p one
+    (carried_out p.lines text line number old new counts answer after.course after.reports after.follows after.counted short (omega (arith, place, few)) g go)
 
 -- ---- the whole input was read
 
@@ -109,42 +102,18 @@ pub record Ended (bytes : List ℕ) (number : ℕ) (text : List ℕ) (machine : 
 
 -- the input ended between two lines
 pub close_here : (seen bytes text : List ℕ) (number : ℕ) (machine : Option Machine) (counts : Counts) → Position seen number text machine counts → bytes ≡ [] → Ended (seen ++ bytes) number text machine counts
-close_here seen bytes text number machine counts p e = record {
-  course = p.after.course;
-  at_end = record {
-    lines = p.lines;
-    last = [];
-    split = record { is = ap (λ b. seen ++ b) e ∙ ap (λ b. b ++ []) p.is; each = p.each; one = All-nil (λ b. b ≢ 10) };
-    place = p.place;
-    reports = p.after.reports;
-  };
-  follows = p.after.follows;
-  counted = p.after.counted;
-}
-
-with_last : (lines : List (List ℕ)) (line : List ℕ) → line ≢ [] → all_lines lines line ≡ lines ++ line ∷ []
-with_last lines [] h = absurd (h refl)
-with_last lines (b ∷ bs) h = refl
+close_here seen bytes text number machine counts p e =
+    let after = p.holds in record { course = after.course; at_end = ends_here (λ lines. Reports lines text after.course) seen bytes number p e after.reports; follows = after.follows; counted = after.counted }
 
 -- the input ended with a line that has no LF
 pub close_last : (seen bytes text line : List ℕ) (number : ℕ) (old new : Option Machine) (counts : Counts) (answer : Answer)
     → Position seen number text old counts → bytes ≡ line → line ≢ [] → IsOneLine line → length line ≤ max_line → number ≤ max_lines → Gives old line answer new → stop_of answer ≡ None
     → Ended (seen ++ bytes) (number + 1) (text ++ answer_text number answer) new (counts_after counts answer)
 close_last seen bytes text line number old new counts answer p e some one short few g go =
-    let lines : all_lines p.lines line ≡ p.lines ++ line ∷ [] = with_last p.lines line some in
     let place = p.place in
-    let after = carried_out p.lines text line number old new counts answer p.after.course p.after.reports p.after.follows p.after.counted short (omega (arith, place, few)) g go in record {
-      course = after.course;
-      at_end = record {
-        lines = p.lines;
-        last = line;
-        split = record { is = ap (λ b. seen ++ b) e ∙ ap (λ b. b ++ line) p.is; each = p.each; one = one };
-        place = ap (λ l. length l + 1) lines ∙ omega (arith, length-append p.lines (line ∷ []), p.place);
-        reports = subst (λ l. Reports l (text ++ answer_text number answer) after.course) (sym lines) after.reports;
-      };
-      follows = after.follows;
-      counted = after.counted;
-    }
+    let before = p.holds in
+    let after = carried_out p.lines text line number old new counts answer before.course before.reports before.follows before.counted short (omega (arith, place, few)) g go in
+    record { course = after.course; at_end = ends_last (λ lines. Reports lines (text ++ answer_text number answer) after.course) seen bytes line number p e some one after.reports; follows = after.follows; counted = after.counted }
 
 -- ---- faults: what was read, used and written
 
@@ -154,7 +123,7 @@ explained f q number bytes u text r e n h = subst (λ p. Explains p f.line bytes
 -- the reader failed
 pub break_off : (seen text line u : List ℕ) (number : ℕ) (machine : Option Machine) (counts : Counts) (r : Option (List ℕ)) → Position seen number text machine counts → IsOneLine line → length line ≤ max_line → u ≡ [] → Explains Input number (seen ++ line) u r text
 break_off seen text line u number machine counts r p one short e =
-    (e, p.lines, line, p.after.course, record { is = ap (λ b. b ++ line) p.is; each = p.each; one = one }, short, p.place, p.after.reports)
+    (e, p.lines, line, p.holds.course, record { is = ap (λ b. b ++ line) p.is; each = p.each; one = one }, short, p.place, p.holds.reports)
 
 finish_report : (y text : List ℕ) (number : ℕ) (machine : Machine) (course : Option Course) (counts : Counts) (summary : Summary) → AtEnd y number text course → Follows (Some machine) course → counts ≡ counts_of course → summary ≡ summary_at machine counts
     → IsReport y (text ++ text_line (end_words (summary_at machine counts))) summary
@@ -163,14 +132,10 @@ finish_report y text number machine (Some course) counts summary at f e is =
     let same = is ∙ same_summary machine course counts f e in
     record { number = number; before = text; course = course; at_end = at; counted = same; told = ap (λ s. text ++ text_line (end_words s)) (sym is) }
 
-pub finish_ok : (a r : Option (List ℕ)) (u y text : List ℕ) (w0 w1 w2 : Option (List ℕ)) (f f2 : ℕ) (number : ℕ) (machine : Option Machine) (counts : Counts) (result : Result Summary DriveFault)
-    → Consumes a (prepend_known u r) y → IsAtEnd (prepend_known u r) → Appends w0 w1 text → Ended y number text machine counts → Finishes number machine counts w1 f result w2 f2
-    → IfOk result (Reported a r w0 w2)
-finish_ok a r u y text w0 w1 w2 f f2 number machine counts (Err e) took end wrote closed fin = tt
-finish_ok a r u y text w0 w1 w2 f f2 number machine counts (Ok summary) took end wrote closed fin =
-    let t = took_all a r y u end took in
-    let last : List ℕ = text_line (end_words (summary_at fin.0 counts)) in
-    record { bytes = y; text = text ++ last; read = t.0; whole = t.1; written = Appends-trans w0 w1 w2 text last wrote fin.3; report = finish_report y text number fin.0 closed.course counts summary closed.at_end (subst (λ m. Follows m closed.course) fin.1 closed.follows) closed.counted fin.2 }
+report_balanced : (bytes text : List ℕ) (summary : Summary) → IsReport bytes text summary → summary.enqueued ≡ summary.finished + summary.forfeited + summary.in_hand + summary.left
+report_balanced bytes text summary r =
+    let P : Summary → Type 0 = λ s. s.enqueued ≡ s.finished + s.forfeited + s.in_hand + s.left in
+    subst P (sym r.counted) (balanced (all_lines r.at_end.lines r.at_end.last) r.before r.course r.at_end.holds)
 
 no_course : (course : Option Course) → Follows None course → course ≡ None
 no_course None f = refl
@@ -179,38 +144,39 @@ no_course (Some course) f = absurd f
 said_part : (words words' : List Token) (part rest : List ℕ) → words ≡ words' → text_line words' ≡ part ++ rest → text_line words ≡ part ++ rest
 said_part words words' part rest e h = ap text_line e ∙ h
 
-pub finish_fault : (a r : Option (List ℕ)) (u y text : List ℕ) (w0 w1 w2 : Option (List ℕ)) (f f2 : ℕ) (number : ℕ) (machine : Option Machine) (counts : Counts) (result : Result Summary DriveFault)
-    → Consumes a (prepend_known u r) y → IsAtEnd (prepend_known u r) → Appends w0 w1 text → Ended y number text machine counts → Finishes number machine counts w1 f result w2 f2
-    → IfErr result (Stopped a r w0 w2)
-finish_fault a r u y text w0 w1 w2 f f2 number machine counts (Ok summary) took end wrote closed fin = tt
-finish_fault a r u y text w0 w1 w2 f f2 number machine counts (Err fault) took end wrote closed fin = elim fin.1 [
-  | inl out ↦ record {
-    bytes = y;
-    unread = u;
-    text = text ++ out.1.0;
-    read = took_ahead a r y u took;
-    written = Appends-trans w0 w1 w2 text out.1.0 wrote out.1.4;
-    explains = explained fault Output number y u (text ++ out.1.0) r out.0 fin.0
-        (text, out.1.0, out.1.1, refl, out.1.3, inr (closed.course, closed.at_end, end, said_part (closing_words number closed.course) (ending_words number machine counts) out.1.0 out.1.1 (sym (same_ending number machine closed.course counts closed.follows closed.counted)) out.1.2));
-  }
-  | inr bad ↦ record {
-    bytes = y;
-    unread = u;
-    text = text ++ text_line (malformed_words number);
-    read = took_ahead a r y u took;
-    written = Appends-trans w0 w1 w2 text (text_line (malformed_words number)) wrote bad.2;
-    explains = explained fault BadLine number y u (text ++ text_line (malformed_words number)) r bad.0 fin.0
-        (text, refl, inr (subst (λ c. AtEnd y number text c) (no_course closed.course (subst (λ m. Follows m closed.course) bad.1 closed.follows)) closed.at_end, end));
-  }
-]
-
--- the failures of a call that ended so
-pub finish_failures : (w1 w2 : Option (List ℕ)) (f0 f1 f2 : ℕ) (number : ℕ) (machine : Option Machine) (counts : Counts) (result : Result Summary DriveFault) → f1 ≡ f0 → Finishes number machine counts w1 f1 result w2 f2
-    → (failures_of Input result ≡ 0) × (f2 ≡ f0 + failures_of Output result)
-finish_failures w1 w2 f0 f1 f2 number machine counts (Ok summary) e fin = (refl, let h = fin.4 in omega (arith, h, e))
-finish_failures w1 w2 f0 f1 f2 number machine counts (Err fault) e fin = elim fin.1 [
-  | inl out ↦ (let P : Refusal → Type 0 = λ q. failures_of Input (Err (record { refusal = q; line = fault.line })) ≡ 0 in subst P (sym out.0) refl, let P : Refusal → Type 0 = λ q. f2 ≡ f0 + failures_of Output (Err (record { refusal = q; line = fault.line })) in subst P (sym out.0) (out.2 ∙ ap (λ n. n + 1) e))
-  | inr bad ↦ (let P : Refusal → Type 0 = λ q. failures_of Input (Err (record { refusal = q; line = fault.line })) ≡ 0 in subst P (sym bad.0) refl, let P : Refusal → Type 0 = λ q. f2 ≡ f0 + failures_of Output (Err (record { refusal = q; line = fault.line })) in subst P (sym bad.0) (let h = bad.3 in omega (arith, h, e)))
+pub run_ends : (input left : Feed) (u y text : List ℕ) (old mid new : Log) (number : ℕ) (machine : Option Machine) (counts : Counts) (result : Result Summary DriveFault)
+    → Consumes input.remaining (prepend_known u left.remaining) y → IsAtEnd (prepend_known u left.remaining) → left.failures ≡ input.failures → Gains old text mid → Ended y number text machine counts → Finishes number machine counts mid result new
+    → Drives input old result left new
+run_ends input left u y text old mid new number machine counts (Ok summary) took end reads wrote closed fin =
+    let t = took_all input.remaining left.remaining y u end took in
+    let last : List ℕ = text_line (end_words (summary_at fin.0 counts)) in
+    let report = finish_report y text number fin.0 closed.course counts summary closed.at_end (subst (λ m. Follows m closed.course) fin.1 closed.follows) closed.counted fin.2 in
+    record { bytes = y; text = text ++ last; read = t.0; whole = t.1; reads = reads; written = gains_more old mid new text last wrote fin.3; report = report; balanced = report_balanced y (text ++ last) summary report }
+run_ends input left u y text old mid new number machine counts (Err fault) took end reads wrote closed fin = elim fin.1 [
+  | inl out ↦
+      let part = out.1.0 in record {
+        bytes = y;
+        unread = u;
+        text = text ++ part.0;
+        read = took_ahead input.remaining left.remaining y u took;
+        written = Appends-trans old.written mid.written new.written text part.0 wrote.0 part.4;
+        explains = explained fault Output number y u (text ++ part.0) left.remaining out.0 fin.0
+            (text, part.0, part.1, refl, part.3, inr (closed.course, closed.at_end, end, said_part (closing_words number closed.course) (ending_words number machine counts) part.0 part.1 (sym (same_ending number machine closed.course counts closed.follows closed.counted)) part.2));
+        reads = no_more reads (rw out.0 refl);
+        writes = rw out.0 (out.1.1 ∙ ap (λ n. n + 1) wrote.1);
+      }
+  | inr bad ↦
+      let last = gains_more old mid new text (text_line (malformed_words number)) wrote bad.2 in record {
+        bytes = y;
+        unread = u;
+        text = text ++ text_line (malformed_words number);
+        read = took_ahead input.remaining left.remaining y u took;
+        written = last.0;
+        explains = explained fault BadLine number y u (text ++ text_line (malformed_words number)) left.remaining bad.0 fin.0
+            (text, refl, inr (subst (λ c. AtEnd y number text c) (no_course closed.course (subst (λ m. Follows m closed.course) bad.1 closed.follows)) closed.at_end, end));
+        reads = no_more reads (rw bad.0 refl);
+        writes = no_more last.1 (rw bad.0 refl);
+      }
 ]
 
 -- ---- what a line is due
@@ -260,45 +226,39 @@ pub record DueAt (bytes : List ℕ) (left : Option (List ℕ)) (number : ℕ) (t
   pub at : AtLine bytes left number line text course
   pub due : Due number line course answer
 
-due_at : (seen bytes text line end : List ℕ) (left : Option (List ℕ)) (number : ℕ) (machine : Option Machine) (counts : Counts) (answer : Answer) → (p : Position seen number text machine counts) → bytes ≡ line ++ end → IsOneLine line → IsEnded line end left → Due number line p.after.course answer
+due_at : (seen bytes text line end : List ℕ) (left : Option (List ℕ)) (number : ℕ) (machine : Option Machine) (counts : Counts) (answer : Answer) → (p : Position seen number text machine counts) → bytes ≡ line ++ end → IsOneLine line → IsEnded line end left → Due number line p.holds.course answer
     → DueAt (seen ++ bytes) left number text answer
 due_at seen bytes text line end left number machine counts answer p is one ended due = record {
   line = line;
-  course = p.after.course;
-  at = record { lines = p.lines; end = end; is = ap (λ b. seen ++ b) is ∙ ap (λ b. b ++ (line ++ end)) p.is; each = p.each; one = one; ended = ended; place = p.place; reports = p.after.reports };
+  course = p.holds.course;
+  at = next_at (λ lines. Reports lines text p.holds.course) seen bytes line end left number p is one ended p.holds.reports;
   due = due;
 }
 
 pub reach : (seen bytes text line : List ℕ) (left : Option (List ℕ)) (number : ℕ) (ending : Ending) (old new : Option Machine) (counts : Counts) (answer : Answer)
     → Position seen number text old counts → TakenFor ending line bytes → EndsInput ending left → IsOneLine line → length line ≤ max_line → ending ≢ Nothing → Given number ending old line answer new → IsTrue (is_told answer) → DueAt (seen ++ bytes) left number text answer
 reach seen bytes text line left number Whole old new counts answer p t end one short n g told =
-    due_at seen bytes text line (10 ∷ []) left number old counts answer p t one (inl refl) (timed_due number line old new p.after.course answer p.after.follows told g)
+    due_at seen bytes text line (10 ∷ []) left number old counts answer p t one (inl refl) (timed_due number line old new p.holds.course answer p.holds.follows told g)
 reach seen bytes text line left number Last old new counts answer p t end one short n g told =
-    due_at seen bytes text line [] left number old counts answer p (t.0 ∙ sym (append-nil line)) one (inr (refl, inl (end, t.1))) (timed_due number line old new p.after.course answer p.after.follows told g)
+    due_at seen bytes text line [] left number old counts answer p (t.0 ∙ sym (append-nil line)) one (inr (refl, inl (end, t.1))) (timed_due number line old new p.holds.course answer p.holds.follows told g)
 reach seen bytes text line left number Nothing old new counts answer p t end one short n g told = absurd (n refl)
 reach seen bytes text line left number TooLong old new counts answer p t end one short n g told =
     let longer : length (line ++ t.0 ∷ []) ≡ max_line + 1 = let l = t.3 in omega (arith, length-append line (t.0 ∷ []), l) in
-    due_at seen bytes text (line ++ t.0 ∷ []) [] left number old counts answer p (t.1 ∙ sym (append-nil _)) (All-push (λ b. b ≢ 10) line t.0 one t.2) (inr (refl, inr longer)) (malformed_due number (line ++ t.0 ∷ []) p.after.course answer g.0 (inl (omega (arith, longer))))
+    due_at seen bytes text (line ++ t.0 ∷ []) [] left number old counts answer p (t.1 ∙ sym (append-nil _)) (All-push (λ b. b ≢ 10) line t.0 one t.2) (inr (refl, inr longer)) (malformed_due number (line ++ t.0 ∷ []) p.holds.course answer g.0 (inl (omega (arith, longer))))
 
 -- ---- faults of a line
-
-opening_refusal : (a b c : Bool) (q : Refusal) → first_cause ((a, BadCount) ∷ (b, BadCount) ∷ (c, BadCount) ∷ []) ≡ Some q → q ≡ BadCount
-opening_refusal true b c q h = cc
-opening_refusal false true c q h = cc
-opening_refusal false false true q h = cc
-opening_refusal false false false q h = absurd cc
 
 -- an opening is refused for one of two reasons
 two_refusals : (blocks frames workers : ℕ) (q : Refusal) → IsRefusedFor (opening_causes blocks frames workers) true q → (q ≡ BadCount) ⊎ (q ≡ NoMemory)
 two_refusals blocks frames workers q h = elim h [
-  | inl first ↦ inl (opening_refusal (bad_count MAX_WORKERS workers).0 (bad_count MAX_BLOCKS blocks).0 (bad_count MAX_FRAMES frames).0 q first)
+  | inl first ↦ inl (counts_only (bad_count MAX_WORKERS workers).0 (bad_count MAX_BLOCKS blocks).0 (bad_count MAX_FRAMES frames).0 q first)
   | inr none ↦ inr none.1
 ]
 
 opening_explains : (q : Refusal) (number : ℕ) (line bytes u text : List ℕ) (r : Option (List ℕ)) → number ≤ max_lines → AtLine bytes (prepend_known u r) number line text None → IsRefusedOpening line q → Explains q number bytes u r (text ++ text_line (refused_words q))
 opening_explains q number line bytes u text r few at h =
-    let at' : AtLine bytes (prepend_known u r) number line [] None = subst (λ t. AtLine bytes (prepend_known u r) number line t None) at.reports.1 at in
-    let only : text ++ text_line (refused_words q) ≡ text_line (refused_words q) = ap (λ t. t ++ text_line (refused_words q)) at.reports.1 in
+    let at' : AtLine bytes (prepend_known u r) number line [] None = subst (λ t. AtLine bytes (prepend_known u r) number line t None) at.holds.1 at in
+    let only : text ++ text_line (refused_words q) ≡ text_line (refused_words q) = ap (λ t. t ++ text_line (refused_words q)) at.holds.1 in
     elim (two_refusals h.0 h.1 h.2 q h.4) [
       | inl count ↦
           let P : Refusal → Type 0 = λ p. IsRefusedOpening line p in
@@ -324,18 +284,18 @@ stop_explains Malformed q number bytes u text r h due = subst (λ p. Explains p 
 
 -- what stops a run is no failure of a device
 stop_failures : (answer : Answer) (q : Refusal) (number n : ℕ) (line : List ℕ) (course : Option Course) → stop_of answer ≡ Some q → Why number line course answer
-    → (failures_of Input (Err (record { refusal = q; line = n })) ≡ 0) × (failures_of Output (Err (record { refusal = q; line = n })) ≡ 0)
+    → (failures_of Input (record { refusal = q; line = n }) ≡ 0) × (failures_of Output (record { refusal = q; line = n }) ≡ 0)
 stop_failures Skipped q number n line course h why = absurd cc
 stop_failures Opened q number n line course h why = absurd cc
 stop_failures (Replied result) q number n line course h why = absurd cc
 stop_failures (answers.Ended e) q number n line course h why =
-    let P : Refusal → Type 0 = λ p. (failures_of Input (Err (record { refusal = p; line = n })) ≡ 0) × (failures_of Output (Err (record { refusal = p; line = n })) ≡ 0) in
+    let P : Refusal → Type 0 = λ p. (failures_of Input (record { refusal = p; line = n }) ≡ 0) × (failures_of Output (record { refusal = p; line = n }) ≡ 0) in
     subst P (same_some e q h) (elim (two_refusals why.1.0 why.1.1 why.1.2 e why.1.4) [
       | inl count ↦ subst P (sym count) (refl, refl)
       | inr memory ↦ subst P (sym memory) (refl, refl)
     ])
 stop_failures Malformed q number n line course h why =
-    let P : Refusal → Type 0 = λ p. (failures_of Input (Err (record { refusal = p; line = n })) ≡ 0) × (failures_of Output (Err (record { refusal = p; line = n })) ≡ 0) in
+    let P : Refusal → Type 0 = λ p. (failures_of Input (record { refusal = p; line = n }) ≡ 0) × (failures_of Output (record { refusal = p; line = n }) ≡ 0) in
     subst P (same_some BadLine q h) (refl, refl)
 
 stop_told : (answer : Answer) (q : Refusal) → stop_of answer ≡ Some q → IsTrue (is_told answer)
@@ -346,37 +306,35 @@ stop_told (answers.Ended e) q h = refl
 stop_told Malformed q h = refl
 
 -- a fault of a line, told by the line's answer or by the writer
-pub tell_fault : (a r : Option (List ℕ)) (u y text : List ℕ) (w0 w1 w2 : Option (List ℕ)) (f f2 : ℕ) (number : ℕ) (answer : Answer) (fault : DriveFault)
-    → Consumes a (prepend_known u r) y → Appends w0 w1 text → (IsTrue (is_told answer) → DueAt y (prepend_known u r) number text answer) → TellsAnswer number answer w1 f (Err fault) w2 f2 → Stopped a r w0 w2 fault
-tell_fault a r u y text w0 w1 w2 f f2 number answer fault took wrote due tells = elim tells.1 [
+pub tell_stops : (input left : Feed) (u y text : List ℕ) (old mid new : Log) (number : ℕ) (answer : Answer) (fault : DriveFault)
+    → Consumes input.remaining (prepend_known u left.remaining) y → left.failures ≡ input.failures → Gains old text mid → (IsTrue (is_told answer) → DueAt y (prepend_known u left.remaining) number text answer) → TellsAnswer number answer mid (Err fault) new
+    → Stopped input left old new fault
+tell_stops input left u y text old mid new number answer fault took reads wrote due tells = elim tells.1 [
   | inl out ↦
-      let d = due out.1 in record {
+      let d = due out.1 in
+      let part = out.2.0 in record {
         bytes = y;
         unread = u;
-        text = text ++ out.2.0;
-        read = took_ahead a r y u took;
-        written = Appends-trans w0 w1 w2 text out.2.0 wrote out.2.4;
-        explains = explained fault Output number y u (text ++ out.2.0) r out.0 tells.0 (text, out.2.0, out.2.1, refl, out.2.3, inl (d.line, d.course, d.due.words, d.at, d.due.due, sym d.due.said ∙ out.2.2));
+        text = text ++ part.0;
+        read = took_ahead input.remaining left.remaining y u took;
+        written = Appends-trans old.written mid.written new.written text part.0 wrote.0 part.4;
+        explains = explained fault Output number y u (text ++ part.0) left.remaining out.0 tells.0 (text, part.0, part.1, refl, part.3, inl (d.line, d.course, d.due.words, d.at, d.due.due, sym d.due.said ∙ part.2));
+        reads = no_more reads (rw out.0 refl);
+        writes = rw out.0 (out.2.1 ∙ ap (λ n. n + 1) wrote.1);
       }
-  | inr stop ↦ record {
-    bytes = y;
-    unread = u;
-    text = text ++ answer_text number answer;
-    read = took_ahead a r y u took;
-    written = Appends-trans w0 w1 w2 text (answer_text number answer) wrote stop.1;
-    explains = explained fault fault.refusal number y u (text ++ answer_text number answer) r refl tells.0 (stop_explains answer fault.refusal number y u text r stop.0 (due (stop_told answer fault.refusal stop.0)));
-  }
-]
-
-pub tell_failures : (w1 w2 : Option (List ℕ)) (f0 f1 f2 : ℕ) (number : ℕ) (answer : Answer) (fault : DriveFault) (bytes text : List ℕ) (left : Option (List ℕ))
-    → f1 ≡ f0 → (IsTrue (is_told answer) → DueAt bytes left number text answer) → TellsAnswer number answer w1 f1 (Err fault) w2 f2
-    → (failures_of Input (Err fault) ≡ 0) × (f2 ≡ f0 + failures_of Output (Err fault))
-tell_failures w1 w2 f0 f1 f2 number answer fault bytes text left e due tells = elim tells.1 [
-  | inl out ↦ (let P : Refusal → Type 0 = λ q. failures_of Input (Err (record { refusal = q; line = fault.line })) ≡ 0 in subst P (sym out.0) refl, let P : Refusal → Type 0 = λ q. f2 ≡ f0 + failures_of Output (Err (record { refusal = q; line = fault.line })) in subst P (sym out.0) (out.3 ∙ ap (λ n. n + 1) e))
   | inr stop ↦
       let d = due (stop_told answer fault.refusal stop.0) in
-      let z = stop_failures answer fault.refusal number fault.line d.line d.course stop.0 d.due.why in
-      (z.0, let h = stop.2 in let none = z.1 in omega (arith, h, none, e))
+      let none = stop_failures answer fault.refusal number fault.line d.line d.course stop.0 d.due.why in
+      let all = gains_more old mid new text (answer_text number answer) wrote stop.1 in record {
+        bytes = y;
+        unread = u;
+        text = text ++ answer_text number answer;
+        read = took_ahead input.remaining left.remaining y u took;
+        written = all.0;
+        explains = explained fault fault.refusal number y u (text ++ answer_text number answer) left.remaining refl tells.0 (stop_explains answer fault.refusal number y u text left.remaining stop.0 d);
+        reads = no_more reads none.0;
+        writes = no_more all.1 none.1;
+      }
 ]
 
 -- ---- counts stay small
@@ -394,11 +352,3 @@ counts_bound counts (Replied result) n a b c d = (omega arith, one_more counts.r
     one_more m false n l = omega arith
 counts_bound counts (answers.Ended e) n a b c d = (omega arith, omega arith, omega arith, omega arith)
 counts_bound counts Malformed n a b c d = (omega arith, omega arith, omega arith, omega arith)
-
-pub report_balanced : (result : Result Summary DriveFault) (a b : Option (List ℕ)) (w v : Option (List ℕ)) → IfOk result (Reported a b w v)
-    → IfOk result (λ summary. summary.enqueued ≡ summary.finished + summary.forfeited + summary.in_hand + summary.left)
-report_balanced (Err fault) a b w v h = tt
-report_balanced (Ok summary) a b w v h =
-    let r = h.report in
-    let P : Summary → Type 0 = λ s. s.enqueued ≡ s.finished + s.forfeited + s.in_hand + s.left in
-    subst P (sym r.counted) (balanced (all_lines r.at_end.lines r.at_end.last) r.before r.course r.at_end.reports)

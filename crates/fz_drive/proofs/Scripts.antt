@@ -1,7 +1,7 @@
 -- Scripts, reports and joint runs that go on by one line.
-use Rattle.std.proofs.Common.{◌≡◌, ℕ, ◌≤◌, ◌+◌, ◌-◌, List, [], ◌∷◌, ◌++◌, Option, Some, None, Result, Bool, true, false, ◌∙◌, ap, sym, refl, subst, append-nil, append_assoc, arith, length, length-append, flat_map, filter, map, count_by, is_some, is_err, cond}
+use Rattle.std.proofs.Common.{◌≡◌, ℕ, ◌≤◌, ◌+◌, ◌-◌, List, [], ◌∷◌, ◌++◌, Option, Some, None, Result, Bool, true, false, ◌∙◌, ap, sym, refl, subst, append-nil, append_assoc, arith, length, length-append, flat_map, map, count_by, is_some, is_err, cond}
 use Rattle.std.proofs.lemmas.List.{map-append}
-use Rattle.std.proofs.lemmas.List.Elements.{All-nil, All-push, filter-append}
+use Rattle.std.proofs.lemmas.List.Elements.{All-nil, All-push}
 use Rattle.std.proofs.lemmas.List.Concat.{flat_map-append}
 use Rattle.std.proofs.lemmas.List.Sums.{sum_by_push, sum_by-cons}
 use Rattle.fz_model.specs.declared.answers.Entry.{Entry}
@@ -19,6 +19,7 @@ use Rattle.fz_drive.specs.declared.run.Counts.{Counts}
 use Rattle.fz_drive.specs.declared.run.Summary.{Summary}
 use Rattle.fz_drive.specs.Script.{max_lines, IsScript, event_of}
 use Rattle.fz_text.specs.Lines.{is_kept, max_line}
+use Rattle.fz_text.proofs.Lines.{filter_kept, filter_skipped}
 use Rattle.fz_drive.specs.Replies.{reply_line, end_words}
 use Rattle.fz_text.specs.Written.{text_line, done}
 use Rattle.fz_drive.specs.Report.{Course, Reports, AsksFor, summary_of, closing_words, finishes, forfeits}
@@ -26,18 +27,12 @@ use Rattle.fz_drive.specs.Machines.{StandsForJoint, Gives, answer_text, stop_of,
 
 -- ---- scripts
 
-filter_kept : (line : List ℕ) → is_kept line ≡ true → filter is_kept (line ∷ []) ≡ line ∷ []
-filter_kept line h = rw h refl
-
-filter_skipped : (line : List ℕ) → is_kept line ≡ false → filter is_kept (line ∷ []) ≡ []
-filter_skipped line h = rw h refl
-
 pub no_script : IsScript [] []
 no_script = record { spelled = refl; fit = All-nil Fits; short = All-nil (λ line. length line ≤ max_line); few = omega arith }
 
 pub script_skips : (lines : List (List ℕ)) (steps : List Step) (line : List ℕ) → IsScript lines steps → length line ≤ max_line → length lines + 1 ≤ max_lines → is_kept line ≡ false → IsScript (lines ++ line ∷ []) steps
 script_skips lines steps line s short few skipped = record {
-  spelled = filter-append is_kept lines (line ∷ []) ∙ ap (λ l. filter is_kept lines ++ l) (filter_skipped line skipped) ∙ append-nil _ ∙ s.spelled;
+  spelled = filter_skipped lines line skipped ∙ s.spelled;
   fit = s.fit;
   short = All-push (λ l. length l ≤ max_line) lines line s.short short;
   few = omega (arith, length-append lines (line ∷ []));
@@ -45,8 +40,7 @@ script_skips lines steps line s short few skipped = record {
 
 pub script_asks : (lines : List (List ℕ)) (steps : List Step) (line : List ℕ) (step : Step) → IsScript lines steps → length line ≤ max_line → length lines + 1 ≤ max_lines → AsksFor line step → IsScript (lines ++ line ∷ []) (steps ++ step ∷ [])
 script_asks lines steps line step s short few asks = record {
-  spelled = filter-append is_kept lines (line ∷ []) ∙ ap (λ l. filter is_kept lines ++ l) (filter_kept line asks.0) ∙ ap (λ l. l ++ line ∷ []) s.spelled
-      ∙ ap (λ l. map spelling steps ++ l ∷ []) asks.2 ∙ sym (map-append spelling steps (step ∷ []));
+  spelled = filter_kept lines line asks.0 ∙ ap (λ l. l ++ line ∷ []) s.spelled ∙ ap (λ l. map spelling steps ++ l ∷ []) asks.2 ∙ sym (map-append spelling steps (step ∷ []));
   fit = All-push Fits steps step s.fit asks.1;
   short = All-push (λ l. length l ≤ max_line) lines line s.short short;
   few = omega (arith, length-append lines (line ∷ []));

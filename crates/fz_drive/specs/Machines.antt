@@ -1,5 +1,5 @@
 -- What the driver's code keeps, and what each of its functions does to it. Means only: no public contract cites this file.
-use Rattle.std.specs.Prelude.{◌≡◌, ℕ, ◌+◌, ◌-◌, Bool, true, false, ◌⊎◌, List, [], ◌∷◌, length, map, codes, count_by, Option, Some, None, is_some, is_err, Result, Ok, Err, IsTrue, IsFalse, MatchBool, nat_le}
+use Rattle.std.specs.Prelude.{◌≡◌, ℕ, ◌+◌, ◌-◌, Bool, true, false, ◌⊎◌, List, [], length, map, count_by, Option, Some, None, is_some, is_err, Result, Ok, Err, IsTrue, IsFalse, MatchBool, nat_le}
 use Rattle.fz_model.specs.declared.refusal.Refusal.{Refusal}
 use Rattle.fz_model.specs.declared.refusal.Refusal.TheVariants.{BadLine, Output}
 use Rattle.fz_model.specs.Causes.{first_cause}
@@ -7,7 +7,7 @@ use Rattle.fz_model.specs.Joint.{Worker, Joint, JointEvent, JointAnswer, JointSt
 use Rattle.fz_world.specs.Does.{StandsFor}
 use Rattle.fz_script.specs.declared.step.Step.{Step}
 use Rattle.fz_script.specs.declared.step.Step.TheVariants.{Open}
-use Rattle.fz_script.specs.Spelling.{Token, Number, Text, spelling, Fits}
+use Rattle.fz_script.specs.Spelling.{Token, spelling, Fits}
 use Rattle.fz_drive.specs.declared.machine.Machine.{Machine}
 use Rattle.fz_drive.specs.declared.reply.StepReply.{StepReply}
 use Rattle.fz_drive.specs.declared.reply.StepReply.TheVariants.{Called, Taken, Held, Finished, Forfeited}
@@ -18,8 +18,7 @@ use Rattle.fz_text.specs.declared.input.Ending.TheVariants.{TooLong}
 use Rattle.fz_drive.specs.declared.run.Summary.{Summary}
 use Rattle.fz_drive.specs.declared.run.Counts.{Counts}
 use Rattle.fz_text.specs.declared.fault.DriveFault.{DriveFault}
-use Rattle.std.specs.Io.KnownBytes.{Appends}
-use Rattle.fz_text.specs.Devices.{IsPart}
+use Rattle.fz_text.specs.Devices.{Log, Gains, GainsPart}
 use Rattle.fz_drive.specs.Script.{max_lines, may_come, event_of}
 use Rattle.fz_text.specs.Lines.{is_kept}
 use Rattle.fz_drive.specs.Replies.{called_words, taken_words, reply_words, end_words}
@@ -71,10 +70,10 @@ pub record StepDoes (old : Machine) (step : Step) (result : Result StepReply Ref
   pub tells : Tells event reply result
 
 -- a step that may come does what it asks for; an opening, which may not, changes nothing
-abbrev pub CarriesOut : Machine → Step → Result (Option StepReply) Refusal → Machine → Type 0
-CarriesOut old step (Ok (Some reply)) new = StepDoes old step (Ok reply) new
-CarriesOut old step (Ok None) new = IsFalse (may_come true step) × (new ≡ old)
-CarriesOut old step (Err refusal) new = StepDoes old step (Err refusal) new
+abbrev pub TakesStep : Machine → Step → Result (Option StepReply) Refusal → Machine → Type 0
+TakesStep old step (Ok (Some reply)) new = StepDoes old step (Ok reply) new
+TakesStep old step (Ok None) new = IsFalse (may_come true step) × (new ≡ old)
+TakesStep old step (Err refusal) new = StepDoes old step (Err refusal) new
 
 -- what one line gives, before the opening and after it
 abbrev pub Gives : Option Machine → List ℕ → Answer → Option Machine → Type 0
@@ -113,13 +112,12 @@ stop_of (Ended refusal) = Some refusal
 stop_of Malformed = Some BadLine
 
 -- the answer's text was written, and the run goes on or ends; or the writer failed in it
-abbrev pub TellsAnswer : ℕ → Answer → Option (List ℕ) → ℕ → Result (Unit {0}) DriveFault → Option (List ℕ) → ℕ → Type 0
-TellsAnswer number answer before failures (Ok x) after failures' =
-    (stop_of answer ≡ None) × Appends before after (answer_text number answer) × (failures' ≡ failures)
-TellsAnswer number answer before failures (Err fault) after failures' =
+abbrev pub TellsAnswer : ℕ → Answer → Log → Result (Unit {0}) DriveFault → Log → Type 0
+TellsAnswer number answer old (Ok x) new = (stop_of answer ≡ None) × Gains old (answer_text number answer) new
+TellsAnswer number answer old (Err fault) new =
     (fault.line ≡ number)
-    × (((fault.refusal ≡ Output) × IsTrue (is_told answer) × IsPart before (answer_text number answer) after × (failures' ≡ failures + 1))
-    ⊎ ((stop_of answer ≡ Some fault.refusal) × Appends before after (answer_text number answer) × (failures' ≡ failures)))
+    × (((fault.refusal ≡ Output) × IsTrue (is_told answer) × GainsPart old (answer_text number answer) new)
+    ⊎ ((stop_of answer ≡ Some fault.refusal) × Gains old (answer_text number answer) new))
 
 -- counts of the steps so far
 abbrev pub no_counts : Counts
@@ -169,10 +167,10 @@ ending_words number None counts = malformed_words number
 ending_words number (Some machine) counts = end_words (summary_at machine counts)
 
 -- the last line of the report was written; or the script had no opening; or the writer failed
-abbrev pub Finishes : ℕ → Option Machine → Counts → Option (List ℕ) → ℕ → Result Summary DriveFault → Option (List ℕ) → ℕ → Type 0
-Finishes number world counts before failures (Ok summary) after failures' =
-    (machine : Machine) × (world ≡ Some machine) × (summary ≡ summary_at machine counts) × Appends before after (text_line (end_words (summary_at machine counts))) × (failures' ≡ failures)
-Finishes number world counts before failures (Err fault) after failures' =
+abbrev pub Finishes : ℕ → Option Machine → Counts → Log → Result Summary DriveFault → Log → Type 0
+Finishes number world counts old (Ok summary) new =
+    (machine : Machine) × (world ≡ Some machine) × (summary ≡ summary_at machine counts) × Gains old (text_line (end_words (summary_at machine counts))) new
+Finishes number world counts old (Err fault) new =
     (fault.line ≡ number)
-    × (((fault.refusal ≡ Output) × IsPart before (text_line (ending_words number world counts)) after × (failures' ≡ failures + 1))
-    ⊎ ((fault.refusal ≡ BadLine) × (world ≡ None) × Appends before after (text_line (malformed_words number)) × (failures' ≡ failures)))
+    × (((fault.refusal ≡ Output) × GainsPart old (text_line (ending_words number world counts)) new)
+    ⊎ ((fault.refusal ≡ BadLine) × (world ≡ None) × Gains old (text_line (malformed_words number)) new))

@@ -1,9 +1,7 @@
 -- The report of a script: the replies to its steps, which are those of a joint run, and how it ends.
-use Rattle.std.specs.Prelude.{◌≡◌, ◌≢◌, ℕ, ◌+◌, ◌-◌, ◌≤◌, Bool, true, false, ◌⊎◌, List, [], ◌∷◌, ◌++◌, length, map, flat_map, count_by, Option, Some, None, is_some, is_err, Result, Ok, Err, IsTrue, if◌then◌else◌, ◌==◌}
-use Rattle.std.specs.List.{All}
+use Rattle.std.specs.Prelude.{◌≡◌, ◌≢◌, ℕ, ◌+◌, ◌-◌, ◌≤◌, Bool, true, false, ◌⊎◌, List, [], ◌∷◌, ◌++◌, length, map, flat_map, count_by, Option, Some, None, is_some, is_err, Result, Ok, Err, IsTrue}
 use Rattle.fz_model.specs.declared.refusal.Refusal.{Refusal}
 use Rattle.fz_model.specs.declared.refusal.Refusal.TheVariants.{BadLine, BadCount, NoMemory, Output, Input}
-use Rattle.fz_model.specs.Refusals.{code_of}
 use Rattle.fz_model.specs.declared.limits.TheConstants.{MAX_WORKERS}
 use Rattle.fz_model.specs.Causes.{Causes, bad_count, first_cause, IsRefusedFor}
 use Rattle.fz_model.specs.Joint.{Worker, Joint, JointEvent, JointAnswer, FinishOwn, Forfeit, JointStep, Move, MovesTo, joint_opening}
@@ -13,9 +11,11 @@ use Rattle.fz_script.specs.declared.step.Step.TheVariants.{Open}
 use Rattle.fz_script.specs.Spelling.{Token, spelling, Fits}
 use Rattle.fz_drive.specs.declared.run.Summary.{Summary}
 use Rattle.fz_text.specs.declared.fault.DriveFault.{DriveFault}
-use Rattle.std.specs.Io.KnownBytes.{Consumes, Appends, IsAtEnd, prepend_known}
+use Rattle.std.specs.Io.KnownBytes.{Consumes, IsAtEnd, prepend_known}
+use Rattle.fz_text.specs.Devices.{Feed, Log, Gains}
+use Rattle.fz_text.specs.Faults.{StoppedFor}
 use Rattle.fz_drive.specs.Script.{max_lines, IsScript, IsMalformed, event_of}
-use Rattle.fz_text.specs.Lines.{with_lf, IsOneLine, Lines, all_lines, is_kept, max_line, IsEnded}
+use Rattle.fz_text.specs.Lines.{Lines, AreLines, EndsAt, is_kept, max_line}
 use Rattle.fz_drive.specs.Replies.{reply_words, reply_line, end_words}
 use Rattle.fz_text.specs.Written.{text_line, done, refused_words, malformed_words}
 
@@ -70,12 +70,8 @@ summary_of course =
     }
 
 -- all lines of the bytes were carried out; a further line would have this number
-pub record AtEnd (bytes : List ℕ) (number : ℕ) (text : List ℕ) (course : Option Course) : Type 0 where
-  pub lines : List (List ℕ)
-  pub last : List ℕ
-  pub split : Lines bytes lines last
-  pub place : length (all_lines lines last) + 1 ≡ number
-  pub reports : Reports (all_lines lines last) text course
+abbrev pub AtEnd : List ℕ → ℕ → List ℕ → Option Course → Type 0
+AtEnd bytes number text course = AreLines (λ lines. Reports lines text course) bytes number
 
 -- the text is the report of the whole script in these bytes, with the numbers of its run
 pub record IsReport (bytes text : List ℕ) (summary : Summary) : Type 0 where
@@ -87,15 +83,8 @@ pub record IsReport (bytes text : List ℕ) (summary : Summary) : Type 0 where
   pub told : text ≡ before ++ text_line (end_words summary)
 
 -- the bytes end with this line; the lines before it were carried out, and this is their report
-pub record AtLine (bytes : List ℕ) (left : Option (List ℕ)) (number : ℕ) (line text : List ℕ) (course : Option Course) : Type 0 where
-  pub lines : List (List ℕ)
-  pub end : List ℕ
-  pub is : bytes ≡ flat_map with_lf lines ++ (line ++ end)
-  pub each : All IsOneLine lines
-  pub one : IsOneLine line
-  pub ended : IsEnded line end left
-  pub place : length lines + 1 ≡ number
-  pub reports : Reports lines text course
+abbrev pub AtLine : List ℕ → Option (List ℕ) → ℕ → List ℕ → List ℕ → Option Course → Type 0
+AtLine bytes left number line text course = EndsAt (λ lines. Reports lines text course) bytes left number line
 
 abbrev pub AsksFor : List ℕ → Step → Type 0
 AsksFor line step = IsTrue (is_kept line) × Fits step × (line ≡ spelling step)
@@ -139,25 +128,22 @@ Explains Input number bytes unread left text =
     (unread ≡ []) × (lines : List (List ℕ)) × (line : List ℕ) × (course : Option Course) × Lines bytes lines line × (length line ≤ max_line) × (length lines + 1 ≡ number) × Reports lines text course
 Explains _ number bytes unread left text = ⊥
 
--- the whole input was read, and the report of its script was written
-pub record Reported (input left before after : Option (List ℕ)) (summary : Summary) : Type 0 where
+-- the whole input was read, and the report of its script was written; each entry is finished, given up, in a hand or left; and no device failed
+pub record Reported (input left : Feed) (before after : Log) (summary : Summary) : Type 0 where
   pub bytes : List ℕ
   pub text : List ℕ
-  pub read : Consumes input left bytes
-  pub whole : IsAtEnd left
-  pub written : Appends before after text
+  pub read : Consumes input.remaining left.remaining bytes
+  pub whole : IsAtEnd left.remaining
+  pub reads : left.failures ≡ input.failures
+  pub written : Gains before text after
   pub report : IsReport bytes text summary
+  pub balanced : summary.enqueued ≡ summary.finished + summary.forfeited + summary.in_hand + summary.left
 
--- the run of the input's script ended early: the fault stands where its cause does, and nothing else was written
-pub record Stopped (input left before after : Option (List ℕ)) (fault : DriveFault) : Type 0 where
-  pub bytes : List ℕ
-  pub unread : List ℕ
-  pub text : List ℕ
-  pub read : Consumes input left (bytes ++ unread)
-  pub written : Appends before after text
-  pub explains : Explains fault.refusal fault.line bytes unread left text
+-- the run of the input's script ended early
+abbrev pub Stopped : Feed → Feed → Log → Log → DriveFault → Type 0
+Stopped input left before after fault = StoppedFor Explains input left before after fault
 
--- 1 where the run ended for this cause, and 0 otherwise
-abbrev pub failures_of : Refusal → Result Summary DriveFault → ℕ
-failures_of refusal (Ok summary) = 0
-failures_of refusal (Err fault) = if code_of fault.refusal == code_of refusal then 1 else 0
+-- a script was run to its end, or until a fault
+abbrev pub Drives : Feed → Log → Result Summary DriveFault → Feed → Log → Type 0
+Drives input before (Ok summary) left after = Reported input left before after summary
+Drives input before (Err fault) left after = Stopped input left before after fault

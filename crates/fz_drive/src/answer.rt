@@ -77,7 +77,7 @@ fn later_answer(machine: &mut Machine, line: &[u8]) -> Answer
     let Some(step) = step_of(line) else {
         return Answer::Malformed;
     };
-    match machine.carry_out(step) {
+    match machine.take_step(step) {
         Ok(Some(reply)) => Answer::Replied(Ok(reply)),
         Ok(None) => Answer::Malformed,
         Err(refusal) => Answer::Replied(Err(refusal)),

@@ -5,7 +5,7 @@ ghost use Rattle.fz_model.specs.declared.limits.TheConstants.{MAX_WORKERS};
 ghost use Rattle.fz_model.specs.Causes.{first_cause, IsRefusedFor};
 ghost use Rattle.fz_model.specs.Joint.{Take, HoldOwn, FinishOwn, Forfeit, joint_opening};
 ghost use Rattle.fz_drive.specs.Report.{opening_causes};
-ghost use Rattle.fz_drive.specs.Machines.{StandsForJoint, JointDoes, CarriesOut};
+ghost use Rattle.fz_drive.specs.Machines.{StandsForJoint, JointDoes, TakesStep};
 
 use crate::reply::StepReply;
 use arrayvec::ArrayVec;
@@ -109,8 +109,8 @@ impl Machine {
     }
 
     /// Carries out a step of an open world. `None`: it is an opening, which may not come again.
-    pub(crate) fn carry_out(&mut self, step: Step) -> Result<Option<StepReply>, Refusal>
-        ensures { CarriesOut self.old step result self.new }
+    pub(crate) fn take_step(&mut self, step: Step) -> Result<Option<StepReply>, Refusal>
+        ensures { TakesStep self.old step result self.new }
     {
         match step {
             Step::Open { .. } => Ok(None),

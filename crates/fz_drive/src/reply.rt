@@ -4,13 +4,10 @@ ghost use Rattle.std.specs.Prelude.{◌≡◌};
 ghost use Rattle.fz_text.specs.Devices.{Emits};
 ghost use Rattle.fz_drive.specs.Replies.{called_words, registered_words, unregistered_words, linked_words, unlinked_words, moved_words, marked_words, passed_words, taken_words, end_words};
 ghost use Rattle.fz_text.specs.Written.{text_line, done, refused_words, malformed_words};
-ghost use Rattle.fz_model.specs.declared.call.Reply.TheVariants as replies;
 ghost use Rattle.fz_drive.specs.Machines.{words_of, result_words};
 
 use crate::run::Summary;
-use fz_model::{
-    Addr, Entry, LinkAnswer, MoveAnswer, Old, Passed, Progress, Refusal, RegAnswer, Reply,
-};
+use fz_model::{Entry, LinkAnswer, MoveAnswer, Old, Passed, Progress, Refusal, RegAnswer, Reply};
 use fz_text::{Sink, Word, WriteFailed, write_all, write_line, write_refused};
 
 /// What an accepted step answers.
@@ -29,7 +26,7 @@ pub(crate) enum StepReply {
 }
 
 fn write_registered<W: Sink>(writer: &mut W, answer: RegAnswer) -> Result<(), WriteFailed>
-    ensures { Emits (W.written writer.old) (W.failures writer.old) (text_line (registered_words answer)) result (W.written writer.new) (W.failures writer.new) }
+    ensures { Emits (W.log writer.old) (text_line (registered_words answer)) result (W.log writer.new) }
 {
     match answer {
         RegAnswer::Outside => write_line(writer, &[Word::Text("outside")]),
@@ -51,7 +48,7 @@ fn write_registered<W: Sink>(writer: &mut W, answer: RegAnswer) -> Result<(), Wr
 }
 
 fn write_unregistered<W: Sink>(writer: &mut W, old: Option<Old>) -> Result<(), WriteFailed>
-    ensures { Emits (W.written writer.old) (W.failures writer.old) (text_line (unregistered_words old)) result (W.written writer.new) (W.failures writer.new) }
+    ensures { Emits (W.log writer.old) (text_line (unregistered_words old)) result (W.log writer.new) }
 {
     match old {
         None => write_line(writer, &[Word::Text("none")]),
@@ -67,7 +64,7 @@ fn write_unregistered<W: Sink>(writer: &mut W, old: Option<Old>) -> Result<(), W
 }
 
 fn write_linked<W: Sink>(writer: &mut W, answer: LinkAnswer) -> Result<(), WriteFailed>
-    ensures { Emits (W.written writer.old) (W.failures writer.old) (text_line (linked_words answer)) result (W.written writer.new) (W.failures writer.new) }
+    ensures { Emits (W.log writer.old) (text_line (linked_words answer)) result (W.log writer.new) }
 {
     match answer {
         LinkAnswer::Success => write_line(writer, &[Word::Text("success")]),
@@ -76,7 +73,7 @@ fn write_linked<W: Sink>(writer: &mut W, answer: LinkAnswer) -> Result<(), Write
 }
 
 fn write_unlinked<W: Sink>(writer: &mut W, there: bool) -> Result<(), WriteFailed>
-    ensures { Emits (W.written writer.old) (W.failures writer.old) (text_line (unlinked_words there)) result (W.written writer.new) (W.failures writer.new) }
+    ensures { Emits (W.log writer.old) (text_line (unlinked_words there)) result (W.log writer.new) }
 {
     match there {
         true => write_line(writer, &[Word::Text("true")]),
@@ -85,7 +82,7 @@ fn write_unlinked<W: Sink>(writer: &mut W, there: bool) -> Result<(), WriteFaile
 }
 
 fn write_moved<W: Sink>(writer: &mut W, answer: MoveAnswer) -> Result<(), WriteFailed>
-    ensures { Emits (W.written writer.old) (W.failures writer.old) (text_line (moved_words answer)) result (W.written writer.new) (W.failures writer.new) }
+    ensures { Emits (W.log writer.old) (text_line (moved_words answer)) result (W.log writer.new) }
 {
     match answer {
         MoveAnswer::Success => write_line(writer, &[Word::Text("success")]),
@@ -95,7 +92,7 @@ fn write_moved<W: Sink>(writer: &mut W, answer: MoveAnswer) -> Result<(), WriteF
 }
 
 fn write_marked<W: Sink>(writer: &mut W, progress: Progress) -> Result<(), WriteFailed>
-    ensures { Emits (W.written writer.old) (W.failures writer.old) (text_line (marked_words progress)) result (W.written writer.new) (W.failures writer.new) }
+    ensures { Emits (W.log writer.old) (text_line (marked_words progress)) result (W.log writer.new) }
 {
     match progress {
         Progress::More => write_line(writer, &[Word::Text("more")]),
@@ -104,7 +101,7 @@ fn write_marked<W: Sink>(writer: &mut W, progress: Progress) -> Result<(), Write
 }
 
 fn write_passed<W: Sink>(writer: &mut W, passed: Passed) -> Result<(), WriteFailed>
-    ensures { Emits (W.written writer.old) (W.failures writer.old) (text_line (passed_words passed)) result (W.written writer.new) (W.failures writer.new) }
+    ensures { Emits (W.log writer.old) (text_line (passed_words passed)) result (W.log writer.new) }
 {
     write_line(
         writer,
@@ -120,7 +117,7 @@ fn write_passed<W: Sink>(writer: &mut W, passed: Passed) -> Result<(), WriteFail
 }
 
 fn write_taken<W: Sink>(writer: &mut W, entry: Option<Entry>) -> Result<(), WriteFailed>
-    ensures { Emits (W.written writer.old) (W.failures writer.old) (text_line (taken_words entry)) result (W.written writer.new) (W.failures writer.new) }
+    ensures { Emits (W.log writer.old) (text_line (taken_words entry)) result (W.log writer.new) }
 {
     match entry {
         None => write_line(writer, &[Word::Text("empty")]),
@@ -141,13 +138,13 @@ fn write_taken<W: Sink>(writer: &mut W, entry: Option<Entry>) -> Result<(), Writ
 }
 
 pub(crate) fn write_done<W: Sink>(writer: &mut W) -> Result<(), WriteFailed>
-    ensures { Emits (W.written writer.old) (W.failures writer.old) (text_line done) result (W.written writer.new) (W.failures writer.new) }
+    ensures { Emits (W.log writer.old) (text_line done) result (W.log writer.new) }
 {
     write_all(writer, b"ok\n")
 }
 
 pub(crate) fn write_end<W: Sink>(writer: &mut W, summary: Summary) -> Result<(), WriteFailed>
-    ensures { Emits (W.written writer.old) (W.failures writer.old) (text_line (end_words summary)) result (W.written writer.new) (W.failures writer.new) }
+    ensures { Emits (W.log writer.old) (text_line (end_words summary)) result (W.log writer.new) }
 {
     write_line(
         writer,
@@ -167,38 +164,20 @@ pub(crate) fn write_end<W: Sink>(writer: &mut W, summary: Summary) -> Result<(),
     )
 }
 
-fn write_allocated<W: Sink>(writer: &mut W, address: Addr, birth: u64) -> Result<(), WriteFailed>
-    ensures { Emits (W.written writer.old) (W.failures writer.old) (text_line (called_words (replies.Allocated address birth))) result (W.written writer.new) (W.failures writer.new) }
-{
-    write_line(
-        writer,
-        &[
-            Word::Text("new"),
-            Word::Number(address),
-            Word::Number(birth),
-        ],
-    )
-}
-
-fn write_word<W: Sink>(writer: &mut W, word: u64) -> Result<(), WriteFailed>
-    ensures { Emits (W.written writer.old) (W.failures writer.old) (text_line (called_words (replies.Word word))) result (W.written writer.new) (W.failures writer.new) }
-{
-    write_line(writer, &[Word::Text("word"), Word::Number(word)])
-}
-
-fn write_outstanding<W: Sink>(writer: &mut W, count: u64) -> Result<(), WriteFailed>
-    ensures { Emits (W.written writer.old) (W.failures writer.old) (text_line (called_words (replies.Outstanding count))) result (W.written writer.new) (W.failures writer.new) }
-{
-    write_line(writer, &[Word::Text("outstanding"), Word::Number(count)])
-}
-
 fn write_called<W: Sink>(writer: &mut W, reply: Reply) -> Result<(), WriteFailed>
-    ensures { Emits (W.written writer.old) (W.failures writer.old) (text_line (called_words reply)) result (W.written writer.new) (W.failures writer.new) }
+    ensures { Emits (W.log writer.old) (text_line (called_words reply)) result (W.log writer.new) }
 {
     match reply {
         Reply::Done => write_done(writer),
-        Reply::Allocated { address, birth } => write_allocated(writer, address, birth),
-        Reply::Word(word) => write_word(writer, word),
+        Reply::Allocated { address, birth } => write_line(
+            writer,
+            &[
+                Word::Text("new"),
+                Word::Number(address),
+                Word::Number(birth),
+            ],
+        ),
+        Reply::Word(word) => write_line(writer, &[Word::Text("word"), Word::Number(word)]),
         Reply::Registered(answer) => write_registered(writer, answer),
         Reply::Unregistered(old) => write_unregistered(writer, old),
         Reply::Linked(answer) => write_linked(writer, answer),
@@ -206,12 +185,15 @@ fn write_called<W: Sink>(writer: &mut W, reply: Reply) -> Result<(), WriteFailed
         Reply::Moved(answer) => write_moved(writer, answer),
         Reply::Marked(progress) => write_marked(writer, progress),
         Reply::Passed(passed) => write_passed(writer, passed),
-        Reply::Outstanding(count) => write_outstanding(writer, count),
+        Reply::Outstanding(count) => write_line(
+            writer,
+            &[Word::Text("outstanding"), Word::Number(count)],
+        ),
     }
 }
 
 fn write_accepted<W: Sink>(writer: &mut W, reply: StepReply) -> Result<(), WriteFailed>
-    ensures { Emits (W.written writer.old) (W.failures writer.old) (text_line (words_of reply)) result (W.written writer.new) (W.failures writer.new) }
+    ensures { Emits (W.log writer.old) (text_line (words_of reply)) result (W.log writer.new) }
 {
     match reply {
         StepReply::Called(reply) => write_called(writer, reply),
@@ -224,7 +206,7 @@ pub(crate) fn write_reply<W: Sink>(
     writer: &mut W,
     reply: Result<StepReply, Refusal>,
 ) -> Result<(), WriteFailed>
-    ensures { Emits (W.written writer.old) (W.failures writer.old) (text_line (result_words reply)) result (W.written writer.new) (W.failures writer.new) }
+    ensures { Emits (W.log writer.old) (text_line (result_words reply)) result (W.log writer.new) }
 {
     match reply {
         Ok(reply) => write_accepted(writer, reply),

@@ -1,7 +1,7 @@
 //! A script from its first byte to its last.
 
-ghost use Rattle.std.specs.Prelude.{None, ◌≡◌, ◌<◌, ◌^◌, ◌+◌, IfOk, IfErr};
-ghost use Rattle.fz_drive.specs.Report.{Reported, Stopped, failures_of};
+ghost use Rattle.std.specs.Prelude.{None, ◌≡◌, ◌<◌, ◌^◌};
+ghost use Rattle.fz_drive.specs.Report.{Drives};
 ghost use Rattle.fz_drive.specs.Machines.{counts_after, summary_at, TellsAnswer, Finishes};
 
 use crate::answer::{Answer, answer_at};
@@ -107,36 +107,11 @@ pub fn drive<R: Source, W: Sink>(
     reader: &mut R,
     writer: &mut W,
 ) -> Result<Summary, DriveFault>
-    // The whole input was read, and the text is the report of a joint run over its script.
-    ensures ok { IfOk result (Reported (R.remaining reader.old) (R.remaining reader.new) (W.written writer.old) (W.written writer.new)) }
-    // Each entry is finished, given up, in a hand or left.
-    ensures balanced { IfOk result (λ summary. summary.enqueued ≡ summary.finished + summary.forfeited + summary.in_hand + summary.left) }
-    // A fault comes where its cause stands, and nothing else was written.
-    ensures fault { IfErr result (Stopped (R.remaining reader.old) (R.remaining reader.new) (W.written writer.old) (W.written writer.new)) }
-    // In this call a read failed just where it says so, and so for writes.
-    ensures reads { R.failures reader.new ≡ R.failures reader.old + failures_of Refusal.Input result }
-    ensures writes { W.failures writer.new ≡ W.failures writer.old + failures_of Refusal.Output result }
-{
-    let mut machine = None;
-    carry_out_lines(alloc, reader, writer, &mut machine)
-}
-
-/// Carries out the lines of a script, one after another, on a machine that isn't open yet.
-fn carry_out_lines<R: Source, W: Sink>(
-    alloc: Global,
-    reader: &mut R,
-    writer: &mut W,
-    machine: &mut Option<Machine>,
-) -> Result<Summary, DriveFault>
-    requires { machine.old ≡ None }
-    ensures ok { IfOk result (Reported (R.remaining reader.old) (R.remaining reader.new) (W.written writer.old) (W.written writer.new)) }
-    ensures balanced { IfOk result (λ summary. summary.enqueued ≡ summary.finished + summary.forfeited + summary.in_hand + summary.left) }
-    ensures fault { IfErr result (Stopped (R.remaining reader.old) (R.remaining reader.new) (W.written writer.old) (W.written writer.new)) }
-    ensures reads { R.failures reader.new ≡ R.failures reader.old + failures_of Refusal.Input result }
-    ensures writes { W.failures writer.new ≡ W.failures writer.old + failures_of Refusal.Output result }
+    ensures { Drives (R.feed reader.old) (W.log writer.old) result (R.feed reader.new) (W.log writer.new) }
 {
     let mut chunk = Chunk::new();
     let mut line = ArrayVec::new();
+    let mut machine = None;
     let mut counts = NO_COUNTS;
     let mut number = 1;
     'lines: loop {
@@ -144,23 +119,23 @@ fn carry_out_lines<R: Source, W: Sink>(
             return Err(fault(Refusal::Input, number));
         };
         if let Ending::Nothing = ending {
-            return finish(writer, number, machine, counts);
+            return finish(writer, number, &machine, counts);
         }
-        let answer = answer_at(alloc, machine, number, ending, line.as_slice());
+        let answer = answer_at(alloc, &mut machine, number, ending, line.as_slice());
         if let Err(fault) = tell(writer, number, answer) {
             return Err(fault);
         }
         counts = counts.after(answer);
         number += 1;
         if let Ending::Last = ending {
-            return finish(writer, number, machine, counts);
+            return finish(writer, number, &machine, counts);
         }
     }
 }
 
 /// Writes what a line gives. The run goes on after `Ok`.
 fn tell<W: Sink>(writer: &mut W, number: u64, answer: Answer) -> Result<(), DriveFault>
-    ensures { TellsAnswer number answer (W.written writer.old) (W.failures writer.old) result (W.written writer.new) (W.failures writer.new) }
+    ensures { TellsAnswer number answer (W.log writer.old) result (W.log writer.new) }
 {
     let failed = fault(Refusal::Output, number);
     match answer {
@@ -185,7 +160,7 @@ fn finish<W: Sink>(
     machine: &Option<Machine>,
     counts: Counts,
 ) -> Result<Summary, DriveFault>
-    ensures { Finishes number machine.now counts (W.written writer.old) (W.failures writer.old) result (W.written writer.new) (W.failures writer.new) }
+    ensures { Finishes number machine.now counts (W.log writer.old) result (W.log writer.new) }
 {
     match machine {
         None => match write_malformed(writer, number) {

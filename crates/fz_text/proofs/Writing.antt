@@ -1,13 +1,9 @@
 -- Writes in a row.
-use Rattle.std.proofs.Common.{◌≡◌, ◌≢◌, ℕ, zero, suc, ◌+◌, ◌-◌, List, [], ◌++◌, Option, Some, None, Result, Ok, Err, inl, inr, ◌∙◌, ap, sym, refl, append-nil, append_assoc, take, drop, arith, length, take-append-drop}
+use Rattle.std.proofs.Common.{◌≡◌, ◌≢◌, ℕ, zero, suc, ◌+◌, ◌-◌, List, ◌++◌, Option, Some, ◌∙◌, ap, sym, refl, append_assoc, take, drop, arith, length, take-append-drop}
 use Rattle.std.proofs.KnownBytes.{Appends-trans}
 use Rattle.std.proofs.lemmas.List.{take_rest}
 use Rattle.std.specs.Io.KnownBytes.{Appends}
-use Rattle.fz_text.specs.Devices.{write_failures, Emits, Says}
-
-pub wrote_none : (a : Option (List ℕ)) → Appends a a []
-wrote_none None = tt
-wrote_none (Some v) = sym (append-nil v)
+use Rattle.fz_text.specs.Devices.{Log, Gains, write_failures}
 
 -- one more write of a front of what is left
 pub written_more : (a b c : Option (List ℕ)) (bytes rest : List ℕ) (n : ℕ) → ((done : List ℕ) × (bytes ≡ done ++ rest) × Appends a b done) → Appends b c (take n rest)
@@ -24,10 +20,6 @@ still_works zero n before after h m = omega (arith, m)
 still_works (suc offered) zero before after h m = absurd (h refl)
 still_works (suc offered) (suc n) before after h m = omega (arith, m)
 
--- what is said is written as any text is
-pub said : {T E : Type 0} → (before : Option (List ℕ)) (failures : ℕ) (line : List ℕ) (result : Result T E) (after : Option (List ℕ)) (failures' : ℕ) → Emits before failures line result after failures' → Says before failures line after failures'
-said before failures line (Ok x) after failures' h = inl h
-said before failures line (Err e) after failures' h = inr h
-
-pub says_nothing : (before : Option (List ℕ)) (failures : ℕ) → Says before failures [] before failures
-says_nothing before failures = inl (wrote_none before, refl)
+-- one text after another
+pub gains_more : (a b c : Log) (text more : List ℕ) → Gains a text b → Gains b more c → Gains a (text ++ more) c
+gains_more a b c text more g h = (Appends-trans a.written b.written c.written text more g.0 h.0, h.1 ∙ g.1)

@@ -1,4 +1,5 @@
 pub mod Devices
+pub mod Faults
 pub mod Lines
 pub mod Written
 pub mod Reading

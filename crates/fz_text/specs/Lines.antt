@@ -33,3 +33,22 @@ max_line = 200
 -- A line ends with LF or with the input, or it is too long with its last byte. `left` is what can still be read.
 abbrev pub IsEnded : List ℕ → List ℕ → Option (List ℕ) → Type 0
 IsEnded line end left = (end ≡ 10 ∷ []) ⊎ ((end ≡ []) × ((IsAtEnd left × (line ≢ [])) ⊎ (length line ≡ max_line + 1)))
+
+-- the bytes are lines, of which P holds; a further line would have this number
+pub record AreLines (P : List (List ℕ) → Type 0) (bytes : List ℕ) (number : ℕ) : Type 0 where
+  pub lines : List (List ℕ)
+  pub last : List ℕ
+  pub split : Lines bytes lines last
+  pub place : length (all_lines lines last) + 1 ≡ number
+  pub holds : P (all_lines lines last)
+
+-- the bytes end with this line, and P holds of the lines before it; `left` is what can still be read
+pub record EndsAt (P : List (List ℕ) → Type 0) (bytes : List ℕ) (left : Option (List ℕ)) (number : ℕ) (line : List ℕ) : Type 0 where
+  pub lines : List (List ℕ)
+  pub end : List ℕ
+  pub is : bytes ≡ flat_map with_lf lines ++ (line ++ end)
+  pub each : All IsOneLine lines
+  pub one : IsOneLine line
+  pub ended : IsEnded line end left
+  pub place : length lines + 1 ≡ number
+  pub holds : P lines

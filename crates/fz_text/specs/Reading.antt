@@ -4,6 +4,7 @@ use Rattle.fz_text.specs.declared.chunk.Chunk.{Chunk}
 use Rattle.fz_text.specs.declared.input.Ending.{Ending}
 use Rattle.fz_text.specs.declared.input.Ending.TheVariants.{Whole, Last, Nothing, TooLong}
 use Rattle.std.specs.Io.KnownBytes.{Consumes, IsAtEnd}
+use Rattle.fz_text.specs.Devices.{Feed}
 use Rattle.fz_text.specs.Lines.{IsOneLine, max_line}
 
 -- the bytes of a chunk that were read and not used
@@ -24,17 +25,18 @@ EndsInput Nothing left = IsAtEnd left
 EndsInput TooLong left = Unit {0}
 
 -- the next line was read; or the reader failed first
-abbrev pub Reads : {E : Type 0} → Option (List ℕ) → ℕ → Result Ending E → List ℕ → List ℕ → Option (List ℕ) → ℕ → Type 0
-Reads before failures (Ok ending) line unread left failures' =
-    ((bytes : List ℕ) × TakenFor ending line bytes × Consumes before left bytes) × EndsInput ending left × IsOneLine line × (length line ≤ max_line) × (failures' ≡ failures)
-Reads before failures (Err e) line unread left failures' =
-    Consumes before left line × IsOneLine line × (length line ≤ max_line) × (unread ≡ []) × (failures' ≡ failures + 1)
+abbrev pub Reads : {E : Type 0} → Feed → Result Ending E → List ℕ → List ℕ → Feed → Type 0
+Reads old (Ok ending) line unread new =
+    ((bytes : List ℕ) × TakenFor ending line bytes × Consumes old.remaining new.remaining bytes) × EndsInput ending new.remaining × IsOneLine line × (length line ≤ max_line)
+    × (new.failures ≡ old.failures)
+Reads old (Err e) line unread new =
+    Consumes old.remaining new.remaining line × IsOneLine line × (length line ≤ max_line) × (unread ≡ []) × (new.failures ≡ old.failures + 1)
 
 -- a byte is unread; or the input has ended; or the reader failed
-abbrev pub Fills : {E : Type 0} → Option (List ℕ) → ℕ → Result Bool E → List ℕ → Option (List ℕ) → ℕ → Type 0
-Fills before failures (Ok true) unread left failures' = Consumes before left [] × (unread ≢ []) × (failures' ≡ failures)
-Fills before failures (Ok false) unread left failures' = Consumes before left [] × IsAtEnd left × (failures' ≡ failures)
-Fills before failures (Err e) unread left failures' = Consumes before left [] × (unread ≡ []) × (failures' ≡ failures + 1)
+abbrev pub Fills : {E : Type 0} → Feed → Result Bool E → List ℕ → Feed → Type 0
+Fills old (Ok true) unread new = Consumes old.remaining new.remaining [] × (unread ≢ []) × (new.failures ≡ old.failures)
+Fills old (Ok false) unread new = Consumes old.remaining new.remaining [] × IsAtEnd new.remaining × (new.failures ≡ old.failures)
+Fills old (Err e) unread new = Consumes old.remaining new.remaining [] × (unread ≡ []) × (new.failures ≡ old.failures + 1)
 
 -- what was unread of a line went to its end: with its LF, or to the one byte too many, or all of it
 abbrev pub MovesLine : List ℕ → List ℕ → Option Ending → List ℕ → List ℕ → Type 0

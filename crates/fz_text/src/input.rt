@@ -1,7 +1,7 @@
 //! Lines of input.
 
 ghost use Rattle.std.specs.Prelude.{◌≡◌, ◌≢◌, ℕ, ◌<◌, ◌≤◌, ◌+◌, ◌++◌, ◌==◌, length, get_or, position};
-ghost use Rattle.std.specs.Io.KnownBytes.{prepend_known};
+ghost use Rattle.fz_text.specs.Devices.{with_unread};
 ghost use Rattle.fz_text.specs.Lines as lines;
 ghost use Rattle.fz_text.specs.Reading.{unread, Reads, Fills, MovesLine, EndsWithInput};
 
@@ -31,9 +31,7 @@ pub enum Ending {
 
 /// Sees to it that a byte is unread. `false`: the input has ended.
 fn fill<R: Source>(source: &mut R, chunk: &mut Chunk) -> Result<bool, ReadFailed>
-    ensures { Fills (prepend_known (unread chunk.old) (R.remaining source.old)) (R.failures source.old)
-        result (unread chunk.new)
-        (prepend_known (unread chunk.new) (R.remaining source.new)) (R.failures source.new) }
+    ensures { Fills (with_unread (unread chunk.old) (R.feed source.old)) result (unread chunk.new) (with_unread (unread chunk.new) (R.feed source.new)) }
 {
     if chunk.at == chunk.len {
         match source.read(&mut chunk.bytes) {
@@ -113,9 +111,7 @@ pub fn next_line<R: Source>(
     chunk: &mut Chunk,
     line: &mut ArrayVec<u8, MAX_LINE>,
 ) -> Result<Ending, ReadFailed>
-    ensures { Reads (prepend_known (unread chunk.old) (R.remaining source.old)) (R.failures source.old)
-        result line.new.items (unread chunk.new)
-        (prepend_known (unread chunk.new) (R.remaining source.new)) (R.failures source.new) }
+    ensures { Reads (with_unread (unread chunk.old) (R.feed source.old)) result line.new.items (unread chunk.new) (with_unread (unread chunk.new) (R.feed source.new)) }
 {
     line.clear();
     loop {

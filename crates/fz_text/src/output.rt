@@ -27,8 +27,7 @@ type Line = ArrayString<256>;
 
 /// Writes all these bytes, in as many writes as the writer takes them in.
 pub fn write_all<W: Sink>(writer: &mut W, bytes: &[u8]) -> Result<(), WriteFailed>
-    ensures { Emits (W.written writer.old) (W.failures writer.old) bytes.now
-        result (W.written writer.new) (W.failures writer.new) }
+    ensures { Emits (W.log writer.old) bytes.now result (W.log writer.new) }
 {
     let mut rest = bytes;
     while !rest.is_empty() {
@@ -80,8 +79,7 @@ fn put_words(line: &mut Line, words: &[Word])
 /// Writes the words as a line, in one write where the writer takes it whole.
 pub fn write_line<W: Sink>(writer: &mut W, words: &[Word]) -> Result<(), WriteFailed>
     requires { fits_line words.now ≡ true }
-    ensures { Emits (W.written writer.old) (W.failures writer.old) (text_line (map said words.now))
-        result (W.written writer.new) (W.failures writer.new) }
+    ensures { Emits (W.log writer.old) (text_line (map said words.now)) result (W.log writer.new) }
 {
     let mut line = Line::new();
     put_words(&mut line, words);

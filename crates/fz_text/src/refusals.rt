@@ -9,7 +9,7 @@ use fz_model::Refusal;
 
 /// `refused`, the refusal's number and its name.
 pub fn write_refused<W: Sink>(writer: &mut W, refusal: Refusal) -> Result<(), WriteFailed>
-    ensures { Emits (W.written writer.old) (W.failures writer.old) (text_line (refused_words refusal)) result (W.written writer.new) (W.failures writer.new) }
+    ensures { Emits (W.log writer.old) (text_line (refused_words refusal)) result (W.log writer.new) }
 {
     write_line(
         writer,
@@ -23,7 +23,7 @@ pub fn write_refused<W: Sink>(writer: &mut W, refusal: Refusal) -> Result<(), Wr
 
 /// `line`, its number, and that it is refused as malformed.
 pub fn write_malformed<W: Sink>(writer: &mut W, number: u64) -> Result<(), WriteFailed>
-    ensures { Emits (W.written writer.old) (W.failures writer.old) (text_line (malformed_words number)) result (W.written writer.new) (W.failures writer.new) }
+    ensures { Emits (W.log writer.old) (text_line (malformed_words number)) result (W.log writer.new) }
 {
     write_line(
         writer,

@@ -25,14 +25,14 @@ pub sections_stand : (bytes : List ℕ) (asked : Asked) → IsThreadsFile bytes 
 sections_stand bytes asked file =
     let few : Job → Type 0 = λ job. turns_of job ≤ MAX_TURNS in
     All-tail few (Settle asked.collections) asked.body
-    (All-tail few (Open asked.blocks asked.frames asked.workers) (Settle asked.collections ∷ asked.body) (λ i d h. turns_few (get_or (asked_jobs asked) i d) (file.jobs.fit i d h).1))
+    (All-tail few (Open asked.blocks asked.frames asked.workers) (Settle asked.collections ∷ asked.body) (λ i d h. turns_few (get_or (asked_jobs asked) i d) (file.1.holds.fit i d h).1))
 
 pub sections_few : (bytes : List ℕ) (asked : Asked) → IsThreadsFile bytes asked → length asked.body ≤ MAX_LINES
 sections_few bytes asked file =
-    let lines = all_lines file.lines file.last in
+    let lines = all_lines file.1.lines file.1.last in
     let kept = length-filter is_kept lines in
     let within = count_by-le-length is_kept lines in
-    let spelled = ap (λ l. length l) file.jobs.spelled in
+    let spelled = ap (λ l. length l) file.1.holds.spelled in
     let mapped = length-map (asked_jobs asked) spelling in
-    let few = file.jobs.few in
+    let few = file.1.holds.few in
     omega (arith, kept, within, spelled, mapped, few)

@@ -1,6 +1,7 @@
 -- What is told of a run of a threads file.
-use Rattle.std.proofs.Common.{◌≡◌, ℕ, ◌+◌, List, [], ◌∷◌, ◌++◌, Option, None, Some, Result, Ok, Err, Bool, true, false, sym, refl, subst, append-nil, arith, IfOk, IfErr, inl, inr, ◌⊎◌}
-use Rattle.std.specs.Io.KnownBytes.{Consumes, Appends, IsAtEnd}
+use Rattle.std.proofs.Common.{◌≡◌, ℕ, ◌+◌, List, [], ◌∷◌, ◌++◌, Option, None, Some, Result, Ok, Err, true, sym, refl, subst, append-nil, arith, inl, inr, ◌⊎◌}
+use Rattle.std.proofs.KnownBytes.{Appends-nil}
+use Rattle.std.specs.Io.KnownBytes.{Consumes, IsAtEnd}
 use Rattle.fz_model.specs.declared.limits.TheConstants.{MAX_BLOCKS, MAX_FRAMES, MAX_WORKERS}
 use Rattle.fz_model.specs.declared.refusal.Refusal.{Refusal}
 use Rattle.fz_model.specs.declared.refusal.Refusal.TheVariants.{BadLine, BadCount, NoMemory, Output, Input}
@@ -10,22 +11,19 @@ use Rattle.fz_service.specs.States.{Origin}
 use Rattle.fz_text.specs.declared.fault.DriveFault.{DriveFault}
 use Rattle.fz_threads.specs.declared.tally.Tally.{Tally}
 use Rattle.fz_threads.specs.declared.plan.Plan.{Plan}
-use Rattle.fz_text.specs.Devices.{IsPart}
+use Rattle.fz_text.specs.Devices.{Feed, Log, Gains, GainsPart}
+use Rattle.fz_text.specs.Faults.{failures_of}
+use Rattle.fz_text.proofs.Lines.{counts_only}
+use Rattle.fz_text.proofs.Taking.{no_more}
 use Rattle.fz_text.specs.Written.{text_line, malformed_words, refused_words}
-use Rattle.fz_threads.specs.Jobs.{Asked, IsThreadsFile, OpensAt, Unreadable, IsUnreadable, input_failures}
+use Rattle.fz_threads.specs.Jobs.{Asked, IsThreadsFile, OpensAt, Unreadable, IsUnreadable}
 use Rattle.fz_threads.specs.Tallies.{summary_text}
 use Rattle.fz_threads.specs.Plans.{asked_by, PlanIsRead}
 use Rattle.fz_threads.specs.Holds.{SectionsRefused, Settles}
-use Rattle.fz_threads.specs.Threads.{Summarizes, Summarized, service_causes, IsDueFor, Malformed, NotOpened, Summary, ExplainsRun, RunStopped, faults_of}
+use Rattle.fz_threads.specs.Threads.{Summarizes, service_causes, IsDueFor, Malformed, NotOpened, Summary, ExplainsRun, RunStopped, DrivesThreads}
 use Rattle.fz_threads.specs.Telling.{lineless, TellsFault, text_for, opening_fault, asked_from, TellsEnd, TellsSummary, IsDueAfter, Refused, Summed, StopsRun, RunsPlan}
 
 -- ---- a refused opening
-
-counts_only : (a b c : Bool) (q : Refusal) → first_cause ((a, BadCount) ∷ (b, BadCount) ∷ (c, BadCount) ∷ []) ≡ Some q → q ≡ BadCount
-counts_only true b c q h = cc
-counts_only false true c q h = cc
-counts_only false false true q h = cc
-counts_only false false false q h = absurd cc
 
 -- an opening is refused for one of two reasons
 two_refusals : (asked : Asked) (q : Refusal) → IsRefusedFor (service_causes asked) true q → (q ≡ BadCount) ⊎ (q ≡ NoMemory)
@@ -35,27 +33,24 @@ two_refusals asked q h = elim h [
 ]
 
 -- a part of a text that was due was written
-part_stops : (asked : Asked) (opening : ℕ) (due : List ℕ) (a b : Option (List ℕ)) (f g : ℕ) (fault : DriveFault) → IsDueAfter asked due → fault ≡ lineless Output → IsPart a due b → g ≡ f + 1 → RunsPlan asked opening a f (Err fault) b g
-part_stops asked opening due a b f g fault is e part m =
-    subst (λ k. RunsPlan asked opening a f (Err k) b g) (sym e) (part.0, part.4, (refl, due, part.1, part.2, part.3, is), m)
+part_stops : (asked : Asked) (opening : ℕ) (due : List ℕ) (old new : Log) (fault : DriveFault) → IsDueAfter asked due → fault ≡ lineless Output → GainsPart old due new → RunsPlan asked opening old (Err fault) new
+part_stops asked opening due old new fault is e gains =
+    let part = gains.0 in
+    subst (λ k. RunsPlan asked opening old (Err k) new) (sym e) (part.0, part.4, (refl, due, part.1, part.2, part.3, is), gains.1)
 
-refusal_told : (asked : Asked) (opening : ℕ) (q : Refusal) (a b : Option (List ℕ)) (f g : ℕ) (fault : DriveFault) → IsRefusedFor (service_causes asked) true q → fault ≡ opening_fault q opening → Appends a b (text_line (refused_words q)) → g ≡ f → RunsPlan asked opening a f (Err fault) b g
-refusal_told asked opening BadCount a b f g fault h e w m = subst (λ k. RunsPlan asked opening a f (Err k) b g) (sym e) (text_line (refused_words BadCount), w, (refl, h, refl), omega (arith, m))
-refusal_told asked opening NoMemory a b f g fault h e w m = subst (λ k. RunsPlan asked opening a f (Err k) b g) (sym e) (text_line (refused_words NoMemory), w, (refl, inr (h, refl)), omega (arith, m))
-refusal_told asked opening q a b f g fault h e w m = elim (two_refusals asked q h) [ inl r ↦ absurd cc | inr r ↦ absurd cc ]
+refusal_told : (asked : Asked) (opening : ℕ) (q : Refusal) (old new : Log) (fault : DriveFault) → IsRefusedFor (service_causes asked) true q → fault ≡ opening_fault q opening → Gains old (text_line (refused_words q)) new → RunsPlan asked opening old (Err fault) new
+refusal_told asked opening BadCount old new fault h e w = subst (λ k. RunsPlan asked opening old (Err k) new) (sym e) (text_line (refused_words BadCount), w.0, (refl, h, refl), no_more w.1 refl)
+refusal_told asked opening NoMemory old new fault h e w = subst (λ k. RunsPlan asked opening old (Err k) new) (sym e) (text_line (refused_words NoMemory), w.0, (refl, inr (h, refl)), no_more w.1 refl)
+refusal_told asked opening q old new fault h e w = elim (two_refusals asked q h) [ inl r ↦ absurd cc | inr r ↦ absurd cc ]
 
-pub refusal_stops : (asked : Asked) (opening : ℕ) (q : Refusal) (a b : Option (List ℕ)) (f g : ℕ) (fault : DriveFault) → IsRefusedFor (service_causes asked) true q → TellsFault (text_line (refused_words q)) (opening_fault q opening) a f fault b g → RunsPlan asked opening a f (Err fault) b g
-refusal_stops asked opening q a b f g fault h (inl whole) = refusal_told asked opening q a b f g fault h whole.0 whole.1 whole.2
-refusal_stops asked opening q a b f g fault h (inr part) = part_stops asked opening (text_line (refused_words q)) a b f g fault (Refused q h) part.0 part.1 part.2
-
--- the summary wasn't written whole
-summary_stops : (asked : Asked) (opening : ℕ) (tally : Tally) (a b : Option (List ℕ)) (f g : ℕ) (fault : DriveFault) → Summarizes asked tally → fault ≡ lineless Output → IsPart a (summary_text tally) b → g ≡ f + 1 → RunsPlan asked opening a f (Err fault) b g
-summary_stops asked opening tally a b f g fault h e part m = part_stops asked opening (summary_text tally) a b f g fault (Summed tally h) e part m
+pub refusal_stops : (asked : Asked) (opening : ℕ) (q : Refusal) (old new : Log) (fault : DriveFault) → IsRefusedFor (service_causes asked) true q → TellsFault (text_line (refused_words q)) (opening_fault q opening) old fault new → RunsPlan asked opening old (Err fault) new
+refusal_stops asked opening q old new fault h (inl whole) = refusal_told asked opening q old new fault h whole.0 whole.1
+refusal_stops asked opening q old new fault h (inr part) = part_stops asked opening (text_line (refused_words q)) old new fault (Refused q h) part.0 part.1
 
 -- the summary was due, and it was written or not
-pub summary_tells : (asked : Asked) (opening : ℕ) (tally : Tally) (a b : Option (List ℕ)) (f g : ℕ) (result : Result (Unit {0}) DriveFault) → Summarizes asked tally → TellsSummary tally a f result b g → RunsPlan asked opening a f result b g
-summary_tells asked opening tally a b f g (Ok x) h t = (tally, h, t.0, t.1)
-summary_tells asked opening tally a b f g (Err fault) h t = summary_stops asked opening tally a b f g fault h t.0 t.1 t.2
+pub summary_tells : (asked : Asked) (opening : ℕ) (tally : Tally) (old new : Log) (result : Result (Unit {0}) DriveFault) → Summarizes asked tally → TellsSummary tally old result new → RunsPlan asked opening old result new
+summary_tells asked opening tally old new (Ok x) h t = (tally, h, t)
+summary_tells asked opening tally old new (Err fault) h t = part_stops asked opening (summary_text tally) old new fault (Summed tally h) t.0 t.1
 
 -- the numbers of an ended service are those of the run
 pub sums_up : (origin : Origin) (collections : ℕ) (jobs : List Job) (refused : ℕ) (tally : Tally) → first_cause (service_causes (asked_from origin collections jobs)) ≡ None → SectionsRefused origin jobs refused → Settles origin collections → TellsEnd origin refused tally → Summarizes (asked_from origin collections jobs) tally
@@ -79,8 +74,8 @@ sums_up origin collections jobs refused tally within sections settles ends =
     )
 
 -- no memory at the end: nothing was written
-pub silence_stops : (asked : Asked) (opening : ℕ) (a : Option (List ℕ)) (f : ℕ) (fault : DriveFault) → fault ≡ lineless NoMemory → Appends a a [] → RunsPlan asked opening a f (Err fault) a f
-silence_stops asked opening a f fault e none = subst (λ k. RunsPlan asked opening a f (Err k) a f) (sym e) ([], none, (refl, inl refl), omega arith)
+pub silence_stops : (asked : Asked) (opening : ℕ) (log : Log) (fault : DriveFault) → fault ≡ lineless NoMemory → RunsPlan asked opening log (Err fault) log
+silence_stops asked opening log fault e = subst (λ k. RunsPlan asked opening log (Err k) log) (sym e) ([], Appends-nil log.written, (refl, inl refl), no_more refl refl)
 
 -- ---- a run of a plan, with how it was read
 
@@ -94,39 +89,24 @@ plan_explains asked opening NoMemory number text bytes left whole file at h = (h
 plan_explains asked opening Output number text bytes left whole file at h = (h.0, h.1, h.2, h.3, h.4, due_for asked bytes left h.1 whole file h.5)
 plan_explains asked opening q number text bytes left whole file at h = absurd h
 
-no_read_fault : (asked : Asked) (opening : ℕ) (q : Refusal) (number : ℕ) (text : List ℕ) → StopsRun asked opening q number text → faults_of Input (Err (record { refusal = q; line = number })) ≡ 0
+no_read_fault : (asked : Asked) (opening : ℕ) (q : Refusal) (number : ℕ) (text : List ℕ) → StopsRun asked opening q number text → failures_of Input (record { refusal = q; line = number }) ≡ 0
 no_read_fault asked opening BadCount number text h = refl
 no_read_fault asked opening NoMemory number text h = refl
 no_read_fault asked opening Output number text h = refl
 no_read_fault asked opening q number text h = absurd h
 
--- what `drive_threads` promises, all of it
-pub record Driven (input : Option (List ℕ)) (reads : ℕ) (before : Option (List ℕ)) (writes : ℕ) (result : Result (Unit {0}) DriveFault) (left : Option (List ℕ)) (reads' : ℕ) (after : Option (List ℕ)) (writes' : ℕ) : Type 0 where
-  pub ok : IfOk result (λ _. Summarized input left before after)
-  pub fault : IfErr result (RunStopped input left before after)
-  pub reads_are : reads' ≡ reads + faults_of Input result
-  pub writes_are : writes' ≡ writes + faults_of Output result
-
-pub plan_drives : (input left before after : Option (List ℕ)) (reads reads' writes writes' : ℕ) (plan : Plan) (result : Result (Unit {0}) DriveFault)
-    → PlanIsRead input reads (Ok plan) left reads' → RunsPlan (asked_by plan) plan.size.line before writes result after writes' → Driven input reads before writes result left reads' after writes'
-plan_drives input left before after reads reads' writes writes' plan (Ok x) read runs = record {
-  ok = record { bytes = read.0.0; asked = asked_by plan; tally = runs.0; read = read.0.1; whole = read.0.2; file = read.0.3; summary = runs.1; written = runs.2 };
-  fault = tt;
-  reads_are = let same = read.1 in omega (arith, same);
-  writes_are = let same = runs.3 in omega (arith, same);
-}
-plan_drives input left before after reads reads' writes writes' plan (Err fault) read runs = record {
-  ok = tt;
-  fault = record {
-    bytes = read.0.0;
-    unread = [];
-    text = runs.0;
-    read = subst (λ b. Consumes input left b) (sym (append-nil read.0.0)) read.0.1;
-    written = runs.1;
-    explains = plan_explains (asked_by plan) plan.size.line fault.refusal fault.line runs.0 read.0.0 left read.0.2 read.0.3 read.0.4 runs.2;
-  };
-  reads_are = let same = read.1 in let none = no_read_fault (asked_by plan) plan.size.line fault.refusal fault.line runs.0 runs.2 in omega (arith, same, none);
-  writes_are = runs.3;
+pub plan_drives : (input left : Feed) (old new : Log) (plan : Plan) (result : Result (Unit {0}) DriveFault) → PlanIsRead input (Ok plan) left → RunsPlan (asked_by plan) plan.size.line old result new → DrivesThreads input old result left new
+plan_drives input left old new plan (Ok x) read runs =
+    record { bytes = read.0; asked = asked_by plan; tally = runs.0; read = read.1; whole = read.2; reads = read.5; file = read.3; summary = runs.1; written = runs.2 }
+plan_drives input left old new plan (Err fault) read runs = record {
+  bytes = read.0;
+  unread = [];
+  text = runs.0;
+  read = subst (λ b. Consumes input.remaining left.remaining b) (sym (append-nil read.0)) read.1;
+  written = runs.1;
+  explains = plan_explains (asked_by plan) plan.size.line fault.refusal fault.line runs.0 read.0 left.remaining read.2 read.3 read.4 runs.2;
+  reads = no_more read.5 (no_read_fault (asked_by plan) plan.size.line fault.refusal fault.line runs.0 runs.2);
+  writes = runs.3;
 }
 
 -- ---- a file that can't be carried out
@@ -135,49 +115,33 @@ nothing_left : (part rest : List ℕ) → [] ≡ part ++ rest → rest ≡ []
 nothing_left [] rest e = sym e
 nothing_left (x ∷ xs) rest e = absurd cc
 
-no_part : (a b : Option (List ℕ)) → IsPart a [] b → ⊥
-no_part a b part = part.3 (nothing_left part.0 part.1 part.2)
+no_part : (old new : Log) → GainsPart old [] new → ⊥
+no_part old new part = part.0.3 (nothing_left part.0.0 part.0.1 part.0.2)
 
-abbrev Told : (input left before after : Option (List ℕ)) (reads reads' writes writes' : ℕ) → DriveFault → Type 0
-Told input left before after reads reads' writes writes' fault = Driven input reads before writes (Err fault) left reads' after writes'
+-- what was written tells the cause, which is no failed write
+unread_explains : (q : Refusal) (number : ℕ) (bytes unread : List ℕ) (left : Option (List ℕ)) → Unreadable q number bytes unread left → ExplainsRun q number bytes unread left (text_for q number) × (failures_of Output (record { refusal = q; line = number }) ≡ 0)
+unread_explains BadLine number bytes unread left h = ((h, refl), refl)
+unread_explains Input number bytes unread left h = ((h, refl), refl)
+unread_explains NoMemory number bytes unread left h = ((h, inl refl), refl)
+unread_explains q number bytes unread left h = absurd h
 
-unread_told : (input left before after : Option (List ℕ)) (reads reads' writes writes' : ℕ) (q : Refusal) (number : ℕ) (bytes unread : List ℕ) → Consumes input left (bytes ++ unread) → Unreadable q number bytes unread left → reads' ≡ reads + input_failures (record { refusal = q; line = number })
-    → Appends before after (text_for q number) → writes' ≡ writes → Told input left before after reads reads' writes writes' (record { refusal = q; line = number })
-unread_told input left before after reads reads' writes writes' BadLine number bytes unread took h r w m = record {
-  ok = tt;
-  fault = record { bytes = bytes; unread = unread; text = text_line (malformed_words number); read = took; written = w; explains = (h, refl) };
-  reads_are = r;
-  writes_are = omega (arith, m);
-}
-unread_told input left before after reads reads' writes writes' Input number bytes unread took h r w m = record {
-  ok = tt;
-  fault = record { bytes = bytes; unread = unread; text = []; read = took; written = w; explains = (h, refl) };
-  reads_are = r;
-  writes_are = omega (arith, m);
-}
-unread_told input left before after reads reads' writes writes' NoMemory number bytes unread took h r w m = record {
-  ok = tt;
-  fault = record { bytes = bytes; unread = unread; text = []; read = took; written = w; explains = (h, inl refl) };
-  reads_are = r;
-  writes_are = omega (arith, m);
-}
-unread_told input left before after reads reads' writes writes' q number bytes unread took h r w m = absurd h
+unread_told : (input left : Feed) (old new : Log) (q : Refusal) (number : ℕ) (bytes unread : List ℕ) → Consumes input.remaining left.remaining (bytes ++ unread) → Unreadable q number bytes unread left.remaining
+    → left.failures ≡ input.failures + failures_of Input (record { refusal = q; line = number }) → Gains old (text_for q number) new → RunStopped input left old new (record { refusal = q; line = number })
+unread_told input left old new q number bytes unread took h failed w =
+    let e = unread_explains q number bytes unread left.remaining h in
+    record { bytes = bytes; unread = unread; text = text_for q number; read = took; written = w.0; explains = e.0; reads = failed; writes = no_more w.1 e.1 }
 
-unread_broken : (input left before after : Option (List ℕ)) (reads reads' writes writes' : ℕ) (q : Refusal) (number : ℕ) (bytes unread : List ℕ) → Consumes input left (bytes ++ unread) → Unreadable q number bytes unread left → reads' ≡ reads + input_failures (record { refusal = q; line = number })
-    → IsPart before (text_for q number) after → writes' ≡ writes + 1 → Told input left before after reads reads' writes writes' (lineless Output)
-unread_broken input left before after reads reads' writes writes' BadLine number bytes unread took h r part m = record {
-  ok = tt;
-  fault = record { bytes = bytes; unread = unread; text = part.0; read = took; written = part.4; explains = (refl, text_line (malformed_words number), part.1, part.2, part.3, Malformed number h) };
-  reads_are = r;
-  writes_are = m;
-}
-unread_broken input left before after reads reads' writes writes' Input number bytes unread took h r part m = absurd (no_part before after part)
-unread_broken input left before after reads reads' writes writes' NoMemory number bytes unread took h r part m = absurd (no_part before after part)
-unread_broken input left before after reads reads' writes writes' q number bytes unread took h r part m = absurd h
+unread_broken : (input left : Feed) (old new : Log) (q : Refusal) (number : ℕ) (bytes unread : List ℕ) → Consumes input.remaining left.remaining (bytes ++ unread) → Unreadable q number bytes unread left.remaining
+    → left.failures ≡ input.failures + failures_of Input (record { refusal = q; line = number }) → GainsPart old (text_for q number) new → RunStopped input left old new (lineless Output)
+unread_broken input left old new BadLine number bytes unread took h failed gains =
+    let part = gains.0 in
+    record { bytes = bytes; unread = unread; text = part.0; read = took; written = part.4; explains = (refl, text_line (malformed_words number), part.1, part.2, part.3, Malformed number h); reads = failed; writes = gains.1 }
+unread_broken input left old new Input number bytes unread took h failed gains = absurd (no_part old new gains)
+unread_broken input left old new NoMemory number bytes unread took h failed gains = absurd (no_part old new gains)
+unread_broken input left old new q number bytes unread took h failed gains = absurd h
 
-pub unreadable_drives : (input left before after : Option (List ℕ)) (reads reads' writes writes' : ℕ) (known fault : DriveFault)
-    → IsUnreadable input left known × (reads' ≡ reads + input_failures known) → TellsFault (text_for known.refusal known.line) known before writes fault after writes' → Told input left before after reads reads' writes writes' fault
-unreadable_drives input left before after reads reads' writes writes' known fault h (inl whole) =
-    subst (Told input left before after reads reads' writes writes') (sym whole.0) (unread_told input left before after reads reads' writes writes' known.refusal known.line h.0.0 h.0.1 h.0.2 h.0.3 h.1 whole.1 whole.2)
-unreadable_drives input left before after reads reads' writes writes' known fault h (inr part) =
-    subst (Told input left before after reads reads' writes writes') (sym part.0) (unread_broken input left before after reads reads' writes writes' known.refusal known.line h.0.0 h.0.1 h.0.2 h.0.3 h.1 part.1 part.2)
+pub unreadable_drives : (input left : Feed) (old new : Log) (known fault : DriveFault) → IsUnreadable input left known → TellsFault (text_for known.refusal known.line) known old fault new → RunStopped input left old new fault
+unreadable_drives input left old new known fault h (inl whole) =
+    subst (RunStopped input left old new) (sym whole.0) (unread_told input left old new known.refusal known.line h.0.0 h.0.1 h.0.2 h.0.3 h.1 whole.1)
+unreadable_drives input left old new known fault h (inr part) =
+    subst (RunStopped input left old new) (sym part.0) (unread_broken input left old new known.refusal known.line h.0.0 h.0.1 h.0.2 h.0.3 h.1 part.1)

@@ -1,5 +1,5 @@
 -- A threads file: the jobs that its lines ask for, and where each of them may stand.
-use Rattle.std.specs.Prelude.{◌≡◌, ℕ, ◌+◌, ◌==◌, ◌≤◌, ◌<◌, Bool, true, false, nat_lt, if◌then◌else◌, ◌⊎◌, List, [], ◌∷◌, ◌++◌, length, map, filter, flat_map, fold, Option, IsTrue}
+use Rattle.std.specs.Prelude.{◌≡◌, ℕ, ◌+◌, ◌==◌, ◌≤◌, ◌<◌, Bool, true, false, nat_lt, if◌then◌else◌, ◌⊎◌, List, [], ◌∷◌, ◌++◌, length, map, filter, fold, Option, IsTrue}
 use Rattle.std.specs.List.{All}
 use Rattle.fz_model.specs.declared.call.Call.{Call as WorldCall}
 use Rattle.fz_model.specs.declared.call.Call.TheVariants.{Begin, Mark, Pause, Collect, Close, Outstanding}
@@ -9,9 +9,10 @@ use Rattle.fz_script.specs.Jobs.{spelling, Fits}
 use Rattle.std.specs.Io.KnownBytes.{Consumes, IsAtEnd, prepend_known}
 use Rattle.fz_model.specs.declared.refusal.Refusal.{Refusal}
 use Rattle.fz_model.specs.declared.refusal.Refusal.TheVariants.{BadLine, NoMemory, Input}
-use Rattle.fz_model.specs.Refusals.{code_of}
 use Rattle.fz_text.specs.declared.fault.DriveFault.{DriveFault}
-use Rattle.fz_text.specs.Lines.{with_lf, IsOneLine, Lines, all_lines, is_kept, max_line, IsEnded}
+use Rattle.fz_text.specs.Devices.{Feed}
+use Rattle.fz_text.specs.Faults.{failures_of}
+use Rattle.fz_text.specs.Lines.{Lines, AreLines, EndsAt, is_kept, max_line}
 use Rattle.fz_threads.specs.declared.limits.TheConstants.{MAX_LINES, MAX_MUTATORS}
 use Rattle.fz_threads.specs.declared.stage.Actor.{Actor}
 use Rattle.fz_threads.specs.declared.stage.Actor.TheVariants as actor
@@ -101,13 +102,6 @@ pub record Asked : Type 0 where
 abbrev pub asked_jobs : Asked → List Job
 asked_jobs asked = Open asked.blocks asked.frames asked.workers ∷ Settle asked.collections ∷ asked.body
 
--- the bytes are a threads file that asks for this
-pub record IsThreadsFile (bytes : List ℕ) (asked : Asked) : Type 0 where
-  pub lines : List (List ℕ)
-  pub last : List ℕ
-  pub split : Lines bytes lines last
-  pub jobs : AreJobs (all_lines lines last) (asked_jobs asked)
-
 -- the line with this number asks for the job
 pub record AsksAt (bytes : List ℕ) (number : ℕ) (job : Job) : Type 0 where
   pub before : List (List ℕ)
@@ -121,23 +115,16 @@ abbrev pub OpensAt : List ℕ → ℕ → Asked → Type 0
 OpensAt bytes number asked = AsksAt bytes number (Open asked.blocks asked.frames asked.workers)
 
 -- the lines of these bytes ask for these jobs; a further line would have this number
-pub record FileIs (bytes : List ℕ) (jobs : List Job) (number : ℕ) : Type 0 where
-  pub lines : List (List ℕ)
-  pub last : List ℕ
-  pub split : Lines bytes lines last
-  pub jobs_are : AreJobs (all_lines lines last) jobs
-  pub place : length (all_lines lines last) + 1 ≡ number
+abbrev pub FileIs : List ℕ → List Job → ℕ → Type 0
+FileIs bytes jobs number = AreLines (λ lines. AreJobs lines jobs) bytes number
+
+-- the bytes are a threads file that asks for this
+abbrev pub IsThreadsFile : List ℕ → Asked → Type 0
+IsThreadsFile bytes asked = (number : ℕ) × FileIs bytes (asked_jobs asked) number
 
 -- the bytes end with this line, and the lines before it ask for these jobs; `left` is what can still be read
-pub record AtJob (bytes : List ℕ) (left : Option (List ℕ)) (number : ℕ) (line : List ℕ) (jobs : List Job) : Type 0 where
-  pub lines : List (List ℕ)
-  pub end : List ℕ
-  pub is : bytes ≡ flat_map with_lf lines ++ (line ++ end)
-  pub each : All IsOneLine lines
-  pub one : IsOneLine line
-  pub ended : IsEnded line end left
-  pub place : length lines + 1 ≡ number
-  pub jobs_are : AreJobs lines jobs
+abbrev pub AtJob : List ℕ → Option (List ℕ) → ℕ → List ℕ → List Job → Type 0
+AtJob bytes left number line jobs = EndsAt (λ lines. AreJobs lines jobs) bytes left number line
 
 -- Why a file can't be carried out, and at which line. These bytes were used, and `unread` was read beyond them; `left` is what the reader has left.
 abbrev pub Unreadable : Refusal → ℕ → List ℕ → List ℕ → Option (List ℕ) → Type 0
@@ -152,9 +139,8 @@ Unreadable Input number bytes unread left =
 Unreadable NoMemory number bytes unread left = number ≡ 0
 Unreadable _ number bytes unread left = ⊥
 
-abbrev pub IsUnreadable : Option (List ℕ) → Option (List ℕ) → DriveFault → Type 0
-IsUnreadable before left fault = (bytes : List ℕ) × (unread : List ℕ) × Consumes before left (bytes ++ unread) × Unreadable fault.refusal fault.line bytes unread left
-
--- a read failed just where the fault says so
-abbrev pub input_failures : DriveFault → ℕ
-input_failures fault = if code_of fault.refusal == code_of Input then 1 else 0
+-- the file can't be carried out for this fault, and a read failed just where the fault says so
+abbrev pub IsUnreadable : Feed → Feed → DriveFault → Type 0
+IsUnreadable input left fault =
+    ((bytes : List ℕ) × (unread : List ℕ) × Consumes input.remaining left.remaining (bytes ++ unread) × Unreadable fault.refusal fault.line bytes unread left.remaining)
+    × (left.failures ≡ input.failures + failures_of Input fault)

@@ -2,6 +2,7 @@
 use Rattle.std.specs.Prelude.{◌≡◌, ◌≢◌, ℕ, ◌+◌, ◌≤◌, ◌<◌, true, false, ◌⊎◌, List, [], ◌∷◌, ◌++◌, length, Option, Result, Ok, Err, IsTrue}
 use Rattle.std.specs.Io.KnownBytes.{Consumes, IsAtEnd}
 use Rattle.fz_script.specs.Jobs.{spelling, Fits}
+use Rattle.fz_text.specs.Devices.{Feed}
 use Rattle.fz_text.specs.Lines.{is_kept}
 use Rattle.fz_text.specs.declared.input.Ending.{Ending}
 use Rattle.fz_text.specs.declared.input.Ending.TheVariants.{TooLong}
@@ -14,7 +15,7 @@ use Rattle.fz_threads.specs.declared.limits.TheConstants.{MAX_LINES}
 use Rattle.fz_threads.specs.declared.plan.Plan.{Plan}
 use Rattle.fz_threads.specs.declared.draft.Draft.{Draft}
 use Rattle.fz_threads.specs.declared.draft.Draft.TheVariants.{Empty, Opened, Settled}
-use Rattle.fz_threads.specs.Jobs.{Asked, asked_jobs, may_follow, AsksAt, OpensAt, FileIs, IsThreadsFile, IsUnreadable, input_failures}
+use Rattle.fz_threads.specs.Jobs.{Asked, asked_jobs, may_follow, AsksAt, OpensAt, FileIs, IsThreadsFile, IsUnreadable}
 
 abbrev pub asked_by : Plan → Asked
 asked_by plan = record { blocks = plan.size.blocks; frames = plan.size.frames; workers = plan.size.workers; collections = plan.collections; body = plan.jobs.items }
@@ -73,15 +74,18 @@ FirstAt bytes (job ∷ []) number = Unit {0}
 FirstAt bytes (job ∷ next ∷ jobs) number = AsksAt bytes number job
 
 -- these bytes were read, and their lines ask for the draft's jobs; a further line would have this number
-abbrev pub WasRead : Option (List ℕ) → Option (List ℕ) → Draft → ℕ → Type 0
-WasRead before left draft number =
-    (bytes : List ℕ) × Consumes before left bytes × IsAtEnd left × FileIs bytes (jobs_in draft) number × FirstAt bytes (jobs_in draft) (opened_at draft)
+abbrev pub WasRead : Feed → Feed → Draft → ℕ → Type 0
+WasRead input left draft number =
+    (bytes : List ℕ) × Consumes input.remaining left.remaining bytes × IsAtEnd left.remaining × FileIs bytes (jobs_in draft) number × FirstAt bytes (jobs_in draft) (opened_at draft)
+    × (left.failures ≡ input.failures)
 
 -- all lines were read; or one of them stopped the reading
-abbrev pub ReadsAll : Option (List ℕ) → ℕ → Draft → Result ℕ DriveFault → Option (List ℕ) → ℕ → Type 0
-ReadsAll before failures draft (Ok number) left failures' = WasRead before left draft number × (failures' ≡ failures)
-ReadsAll before failures draft (Err fault) left failures' = IsUnreadable before left fault × (failures' ≡ failures + input_failures fault)
+abbrev pub ReadsAll : Feed → Draft → Result ℕ DriveFault → Feed → Type 0
+ReadsAll input draft (Ok number) left = WasRead input left draft number
+ReadsAll input draft (Err fault) left = IsUnreadable input left fault
 
-abbrev pub PlanIsRead : Option (List ℕ) → ℕ → Result Plan DriveFault → Option (List ℕ) → ℕ → Type 0
-PlanIsRead before failures (Ok plan) left failures' = ((bytes : List ℕ) × Consumes before left bytes × IsAtEnd left × IsThreadsFile bytes (asked_by plan) × OpensAt bytes plan.size.line (asked_by plan)) × (failures' ≡ failures)
-PlanIsRead before failures (Err fault) left failures' = IsUnreadable before left fault × (failures' ≡ failures + input_failures fault)
+abbrev pub PlanIsRead : Feed → Result Plan DriveFault → Feed → Type 0
+PlanIsRead input (Ok plan) left =
+    (bytes : List ℕ) × Consumes input.remaining left.remaining bytes × IsAtEnd left.remaining × IsThreadsFile bytes (asked_by plan) × OpensAt bytes plan.size.line (asked_by plan)
+    × (left.failures ≡ input.failures)
+PlanIsRead input (Err fault) left = IsUnreadable input left fault

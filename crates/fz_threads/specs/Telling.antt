@@ -11,19 +11,19 @@ use Rattle.fz_service.specs.Ends.{IsEndOfRun, IsEachOnce}
 use Rattle.fz_service.specs.declared.ending.Final.{Final}
 use Rattle.fz_text.specs.declared.fault.DriveFault.{DriveFault}
 use Rattle.fz_threads.specs.declared.tally.Tally.{Tally}
-use Rattle.fz_text.specs.Devices.{IsPart}
+use Rattle.fz_text.specs.Devices.{Log, Gains, GainsPart}
+use Rattle.fz_text.specs.Faults.{failures_of}
 use Rattle.fz_text.specs.Written.{text_line, malformed_words, refused_words}
 use Rattle.fz_threads.specs.Jobs.{Asked}
 use Rattle.fz_threads.specs.Tallies.{summary_text}
-use Rattle.fz_threads.specs.Threads.{tally_of, Summarizes, service_causes, faults_of}
+use Rattle.fz_threads.specs.Threads.{tally_of, Summarizes, service_causes}
 
 abbrev pub lineless : Refusal → DriveFault
 lineless refusal = record { refusal = refusal; line = 0 }
 
 -- the text was written whole, and this fault is told; or the writer failed
-abbrev pub TellsFault : List ℕ → DriveFault → Option (List ℕ) → ℕ → DriveFault → Option (List ℕ) → ℕ → Type 0
-TellsFault text known before failures fault after failures' =
-    ((fault ≡ known) × Appends before after text × (failures' ≡ failures)) ⊎ ((fault ≡ lineless Output) × IsPart before text after × (failures' ≡ failures + 1))
+abbrev pub TellsFault : List ℕ → DriveFault → Log → DriveFault → Log → Type 0
+TellsFault text known old fault new = ((fault ≡ known) × Gains old text new) ⊎ ((fault ≡ lineless Output) × GainsPart old text new)
 
 -- what is written of a file that can't be carried out: its malformed line, and nothing of another cause
 abbrev pub text_for : Refusal → ℕ → List ℕ
@@ -45,9 +45,9 @@ TellsEnd origin refused tally =
     (seats : List SeatState) × (end : Final) × IsEndOfRun origin seats end × IsEachOnce origin.workers seats × (tally ≡ tally_of end refused)
 
 -- the summary was written whole; or the writer failed
-abbrev pub TellsSummary : Tally → Option (List ℕ) → ℕ → Result (Unit {0}) DriveFault → Option (List ℕ) → ℕ → Type 0
-TellsSummary tally before failures (Ok x) after failures' = Appends before after (summary_text tally) × (failures' ≡ failures)
-TellsSummary tally before failures (Err fault) after failures' = (fault ≡ lineless Output) × IsPart before (summary_text tally) after × (failures' ≡ failures + 1)
+abbrev pub TellsSummary : Tally → Log → Result (Unit {0}) DriveFault → Log → Type 0
+TellsSummary tally old (Ok x) new = Gains old (summary_text tally) new
+TellsSummary tally old (Err fault) new = (fault ≡ lineless Output) × GainsPart old (summary_text tally) new
 
 -- what is due once an opening was asked for: that it was refused, or the summary
 pub data IsDueAfter (asked : Asked) : List ℕ → Type 0 where
@@ -62,8 +62,7 @@ StopsRun asked opening Output number text = (number ≡ 0) × (due : List ℕ) �
 StopsRun asked opening _ number text = ⊥
 
 -- the summary was written; or the run stopped
-abbrev pub RunsPlan : Asked → ℕ → Option (List ℕ) → ℕ → Result (Unit {0}) DriveFault → Option (List ℕ) → ℕ → Type 0
-RunsPlan asked opening before failures (Ok x) after failures' =
-    (tally : Tally) × Summarizes asked tally × Appends before after (summary_text tally) × (failures' ≡ failures)
-RunsPlan asked opening before failures (Err fault) after failures' =
-    (text : List ℕ) × Appends before after text × StopsRun asked opening fault.refusal fault.line text × (failures' ≡ failures + faults_of Output (Err fault))
+abbrev pub RunsPlan : Asked → ℕ → Log → Result (Unit {0}) DriveFault → Log → Type 0
+RunsPlan asked opening old (Ok x) new = (tally : Tally) × Summarizes asked tally × Gains old (summary_text tally) new
+RunsPlan asked opening old (Err fault) new =
+    (text : List ℕ) × Appends old.written new.written text × StopsRun asked opening fault.refusal fault.line text × (new.failures ≡ old.failures + failures_of Output fault)

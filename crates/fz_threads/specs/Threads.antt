@@ -1,9 +1,10 @@
 -- A run of a threads file: what its summary says, and why a run ends without one.
-use Rattle.std.specs.Prelude.{◌≡◌, ◌≢◌, ℕ, ◌+◌, ◌==◌, if◌then◌else◌, ◌⊎◌, true, List, [], ◌∷◌, ◌++◌, length, Option, None, Result, Ok, Err}
-use Rattle.std.specs.Io.KnownBytes.{Consumes, Appends, IsAtEnd}
+use Rattle.std.specs.Prelude.{◌≡◌, ◌≢◌, ℕ, ◌+◌, ◌⊎◌, true, List, [], ◌∷◌, ◌++◌, length, Option, None, Result, Ok, Err}
+use Rattle.std.specs.Io.KnownBytes.{Consumes, IsAtEnd}
+use Rattle.fz_text.specs.Devices.{Feed, Log, Gains}
+use Rattle.fz_text.specs.Faults.{StoppedFor}
 use Rattle.fz_model.specs.declared.refusal.Refusal.{Refusal}
 use Rattle.fz_model.specs.declared.refusal.Refusal.TheVariants.{BadLine, BadCount, NoMemory, Output, Input}
-use Rattle.fz_model.specs.Refusals.{code_of}
 use Rattle.fz_model.specs.Causes.{Causes, bad_count, first_cause, IsRefusedFor}
 use Rattle.fz_model.specs.declared.limits.TheConstants.{MAX_WORKERS}
 use Rattle.fz_world.specs.Does.{open_causes}
@@ -42,16 +43,17 @@ pub record Summarizes (asked : Asked) (tally : Tally) : Type 0 where
   pub settled : Settles origin asked.collections
   pub balanced : tally.enqueued ≡ tally.finished + tally.forfeited + tally.left
 
--- the whole file was read, and the summary of its run was written
-pub record Summarized (input left before after : Option (List ℕ)) : Type 0 where
+-- the whole file was read, the summary of its run was written, and no device failed
+pub record Summarized (input left : Feed) (before after : Log) : Type 0 where
   pub bytes : List ℕ
   pub asked : Asked
   pub tally : Tally
-  pub read : Consumes input left bytes
-  pub whole : IsAtEnd left
+  pub read : Consumes input.remaining left.remaining bytes
+  pub whole : IsAtEnd left.remaining
+  pub reads : left.failures ≡ input.failures
   pub file : IsThreadsFile bytes asked
   pub summary : Summarizes asked tally
-  pub written : Appends before after (summary_text tally)
+  pub written : Gains before (summary_text tally) after
 
 -- what is to be written for a file
 pub data IsDueFor (bytes unread : List ℕ) (left : Option (List ℕ)) : List ℕ → Type 0 where
@@ -75,16 +77,11 @@ ExplainsRun Input number bytes unread left text = Unreadable Input number bytes 
 ExplainsRun Output number bytes unread left text = (number ≡ 0) × (due : List ℕ) × (rest : List ℕ) × (due ≡ text ++ rest) × (rest ≢ []) × IsDueFor bytes unread left due
 ExplainsRun _ number bytes unread left text = ⊥
 
--- the run ended without a summary: the fault stands where its cause does, and nothing else was written
-pub record RunStopped (input left before after : Option (List ℕ)) (fault : DriveFault) : Type 0 where
-  pub bytes : List ℕ
-  pub unread : List ℕ
-  pub text : List ℕ
-  pub read : Consumes input left (bytes ++ unread)
-  pub written : Appends before after text
-  pub explains : ExplainsRun fault.refusal fault.line bytes unread left text
+-- the run ended without a summary
+abbrev pub RunStopped : Feed → Feed → Log → Log → DriveFault → Type 0
+RunStopped input left before after fault = StoppedFor ExplainsRun input left before after fault
 
--- 1 where the run ended for this cause, and 0 otherwise
-abbrev pub faults_of : Refusal → Result (Unit {0}) DriveFault → ℕ
-faults_of refusal (Ok x) = 0
-faults_of refusal (Err fault) = if code_of fault.refusal == code_of refusal then 1 else 0
+-- a threads file was run to its end, or until a fault
+abbrev pub DrivesThreads : Feed → Log → Result (Unit {0}) DriveFault → Feed → Log → Type 0
+DrivesThreads input before (Ok x) left after = Summarized input left before after
+DrivesThreads input before (Err fault) left after = RunStopped input left before after fault

@@ -55,7 +55,7 @@ fn read_lines<R: Source>(
     draft: &mut Draft,
 ) -> Result<u64, DriveFault>
     requires { is_empty draft.old }
-    ensures { ReadsAll (R.remaining reader.old) (R.failures reader.old) draft.new result (R.remaining reader.new) (R.failures reader.new) }
+    ensures { ReadsAll (R.feed reader.old) draft.new result (R.feed reader.new) }
 {
     let mut chunk = Chunk::new();
     let mut line = ArrayVec::<u8, MAX_LINE>::new();
@@ -89,7 +89,7 @@ fn whole(draft: Draft, number: u64) -> Result<Plan, DriveFault>
 
 /// Reads a whole file and checks it.
 pub(crate) fn read_plan<R: Source>(alloc: Global, reader: &mut R) -> Result<Plan, DriveFault>
-    ensures { PlanIsRead (R.remaining reader.old) (R.failures reader.old) result (R.remaining reader.new) (R.failures reader.new) }
+    ensures { PlanIsRead (R.feed reader.old) result (R.feed reader.new) }
 {
     let mut draft = Draft::Empty;
     match read_lines(alloc, reader, &mut draft) {

@@ -1,6 +1,6 @@
 //! A threads file from its first byte to its last.
 
-ghost use Rattle.std.specs.Prelude.{◌≡◌, ◌+◌, ◌≤◌, None, IfErr, IfOk, length};
+ghost use Rattle.std.specs.Prelude.{◌≡◌, ◌≤◌, None, IfErr, IfOk, length};
 ghost use Rattle.std.specs.List.{All};
 ghost use Rattle.fz_model.specs.Causes.{first_cause};
 ghost use Rattle.fz_service.specs.Ends.{IsEachOnce};
@@ -9,7 +9,7 @@ ghost use Rattle.fz_script.specs.declared.job.TheConstants.{MAX_TURNS};
 ghost use Rattle.fz_threads.specs.declared.limits.TheConstants.{MAX_LINES};
 ghost use Rattle.fz_threads.specs.Plans.{asked_by};
 ghost use Rattle.fz_threads.specs.Holds.{turns_of, SectionsRefused};
-ghost use Rattle.fz_threads.specs.Threads.{Summarized, RunStopped, faults_of, tally_of, service_causes};
+ghost use Rattle.fz_threads.specs.Threads.{DrivesThreads, tally_of, service_causes};
 ghost use Rattle.fz_threads.specs.Telling.{lineless, TellsFault, text_for, opening_fault, asked_from, TellsEnd, TellsSummary, RunsPlan};
 
 use crate::actors::side_by_side;
@@ -36,7 +36,7 @@ fn lineless(refusal: Refusal) -> DriveFault
 
 /// Says of a file why it can't be carried out, where the report is to say so.
 fn tell_unreadable<W: Sink>(writer: &mut W, fault: DriveFault) -> DriveFault
-    ensures { TellsFault (text_for fault.refusal fault.line) fault (W.written writer.old) (W.failures writer.old) result (W.written writer.new) (W.failures writer.new) }
+    ensures { TellsFault (text_for fault.refusal fault.line) fault (W.log writer.old) result (W.log writer.new) }
 {
     match fault.refusal {
         Refusal::BadLine => match write_malformed(writer, fault.line) {
@@ -59,7 +59,7 @@ fn opening_fault(refusal: Refusal, line: u64) -> DriveFault
 
 /// Says that the opening in this line was refused.
 fn tell_refused<W: Sink>(writer: &mut W, refusal: Refusal, line: u64) -> DriveFault
-    ensures { TellsFault (text_line (refused_words refusal)) (opening_fault refusal line) (W.written writer.old) (W.failures writer.old) result (W.written writer.new) (W.failures writer.new) }
+    ensures { TellsFault (text_line (refused_words refusal)) (opening_fault refusal line) (W.log writer.old) result (W.log writer.new) }
 {
     match write_refused(writer, refusal) {
         Ok(()) => opening_fault(refusal, line),
@@ -97,7 +97,7 @@ fn end_of<O: Opening>(
 
 /// Writes the summary of a run.
 fn tell_summary<W: Sink>(writer: &mut W, tally: Tally) -> Result<(), DriveFault>
-    ensures { TellsSummary tally (W.written writer.old) (W.failures writer.old) result (W.written writer.new) (W.failures writer.new) }
+    ensures { TellsSummary tally (W.log writer.old) result (W.log writer.new) }
 {
     match write_summary(writer, tally) {
         Ok(()) => Ok(()),
@@ -105,8 +105,8 @@ fn tell_summary<W: Sink>(writer: &mut W, tally: Tally) -> Result<(), DriveFault>
     }
 }
 
-/// Carries out the sections over what was prepared for them, and writes the summary. The opening was asked for in this line.
-fn carry_out<O: Opening + Send + Sync, W: Sink, R: Threads + Wait + Sync>(
+/// Runs the sections over the service that was prepared for them, and writes the summary. The opening was asked for in this line.
+fn run_prepared<O: Opening + Send + Sync, W: Sink, R: Threads + Wait + Sync>(
     alloc: Global,
     writer: &mut W,
     line: u64,
@@ -118,7 +118,7 @@ fn carry_out<O: Opening + Send + Sync, W: Sink, R: Threads + Wait + Sync>(
 ) -> Result<(), DriveFault>
     requires named { prepared ≡ O.origin }
     requires within { first_cause (service_causes (asked_from O.origin collections sections.now.jobs.items)) ≡ None }
-    ensures { RunsPlan (asked_from O.origin collections sections.now.jobs.items) line (W.written writer.old) (W.failures writer.old) result (W.written writer.new) (W.failures writer.new) }
+    ensures { RunsPlan (asked_from O.origin collections sections.now.jobs.items) line (W.log writer.old) result (W.log writer.new) }
 {
     let (service, seats) = match Service::<O>::open(prepared) {
         Ok(opened) => opened,
@@ -145,7 +145,7 @@ fn run_plan<W: Sink, T: Threads + Wait + Sync>(
 ) -> Result<(), DriveFault>
     requires stand { All (λ job. turns_of job ≤ MAX_TURNS) plan.jobs.items }
     requires few { length plan.jobs.items ≤ MAX_LINES }
-    ensures { RunsPlan (asked_by plan) plan.size.line (W.written writer.old) (W.failures writer.old) result (W.written writer.new) (W.failures writer.new) }
+    ensures { RunsPlan (asked_by plan) plan.size.line (W.log writer.old) result (W.log writer.new) }
 {
     let Plan {
         size,
@@ -159,7 +159,7 @@ fn run_plan<W: Sink, T: Threads + Wait + Sync>(
         frames: size.frames,
     };
     match Service::prepare(alloc, config, size.workers) {
-        Ok(prepared) => carry_out::<Brand, W, T>(
+        Ok(prepared) => run_prepared::<Brand, W, T>(
             alloc,
             writer,
             size.line,
@@ -185,13 +185,7 @@ pub fn drive_threads<R: Source, W: Sink, T: Threads + Wait + Sync>(
     procs: Vec<Vec<Box<dyn Proc + Send>>>,
     rt: &T,
 ) -> Result<(), DriveFault>
-    // The whole file was read, and the text is the summary of its run: one service, from its opening to its end.
-    ensures ok { IfOk result (λ done. Summarized (R.remaining reader.old) (R.remaining reader.new) (W.written writer.old) (W.written writer.new)) }
-    // A fault comes where its cause stands, and nothing else was written.
-    ensures fault { IfErr result (RunStopped (R.remaining reader.old) (R.remaining reader.new) (W.written writer.old) (W.written writer.new)) }
-    // In this call a read failed just where it says so, and so for writes.
-    ensures reads { R.failures reader.new ≡ R.failures reader.old + faults_of Refusal.Input result }
-    ensures writes { W.failures writer.new ≡ W.failures writer.old + faults_of Refusal.Output result }
+    ensures { DrivesThreads (R.feed reader.old) (W.log writer.old) result (R.feed reader.new) (W.log writer.new) }
 {
     match read_plan(alloc, reader) {
         Ok(plan) => run_plan(alloc, writer, plan, procs, rt),

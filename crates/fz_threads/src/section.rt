@@ -15,7 +15,7 @@ use fz_service::{Opening, Service};
 use std::sync::Wait;
 
 /// One turn of `churn`; returns how many of its calls were refused. A refused `new` leaves out the other two.
-fn turn<O: Opening, R: Wait>(
+fn churn_once<O: Opening, R: Wait>(
     service: &Service<O>,
     new: Call,
     register: Call,
@@ -34,7 +34,7 @@ fn turn<O: Opening, R: Wait>(
 }
 
 /// Carries out `count` turns; returns how many of their calls were refused.
-fn turns<O: Opening, R: Wait>(
+fn churn<O: Opening, R: Wait>(
     service: &Service<O>,
     count: u64,
     new: Call,
@@ -48,7 +48,7 @@ fn turns<O: Opening, R: Wait>(
 {
     let mut refused = 0;
     for _turn in 0..count {
-        refused += turn(service, new, register, let_go, rt);
+        refused += churn_once(service, new, register, let_go, rt);
     }
     refused
 }
@@ -68,7 +68,7 @@ fn carry<O: Opening, R: Wait>(service: &Service<O>, job: Job, rt: &R) -> u64
             kind,
             finalizer_kind,
             procedure,
-        } => turns(
+        } => churn(
             service,
             count,
             Call::Alloc { slot, size, kind },

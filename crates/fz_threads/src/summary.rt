@@ -45,7 +45,7 @@ fn summary_of(tally: Tally) -> Summary
 
 /// Writes the summary, in one write where the writer takes it whole.
 pub(crate) fn write_summary<W: Sink>(writer: &mut W, tally: Tally) -> Result<(), WriteFailed>
-    ensures { Emits (W.written writer.old) (W.failures writer.old) (summary_text tally) result (W.written writer.new) (W.failures writer.new) }
+    ensures { Emits (W.log writer.old) (summary_text tally) result (W.log writer.new) }
 {
     let text = summary_of(tally);
     write_all(writer, text.as_str().as_bytes())

@@ -1,10 +1,10 @@
 //! The words of the program, read by `clap`: which part of it they ask for, and on which file.
 #![tactic(auto)]
 
-ghost use Rattle.std.specs.Prelude.{◌≡◌, ◌≢◌, List, [], ◌∷◌, ℕ, Err, IfErr, IfOk, IfSome, IsNone, Some, codes, length, map, option_map, slice_get};
+ghost use Rattle.std.specs.Prelude.{◌≡◌, List, ℕ, Err, IfErr, IfOk, IfSome, IsNone, Some, map, option_map};
 ghost use Rattle.clap.specs.Words.{app_of, kind_of};
 ghost use Rattle.fz_words.specs.Commands.{TakesFiles};
-ghost use Rattle.fz_words.specs.Words.{name_of, IsFile, Names};
+ghost use Rattle.fz_words.specs.Words.{Names, NameNothing, AskFor};
 
 use clap::error::ErrorKind;
 use clap::{Arg, Command, Error};
@@ -36,11 +36,10 @@ pub fn program_and_file<'a, S: AsStr>(
     alloc: Global,
     words: &'a [S],
 ) -> Result<(Program, &'a str), WordsFault>
-    ensures counted { length words.now ≢ 2 → result ≡ Err WordsFault.Wrong }
-    ensures named { (first : S) → slice_get words.now 0 ≡ Some first → S.text first ≢ codes "run" → S.text first ≢ codes "threads" → result ≡ Err WordsFault.Wrong }
+    ensures wrong { NameNothing (map S.text words.now) → result ≡ Err WordsFault.Wrong }
     ensures names { IfOk result (λ found. Names found.0 (map S.text words.now)) }
-    ensures found { (program : Program) → (file : List ℕ) → map S.text words.now ≡ name_of program ∷ file ∷ [] → IsFile file → IfOk result (λ found. found.1.now ≡ file) }
-    ensures taken { (program : Program) → (file : List ℕ) → map S.text words.now ≡ name_of program ∷ file ∷ [] → IsFile file → IfErr result (λ fault. fault ≡ WordsFault.NoMemory) }
+    ensures found { (file : List ℕ) → AskFor (map S.text words.now) file → IfOk result (λ found. found.1.now ≡ file) }
+    ensures taken { (file : List ℕ) → AskFor (map S.text words.now) file → IfErr result (λ fault. fault ≡ WordsFault.NoMemory) }
 {
     let Some(program) = program_of(words) else {
         return Err(WordsFault::Wrong);
@@ -55,7 +54,7 @@ pub fn program_and_file<'a, S: AsStr>(
 /// The program that the words name: they are its name and a file.
 fn program_of<S: AsStr>(words: &[S]) -> Option<Program>
     ensures some { IfSome result (λ program. Names program (map S.text words.now)) }
-    ensures none { IsNone result → (program : Program) → ¬ Names program (map S.text words.now) }
+    ensures none { IsNone result → NameNothing (map S.text words.now) }
 {
     if words.len() != 2 {
         return None;
@@ -84,8 +83,8 @@ fn command<'a>(alloc: Global) -> Result<Command<'a>, AllocError>
 
 /// The file that the words name. An error says that they are wrong, or that memory was short.
 fn file_of<'a, S: AsStr>(alloc: Global, words: &'a [S]) -> Result<Option<&'a str>, Error>
-    ensures found { (program : Program) → (file : List ℕ) → map S.text words.now ≡ name_of program ∷ file ∷ [] → IsFile file → IfOk result (λ some. option_map (λ word. word.now) some ≡ Some file) }
-    ensures taken { (program : Program) → (file : List ℕ) → map S.text words.now ≡ name_of program ∷ file ∷ [] → IsFile file → IfErr result (λ error. kind_of error ≡ ErrorKind.OutOfMemory) }
+    ensures found { (file : List ℕ) → AskFor (map S.text words.now) file → IfOk result (λ some. option_map (λ word. word.now) some ≡ Some file) }
+    ensures taken { (file : List ℕ) → AskFor (map S.text words.now) file → IfErr result (λ error. kind_of error ≡ ErrorKind.OutOfMemory) }
 {
     let command = command(alloc)?;
     let matches = command.try_get_matches_from(words)?;

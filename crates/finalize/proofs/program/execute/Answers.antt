@@ -1,35 +1,49 @@
-use Rattle.std.proofs.Common.{rules, ◌≡◌, ◌∷◌, ℕ, List, [], Bor, Option, Result, Ok, IfOk, refl, map, subst, inl, inr}
+use Rattle.std.proofs.Common.{rules, ◌≡◌, ◌≢◌, ◌∷◌, ℕ, List, [], Bor, Option, Result, Ok, Err, IfOk, arith, refl, subst, inl, inr}
+use Rattle.std.specs.Io.KnownBytes.{Keeps}
 use Rattle.fz_words.specs.declared.Program.{Program}
 use Rattle.fz_words.specs.declared.WordsFault.{WordsFault}
 use Rattle.fz_words.specs.declared.WordsFault.TheVariants.{Wrong, NoMemory}
-use Rattle.std.specs.Io.KnownBytes.{Keeps}
-use Rattle.fz_words.specs.Words.{name_of, IsFile, Names}
-use Rattle.finalize.specs.Program.{ReadFrom, RanOn}
+use Rattle.fz_words.specs.Words.{IsFile, Names, AskFor}
+use Rattle.fz_text.specs.Devices.{Feed, Log}
+use Rattle.finalize.specs.Program.{Runs, RunsFile, RanOn, Ends}
 use Rattle.finalize.proofs.program.execute.Goals as goal
 
+-- a run on a file isn't one of wrong words
+no_wrong_words : (held : Option (List ℕ)) (program : Program) (status : ℕ) (out out' err err' : Log) → RunsFile held program status out out' err err' → status ≢ 2
+no_wrong_words held program status out out' err err' (inl unopened) two = absurd (let one = unopened.0 in omega arith)
+no_wrong_words held program status out out' err err' (inr (input, keeps, inl whole)) two = absurd (let zero = whole.0 in omega arith)
+no_wrong_words held program status out out' err err' (inr (input, keeps, inr stopped)) two = absurd (let one = stopped.0 in omega arith)
+
 -- what ran on the file that was found ran on the file that the words name
-ran_on : {E : Type 0} (holds : List ℕ → Option (List ℕ)) (words : List (List ℕ)) (program : Program) (word : Bor (List ℕ)) (P : Program → Option (List ℕ) → Type 0) (found : Result (Program × Bor (List ℕ)) E)
-    → Names program words → found ≡ Ok (program, word) → ((p : Program) (file : List ℕ) → words ≡ name_of p ∷ file ∷ [] → IsFile file → IfOk found (λ it. it.1.now ≡ file))
-    → ReadFrom holds word.now (P program) → RanOn holds words P
-ran_on holds words program word P found (file, are) is finds (input, keeps, ran) = (program, file, are, (input, (λ right. subst (λ (f : List ℕ). Keeps (holds f) input) (same right) keeps), ran))
+ran : {E : Type 0} (holds : List ℕ → Option (List ℕ)) (words : List (List ℕ)) (program : Program) (word : Bor (List ℕ)) (status : ℕ) (out out' err err' : Log) (found : Result (Program × Bor (List ℕ)) E) → Names program words → found ≡ Ok (program, word)
+    → ((file : List ℕ) → AskFor words file → IfOk found (λ it. it.1.now ≡ file)) → RunsFile (holds word.now) program status out out' err err' → Ends holds words status out out' err err'
+ran holds words program word status out out' err err' found names is finds (inl unopened) = inr (inl (unopened.0, inr unopened.1))
+ran holds words program word status out out' err err' found (file, are) is finds (inr (input, keeps, runs)) = inr (inr (program, file, are, input, (λ right. subst (λ (f : List ℕ). Keeps (holds f) input.remaining) (same right) keeps), runs))
   where
     same : IsFile file → word.now ≡ file
-    same right = subst (λ (r : Result (Program × Bor (List ℕ)) _). IfOk r (λ it. it.1.now ≡ file)) is (finds program file are right)
+    same right = subst (λ (r : Result (Program × Bor (List ℕ)) _). IfOk r (λ it. it.1.now ≡ file)) is (finds file (program, are, right))
 
-pub returns-in-Ok-clause-reported : goal.returns-in-Ok-clause-reported
-returns-in-Ok-clause-reported g c = λ zero.
-    let ends = c.run_file.ensures.reported zero in
-    (ran_on _ _ c.in-Ok.program c.in-Ok.file _ c.program_and_file.result c.in-Ok.ensures.names (search rules) c.program_and_file.ensures.found ends.0, ends.1, ends.2)
-
-pub returns-in-Ok-clause-failed : goal.returns-in-Ok-clause-failed
-returns-in-Ok-clause-failed g c = λ one. elim (c.run_file.ensures.failed one) [
-  | inl unopened ↦ inl (unopened.0, (_, inr refl, unopened.1))
-  | inr stopped ↦ inr (stopped.0, ran_on _ _ c.in-Ok.program c.in-Ok.file _ c.program_and_file.result c.in-Ok.ensures.names (search rules) c.program_and_file.ensures.found stopped.1, stopped.2, stopped.3)
-]
+pub returns-in-Ok : goal.returns-in-Ok
+returns-in-Ok g c = record {
+  wrong = λ nothing. absurd (nothing c.in-Ok.program c.in-Ok.ensures.names);
+  right = λ file ask. no_wrong_words _ _ _ _ _ _ _ c.run_file.ensures;
+  ends = ran _ _ c.in-Ok.program c.in-Ok.file _ _ _ _ _ c.program_and_file.result c.in-Ok.ensures.names (search rules) c.program_and_file.ensures.found c.run_file.ensures;
+}
 
 -- wrong words are no want of memory
 is_no_want : (fault : WordsFault) → fault ≡ Wrong → fault ≡ NoMemory → ⊥
 is_no_want fault wrong want = cc
 
-pub returns-in-Err-Wrong-clause-taken : goal.returns-in-Err-Wrong-clause-taken
-returns-in-Err-Wrong-clause-taken g c = λ program file are is two. is_no_want c.in-Err-Wrong.field-0 (search rules) (c.in-Err-Wrong.ensures.taken program file are is)
+pub returns-in-Err-Wrong : goal.returns-in-Err-Wrong
+returns-in-Err-Wrong g c = record {
+  wrong = λ nothing. c.wrong_words.ensures.status;
+  right = λ file ask two. is_no_want c.in-Err-Wrong.field-0 (search rules) (c.in-Err-Wrong.ensures.taken file ask);
+  ends = inl (c.wrong_words.ensures.status, (refl, c.wrong_words.ensures.line));
+}
+
+pub returns-in-Err-NoMemory : goal.returns-in-Err-NoMemory
+returns-in-Err-NoMemory g c = record {
+  wrong = λ nothing. absurd (let wrong = c.program_and_file.ensures.wrong nothing in search rules);
+  right = λ file ask two. absurd (let one = c.out_of_memory.ensures.status in omega arith);
+  ends = inr (inl (c.out_of_memory.ensures.status, inl (refl, c.out_of_memory.ensures.line)));
+}

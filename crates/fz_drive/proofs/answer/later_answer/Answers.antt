@@ -6,7 +6,7 @@ returns-in-Ok-Some c =
     let out = rw c.in-Ok-Some.field-0-is at c.in-Ok-Some.ensures in (
       c.args.machine.now,
       refl,
-      c.carry_out.new.self,
+      c.take_step.new.self,
       refl,
       c.in-Some.step,
       (c.requires, c.in-Some.ensures.found.0, c.in-Some.ensures.found.1),
@@ -17,7 +17,7 @@ pub returns-in-Err : goal.returns-in-Err
 returns-in-Err c = (
   c.args.machine.now,
   refl,
-  c.carry_out.new.self,
+  c.take_step.new.self,
   refl,
   c.in-Some.step,
   (c.requires, c.in-Some.ensures.found.0, c.in-Some.ensures.found.1),

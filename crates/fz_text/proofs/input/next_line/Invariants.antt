@@ -6,10 +6,10 @@ use Rattle.fz_text.proofs.input.next_line.Given as goal
 
 abbrev pub invariant-loop-line : goal.invariant-loop-line
 invariant-loop-line g l = record {
-  taken : Consumes (prepend_known (unread l.fn.chunk) (g.R.Source.remaining l.fn.source)) (prepend_known (unread l.chunk) (g.R.Source.remaining l.source)) l.line.items;
+  taken : Consumes (prepend_known (unread l.fn.chunk) (g.R.Source.feed l.fn.source).remaining) (prepend_known (unread l.chunk) (g.R.Source.feed l.source).remaining) l.line.items;
   one : IsOneLine l.line.items;
   short : length l.line.items ≤ 200;
-  same : g.R.Source.failures l.source ≡ g.R.Source.failures l.fn.source;
+  same : (g.R.Source.feed l.source).failures ≡ (g.R.Source.feed l.fn.source).failures;
 }
 
 abbrev pub decreases-loop-line : goal.decreases-loop-line

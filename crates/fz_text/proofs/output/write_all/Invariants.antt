@@ -4,8 +4,8 @@ use Rattle.fz_text.proofs.output.write_all.Given as goal
 
 abbrev pub invariant-loop-rest : goal.invariant-loop-rest
 invariant-loop-rest g l = record {
-  written : (done : List ℕ) × (l.bytes ≡ done ++ l.rest) × Appends (g.W.Sink.written l.fn.writer) (g.W.Sink.written l.writer) done;
-  same : g.W.Sink.failures l.writer ≡ g.W.Sink.failures l.fn.writer;
+  written : (done : List ℕ) × (l.bytes ≡ done ++ l.rest) × Appends (g.W.Sink.log l.fn.writer).written (g.W.Sink.log l.writer).written done;
+  same : (g.W.Sink.log l.writer).failures ≡ (g.W.Sink.log l.fn.writer).failures;
 }
 
 abbrev pub decreases-loop-rest : goal.decreases-loop-rest

@@ -3,15 +3,15 @@ use Rattle.fz_text.specs.Reading.{unread}
 use Rattle.fz_text.specs.declared.fault.DriveFault.{DriveFault}
 use Rattle.std.specs.Io.KnownBytes.{Consumes, prepend_known}
 use Rattle.fz_text.specs.Lines.{with_lf}
-use Rattle.fz_threads.specs.Jobs.{IsUnreadable, input_failures}
-use Rattle.fz_text.proofs.Taking.{fresh, took_start, no_more}
-use Rattle.fz_threads.proofs.FileReading.{took_all, at_first, place_more, ends_here, ends_last, whole_taken, breaks_off, stops_at}
+use Rattle.fz_threads.specs.Jobs.{IsUnreadable}
+use Rattle.fz_text.proofs.Taking.{fresh, took_start, took_all}
+use Rattle.fz_threads.proofs.FileReading.{first_place, place_more, file_ends, file_ends_last, whole_taken, breaks_off, stops_at}
 use Rattle.std.proofs.KnownBytes.{Consumes-trans}
 use Rattle.fz_threads.proofs.reading.read_lines.Goals as goal
 
 pub lines-init : goal.lines-init
 lines-init g c = record {
-  place = ([], took_start _ _ (fresh c.new-chunk.result c.new-chunk.ensures), at_first _ c.requires);
+  place = ([], took_start _ _ (fresh c.new-chunk.result c.new-chunk.ensures), first_place _ c.requires);
   in_time = omega arith;
   reads = refl;
 }
@@ -20,27 +20,25 @@ pub returns-in_default : goal.returns-in_default
 returns-in_default g c =
     let h = c.in_default.ensures in
     let p = c.lines.invariant.place in
-    let P : DriveFault → Type 0 = λ f. IsUnreadable (g.R.Source.remaining c.args.reader.now) (g.R.Source.remaining c.next_line.new.source) f × (g.R.Source.failures c.next_line.new.source ≡ g.R.Source.failures c.args.reader.now + input_failures f) in
-    subst P (sym c.unreadable.ensures)
-    (breaks_off _ _ p.0 c.next_line.new.line.items (unread c.next_line.new.chunk) c.lines.number c.lines.draft p.2 (Consumes-trans _ _ _ _ _ p.1 h.0) h.1 h.2 h.3, h.4 ∙ ap (λ n. n + 1) c.lines.invariant.reads)
+    subst (λ (f : DriveFault). IsUnreadable (g.R.Source.feed c.args.reader.now) (g.R.Source.feed c.next_line.new.source) f) (sym c.unreadable.ensures)
+    (breaks_off _ _ p.0 c.next_line.new.line.items (unread c.next_line.new.chunk) c.lines.number c.lines.draft p.2 (Consumes-trans _ _ _ _ _ p.1 h.0) h.1 h.2 h.3 (h.4 ∙ ap (λ n. n + 1) c.lines.invariant.reads))
 
 pub returns-in-Nothing : goal.returns-in-Nothing
 returns-in-Nothing g c =
     let h = rw c.in-Nothing.is at c.in-Ok.ensures in
     let p = c.lines.invariant.place in
     let t = took_all _ _ (p.0 ++ h.0.0) (unread c.next_line.new.chunk) h.1 (Consumes-trans _ _ _ _ _ p.1 h.0.2) in
-    let end = ends_here p.0 h.0.0 c.lines.number c.lines.draft p.2 h.0.1.0 in
-    ((p.0 ++ h.0.0, t.0, t.1, end.0, end.1), h.4 ∙ c.lines.invariant.reads)
+    let end = file_ends p.0 h.0.0 c.lines.number c.lines.draft p.2 h.0.1.0 in
+    (p.0 ++ h.0.0, t.0, t.1, end.0, end.1, h.4 ∙ c.lines.invariant.reads)
 
 pub returns-in-Err : goal.returns-in-Err
 returns-in-Err g c =
     let h = c.in-Ok.ensures in
     let p = c.lines.invariant.place in
     let given = rw c.as_slice.ensures.value at c.in-Err.ensures in
-    let s = stops_at (g.R.Source.remaining c.args.reader.now) (g.R.Source.remaining c.next_line.new.source) p.0 h.0.0 c.next_line.new.line.items (unread c.next_line.new.chunk) c.lines.number c.in-Ok.ending c.lines.draft c.read_job.new.draft c.in-Err.refusal
-    p.2 (Consumes-trans _ _ _ _ _ p.1 h.0.2) h.0.1 h.1 h.2 h.3 c.in_default-ending.not-Nothing given in
-    let P : DriveFault → Type 0 = λ f. IsUnreadable (g.R.Source.remaining c.args.reader.now) (g.R.Source.remaining c.next_line.new.source) f × (g.R.Source.failures c.next_line.new.source ≡ g.R.Source.failures c.args.reader.now + input_failures f) in
-    subst P (sym c.unreadable-in-Err.ensures) (s.0, no_more (h.4 ∙ c.lines.invariant.reads) s.1)
+    subst (λ (f : DriveFault). IsUnreadable (g.R.Source.feed c.args.reader.now) (g.R.Source.feed c.next_line.new.source) f) (sym c.unreadable-in-Err.ensures)
+    (stops_at (g.R.Source.feed c.args.reader.now) (g.R.Source.feed c.next_line.new.source) p.0 h.0.0 c.next_line.new.line.items (unread c.next_line.new.chunk) c.lines.number c.in-Ok.ending c.lines.draft c.read_job.new.draft c.in-Err.refusal
+    p.2 (Consumes-trans _ _ _ _ _ p.1 h.0.2) h.0.1 h.1 h.2 h.3 c.in_default-ending.not-Nothing (h.4 ∙ c.lines.invariant.reads) given)
 
 pub returns-in-Last : goal.returns-in-Last
 returns-in-Last g c =
@@ -48,8 +46,8 @@ returns-in-Last g c =
     let p = c.lines.invariant.place in
     let given = rw c.as_slice.ensures.value at c.in_default-read_job.ensures in
     let t = took_all _ _ (p.0 ++ h.0.0) (unread c.next_line.new.chunk) h.1 (Consumes-trans _ _ _ _ _ p.1 h.0.2) in
-    let end = ends_last p.0 h.0.0 c.next_line.new.line.items c.lines.number c.lines.draft c.read_job.new.draft p.2 h.0.1.0 h.0.1.1 h.2 h.3 given.1 given.2 in
-    ((p.0 ++ h.0.0, t.0, t.1, end.0, end.1), h.4 ∙ c.lines.invariant.reads)
+    let end = file_ends_last p.0 h.0.0 c.next_line.new.line.items c.lines.number c.lines.draft c.read_job.new.draft p.2 h.0.1.0 h.0.1.1 h.2 h.3 given.1 given.2 in
+    (p.0 ++ h.0.0, t.0, t.1, end.0, end.1, h.4 ∙ c.lines.invariant.reads)
 
 pub lines-preserved : goal.lines-preserved
 lines-preserved g c =
@@ -60,7 +58,7 @@ lines-preserved g c =
     record {
       place = (
         p.0 ++ with_lf c.next_line.new.line.items,
-        subst (λ b. Consumes (g.R.Source.remaining c.args.reader.now) (prepend_known (unread c.next_line.new.chunk) (g.R.Source.remaining c.next_line.new.source)) (p.0 ++ b)) whole (Consumes-trans _ _ _ _ _ p.1 h.0.2),
+        subst (λ b. Consumes (g.R.Source.feed c.args.reader.now).remaining (prepend_known (unread c.next_line.new.chunk) (g.R.Source.feed c.next_line.new.source).remaining) (p.0 ++ b)) whole (Consumes-trans _ _ _ _ _ p.1 h.0.2),
         place_more p.0 c.next_line.new.line.items c.lines.number c.lines.draft c.read_job.new.draft p.2 h.2 h.3 given.1 given.2,
       );
       in_time = let few = given.1 in omega (arith, few);

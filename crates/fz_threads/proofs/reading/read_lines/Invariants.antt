@@ -6,9 +6,9 @@ use Rattle.fz_threads.proofs.reading.read_lines.Given as goal
 
 abbrev pub invariant-lines : goal.invariant-lines
 invariant-lines g l = record {
-  place : (seen : List ℕ) × Consumes (g.R.Source.remaining l.fn.reader) (prepend_known (unread l.chunk) (g.R.Source.remaining l.reader)) seen × Place seen l.number l.draft;
+  place : (seen : List ℕ) × Consumes (g.R.Source.feed l.fn.reader).remaining (prepend_known (unread l.chunk) (g.R.Source.feed l.reader).remaining) seen × Place seen l.number l.draft;
   in_time : l.number ≤ 4097;
-  reads : g.R.Source.failures l.reader ≡ g.R.Source.failures l.fn.reader;
+  reads : (g.R.Source.feed l.reader).failures ≡ (g.R.Source.feed l.fn.reader).failures;
 }
 
 abbrev pub decreases-lines : goal.decreases-lines

@@ -1,7 +1,7 @@
 use Rattle.std.proofs.Common.{refl}
 use Rattle.fz_drive.proofs.Machines.{asks, accepted, refuses}
 use Rattle.fz_drive.proofs.Calls.{call_answers, call_refuses}
-use Rattle.fz_drive.proofs.machine.Machine.carry_out.Goals as goal
+use Rattle.fz_drive.proofs.machine.Machine.take_step.Goals as goal
 
 pub returns-in_err-make-in-Call : goal.returns-in_err-make-in-Call
 returns-in_err-make-in-Call c = call_refuses _ _ _ c.in-Call.call _ _ c.in-Call.is c.in_err-make-in-Call.ensures.told c.from_residual.ensures.1

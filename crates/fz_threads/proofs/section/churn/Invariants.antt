@@ -1,7 +1,7 @@
 use Rattle.std.proofs.Common.{◌≤◌, ◌*◌}
 use Rattle.fz_model.specs.Events.{Make}
 use Rattle.fz_threads.specs.Holds.{HasRefused, AreTurns}
-use Rattle.fz_threads.proofs.section.turns.Given as goal
+use Rattle.fz_threads.proofs.section.churn.Given as goal
 
 abbrev pub invariant-loop-turn : goal.invariant-loop-turn
 invariant-loop-turn g l = record {

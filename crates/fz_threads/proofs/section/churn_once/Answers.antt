@@ -2,7 +2,7 @@ use Rattle.std.proofs.Common.{subst}
 use Rattle.fz_model.specs.Events.{Make}
 use Rattle.fz_threads.specs.Holds.{Held}
 use Rattle.fz_threads.proofs.Holding.{turn_refused, turn_taken}
-use Rattle.fz_threads.proofs.section.turn.Goals as goal
+use Rattle.fz_threads.proofs.section.churn_once.Goals as goal
 
 pub returns-clause-refused : goal.returns-clause-refused
 returns-clause-refused g c =
