@@ -24,9 +24,13 @@ static void busy_finalizer(void *object, void *data) {
 }
 static void NOINLINE clear_stack(void) { volatile char a[256 * 1024]; memset((void *)a, 0, sizeof a); __asm__ volatile("" :: "r"(a) : "memory"); }
 
-static void NOINLINE make(const Objects *objects, bool live) {
+/* The time of the objects' allocation alone. */
+static double NOINLINE make(const Objects *objects, bool live) {
     hidden = memory(objects->count * sizeof *hidden);
+    memset(hidden, 1, objects->count * sizeof *hidden);
+    double t = now();
     for (size_t i = 0; i < objects->count; i++) hidden[i] = GC_HIDE_POINTER(GC_malloc(objects->size * sizeof(void *)));
+    t = now() - t;
     for (size_t i = 0; i < objects->count; i++) if (!OBJECT(i)) fail("no memory");
     for (size_t i = 0; objects->links && i < objects->count; i++)
         for (size_t k = 0; k < objects->size; k++) {
@@ -34,6 +38,7 @@ static void NOINLINE make(const Objects *objects, bool live) {
             if (link) OBJECT(i)[k] = OBJECT(link - 1);
         }
     root = live ? OBJECT(objects->first) : NULL;
+    return t;
 }
 
 /* one word more than links */
@@ -106,9 +111,10 @@ static double run(const Row *row, const Objects *objects, bool with_call) {
     if (!with_call) return 0;
     GC_set_markers_count(1); GC_INIT(); GC_set_finalize_on_demand(1); GC_disable();
     collect();
-    make(objects, row->live);
+    double t = make(objects, row->live);
+    if (row->call == MAKE) return t;
     if (row->kind == LINKED) make_words(objects->count);
-    double t = enter(objects->count, row->kind);
+    t = enter(objects->count, row->kind);
     if (row->call == ENTER) return t;
     if (row->call == MOVE) return move_links(objects->count);
     if (row->call == UNLINK) return unlink_all(objects->count);

@@ -1,104 +1,267 @@
 /* border.c - times calls of c/include/derrimas.h, as C makes them.
- *   border TEST N    the nanoseconds of one call of a test, of N calls; the least of some turns
- * bench/run builds it with crates/fz_c, and runs it beside bench.c, whose tests are bdwgc's and plain C's.
+ *   border TEST N    the nanoseconds of one call: the least of some turns, each in a world or with a line of its own
+ * bench/run builds it with crates/fz_c and crates/fz_line_c. What N counts stands beside each test.
  */
 #include "derrimas.h"
 #include <math.h>
+#include <pthread.h>
+#include <stdatomic.h>
 #include <stdio.h>
 #include <stdlib.h>
 #include <string.h>
 #include <time.h>
 
-enum { TURNS = 9 };
+enum { TURNS = 9, BUDGET = 64, MOST_STEPS = FZ_MAX_BLOCKS + 1, ROUND = 8192, IDLE = 101, TAKERS = 4 };
 
 static void fail(const char *what) { fprintf(stderr, "border: %s\n", what); exit(1); }
 static void must(fz_code code) { if (code != FZ_OK) fail(fz_name(code)); }
-static double now(void) { struct timespec t; clock_gettime(CLOCK_PROCESS_CPUTIME_ID, &t); return t.tv_sec * 1e9 + t.tv_nsec; }
+static double clock_of(clockid_t id) { struct timespec t; clock_gettime(id, &t); return t.tv_sec * 1e9 + t.tv_nsec; }
+static double now(void) { return clock_of(CLOCK_PROCESS_CPUTIME_ID); }
+/* the time on the wall: for threads, and for single calls, since the other clock takes longer than some of these */
+static double wall(void) { return clock_of(CLOCK_MONOTONIC); }
 
 static fz_world world;
-static const fz_slot OBJECT = {0, 0}, WORD = {0, 1};
+static const fz_slot OBJECT = {0, 0}, WORD = {0, 1}, FIRST = {0, 2};
+static fz_made made;
+static uint64_t word;
+static fz_passed passed;
+static fz_entry entry;
 
-/* one object of as many words as an object can have */
-static void make_object(void)
+static void open_for(uint64_t objects)
 {
-    fz_made made;
+    uint64_t blocks = (objects + FZ_BLOCK_WORDS - 1) / FZ_BLOCK_WORDS, least = FZ_MAX_SIZE / FZ_BLOCK_WORDS;
 
-    must(fz_alloc(&world, OBJECT, FZ_MAX_SIZE, false, &made));
+    blocks = blocks < least ? least : blocks;
+    must(fz_open(&world, blocks > FZ_MAX_BLOCKS ? FZ_MAX_BLOCKS : blocks, 1));
 }
 
-/* ---- the tests: each makes its call n times */
+/* ---- single calls: each function makes its call n times */
 
-static void set(uint64_t n)
+static void set(uint64_t n) { for (uint64_t i = 0; i < n; i++) must(fz_set(&world, OBJECT, i)); }
+static void alloc(uint64_t n) { for (uint64_t i = 0; i < n; i++) must(fz_alloc(&world, OBJECT, 1, false, &made)); }
+static void load(uint64_t n) { for (uint64_t i = 0; i < n; i++) must(fz_load(&world, OBJECT, i % FZ_MAX_SIZE, WORD, &word)); }
+static void store(uint64_t n) { for (uint64_t i = 0; i < n; i++) must(fz_store(&world, OBJECT, i % FZ_MAX_SIZE, WORD)); }
+static void read_word(uint64_t n) { for (uint64_t i = 0; i < n; i++) must(fz_read(&world, FZ_HEAP_START, i % FZ_MAX_SIZE, &word)); }
+
+/* of n calls, in a world that has an object of as many words as one can have, but before allocations */
+static double of_calls(void (*call)(uint64_t), uint64_t n)
 {
-    for (uint64_t i = 0; i < n; i++)
-        must(fz_set(&world, OBJECT, i));
+    open_for(n);
+    if (call != alloc)
+        must(fz_alloc(&world, OBJECT, FZ_MAX_SIZE, false, &made));
+    double t = now();
+    call(n);
+    return (now() - t) / n;
 }
 
-static void alloc(uint64_t n)
-{
-    fz_made made;
+static double sets(uint64_t n) { return of_calls(set, n); }
+static double allocs(uint64_t n) { return of_calls(alloc, n); }
+static double loads(uint64_t n) { return of_calls(load, n); }
+static double stores(uint64_t n) { return of_calls(store, n); }
+static double reads(uint64_t n) { return of_calls(read_word, n); }
 
-    for (uint64_t i = 0; i < n; i++)
-        must(fz_alloc(&world, OBJECT, 1, false, &made));
+/* ---- a cycle in steps over n live objects: a chain by rising address */
+
+static double begun, steps[MOST_STEPS], paused, whole;
+static uint64_t seed;
+
+static void make_chain(uint64_t n)
+{
+    must(fz_alloc(&world, FIRST, 1, false, &made));
+    must(fz_copy(&world, FIRST, OBJECT));
+    for (uint64_t i = 1; i < n; i++) {
+        must(fz_alloc(&world, WORD, 1, false, &made));
+        must(fz_store(&world, OBJECT, 0, WORD));
+        must(fz_copy(&world, WORD, OBJECT));
+    }
 }
 
-static void load(uint64_t n)
+/* stores to objects of chance the word that each of them has, so that all stay live */
+static void store_by_chance(uint64_t n, uint64_t count)
 {
-    uint64_t word;
-
-    for (uint64_t i = 0; i < n; i++)
-        must(fz_load(&world, OBJECT, i % FZ_MAX_SIZE, WORD, &word));
+    for (uint64_t i = 0; i < count; i++) {
+        seed ^= seed << 13; seed ^= seed >> 7; seed ^= seed << 17;
+        must(fz_set(&world, OBJECT, FZ_HEAP_START + seed % n));
+        must(fz_load(&world, OBJECT, 0, WORD, &word));
+        must(fz_store(&world, OBJECT, 0, WORD));
+    }
+    must(fz_set(&world, OBJECT, 0));
+    must(fz_set(&world, WORD, 0));
 }
 
-static void store(uint64_t n)
+/* Times each call of a cycle after one that isn't timed, and one more cycle as a whole. `steps` keeps the least time of each step over the turns. */
+static void cycle(uint64_t n, uint64_t between, uint64_t last)
 {
-    for (uint64_t i = 0; i < n; i++)
-        must(fz_store(&world, OBJECT, i % FZ_MAX_SIZE, WORD));
+    fz_counts before, after;
+    bool done = false;
+
+    seed = 88172645463325252u;
+    open_for(n);
+    make_chain(n);
+    store_by_chance(n, 0);
+    must(fz_collect(&world, &passed));
+    double t = wall();
+    must(fz_begin(&world));
+    begun = wall() - t;
+    for (size_t i = 0; !done; i++) {
+        if (i == MOST_STEPS)
+            fail("more steps than scans");
+        t = wall();
+        must(fz_mark(&world, BUDGET, &done));
+        t = wall() - t;
+        steps[i] = steps[i] > 0 ? fmin(steps[i], t) : t;
+        store_by_chance(n, between);
+    }
+    store_by_chance(n, last);
+    must(fz_count(&world, &before));
+    t = wall();
+    must(fz_pause(&world, &passed));
+    paused = wall() - t;
+    must(fz_count(&world, &after));
+    if (before.scans != n || after.reclaimed || after.scans - n > FZ_BLOCK_WORDS * after.noted)
+        fail("another cycle");
+    t = wall();
+    must(fz_collect(&world, &passed));
+    whole = wall() - t;
 }
 
-static void read_word(uint64_t n)
+static double begins(uint64_t n) { cycle(n, BUDGET, 0); return begun; }
+static double pauses_after_many(uint64_t n) { cycle(n, BUDGET, 0); return paused; }
+static double pauses_after_few(uint64_t n) { cycle(n, 0, BUDGET); return paused; }
+static double collects(uint64_t n) { cycle(n, 0, BUDGET); return whole; }
+static double longest_mark(uint64_t n)
 {
-    uint64_t word;
+    double longest = 0;
 
-    for (uint64_t i = 0; i < n; i++)
-        must(fz_read(&world, FZ_HEAP_START, i % FZ_MAX_SIZE, &word));
+    cycle(n, BUDGET, 0);
+    for (size_t i = 0; i < MOST_STEPS; i++)
+        longest = fmax(longest, steps[i]);
+    return longest;
 }
 
-static const struct { const char *name; void (*make)(void); void (*call)(uint64_t n); } tests[] = {
-    {"set", NULL, set}, {"alloc", NULL, alloc}, {"load", make_object, load}, {"store", make_object, store}, {"read", make_object, read_word},
-};
+/* ---- collections that have nothing to do, after n entries, of which the first `held` are never finished */
 
-/* The nanoseconds of one turn, in a world of its own. */
-static double turn(size_t test, uint64_t n)
+static double idle(uint64_t n, uint64_t held)
 {
-    uint64_t needed = n / FZ_BLOCK_WORDS + 1, least = FZ_MAX_SIZE / FZ_BLOCK_WORDS;
-    double t;
+    fz_registered registered;
 
-    needed = needed < least ? least : needed;
-    must(fz_open(&world, needed > FZ_MAX_BLOCKS ? FZ_MAX_BLOCKS : needed, 1));
-    if (tests[test].make)
-        tests[test].make();
-    t = now();
-    tests[test].call(n);
+    open_for(ROUND + held);
+    for (uint64_t past = 0; past < n; past += ROUND) {
+        for (uint64_t i = 0; i < ROUND; i++) {
+            must(fz_alloc(&world, OBJECT, 1, true, &made));
+            must(fz_register(&world, OBJECT, 0, 0, 0, &registered));
+        }
+        must(fz_set(&world, OBJECT, 0));
+        must(fz_collect(&world, &passed));
+        while (fz_take(&world, &entry) == FZ_OK)
+            if (entry.seq >= held)
+                must(fz_finish(&world, &entry));
+        must(fz_collect(&world, &passed));
+    }
+    double t = now();
+    for (int i = 0; i < IDLE; i++)
+        must(fz_collect(&world, &passed));
+    return (now() - t) / IDLE;
+}
+
+static double idle_at_first(uint64_t n) { (void)n; return idle(0, 0); }
+static double idle_after(uint64_t n) { return idle(n, 0); }
+static double idle_behind_one(uint64_t n) { return idle(n, 1); }
+
+/* ---- a line, on which one thread publishes n entries */
+
+static fz_line line;
+static atomic_bool all_sent;
+
+static void publish(uint64_t seq)
+{
+    const fz_entry sent = {seq, 1, seq, FZ_HEAP_START, seq, 0, 0};
+
+    must(fz_line_publish(&line, &sent));
+}
+
+/* the same thread takes each of them at once */
+static double line_alone(uint64_t n)
+{
+    fz_seat seat = {0};
+
+    must(fz_line_open(&line, 1));
+    must(fz_line_seat(&line, &seat));
+    double t = now();
+    for (uint64_t i = 0; i < n; i++) {
+        publish(i);
+        must(fz_seat_take(&seat, &entry));
+        must(fz_seat_done(&seat));
+    }
     t = now() - t;
-    fz_destroy(&world);
-    return t;
+    fz_seat_destroy(&seat);
+    fz_line_destroy(&line);
+    return t / n;
 }
+
+static void *take_all(void *words)
+{
+    fz_seat *seat = words;
+    fz_entry taken;
+
+    for (bool last = false;;) {
+        fz_code code = fz_seat_take(seat, &taken);
+        if (code == FZ_OK)
+            must(fz_seat_done(seat));
+        else if (last && code == FZ_EMPTY)
+            return NULL;
+        last = atomic_load(&all_sent);
+    }
+}
+
+/* four threads take until all are taken */
+static double line_of_four(uint64_t n)
+{
+    fz_seat seats[TAKERS] = {{0}};
+    pthread_t threads[TAKERS];
+
+    must(fz_line_open(&line, TAKERS));
+    for (int i = 0; i < TAKERS; i++)
+        must(fz_line_seat(&line, &seats[i]));
+    atomic_store(&all_sent, false);
+    double t = wall();
+    for (int i = 0; i < TAKERS; i++)
+        if (pthread_create(&threads[i], NULL, take_all, &seats[i]))
+            fail("no thread");
+    for (uint64_t i = 0; i < n; i++)
+        publish(i);
+    atomic_store(&all_sent, true);
+    for (int i = 0; i < TAKERS; i++)
+        pthread_join(threads[i], NULL);
+    t = wall() - t;
+    for (int i = 0; i < TAKERS; i++)
+        fz_seat_destroy(&seats[i]);
+    fz_line_destroy(&line);
+    return t / n;
+}
+
+static const struct { const char *name; double (*turn)(uint64_t n); int turns; } tests[] = {
+    {"set", sets, TURNS}, {"alloc", allocs, TURNS}, {"load", loads, TURNS}, {"store", stores, TURNS}, {"read", reads, TURNS},
+    {"begin", begins, TURNS}, {"mark", longest_mark, TURNS}, {"pause_after_many", pauses_after_many, TURNS},
+    {"pause_after_few", pauses_after_few, TURNS}, {"collect", collects, TURNS},
+    {"idle_at_first", idle_at_first, TURNS}, {"idle_after", idle_after, 1}, {"idle_behind_one", idle_behind_one, 1},
+    {"line", line_alone, TURNS}, {"line_of_four", line_of_four, 1},
+};
 
 int main(int count, char **words)
 {
     uint64_t n = count == 3 ? strtoull(words[2], NULL, 10) : 0;
-    size_t test = 0;
-    double least = INFINITY;
 
-    while (n && test < sizeof tests / sizeof *tests && strcmp(tests[test].name, words[1]))
-        test++;
-    if (!n || test == sizeof tests / sizeof *tests) {
-        fprintf(stderr, "usage: border TEST N\n");
-        return 2;
-    }
-    for (int i = 0; i < TURNS; i++)
-        least = fmin(least, turn(test, n));
-    printf("%.3f\n", least / (double)n);
-    return 0;
+    for (size_t i = 0; n && i < sizeof tests / sizeof *tests; i++)
+        if (!strcmp(tests[i].name, words[1])) {
+            double least = INFINITY;
+            for (int turn = 0; turn < tests[i].turns; turn++) {
+                least = fmin(least, tests[i].turn(n));
+                fz_destroy(&world);
+            }
+            printf("%.3f\n", least);
+            return 0;
+        }
+    fprintf(stderr, "usage: border TEST N\n");
+    return 2;
 }

@@ -27,7 +27,7 @@ static uint64_t round_up(uint64_t n, uint64_t size) { return (n + size - 1) / si
 /* the plan of a row, with the call that is timed or without it */
 static Plan plan_of(const Row *row, const Objects *objects, bool with_call) {
     size_t n = objects->count;
-    Plan plan = { .objects = n, .size = objects->size, .no_order = row->kind == NO_ORDER, .ranked = row->kind == RANKED };
+    Plan plan = { .objects = row->call != MAKE || with_call ? n : 0, .size = objects->size, .no_order = row->kind == NO_ORDER, .ranked = row->kind == RANKED };
     if (row->kind == LINKED) plan.holders = round_up(n + 1, HOLDER_WORDS);
     plan.blocks = round_up(n, BLOCK_WORDS / objects->size) + plan.holders * (HOLDER_WORDS / BLOCK_WORDS);
     plan.frames = 1 + round_up(plan.holders, SLOTS);
@@ -53,7 +53,7 @@ static uint64_t *words_of(const Objects *objects, size_t *length) {
 }
 
 static void check(const Row *row, const Objects *objects, const Plan *plan, const Outcome *outcome) {
-    uint64_t n = objects->count, addresses = 0;
+    uint64_t n = plan->objects, addresses = 0;
     bool collected = plan->collections;
     for (size_t i = 0; i < n; i++) addresses += address(objects, i);
     if (!outcome->done) fail("a call was refused");
@@ -87,7 +87,7 @@ static double run(const Row *row, const Objects *objects, bool with_call) {
 /* A finish takes no memory, and some thirtieth of the time of what has to come before it: so all runs of that row share their memory, since
    fresh memory would make them differ by more than what is timed. So do those of the rows whose calls come after what takes longer too. */
 static double fresh(const Row *row, const Objects *objects, bool with_call) {
-    if (row->call != ENTER && row->call != COLLECT) {
+    if (row->call != MAKE && row->call != ENTER && row->call != COLLECT) {
         mallopt(M_MMAP_THRESHOLD, 1 << 30);
         mallopt(M_TRIM_THRESHOLD, 1 << 30);
         return run(row, objects, with_call);

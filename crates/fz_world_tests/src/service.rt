@@ -4,6 +4,7 @@
 mod eight;
 mod limits;
 mod programs;
+mod refused;
 mod rows;
 mod stops;
 mod threads;

@@ -1,4 +1,4 @@
-//! service_bench TEST COUNT WORKERS: prints the nanoseconds that a test of the service takes.
+//! service_bench TEST WORKERS COUNT: prints the nanoseconds that a test of the service takes.
 //!
 //! `mutex` takes a bare lock COUNT times and writes a word each time. `step` enters a service COUNT times and sets a slot each time. `workers` collects
 //! COUNT registered objects to which nothing leads, beside WORKERS workers on threads of their own, and ends when the workers have finished all of their
@@ -27,7 +27,7 @@ use std::{env, io};
 
 fn main(rt: HostRuntime) -> io::Result<ExitCode> {
     let mut words = env::args(&rt)?.skip(1);
-    let (Some(test), Some(count), Some(workers), None) = (
+    let (Some(test), Some(workers), Some(count), None) = (
         words.next(),
         words.next(),
         words.next(),
@@ -35,7 +35,7 @@ fn main(rt: HostRuntime) -> io::Result<ExitCode> {
     ) else {
         return wrong(&rt);
     };
-    let (Ok(count), Ok(workers)) = (count.parse::<u64>(), workers.parse::<u64>()) else {
+    let (Ok(workers), Ok(count)) = (workers.parse::<u64>(), count.parse::<u64>()) else {
         return wrong(&rt);
     };
     let nanoseconds = match test.as_str() {
@@ -59,7 +59,7 @@ fn main(rt: HostRuntime) -> io::Result<ExitCode> {
 }
 
 fn wrong(rt: &impl Eprint) -> io::Result<ExitCode> {
-    eprintln!(rt; "service_bench: want mutex, step, workers or busy, COUNT and WORKERS")?;
+    eprintln!(rt; "service_bench: want mutex, step, workers or busy, WORKERS and COUNT")?;
     Ok(ExitCode::from(2))
 }
 
