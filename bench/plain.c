@@ -17,10 +17,11 @@ enum { TURNS = 1000, MOST = 64 };
 static void fail(const char *what) { fprintf(stderr, "plain: %s\n", what); exit(1); }
 static double now(void) { struct timespec t; clock_gettime(CLOCK_MONOTONIC, &t); return t.tv_sec * 1e9 + t.tv_nsec; }
 
+static pthread_mutex_t mutex = PTHREAD_MUTEX_INITIALIZER;
+static volatile uint64_t word;
+
 static double lock(uint64_t n)
 {
-    static pthread_mutex_t mutex = PTHREAD_MUTEX_INITIALIZER;
-    static volatile uint64_t word;
     double t = now();
 
     for (uint64_t i = 0; i < n; i++) { pthread_mutex_lock(&mutex); word = i; pthread_mutex_unlock(&mutex); }
@@ -32,10 +33,10 @@ static uint64_t share;
 /* as many turns as the procedure makes, of a word that is the thread's own, and never 0 */
 static void *work(void *first)
 {
-    uint64_t word = (uint64_t)(uintptr_t)first;
+    uint64_t turned = (uint64_t)(uintptr_t)first;
 
-    for (uint64_t i = 0; i < share * TURNS; i++) { word ^= word << 13; word ^= word >> 7; word ^= word << 17; }
-    return (void *)(uintptr_t)word;
+    for (uint64_t i = 0; i < share * TURNS; i++) { turned ^= turned << 13; turned ^= turned >> 7; turned ^= turned << 17; }
+    return (void *)(uintptr_t)turned;
 }
 
 /* with the threads' start and end, so that it shows how much of several processors the machine really gives */

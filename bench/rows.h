@@ -20,11 +20,11 @@ static double now(void) { struct timespec t; clock_gettime(CLOCK_PROCESS_CPUTIME
 static uint64_t seed = 88172645463325252ull;
 static size_t below(size_t n) { seed ^= seed << 13; seed ^= seed >> 7; seed ^= seed << 17; return (seed >> 33) % n; }
 
-/* A row: its objects, what table each of them is entered in, whether a root leads to them, and the call that is timed. MAKE makes them, ENTER enters them; COLLECT is
-   one collection, or of live objects COLLECTIONS of them after the first. RANKED ones are normal too, with ranks 0 to 255 in turn. So are BUSY ones, whose
-   procedure works for about 2 microseconds, which only bdwgc.c calls. LINKED ones are the targets of short links, which stand in words of other objects, which
-   are live and atomic: one more than links, so that each link can MOVE one further. LARGE objects have so many words, and there is one for so many calls: these
-   STORE into each word. */
+/* A row: its objects, what table each of them is entered in, whether a root leads to them, and the call that is timed. MAKE makes them, ENTER enters them;
+   COLLECT is one collection, or of live objects COLLECTIONS of them after the first. RANKED ones are normal too, with ranks 0 to 255 in turn. So are BUSY
+   ones, whose procedure works for about 2 microseconds, which only bdwgc.c calls. LINKED ones are the targets of short links, which stand in words of other
+   objects, which are live and atomic: one more than links, so that each link can MOVE one further. LARGE objects have so many words, and there is one for
+   so many calls: these STORE into each word. */
 typedef enum { LOOSE, LOOSE_LARGE, CHAIN, MIXED_CHAIN, GRAPH } Shape;
 typedef enum { UNREGISTERED, NORMAL, RANKED, BUSY, NO_ORDER, LINKED } Kind;
 typedef enum { MAKE, ENTER, COLLECT, FINISH, MOVE, UNLINK, STORE, STORE_IN_CYCLE } Call;
