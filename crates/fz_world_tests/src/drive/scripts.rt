@@ -1196,8 +1196,8 @@ pub(crate) const TWO_IN_ORDER: Row = Row {
     fault: None,
 };
 
-/// Those over small worlds.
-pub(crate) const SMALL: [Row; 32] = [
+/// The first of those over small worlds.
+pub(crate) const FIRST_SMALL: [Row; 15] = [
     CHAIN_IN_ORDER_RANKED,
     CLIENT_DATA_IS_A_ROOT,
     CLOSED_IN_A_CYCLE,
@@ -1213,6 +1213,10 @@ pub(crate) const SMALL: [Row; 32] = [
     FULL_HEAP,
     HELD_ENTRIES,
     INTERIOR_POINTER,
+];
+
+/// The others.
+pub(crate) const LAST_SMALL: [Row; 17] = [
     LARGE_OBJECTS,
     LARGE_SIZE_AND_FULL_HEAP,
     LEADING_ZERO,

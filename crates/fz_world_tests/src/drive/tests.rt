@@ -5,7 +5,7 @@ mod cuts;
 ghost use Rattle.std.specs.Prelude.{◌≡◌, ◌≤◌, ◌<◌, ◌^◌, length};
 
 use crate::drive::Row;
-use crate::drive::scripts::{LARGE, ONE_OBJECT, SMALL, TWO_IN_ORDER};
+use crate::drive::scripts::{FIRST_SMALL, LARGE, LAST_SMALL, ONE_OBJECT, TWO_IN_ORDER};
 use arrayvec::ArrayVec;
 use fz_devices::{Limits, MemorySink, MemorySource, Pieces, WHOLE, bytewise};
 use fz_drive::{Summary, drive};
@@ -114,7 +114,8 @@ fn must_run_all(rt: &impl Abort, alloc: Global, rows: &[Row], limits: Limits) {
 #[test]
 fn rows_are_reported(rt: HostRuntime) {
     for limits in [WHOLE, bytewise(usize::MAX, usize::MAX)] {
-        must_run_all(&rt, rt.alloc(), &SMALL, limits);
+        must_run_all(&rt, rt.alloc(), &FIRST_SMALL, limits);
+        must_run_all(&rt, rt.alloc(), &LAST_SMALL, limits);
     }
 }
 
@@ -209,7 +210,8 @@ fn must_end_alike(rt: &impl Abort, alloc: Global, rows: &[Row]) {
 
 #[test]
 fn a_last_line_needs_no_line_feed(rt: HostRuntime) {
-    must_end_alike(&rt, rt.alloc(), &SMALL);
+    must_end_alike(&rt, rt.alloc(), &FIRST_SMALL);
+    must_end_alike(&rt, rt.alloc(), &LAST_SMALL);
 }
 
 /// Whether the script ends alike before and behind the line feed at this place, with the replies to its lines so far.

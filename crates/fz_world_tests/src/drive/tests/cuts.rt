@@ -5,7 +5,7 @@ ghost use Rattle.std.specs.Prelude.{◌≤◌, length};
 use super::{Outcome, fault, first_lines, lines_in, must_hold, run};
 use crate::drive::Row;
 use crate::drive::scripts::{
-    DROPPED_IN_A_CYCLE, DROPPED_IN_A_CYCLE_OTHERWISE, SMALL, TWO_IN_ORDER,
+    DROPPED_IN_A_CYCLE, DROPPED_IN_A_CYCLE_OTHERWISE, FIRST_SMALL, LAST_SMALL, TWO_IN_ORDER,
 };
 use fz_devices::WHOLE;
 use fz_model::Refusal;
@@ -111,8 +111,14 @@ fn cut_all(rt: &impl Abort, alloc: Global, rows: &[Row]) -> Result<(), AllocErro
 }
 
 #[test]
-fn scripts_are_cut(rt: HostRuntime) -> Result<(), Fail> {
-    cut_all(&rt, rt.alloc(), &SMALL)?;
+fn the_first_scripts_are_cut(rt: HostRuntime) -> Result<(), Fail> {
+    cut_all(&rt, rt.alloc(), &FIRST_SMALL)?;
+    Ok(())
+}
+
+#[test]
+fn the_last_scripts_are_cut(rt: HostRuntime) -> Result<(), Fail> {
+    cut_all(&rt, rt.alloc(), &LAST_SMALL)?;
     Ok(())
 }
 
