@@ -1,9 +1,7 @@
 -- How a threads file is read, line by line.
-use Rattle.std.proofs.Common.{◌≡◌, ◌≢◌, ℕ, ◌≤◌, ◌<◌, ◌+◌, List, [], ◌∷◌, ◌++◌, Option, Some, None, Result, Ok, Err, true, false, ◌∙◌, ap, sym, refl, subst, append-nil, append_assoc, arith, length, length-append, flat_map, map, IsTrue, inl, inr, ◌⊎◌}
+use Rattle.std.proofs.Common.{◌≡◌, ◌≢◌, ℕ, ◌≤◌, ◌<◌, ◌+◌, List, [], ◌∷◌, ◌++◌, Option, Some, None, Result, Ok, Err, true, false, ◌∙◌, ap, sym, refl, subst, append-nil, append_assoc, arith, length, length-append, map, IsTrue, inl, inr, ◌⊎◌}
 use Rattle.std.proofs.lemmas.List.{map-append}
 use Rattle.std.proofs.lemmas.List.Elements.{All-nil, All-push}
-use Rattle.std.proofs.lemmas.List.Concat.{flat_map-append}
-use Rattle.std.specs.List.{All}
 use Rattle.std.specs.Io.KnownBytes.{Consumes, IsAtEnd, prepend_known}
 use Rattle.fz_model.specs.declared.refusal.Refusal.{Refusal}
 use Rattle.fz_model.specs.declared.refusal.Refusal.TheVariants.{Input}
@@ -14,7 +12,7 @@ use Rattle.fz_text.specs.declared.input.Ending.TheVariants.{Whole, Last, Nothing
 use Rattle.fz_text.specs.declared.fault.DriveFault.{DriveFault}
 use Rattle.fz_threads.specs.declared.draft.Draft.{Draft}
 use Rattle.fz_threads.specs.declared.draft.Draft.TheVariants.{Empty, Opened, Settled}
-use Rattle.fz_text.specs.Lines.{with_lf, IsOneLine, Lines, all_lines, is_kept, max_line}
+use Rattle.fz_text.specs.Lines.{with_lf, IsOneLine, Lines, is_kept, max_line}
 use Rattle.fz_text.specs.Reading.{TakenFor, EndsInput}
 use Rattle.fz_text.specs.Lines.{IsEnded}
 use Rattle.fz_threads.specs.declared.limits.TheConstants.{MAX_LINES}

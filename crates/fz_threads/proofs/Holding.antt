@@ -1,5 +1,5 @@
 -- Holds of the lock, and how many of them were refused.
-use Rattle.std.proofs.Common.{◌≡◌, ℕ, ◌+◌, ◌==◌, Result, Ok, Err, arith, List, [], ◌∷◌, ◌++◌, Bool, true, false, ◌∙◌, ap, sym, refl, subst, append-nil, append_assoc, zero-add, map, drop, get_or, length, ◌<◌, count_by, is_err, cond, if◌then◌else◌}
+use Rattle.std.proofs.Common.{◌≡◌, ℕ, ◌+◌, ◌==◌, Result, Ok, Err, arith, List, [], ◌∷◌, ◌++◌, Bool, true, false, ◌∙◌, ap, sym, refl, subst, append-nil, append_assoc, drop, get_or, length, ◌<◌, count_by, is_err, cond, if◌then◌else◌}
 use Rattle.std.proofs.lemmas.List.{map-append, replicate-append-replicate, drop_more}
 use Rattle.std.proofs.lemmas.List.Sums.{sum_by-append, sum_by-cons}
 use mir.Val.{bool_byte}
@@ -7,7 +7,6 @@ use Rattle.fz_model.specs.declared.refusal.Refusal.{Refusal}
 use Rattle.fz_model.specs.declared.call.Call.TheVariants as calls
 use Rattle.fz_model.specs.Events.{Event, Make, CallAnswer}
 use Rattle.fz_world.specs.World.{WorldView}
-use Rattle.fz_world.specs.Does.{Does}
 use Rattle.fz_service.specs.States.{Origin, LockedState, IsInOrder}
 use Rattle.fz_model.specs.declared.call.Call.{Call}
 use Rattle.fz_model.specs.declared.call.Reply.{Reply}

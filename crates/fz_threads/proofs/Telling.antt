@@ -1,5 +1,5 @@
 -- What is told of a run of a threads file.
-use Rattle.std.proofs.Common.{◌≡◌, ℕ, ◌+◌, List, [], ◌∷◌, ◌++◌, Option, None, Some, Result, Ok, Err, true, sym, refl, subst, append-nil, arith, inl, inr, ◌⊎◌}
+use Rattle.std.proofs.Common.{◌≡◌, ℕ, ◌+◌, List, [], ◌∷◌, ◌++◌, Option, None, Result, Ok, Err, true, sym, refl, subst, append-nil, arith, inl, inr, ◌⊎◌}
 use Rattle.std.proofs.KnownBytes.{Appends-nil}
 use Rattle.std.specs.Io.KnownBytes.{Consumes, IsAtEnd}
 use Rattle.fz_model.specs.declared.limits.TheConstants.{MAX_BLOCKS, MAX_FRAMES, MAX_WORKERS}

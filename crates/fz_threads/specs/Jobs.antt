@@ -1,5 +1,5 @@
 -- A threads file: the jobs that its lines ask for, and where each of them may stand.
-use Rattle.std.specs.Prelude.{◌≡◌, ℕ, ◌+◌, ◌==◌, ◌≤◌, ◌<◌, Bool, true, false, nat_lt, if◌then◌else◌, ◌⊎◌, List, [], ◌∷◌, ◌++◌, length, map, filter, fold, Option, IsTrue}
+use Rattle.std.specs.Prelude.{◌≡◌, ℕ, ◌+◌, ◌≤◌, ◌<◌, Bool, true, false, nat_lt, ◌⊎◌, List, [], ◌∷◌, ◌++◌, length, map, filter, fold, Option, IsTrue}
 use Rattle.std.specs.List.{All}
 use Rattle.fz_model.specs.declared.call.Call.{Call as WorldCall}
 use Rattle.fz_model.specs.declared.call.Call.TheVariants.{Begin, Mark, Pause, Collect, Close, Outstanding}

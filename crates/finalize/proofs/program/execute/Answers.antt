@@ -1,11 +1,11 @@
-use Rattle.std.proofs.Common.{rules, ◌≡◌, ◌≢◌, ◌∷◌, ℕ, List, [], Bor, Option, Result, Ok, Err, IfOk, arith, refl, subst, inl, inr}
+use Rattle.std.proofs.Common.{rules, ◌≡◌, ◌≢◌, ℕ, List, Bor, Option, Result, Ok, IfOk, arith, refl, subst, inl, inr}
 use Rattle.std.specs.Io.KnownBytes.{Keeps}
 use Rattle.fz_words.specs.declared.Program.{Program}
 use Rattle.fz_words.specs.declared.WordsFault.{WordsFault}
 use Rattle.fz_words.specs.declared.WordsFault.TheVariants.{Wrong, NoMemory}
 use Rattle.fz_words.specs.Words.{IsFile, Names, AskFor}
-use Rattle.fz_text.specs.Devices.{Feed, Log}
-use Rattle.finalize.specs.Program.{Runs, RunsFile, RanOn, Ends}
+use Rattle.fz_text.specs.Devices.{Log}
+use Rattle.finalize.specs.Program.{RunsFile, Ends}
 use Rattle.finalize.proofs.program.execute.Goals as goal
 
 -- a run on a file isn't one of wrong words
@@ -41,8 +41,8 @@ returns-in-Err-Wrong g c = record {
   ends = inl (c.wrong_words.ensures.status, (refl, c.wrong_words.ensures.line));
 }
 
-pub returns-in-Err-NoMemory : goal.returns-in-Err-NoMemory
-returns-in-Err-NoMemory g c = record {
+pub returns : goal.returns
+returns g c = record {
   wrong = λ nothing. absurd (let wrong = c.program_and_file.ensures.wrong nothing in search rules);
   right = λ file ask two. absurd (let one = c.out_of_memory.ensures.status in omega arith);
   ends = inr (inl (c.out_of_memory.ensures.status, inl (refl, c.out_of_memory.ensures.line)));

@@ -1,4 +1,4 @@
-use Rattle.std.proofs.Common.{arith, refl, ◌≡◌, ◌+◌, [], ◌++◌, ◌∙◌, ap, sym, subst}
+use Rattle.std.proofs.Common.{arith, refl, ◌+◌, [], ◌++◌, ◌∙◌, ap, sym, subst}
 use Rattle.fz_text.specs.Reading.{unread}
 use Rattle.fz_text.specs.declared.fault.DriveFault.{DriveFault}
 use Rattle.std.specs.Io.KnownBytes.{Consumes, prepend_known}
