@@ -3,8 +3,8 @@
 use crate::protocol::{LinePass, LineStealer};
 use std::marker::Model;
 
-/// What takes from the line for a seat: its end of the line, the pass that carries the list of what it took, and its counts. How many entries it took is no count of its own: it is what
-/// it finished and forfeited, and one more for a duty.
+/// What takes from the line for a seat: its end of the line, the pass that carries the list of what it took, and its counts. How many entries it took
+/// is no count of its own: it is what it finished and forfeited, and one more for a duty.
 pub(crate) struct Taker {
     pub(crate) stealer: LineStealer,
     pub(crate) pass: LinePass,

@@ -93,17 +93,13 @@ impl<O: Opening> Service<O> {
         match taken {
             Take::Taken(duty) => {
                 let goes_outside = has_outside_steps(procs, gate, duty.entry());
-                let held = if goes_outside {
+                let mut locked = if goes_outside {
                     drop(held);
                     gate.entered(duty.entry().seq);
                     work(procs, duty.entry());
-                    None
+                    self.enter(rt)
                 } else {
-                    held
-                };
-                let mut locked = match held {
-                    Some(locked) => locked,
-                    None => self.enter(rt),
+                    held.unwrap_or_else(|| self.enter(rt))
                 };
                 let (seat, is_finished) = locked.serve_duty(duty, procs);
                 Turn {

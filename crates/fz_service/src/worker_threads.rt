@@ -209,9 +209,10 @@ impl<O: Opening> Service<O> {
         unreachable!()
     }
 
-    /// Takes turns until one finds the line empty.
+    /// Takes turns until one finds the line empty, once the worker was told to stop.
     fn serve_rest<G: Gate, R: Wait>(
         &self,
+        _told: &Told,
         seat: Seat<O>,
         procs: &mut [Box<dyn Proc + Send>],
         gate: &G,
@@ -253,7 +254,7 @@ impl<O: Opening> Service<O> {
         ensures { Extends seat result.0 }
     {
         let (seat, told) = self.serve_until_told(seat, procs, gate, stop, rt);
-        let (seat, found) = self.serve_rest(seat, procs, gate, rt);
+        let (seat, found) = self.serve_rest(&told, seat, procs, gate, rt);
         (seat, told, found)
     }
 
