@@ -21,7 +21,7 @@ pub(crate) fn mutate<O: Opening, R: Files<File = File> + Print + Wait>(
         .enter(rt)
         .with_world(|world| owners::make_lists(world, names.len() as u64))?;
     for name in names {
-        open(rt, service, files, name)?;
+        open_file(rt, service, files, name)?;
     }
     for turn in 0..2 {
         for file in 0..names.len() as u64 {
@@ -42,7 +42,7 @@ pub(crate) fn mutate<O: Opening, R: Files<File = File> + Print + Wait>(
 }
 
 /// Opens a file, and makes an object that owns it.
-fn open<O: Opening, R: Files<File = File> + Print + Wait>(
+fn open_file<O: Opening, R: Files<File = File> + Print + Wait>(
     rt: &R,
     service: &Service<O>,
     files: &Mutex<OpenFiles>,

@@ -15,7 +15,7 @@ use fz_model::Refusal;
 use fz_world::{Config, World};
 use std::alloc::Global;
 
-fn open(alloc: Global, blocks: u64, frames: u64) -> Result<Box<Session, Global>, Refusal>
+fn new_session(alloc: Global, blocks: u64, frames: u64) -> Result<Box<Session, Global>, Refusal>
     ensures judged { IsJudgedOrLacks (open_causes blocks frames) result }
     ensures opened { IfOk result (λ session. IsOpening session.value blocks frames) }
 {
@@ -27,7 +27,7 @@ fn open_into(alloc: Global, world: &mut Handle, blocks: u64, frames: u64) -> Cod
     requires { world.old.value ≡ None }
     ensures { Opened blocks frames world.new.value result }
 {
-    match open(alloc, blocks, frames) {
+    match new_session(alloc, blocks, frames) {
         Ok(session) => {
             world.put(session);
             OK

@@ -16,7 +16,7 @@ use fz_line::line;
 use fz_model::Refusal;
 use std::alloc::Global;
 
-fn open(alloc: Global, seats: u64) -> Result<Box<LineSession, Global>, Refusal>
+fn new_session(alloc: Global, seats: u64) -> Result<Box<LineSession, Global>, Refusal>
     ensures judged { IsJudgedOrLacks (bad_count MAX_WORKERS seats ∷ []) result }
     ensures opened { IfOk result (λ session. IsNewLine seats session.value) }
 {
@@ -35,7 +35,7 @@ fn open_into(alloc: Global, line: &mut LineHandle, seats: u64) -> Code
     requires { line.old.value ≡ None }
     ensures { Opened seats line.new.value result }
 {
-    match open(alloc, seats) {
+    match new_session(alloc, seats) {
         Ok(session) => {
             line.put(session);
             OK

@@ -11,8 +11,8 @@ ghost use Rattle.fz_model.specs.Steps.{old_of, registration_of};
 ghost use Rattle.fz_table.specs.Ranked.{ranked, has_rank};
 ghost use Rattle.fz_table.specs.Registers.{Registers};
 
-use fz_model::{Addr, COUNT_LIMIT, Finalizer, Old, Refusal, Registration, TABLE_LIMIT};
 use crate::pairs::Pairs;
+use fz_model::{Addr, COUNT_LIMIT, Finalizer, Old, Refusal, Registration, TABLE_LIMIT};
 use indexmap::IndexMap;
 use std::alloc::Global;
 use std::marker::Model;
