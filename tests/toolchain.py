@@ -1,6 +1,6 @@
 """What the tools of tests/ take of the program rt: its rules, how it checks a crate, and the libraries that it built. So they go with the toolchain that the
 README names."""
-import functools, hashlib, importlib.machinery, importlib.util, os, shutil, sys, tempfile
+import importlib.machinery, importlib.util, os, shutil, sys, tempfile
 
 
 def load():
@@ -19,37 +19,6 @@ def load():
 rt = load()
 # What `rt.must_fail` returns first of an edit that the prover refuses: a word, or in some versions of the toolchain that it does.
 REFUSED = getattr(rt, 'REFUSED', True)
-
-
-class Verdicts:
-    """What earlier runs on this machine found of the same edits, where the toolchain keeps such things: by the sums of the edit, of all files of its crate, of
-    the libraries below it as they were built, of the toolchain, and of the programs that judge. So it tells of a crate whose libraries stand."""
-
-    def __init__(self, crates, anew):
-        self.kept = rt.Kept(crates, anew) if hasattr(rt, 'Kept') and hasattr(rt.Kept, 'keep_tried') else None
-        self.judges = hashlib.sha256(b''.join(open(it, 'rb').read() for it in (sys.argv[0], __file__)))
-
-    @functools.lru_cache(maxsize=None)
-    def sum_of(self, crate):
-        for it in crate.below():
-            if it.name not in self.kept.rlibs:
-                self.kept.is_built(it)
-        return self.kept.key(crate)
-
-    def name_of(self, crate, path):
-        sum = self.judges.copy()
-        sum.update(self.kept.of_edit(path, self.sum_of(crate)).encode())
-        return sum.hexdigest()
-
-    def told(self, crate, path):
-        """What was said of this edit when it passed, or None."""
-        found = self.kept and self.kept.tried(self.name_of(crate, path))
-        return found and found[1]
-
-    def keep(self, crate, path, text):
-        """Keeps what is said of an edit that passed, unless one of the files was touched since this run began."""
-        if self.kept and all(map(self.kept.is_untouched, [crate, *crate.below()])):
-            self.kept.keep_tried(self.name_of(crate, path), REFUSED, text)
 
 
 def take_libraries(crates, folder):
