@@ -61,7 +61,9 @@ fn make(parts: &mut Parts, words: &[Word]) -> Result<(), Fail> {
 /// Registers these objects with their kinds and ranks, numbered from 0 in this order.
 fn register(parts: &mut Parts, registered: &[(Addr, RegKind, u8)]) -> Result<(), Fail> {
     for (object, kind, rank) in registered {
-        parts.table.register(*object, Finalizer::new(*kind, 7, 8, *rank))?;
+        parts
+            .table
+            .register(*object, Finalizer::new(*kind, 7, 8, *rank))?;
     }
     Ok(())
 }
@@ -273,7 +275,9 @@ fn picks_by_address(alloc: Global, parts: &mut Parts) -> Result<bool, Fail> {
 fn fill(parts: &mut Parts) -> Result<(), Fail> {
     for _ in 0..FULL {
         let (start, _) = parts.heap.alloc(32, ObjKind::Scanned)?;
-        parts.table.register(start, Finalizer::new(NoOrder, 7, 8, 3))?;
+        parts
+            .table
+            .register(start, Finalizer::new(NoOrder, 7, 8, 3))?;
     }
     Ok(())
 }
@@ -304,7 +308,9 @@ fn fill_in_turn(parts: &mut Parts) -> Result<(), Fail> {
     for turn in 0..FULL {
         let (start, _) = parts.heap.alloc(32, ObjKind::Scanned)?;
         let rank = 255 - (turn % 256) as u8;
-        parts.table.register(start, Finalizer::new(NoOrder, 7, 8, rank))?;
+        parts
+            .table
+            .register(start, Finalizer::new(NoOrder, 7, 8, rank))?;
     }
     Ok(())
 }

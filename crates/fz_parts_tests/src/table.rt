@@ -84,7 +84,10 @@ const FURTHER: Addr = HEAP_START + 2 * TABLE_LIMIT;
 fn holds_as_many_as_the_limit(rt: HostRuntime) {
     let mut table = Table::new(rt.alloc());
     for number in 0..TABLE_LIMIT {
-        let answer = table.register(HEAP_START + number, Finalizer::new(RegKind::Normal, number, 0, 0));
+        let answer = table.register(
+            HEAP_START + number,
+            Finalizer::new(RegKind::Normal, number, 0, 0),
+        );
         must_be(&rt, answer, Ok((number, None)), "one of all objects");
     }
     let refused = table.register(FURTHER, Finalizer::new(RegKind::Normal, 1, 2, 0));
