@@ -1,6 +1,7 @@
-//! Disappearing links, one a word.
+//! Tables of disappearing links.
 #![tactic(auto)]
 
+mod anew;
 mod links;
 
 pub use links::Links;

@@ -1,21 +1,24 @@
 //! The links of one kind.
 
-ghost use Rattle.std.specs.Prelude.{◌≡◌, ◌≤◌, ◌<◌, ◌+◌, ◌↔◌, ℕ, Bool, [], ◌∷◌, nat_eq, if◌then◌else◌, length, IsTrue, IsSome, None, IfOk, IfErr, OnOk, OnErr};
+ghost use Rattle.std.specs.Prelude.{◌≡◌, ◌≤◌, ◌<◌, ◌+◌, ◌↔◌, ℕ, Bool, [], ◌∷◌, nat_eq, if◌then◌else◌, length, vec_capacity, IsTrue, IsFalse, IsSome, None, IfOk, IfErr, OnOk, OnErr};
 ghost use Rattle.std.specs.FinMap.{get, insert, remove, len, empty, contains_key, from_entries};
 ghost use Rattle.std.specs.List.{IsDistinct};
 ghost use Rattle.std.specs.Map.{keys_of};
 ghost use Rattle.fz_model.specs.Causes.{IsJudgedOrLacks, full};
 ghost use Rattle.fz_model.specs.Steps.{move_answer, moved_to};
+ghost use Rattle.fz_table.specs.declared.limits.TheConstants.{MOST_ENTRIES};
+ghost use Rattle.fz_table.specs.Places.{lacks_place};
 ghost use Rattle.fz_links.specs.Dropped.{ComputesTest, without};
 
+use crate::anew::{insert_but, list_all};
 use fz_model::{Addr, LinkAnswer, MoveAnswer, Refusal, TABLE_LIMIT};
-use fz_table::Pairs;
+use fz_table::{MOST_ENTRIES, Pairs};
 use indexmap::IndexMap;
 use indexmap::map::Entry;
 use std::alloc::Global;
 use std::marker::Model;
 
-/// Disappearing links by the addresses of their words, each with the start of its target, at most 65,536 at one time.
+/// Disappearing links by the addresses of their words, each with the start of its target, at most 2^32 at one time.
 ///
 /// One value holds short links or long ones; which they are is for the pass that clears their words (gc.h).
 pub struct Links {
@@ -34,7 +37,7 @@ impl Model for Links {
     ghost use Rattle.std.specs.Ordering.{nat_cmp};
     ghost use Rattle.std.specs.FinMap.{len, from_entries};
     ghost use Rattle.indexmap.specs.IndexMap.{spare};
-    ghost use Rattle.fz_model.specs.declared.limits.TheConstants.{TABLE_LIMIT};
+    ghost use Rattle.fz_table.specs.declared.limits.TheConstants.{MOST_ENTRIES};
     ghost use Rattle.fz_links.specs.Linked.{Linked, linked_code};
 
     ghost Value = { Linked };
@@ -43,7 +46,7 @@ impl Model for Links {
 
     ghost view = { λ l. record { links = from_entries l.entries.entries; room = spare l.entries } };
 
-    ghost invariant = { λ l. len (from_entries {R = nat_cmp} l.entries.entries) ≤ TABLE_LIMIT };
+    ghost invariant = { λ l. len (from_entries {R = nat_cmp} l.entries.entries) ≤ MOST_ENTRIES };
 }
 
 impl Links {
@@ -71,6 +74,7 @@ impl Links {
     /// Registers a link, or gives a registered one a new target.
     ///
     /// Refuses a new link alone: with `TableFull` when 65,536 others are registered, then with `NoMemory` when there is no room left and none can be had.
+    #[tactic(auto, using(fz_table::proofs::Entries::place_within))]
     pub fn register(&mut self, link: Addr, target: Addr) -> Result<LinkAnswer, Refusal>
         ensures judged { IsJudgedOrLacks (full self.old.links link ∷ []) result }
         ensures fresh { OnErr result (get self.old.links link ≡ None) }
@@ -83,6 +87,22 @@ impl Links {
         if self.is_full_for(link) {
             return Err(Refusal::TableFull);
         }
+        self.register_checked(link, target)
+    }
+
+    /// Registers a link, as `register` does, but up to 2^32.
+    ///
+    /// Refused `NoMemory` when no room is left for a new link and none can be had.
+    pub fn register_checked(&mut self, link: Addr, target: Addr) -> Result<LinkAnswer, Refusal>
+        requires place { IsFalse (lacks_place self.old.links link) }
+        ensures refused { IfErr result (λ r. r ≡ Refusal.NoMemory) }
+        ensures fresh { OnErr result (get self.old.links link ≡ None) }
+        ensures wanting { OnErr result (self.old.room ≡ 0) }
+        ensures unchanged { OnErr result (self.new.links ≡ self.old.links) }
+        ensures answer { IfOk result (λ answer. answer ≡ (if contains_key self.old.links link then LinkAnswer.Duplicate else LinkAnswer.Success)) }
+        ensures registered { OnOk result (self.new.links ≡ insert self.old.links link target) }
+        ensures room { self.old.room ≤ self.new.room + 1 }
+    {
         let replaced = self.entries.insert(link, target)?;
         Ok(answer_of(replaced.is_some()))
     }
@@ -124,6 +144,52 @@ impl Links {
         Ok(MoveAnswer::Success)
     }
 
+    /// Moves a link with its target to another word, as `move_link` does, but takes no memory.
+    ///
+    /// The list, which is empty before and after, has room for every link: where no place of the table is free, all are put there, and the table is
+    /// built anew in the memory that it has.
+    pub fn move_within(&mut self, link: Addr, new: Addr, list: &mut Vec<(Addr, Addr)>) -> MoveAnswer
+        requires empty { list.old.items ≡ [] }
+        requires list { len self.old.links ≤ vec_capacity list.old }
+        ensures answer { result ≡ move_answer self.old.links link new }
+        ensures moved { self.new.links ≡ moved_to self.old.links link new (get self.old.links link) }
+        ensures empty { list.new.items ≡ [] }
+        ensures list { vec_capacity list.old ≤ vec_capacity list.new }
+    {
+        let Some(target) = self.get(link) else {
+            return MoveAnswer::NotFound;
+        };
+        if new == link {
+            return MoveAnswer::Success;
+        }
+        if self.get(new).is_some() {
+            return MoveAnswer::Duplicate;
+        }
+        self.remove_for_another(link, list);
+        let _ = self.register_checked(new, target);
+        MoveAnswer::Success
+    }
+
+    /// Removes a registered link, so that there is room for another.
+    fn remove_for_another(&mut self, link: Addr, list: &mut Vec<(Addr, Addr)>)
+        requires known { IsSome (get self.old.links link) }
+        requires empty { list.old.items ≡ [] }
+        requires list { len self.old.links ≤ vec_capacity list.old }
+        ensures removed { self.new.links ≡ remove self.old.links link }
+        ensures room { 0 < self.new.room }
+        ensures place { (other : ℕ) → IsFalse (lacks_place self.new.links other) }
+        ensures empty { list.new.items ≡ [] }
+        ensures list { vec_capacity list.old ≤ vec_capacity list.new }
+    {
+        if self.entries.capacity() > self.entries.len() {
+            self.unregister(link);
+            return;
+        }
+        list_all(&self.entries, list);
+        self.entries.clear();
+        insert_but(&mut self.entries, list, link);
+    }
+
     /// The target of a link.
     pub fn get(&self, link: Addr) -> Option<Addr>
         ensures { result ≡ get self.now.links link }
@@ -134,7 +200,7 @@ impl Links {
     /// How many links are registered.
     pub fn len(&self) -> usize
         ensures count { result ≡ len self.now.links }
-        ensures limit { result ≤ TABLE_LIMIT }
+        ensures limit { result ≤ MOST_ENTRIES }
     {
         self.entries.len()
     }
@@ -151,7 +217,7 @@ impl Links {
         ensures all { from_entries result ≡ self.now.links }
         ensures once { IsDistinct nat_eq (keys_of result) }
         ensures count { length result ≡ len self.now.links }
-        ensures limit { length result ≤ TABLE_LIMIT }
+        ensures limit { length result ≤ MOST_ENTRIES }
     {
         Pairs::of(self.entries.iter())
     }
@@ -174,7 +240,14 @@ impl Links {
         }
     }
 
-    /// Whether there is no room for the link: the table is full, and the link isn't registered.
+    /// Whether there are as many links as there can be, and the link isn't one.
+    pub fn lacks_place(&self, link: Addr) -> bool
+        ensures { result ≡ lacks_place self.now.links link }
+    {
+        self.len() as u64 >= MOST_ENTRIES && self.get(link).is_none()
+    }
+
+    /// Whether 65,536 other links are registered.
     fn is_full_for(&self, link: Addr) -> bool
         ensures { result ≡ (full self.now.links link).0 }
     {

@@ -25,11 +25,11 @@ use Rattle.fz_marker.proofs.Tracing.{nothing_waits}
 not_in_empty : (a : ℕ) → IsTrue (contains (empty {R = nat_cmp}) a) → ⊥
 not_in_empty a h = both_ways (contains (empty {R = nat_cmp}) a) (contains-empty nat_cmp a) h
 
-pub empty_marker : (size scans : ℕ) (marks traces : Frontier) (scanned listed : Flagged) → marks ≡ record { size = size; members = empty; waiting = [] } → scanned ≡ record { size = size; members = empty } → traces ≡ record { size = size; members = empty; waiting = [] } → listed.size ≡ size → size ≤ BLOCK_WORDS * MAX_BLOCKS → IsMarker (record { marks = marks; scanned = scanned; scans = scans }) traces listed
-empty_marker size scans marks traces scanned listed marks_are scanned_is traces_are list_size small =
-    subst (λ (f : Frontier). IsMarker (record { marks = f; scanned = scanned; scans = scans }) traces listed) (sym marks_are)
-    (subst (λ (s : Flagged). IsMarker (record { marks = record { size = size; members = empty; waiting = [] }; scanned = s; scans = scans }) traces listed) (sym scanned_is)
-    (subst (λ (f : Frontier). IsMarker (record { marks = record { size = size; members = empty; waiting = [] }; scanned = record { size = size; members = empty }; scans = scans }) f listed) (sym traces_are)
+pub empty_marker : (size scans : ℕ) (marks traces : Frontier) (scanned : Flagged) → marks ≡ record { size = size; members = empty; waiting = [] } → scanned ≡ record { size = size; members = empty } → traces ≡ record { size = size; members = empty; waiting = [] } → size ≤ BLOCK_WORDS * MAX_BLOCKS → IsMarker (record { marks = marks; scanned = scanned; scans = scans }) traces
+empty_marker size scans marks traces scanned marks_are scanned_is traces_are small =
+    subst (λ (f : Frontier). IsMarker (record { marks = f; scanned = scanned; scans = scans }) traces) (sym marks_are)
+    (subst (λ (s : Flagged). IsMarker (record { marks = record { size = size; members = empty; waiting = [] }; scanned = s; scans = scans }) traces) (sym scanned_is)
+    (subst (λ (f : Frontier). IsMarker (record { marks = record { size = size; members = empty; waiting = [] }; scanned = record { size = size; members = empty }; scans = scans }) f) (sym traces_are)
     (record {
       cycle = record {
         size = refl;
@@ -44,7 +44,6 @@ empty_marker size scans marks traces scanned listed marks_are scanned_is traces_
       size = refl;
       room = few;
       idle = refl;
-      list_size = list_size;
     })))
   where
     few : len (empty {R = nat_cmp}) ≤ size
@@ -52,8 +51,8 @@ empty_marker size scans marks traces scanned listed marks_are scanned_is traces_
 
 -- ---- one that gains marks
 
-module _ (c : Cycle) (traces marks : Frontier) (listed : Flagged) (P : ℕ → Type 0) (m : IsMarker c traces listed) (g : Gains c.marks marks P) where
-  pub gained_marker : IsMarker (record { marks = marks; scanned = c.scanned; scans = c.scans }) traces listed
+module _ (c : Cycle) (traces marks : Frontier) (P : ℕ → Type 0) (m : IsMarker c traces) (g : Gains c.marks marks P) where
+  pub gained_marker : IsMarker (record { marks = marks; scanned = c.scanned; scans = c.scans }) traces
   gained_marker = record {
     cycle = record {
       size = m.cycle.size ∙ sym g.size;
@@ -68,7 +67,6 @@ module _ (c : Cycle) (traces marks : Frontier) (listed : Flagged) (P : ℕ → T
     size = m.size ∙ sym g.size;
     room = m.room;
     idle = m.idle;
-    list_size = m.list_size ∙ sym g.size;
   }
     where
       at : (a : ℕ) → IsTrue (contains marks.members a) → (b : Bool) → contains c.marks.members a ≡ b → Contains marks.waiting a ⊎ IsTrue (contains c.scanned.members a)

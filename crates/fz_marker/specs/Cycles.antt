@@ -9,7 +9,7 @@ use Rattle.fz_heap.specs.Contents.{pointers_of}
 use Rattle.fz_bits.specs.Flags.{IsWithin}
 use Rattle.fz_marker.specs.declared.cycle.Cycle.{Cycle}
 use Rattle.fz_marker.specs.Frontiers.{Gains}
-use Rattle.fz_marker.specs.Marking.{IsLedFrom, HasChildrenIn, is_readable, is_newly_in}
+use Rattle.fz_marker.specs.Marking.{IsLedFrom, HasChildrenIn, is_newly_in}
 
 -- what waits is marked, and so is what was scanned
 pub record IsCycle (c : Cycle) : Type 0 where

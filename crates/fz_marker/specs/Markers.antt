@@ -1,15 +1,13 @@
 -- What a marker keeps.
 use Rattle.std.specs.Prelude.{◌≡◌, ◌≤◌, []}
 use Rattle.std.specs.FinSet.{len}
-use Rattle.fz_bits.specs.Flags.{Flagged}
 use Rattle.fz_marker.specs.declared.cycle.Cycle.{Cycle}
 use Rattle.fz_marker.specs.Frontiers.{Frontier}
 use Rattle.fz_marker.specs.Cycles.{IsCycle, AllWait}
 
-pub record IsMarker (c : Cycle) (traces : Frontier) (listed : Flagged) : Type 0 where
+pub record IsMarker (c : Cycle) (traces : Frontier) : Type 0 where
   pub cycle : IsCycle c
   pub waits : AllWait c
   pub size : traces.size ≡ c.marks.size
   pub room : len traces.members ≤ traces.size
   pub idle : traces.waiting ≡ []
-  pub list_size : listed.size ≡ c.marks.size

@@ -17,14 +17,13 @@ pub record Marking : Type 0 where
   pub marked : Set
   pub scanned : Set
   pub traced : Set  -- the second set of marks
-  pub listed : Set  -- a set for the pass to fill
   pub scans : ℕ  -- in this cycle
 
 abbrev pub marking_code : Coded Marking
 marking_code =
-    code_by (ℕ × (Set × (Set × (Set × (Set × ℕ))))) (coded× coded_ℕ (coded× (sets.code coded_ℕ) (coded× (sets.code coded_ℕ) (coded× (sets.code coded_ℕ) (coded× (sets.code coded_ℕ) coded_ℕ)))))
-    (λ m. (m.size, (m.marked, (m.scanned, (m.traced, (m.listed, m.scans))))))
-    (λ p. record { size = p.0; marked = p.1.0; scanned = p.1.1.0; traced = p.1.1.1.0; listed = p.1.1.1.1.0; scans = p.1.1.1.1.1 }) (λ _. refl)
+    code_by (ℕ × (Set × (Set × (Set × ℕ)))) (coded× coded_ℕ (coded× (sets.code coded_ℕ) (coded× (sets.code coded_ℕ) (coded× (sets.code coded_ℕ) coded_ℕ))))
+    (λ m. (m.size, (m.marked, (m.scanned, (m.traced, m.scans)))))
+    (λ p. record { size = p.0; marked = p.1.0; scanned = p.1.1.0; traced = p.1.1.1.0; scans = p.1.1.1.1 }) (λ _. refl)
 
 -- some member of the set leads to the object, by any number of child steps
 abbrev pub IsLedFrom : Map Object → Set → ℕ → Type 0

@@ -160,7 +160,7 @@ impl Frontier {
     }
 
     /// Makes the object a member, which then doesn't wait. Returns whether it is new.
-    fn enter(&mut self, object: Addr) -> bool
+    pub(crate) fn enter(&mut self, object: Addr) -> bool
         requires { IsAmong self.old.size object }
         ensures new { result ≡ not (contains self.old.members object) }
         ensures entered { self.new ≡ record self.old { members = insert self.old.members object } }

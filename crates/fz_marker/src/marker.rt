@@ -19,15 +19,14 @@ use fz_model::{Addr, HEAP_START, Progress, Refusal, Word};
 use std::alloc::Global;
 use std::marker::Model;
 
-/// The marks of a cycle, a second set of marks, and a list of objects, all by the starts of objects of one heap.
+/// The marks of a cycle, and a second set of marks, by the starts of objects of one heap.
 ///
 /// Each call with a heap is asked only with one of as many blocks. All its memory is taken by `new`: for each word of the heap 16 bytes, for the two
-/// lists of objects to be read, and four bits. Marking goes by single objects, so that a cycle can be spread over many steps of the program
+/// lists of objects to be read, and three bits. Marking goes by single objects, so that a cycle can be spread over many steps of the program
 /// (Boehm, Demers and Shenker, "Mostly parallel garbage collection", 1991).
 pub struct Marker {
     cycle: Cycle,
     traces: Frontier,
-    listed: Flags<HEAP_START>,
 }
 
 // Written out: who owns a marker then drops it by one call that is proved here, not field by field at each way out of a function.
@@ -36,7 +35,6 @@ impl Drop for Marker {
         let Marker {
             cycle: _,
             traces: _,
-            listed: _,
         } = self;
     }
 }
@@ -50,9 +48,9 @@ impl Model for Marker {
 
     ghost use Rattle.fz_marker.specs.Markers.{IsMarker};
 
-    ghost view = { λ m. record { size = m.cycle.marks.size; marked = m.cycle.marks.members; scanned = m.cycle.scanned.members; traced = m.traces.members; listed = m.listed.members; scans = m.cycle.scans } };
+    ghost view = { λ m. record { size = m.cycle.marks.size; marked = m.cycle.marks.members; scanned = m.cycle.scanned.members; traced = m.traces.members; scans = m.cycle.scans } };
 
-    ghost invariant = { λ m. IsMarker m.cycle m.traces m.listed };
+    ghost invariant = { λ m. IsMarker m.cycle m.traces };
 }
 
 impl Marker {
@@ -60,33 +58,27 @@ impl Marker {
     pub fn new(alloc: Global, blocks: u64) -> Result<Marker, Refusal>
         requires { blocks ≤ MAX_BLOCKS }
         ensures refused { IfErr result (λ r. r ≡ Refusal.NoMemory) }
-        ensures made { IfOk result (λ m. m ≡ record { size = BLOCK_WORDS * blocks; marked = empty; scanned = empty; traced = empty; listed = empty; scans = 0 }) }
+        ensures made { IfOk result (λ m. m ≡ record { size = BLOCK_WORDS * blocks; marked = empty; scanned = empty; traced = empty; scans = 0 }) }
     {
         let marks = Frontier::new(alloc, blocks)?;
         let scanned = Flags::new(alloc, blocks)?;
         let traces = Frontier::new(alloc, blocks)?;
-        let listed = Flags::new(alloc, blocks)?;
         let cycle = Cycle {
             marks,
             scanned,
             scans: 0,
         };
-        Ok(Marker {
-            cycle,
-            traces,
-            listed,
-        })
+        Ok(Marker { cycle, traces })
     }
 
-    /// Begins a cycle: nothing is marked, traced or listed, and nothing was scanned.
+    /// Begins a cycle: nothing is marked or traced, and nothing was scanned.
     pub fn begin(&mut self)
-        ensures { self.new ≡ record self.old { marked = empty; scanned = empty; traced = empty; listed = empty; scans = 0 } }
+        ensures { self.new ≡ record self.old { marked = empty; scanned = empty; traced = empty; scans = 0 } }
     {
         self.cycle.marks.clear();
         self.cycle.scanned.clear();
         self.cycle.scans = 0;
         self.traces.clear();
-        self.listed.clear();
     }
 
     /// Marks the object to which the word points, if it points to one.
@@ -129,13 +121,13 @@ impl Marker {
         ensures budgeted { (self.old.scans ≤ self.new.scans) × (self.new.scans ≤ self.old.scans + budget) }
         ensures each_once { self.new.scans ≤ self.old.scans + readable_count heap.now.objects (is_newly_in self.old.scanned self.new.scanned) }
         ensures unfinished { self.new.scans ≤ len self.new.scanned }
-        ensures same { (self.new.size ≡ self.old.size) × (self.new.traced ≡ self.old.traced) × (self.new.listed ≡ self.old.listed) }
+        ensures same { (self.new.size ≡ self.old.size) × (self.new.traced ≡ self.old.traced) }
     {
         self.cycle.step(heap, budget)
     }
 
     /// Closes the marks under children: scans the marked objects that weren't scanned in this cycle, and once more those that were, but stand on a
-    /// noted page. An object stands on each page that its words meet. Asked once a cycle; empties the second set and the list.
+    /// noted page. An object stands on each page that its words meet. Asked once a cycle; empties the second set.
     pub fn finish(&mut self, heap: &Heap, dirty: &Dirty)
         requires size { self.old.size ≡ BLOCK_WORDS * heap.now.blocks }
         requires pages { dirty.now.pages ≡ heap.now.blocks }
@@ -147,13 +139,12 @@ impl Marker {
         // Each scan but of an object that wasn't scanned is owed to a noted page: no more objects stand on a page than it has words.
         ensures again { self.new.scans ≤ self.old.scans + readable_count heap.now.objects (is_newly_in self.old.scanned self.new.marked) + BLOCK_WORDS * len dirty.now.noted }
         ensures size { self.new.size ≡ self.old.size }
-        ensures emptied { (self.new.traced ≡ empty) × (self.new.listed ≡ empty) }
+        ensures emptied { self.new.traced ≡ empty }
     {
         self.cycle.forget(heap, dirty);
         self.cycle.rescan(heap, dirty);
         self.cycle.step(heap, u64::MAX);
         self.traces.clear();
-        self.listed.clear();
     }
 
     /// Whether the object is marked.
@@ -195,6 +186,14 @@ impl Marker {
         self.traces.add_closed(heap, start);
     }
 
+    /// Adds one object to the second set, and nothing that it leads to.
+    pub fn trace_alone(&mut self, start: Addr)
+        requires { (HEAP_START ≤ start) × (start < HEAP_START + self.old.size) }
+        ensures { self.new ≡ record self.old { traced = insert self.old.traced start } }
+    {
+        self.traces.enter(start);
+    }
+
     /// Whether the object is in the second set.
     pub fn traced(&self, start: Addr) -> bool
         ensures { result ≡ contains self.now.traced start }
@@ -207,37 +206,5 @@ impl Marker {
         ensures { result.now ≡ record { size = self.now.size; members = self.now.traced } }
     {
         self.traces.members()
-    }
-
-    /// Empties the list.
-    pub fn clear_list(&mut self)
-        ensures { self.new ≡ record self.old { listed = empty } }
-    {
-        self.listed.clear();
-    }
-
-    /// Puts an object on the list.
-    pub fn list(&mut self, start: Addr)
-        requires { (HEAP_START ≤ start) × (start < HEAP_START + self.old.size) }
-        ensures { self.new ≡ record self.old { listed = insert self.old.listed start } }
-    {
-        self.listed.insert(start);
-    }
-
-    /// The listed objects.
-    pub fn listed(&self) -> &Flags<HEAP_START>
-        ensures listed { result.now ≡ record { size = self.now.size; members = self.now.listed } }
-        ensures few { self.now.size ≤ BLOCK_WORDS * MAX_BLOCKS }
-    {
-        &self.listed
-    }
-
-    /// The least listed object from an address on. A walk by it may trace, or list, on its way.
-    pub fn next_listed(&self, from: Addr) -> Option<Addr>
-        ensures next { MatchOption result ((n : ℕ) → from ≤ n → IsFalse (contains self.now.listed n)) (λ next. IsNext self.now.listed from next) }
-        ensures within { IfSome result (λ next. (HEAP_START ≤ next) × (next < HEAP_START + self.now.size)) }
-        ensures few { self.now.size ≤ BLOCK_WORDS * MAX_BLOCKS }
-    {
-        self.listed.next(from)
     }
 }

@@ -9,6 +9,8 @@ mod dirty;
 #[cfg(test)]
 mod equal;
 #[cfg(test)]
+mod finalizers;
+#[cfg(test)]
 mod heap;
 #[cfg(test)]
 mod line;

@@ -146,7 +146,7 @@ fn the_largest_heap_is_marked(rt: HostRuntime) -> Result<(), Fail> {
 }
 
 /// Begins a cycle and traces from one object.
-fn trace_alone(marker: &mut Marker, heap: &Heap, start: Addr)
+fn trace_anew(marker: &mut Marker, heap: &Heap, start: Addr)
     requires size { marker.old.size ≡ BLOCK_WORDS * heap.now.blocks }
     requires in_heap { IsInHeap heap.now.blocks start }
     ensures size { marker.new.size ≡ marker.old.size }
@@ -160,7 +160,7 @@ fn a_trace_leaves_the_marks(rt: HostRuntime) -> Result<(), Fail> {
     let mut heap = Heap::new(rt.alloc(), 2)?;
     make_chain(&mut heap, 100)?;
     let mut marker = Marker::new(rt.alloc(), 2)?;
-    trace_alone(&mut marker, &heap, HEAP_START + 50);
+    trace_anew(&mut marker, &heap, HEAP_START + 50);
     must_be(&rt, marker.traced(HEAP_START + 99), true, "the last");
     must_be(&rt, marker.traced(HEAP_START + 49), false, "one before");
     let is_marked = marker.is_marked(HEAP_START + 50);
@@ -175,19 +175,14 @@ fn a_trace_leaves_the_marks(rt: HostRuntime) -> Result<(), Fail> {
 }
 
 #[test]
-fn a_list_is_walked_by_address(rt: HostRuntime) -> Result<(), Fail> {
+fn an_object_is_traced_alone(rt: HostRuntime) -> Result<(), Fail> {
+    let mut heap = Heap::new(rt.alloc(), 2)?;
+    make_chain(&mut heap, 100)?;
     let mut marker = Marker::new(rt.alloc(), 2)?;
-    marker.list(HEAP_START + 99);
-    marker.list(HEAP_START + 50);
-    let first = marker.next_listed(0);
-    must_be(&rt, first, Some(HEAP_START + 50), "the first");
-    let second = marker.next_listed(HEAP_START + 51);
-    must_be(&rt, second, Some(HEAP_START + 99), "the second");
-    let third = marker.next_listed(HEAP_START + 100);
-    must_be(&rt, third, None, "no third");
-    let is_listed = marker.listed().contains(HEAP_START + 99);
-    must_be(&rt, is_listed, true, "the second in the list");
-    marker.clear_list();
-    must_be(&rt, marker.next_listed(0), None, "none in the end");
+    trace_anew(&mut marker, &heap, HEAP_START + 50);
+    marker.trace_alone(HEAP_START + 40);
+    must_be(&rt, marker.traced(HEAP_START + 40), true, "the object");
+    must_be(&rt, marker.traced(HEAP_START + 41), false, "its child");
+    must_be(&rt, marker.traced(HEAP_START + 50), true, "what was traced");
     Ok(())
 }

@@ -1,17 +1,17 @@
 //! Worked examples of a pass. Objects of one word stand at the heap's first addresses, in the order in which they are made.
 
-ghost use Rattle.std.specs.Prelude.{◌≡◌, ◌*◌, IfOk};
-ghost use Rattle.fz_model.specs.declared.limits.TheConstants.{BLOCK_WORDS};
+ghost use Rattle.std.specs.Prelude.{◌≡◌, OnOk};
 ghost use Rattle.fz_marker.specs.Marking.{IsClosed};
+ghost use Rattle.fz_pass.specs.Marks.{AreRegistered, AreTargets};
 
 use crate::equal::must_be;
 use fz_dirty::Dirty;
 use fz_heap::Heap;
 use fz_links::Links;
+use fz_marked::{Marked, decide};
 use fz_marker::Marker;
 use fz_model::RegKind::{IgnoreSelf, NoOrder, Normal};
-use fz_model::{Addr, Entry, Finalizer, HEAP_START, MAX_BLOCKS, ObjKind, RegKind, Word};
-use fz_pass::decide;
+use fz_model::{Addr, Entry, Finalizer, HEAP_START, MAX_BLOCKS, ObjKind, Refusal, RegKind, Word};
 use fz_table::Table;
 use std::alloc::Global;
 use std::process::Abort;
@@ -34,15 +34,17 @@ const OF_A_RANK: u64 = FULL / 256;
 /// What a pass goes over.
 #[derive(Drop)]
 struct Parts {
-    heap: Heap,
+    marked: Marked,
     table: Table,
     short: Links,
     long: Links,
 }
 
 fn open(alloc: Global, blocks: u64) -> Result<Parts, Fail> {
+    let heap = Heap::new(alloc, blocks)?;
+    let marker = Marker::new(alloc, heap.blocks())?;
     Ok(Parts {
-        heap: Heap::new(alloc, blocks)?,
+        marked: Marked { heap, marker },
         table: Table::new(alloc),
         short: Links::new(alloc),
         long: Links::new(alloc),
@@ -52,8 +54,8 @@ fn open(alloc: Global, blocks: u64) -> Result<Parts, Fail> {
 /// Makes a scanned object for each word, which is what it holds.
 fn make(parts: &mut Parts, words: &[Word]) -> Result<(), Fail> {
     for word in words {
-        let (start, _) = parts.heap.alloc(1, ObjKind::Scanned)?;
-        parts.heap.write(start, 0, *word)?;
+        let (start, _) = parts.marked.heap.alloc(1, ObjKind::Scanned)?;
+        parts.marked.heap.write(start, 0, *word)?;
     }
     Ok(())
 }
@@ -68,18 +70,40 @@ fn register(parts: &mut Parts, registered: &[(Addr, RegKind, u8)]) -> Result<(),
     Ok(())
 }
 
-/// A marker that has found what one root leads to.
-fn marked(alloc: Global, heap: &Heap, root: Word) -> Result<Marker, Fail>
-    ensures size { IfOk result (λ m. m.size ≡ BLOCK_WORDS * heap.now.blocks) }
-    ensures closed { IfOk result (λ m. IsClosed heap.now.objects m.marked) }
+/// Marks what one root leads to.
+fn find(alloc: Global, marked: &mut Marked, root: Word) -> Result<(), Fail>
+    ensures heap { marked.new.heap ≡ marked.old.heap }
+    ensures closed { OnOk result (IsClosed marked.new.heap.objects marked.new.marker.marked) }
 {
-    let blocks = heap.blocks();
-    let mut marker = Marker::new(alloc, blocks)?;
-    let clean = Dirty::new(alloc, blocks)?;
-    marker.begin();
-    marker.root(heap, root);
-    marker.finish(heap, &clean);
-    Ok(marker)
+    let clean = Dirty::new(alloc, marked.heap.blocks())?;
+    marked.marker.begin();
+    marked.marker.root(&marked.heap, root);
+    marked.marker.finish(&marked.heap, &clean);
+    Ok(())
+}
+
+/// Refuses a table with a registration of what isn't an object.
+fn check_registered(heap: &Heap, table: &Table) -> Result<(), Refusal>
+    ensures { OnOk result (AreRegistered heap.now.objects table.now.registrations) }
+{
+    for (object, _registration) in table.iter() {
+        if heap.facts(object).is_none() {
+            return Err(Refusal::NotStart);
+        }
+    }
+    Ok(())
+}
+
+/// Refuses links of which one has a target that isn't an object.
+fn check_targets(heap: &Heap, links: &Links) -> Result<(), Refusal>
+    ensures { OnOk result (AreTargets heap.now.objects links.now.links) }
+{
+    for (_link, target) in links.iter() {
+        if heap.facts(target).is_none() {
+            return Err(Refusal::NotStart);
+        }
+    }
+    Ok(())
 }
 
 /// The number of each pass.
@@ -99,14 +123,19 @@ fn pass_onto(
     root: Word,
     queue: &mut Vec<Entry>,
 ) -> Result<u64, Fail> {
+    let mut ready = Vec::with_capacity(alloc, parts.table.len())?;
     queue.reserve(parts.table.len())?;
-    let mut marker = marked(alloc, &parts.heap, root)?;
+    find(alloc, &mut parts.marked, root)?;
+    let marked = &parts.marked;
+    check_registered(&marked.heap, &parts.table)?;
+    check_targets(&marked.heap, &parts.short)?;
+    check_targets(&marked.heap, &parts.long)?;
     Ok(decide(
-        &mut parts.heap,
-        &mut marker,
+        &mut parts.marked,
         &mut parts.table,
         &mut parts.short,
         &mut parts.long,
+        &mut ready,
         queue,
         PASS,
     ))
@@ -161,10 +190,15 @@ fn picks_keeps_and_reclaims(rt: HostRuntime) -> Result<(), Fail> {
     };
     must_be(&rt, queue.as_slice(), &[entry], "the second alone");
     must_be(&rt, reclaimed, 1, "how many are reclaimed");
-    must_be(&rt, parts.heap.condemned(), 1, "how many are condemned");
-    let is_kept = parts.heap.facts(THIRD).is_some();
+    must_be(
+        &rt,
+        parts.marked.heap.condemned(),
+        1,
+        "how many are condemned",
+    );
+    let is_kept = parts.marked.heap.facts(THIRD).is_some();
     must_be(&rt, is_kept, true, "the pick leads to it");
-    let is_kept = parts.heap.facts(FOURTH).is_some();
+    let is_kept = parts.marked.heap.facts(FOURTH).is_some();
     must_be(&rt, is_kept, false, "nothing leads to it");
     let is_registered = parts.table.get(FIRST).is_some();
     must_be(&rt, is_registered, true, "it was found");
@@ -247,7 +281,7 @@ fn clears_short_links_first(alloc: Global, parts: &mut Parts) -> Result<bool, Fa
     parts.short.register(FIRST, SECOND)?;
     let (queue, reclaimed) = pass(alloc, parts, 0)?;
     let is_second = queue.iter().all(|entry| entry.obj == SECOND);
-    let is_cleared = parts.heap.read(FIRST, 0) == Ok(0) && parts.short.get(FIRST).is_none();
+    let is_cleared = parts.marked.heap.read(FIRST, 0) == Ok(0) && parts.short.get(FIRST).is_none();
     Ok(queue.len() == 1 && is_second && reclaimed == 0 && is_cleared)
 }
 
@@ -257,9 +291,9 @@ fn long_link_waits(alloc: Global, parts: &mut Parts) -> Result<bool, Fail> {
     register(parts, &[(SECOND, Normal, 0)])?;
     parts.long.register(FIRST, SECOND)?;
     pass(alloc, parts, FIRST)?;
-    let stood = parts.heap.read(FIRST, 0) == Ok(5) && parts.long.get(FIRST) == Some(SECOND);
+    let stood = parts.marked.heap.read(FIRST, 0) == Ok(5) && parts.long.get(FIRST) == Some(SECOND);
     pass(alloc, parts, FIRST)?;
-    let is_cleared = parts.heap.read(FIRST, 0) == Ok(0) && parts.long.get(FIRST).is_none();
+    let is_cleared = parts.marked.heap.read(FIRST, 0) == Ok(0) && parts.long.get(FIRST).is_none();
     Ok(stood && is_cleared)
 }
 
@@ -274,7 +308,7 @@ fn picks_by_address(alloc: Global, parts: &mut Parts) -> Result<bool, Fail> {
 
 fn fill(parts: &mut Parts) -> Result<(), Fail> {
     for _ in 0..FULL {
-        let (start, _) = parts.heap.alloc(32, ObjKind::Scanned)?;
+        let (start, _) = parts.marked.heap.alloc(32, ObjKind::Scanned)?;
         parts
             .table
             .register(start, Finalizer::new(NoOrder, 7, 8, 3))?;
@@ -306,7 +340,7 @@ fn picks_by_rank(alloc: Global, parts: &mut Parts) -> Result<bool, Fail> {
 
 fn fill_in_turn(parts: &mut Parts) -> Result<(), Fail> {
     for turn in 0..FULL {
-        let (start, _) = parts.heap.alloc(32, ObjKind::Scanned)?;
+        let (start, _) = parts.marked.heap.alloc(32, ObjKind::Scanned)?;
         let rank = 255 - (turn % 256) as u8;
         parts
             .table

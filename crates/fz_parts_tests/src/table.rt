@@ -23,7 +23,6 @@ fn registers_replaces_and_takes(rt: HostRuntime) {
     let old = Old { proc: 7, cd: 8 };
     must_be(&rt, replaced, Ok((2, Some(old))), "the first again");
     must_be(&rt, table.len(), 2, "two objects");
-    must_be(&rt, table.ranked(), 1, "one with a rank");
     let registration = Registration {
         number: 2,
         kind: RegKind::IgnoreSelf,
@@ -37,7 +36,6 @@ fn registers_replaces_and_takes(rt: HostRuntime) {
     must_be(&rt, table.take(70_000), None, "take it once more");
     must_be(&rt, table.get(70_000), None, "get what was taken");
     must_be(&rt, table.len(), 1, "one object");
-    must_be(&rt, table.ranked(), 0, "none with a rank");
     // Numbers aren't used again.
     let next = table.register(70_000, Finalizer::new(RegKind::Normal, 1, 2, 0));
     must_be(&rt, next, Ok((3, None)), "the first after that");

@@ -1,6 +1,6 @@
 -- What the sets of a pass mean in the model.
-use Rattle.std.proofs.Common.{◌≡◌, ℕ, ◌↔◌, ◌⊎◌, ◌&&◌, not, Bool, true, false, List, get_or, None, is_some, refl, sym, ap, ◌∙◌, subst, inl, inr, ⊎_elim, IsTrue}
-use Rattle.std.proofs.lemmas.Bool.{both_ways, and_parts, and_from, not-true, not_from_false}
+use Rattle.std.proofs.Common.{◌≡◌, ℕ, ◌⊎◌, ◌&&◌, not, Bool, false, None, Some, is_some, sym, ap, ◌∙◌, subst, inl, inr, ⊎_elim, IsTrue}
+use Rattle.std.proofs.lemmas.Bool.{both_ways, and_parts, and_from, not-true}
 use Rattle.std.proofs.lemmas.Option.{same_Some, none-some}
 use Rattle.std.specs.FinMap.{get, contains_key}
 use Rattle.fz_model.specs.State.{Map, Object}
@@ -10,12 +10,12 @@ use Rattle.fz_model.specs.declared.answers.Pick.{Pick}
 use Rattle.fz_model.specs.declared.answers.Registration.{Registration}
 use Rattle.fz_model.specs.Memory.{points, filled}
 use Rattle.fz_model.specs.Reachability.{Child, Leads, Itself, OneMore, Computes}
-use Rattle.fz_model.specs.Pass.{is_outside, is_dead, cleared, LeadsFirst, IsUnreachable, IsLedTo, IsKept, FoundItself, LedFrom, IsPicked, ArePicks}
+use Rattle.fz_model.specs.Pass.{is_outside, is_dead, cleared, LeadsFirst, IsUnreachable, IsLedTo, IsKept, FoundItself, LedFrom, IsPicked}
 use Rattle.fz_model.proofs.Maps.{filled_back}
 use Rattle.fz_model.proofs.SeenKept.{Child-filled}
 use Rattle.fz_model.proofs.Sound.{is_some_of}
 use Rattle.fz_pass.specs.Leading.{AreLeading, AreReaching, is_unreachable}
-use Rattle.fz_pass.specs.Picking.{IsReady, AreReady}
+use Rattle.fz_pass.specs.Picking.{IsReady}
 use Rattle.fz_pass.proofs.Filling.{has_filled}
 
 -- ---- steps
@@ -35,33 +35,36 @@ module _ (objects : Map Object) (registrations : Map Registration) (short : Map 
 
   -- ---- the listed ones are the unreachable ones
 
-  unreachable : (o : ℕ) → IsTrue (listed o) → (r : Registration) × IsUnreachable objects registrations short found o r
+  pub unreachable : (o : ℕ) → IsTrue (listed o) → (r : Registration) × IsUnreachable objects registrations short found o r
   unreachable o on =
       let parts = and_parts (contains_key registrations o) (is_outside (cleared short found objects) found o) (sym (listed_is o) ∙ on) in
       let r = is_some_of (get registrations o) (ap not parts.0) in
       (r.0, record { registered = r.1; outside = ap (λ b. b && not (found o)) (sym (here_still o)) ∙ parts.1 })
 
-  is_listed : (o : ℕ) (r : Registration) → IsUnreachable objects registrations short found o r → IsTrue (listed o)
+  pub unreachable_as : (o : ℕ) (r : Registration) → get registrations o ≡ Some r → IsTrue (listed o) → IsUnreachable objects registrations short found o r
+  unreachable_as o r here on =
+      let un = unreachable o on in
+      subst (IsUnreachable objects registrations short found o) (same_Some un.0 r (sym un.1.registered ∙ here)) un.1
+
+  pub is_listed : (o : ℕ) (r : Registration) → IsUnreachable objects registrations short found o r → IsTrue (listed o)
   is_listed o r un =
       listed_is o
       ∙ and_from (contains_key registrations o) (is_outside (cleared short found objects) found o) (ap is_some un.registered) (ap (λ b. b && not (found o)) (here_still o) ∙ un.outside)
 
-  not_found : (o : ℕ) (r : Registration) → IsUnreachable objects registrations short found o r → found o ≡ false
+  pub not_found : (o : ℕ) (r : Registration) → IsUnreachable objects registrations short found o r → found o ≡ false
   not_found o r un = not-true (found o) (and_parts (contains_key objects o) (not (found o)) un.outside).1
 
   -- ---- what they lead to
 
-  to_led : (x : ℕ) → AreLeading (cleared short found objects) registrations listed x → IsLedTo objects registrations short found x
+  pub to_led : (x : ℕ) → AreLeading (cleared short found objects) registrations listed x → IsLedTo objects registrations short found x
   to_led x (o, r, here, on, (first, step, rest)) =
-      let un = unreachable o on in
-      let same : un.0 ≡ r = same_Some un.0 r (sym un.1.registered ∙ here) in
-      record { from = o; by = r; unreachable = subst (IsUnreachable objects registrations short found o) same un.1; first = first; step = step; rest = rest }
+      record { from = o; by = r; unreachable = unreachable_as o r here on; first = first; step = step; rest = rest }
 
   from_led : (x : ℕ) → IsLedTo objects registrations short found x → AreLeading (cleared short found objects) registrations listed x
   from_led x l = (l.from, l.by, l.unreachable.registered, is_listed l.from l.by l.unreachable, (l.first, l.step, l.rest))
 
-  module _ (led : ℕ → Bool) (led_is : (x : ℕ) → IsTrue (led x) ↔ (IsTrue (found x) ⊎ AreLeading (cleared short found objects) registrations listed x)) where
-    picked : (p : Pick) → IsReady (cleared short found objects) registrations (λ a. listed a && not (led a)) p → IsPicked objects registrations short found p
+  module _ (led : ℕ → Bool) (least : (x : ℕ) → IsTrue (found x) ⊎ AreLeading (cleared short found objects) registrations listed x → IsTrue (led x)) where
+    pub picked : (p : Pick) → IsReady (cleared short found objects) registrations (λ a. listed a && not (led a)) p → IsPicked objects registrations short found p
     picked p is =
         let parts = and_parts (listed p.obj) (not (led p.obj)) is.ready in
         let un = unreachable p.obj parts.0 in
@@ -73,35 +76,25 @@ module _ (objects : Map Object) (registrations : Map Registration) (short : Map 
           unreachable = subst (IsUnreachable objects registrations short found p.obj) same un.1;
           here = old.1;
           is = is.is ∙ ap (λ (o : Object). record { reg = is.registration.number; obj = p.obj; birth = o.birth; proc = is.registration.proc; cd = is.registration.cd }) old.2;
-          free = λ l. both_ways (led p.obj) (not-true (led p.obj) parts.1) ((led_is p.obj).1 (inr (from_led p.obj l)));
+          free = λ l. both_ways (led p.obj) (not-true (led p.obj) parts.1) (least p.obj (inr (from_led p.obj l)));
         }
-
-    pub are_picks : (picks : List Pick) → AreReady (cleared short found objects) registrations (λ a. listed a && not (led a)) picks → ArePicks objects registrations short found picks
-    are_picks picks are = record {
-      ordered = are.ordered;
-      each = λ i d within. picked (get_or picks i d) (are.each i d within);
-      whole = λ o r un free. are.whole o (and_from (listed o) (not (led o)) (is_listed o r un) (not_from_false (led o) (at o r un free (led o) refl)));
-    }
-      where
-        at : (o : ℕ) (r : Registration) → IsUnreachable objects registrations short found o r → (IsLedTo objects registrations short found o → ⊥) → (b : Bool) → led o ≡ b → b ≡ false
-        at o r un free false is = refl
-        at o r un free true is = ⊎_elim (λ was. absurd (both_ways (found o) (not_found o r un) was)) (λ leads. absurd (free (to_led o leads))) ((led_is o).0 is)
 
     -- ---- what is kept
 
-    module _ (kept : ℕ → Bool) (kept_is : (x : ℕ) → IsTrue (kept x) ↔ (IsTrue (led x) ⊎ AreReaching (cleared short found objects) listed x)) where
+    module _ (kept : ℕ → Bool) (kept_least : (x : ℕ) → IsTrue (led x) ⊎ AreReaching (cleared short found objects) listed x → IsTrue (kept x)) where
       from_leading : (x : ℕ) → AreLeading (cleared short found objects) registrations listed x → IsKept objects registrations short found x
       from_leading x (o, r, here, on, (first, step, rest)) =
           let un = unreachable o on in LedFrom o un.0 un.1 (leads_after (cleared short found objects) o first x (first_child (cleared short found objects) o r.kind first step) rest)
 
-      into : (x : ℕ) → IsKept objects registrations short found x → IsTrue (kept x)
-      into x (FoundItself is) = (kept_is x).1 (inl ((led_is x).1 (inl is)))
-      into x (LedFrom o r un leads) = (kept_is x).1 (inr (o, is_listed o r un, leads))
+      pub keeps : (x : ℕ) → IsKept objects registrations short found x → IsTrue (kept x)
+      keeps x (FoundItself is) = kept_least x (inl (least x (inl is)))
+      keeps x (LedFrom o r un leads) = kept_least x (inr (o, is_listed o r un, leads))
 
-      pub computes_kept : Computes kept (IsKept objects registrations short found)
-      computes_kept x = (
-        λ h. ⊎_elim (λ was. ⊎_elim FoundItself (from_leading x) ((led_is x).0 was)) (λ (o, on, leads). let un = unreachable o on in LedFrom o un.0 un.1 leads) ((kept_is x).0 h),
-        into x,
+      pub computes_kept : ((x : ℕ) → IsTrue (led x) → IsTrue (found x) ⊎ AreLeading (cleared short found objects) registrations listed x)
+          → ((x : ℕ) → IsTrue (kept x) → IsTrue (led x) ⊎ AreReaching (cleared short found objects) listed x) → Computes kept (IsKept objects registrations short found)
+      computes_kept most kept_most x = (
+        λ h. ⊎_elim (λ was. ⊎_elim FoundItself (from_leading x) (most x was)) (λ (o, on, leads). let un = unreachable o on in LedFrom o un.0 un.1 leads) (kept_most x h),
+        keeps x,
       )
 
 -- ---- what is closed stays closed where words become zero

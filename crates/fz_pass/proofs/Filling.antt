@@ -5,15 +5,12 @@ use Rattle.std.proofs.lemmas.List.{length-map}
 use Rattle.std.proofs.lemmas.Option.{none-some}
 use Rattle.std.specs.Cmp.{nat_cmp_total}
 use Rattle.std.specs.FinMap.{len, len-entries, get, contains_key, entries, same_map, nat_cmp-IsAntisymmetric}
-use Rattle.fz_model.specs.declared.refusal.Refusal.{Refusal}
-use Rattle.fz_model.specs.Causes.{first_cause, place_causes}
 use Rattle.fz_model.specs.State.{Map, Object}
-use Rattle.fz_model.specs.Extents.{covers, extents, extent_of}
+use Rattle.fz_model.specs.Extents.{covers, extent_of}
 use Rattle.fz_model.specs.Memory.{points, fill, filled, written}
 use Rattle.fz_model.proofs.Maps.{entries-mapped, get-mapped, filling}
-use Rattle.fz_model.proofs.Objects.{from_covers, to_covers, points_target}
+use Rattle.fz_model.proofs.Objects.{to_covers}
 use Rattle.fz_model.proofs.Standing.{points_some}
-use Rattle.fz_heap.proofs.Extents.{judged_inside}
 
 -- ---- one fill after another
 
@@ -41,7 +38,7 @@ filled_twice s t value objects =
 pub filled_same : (s t : ℕ → Bool) (value : ℕ) (objects : Map Object) → ((a : ℕ) → s a ≡ t a) → filled s value objects ≡ filled t value objects
 filled_same s t value objects same = λ i. filled (λ a. same a i) value objects
 
-fill_never : (t : ℕ → Bool) (value a : ℕ) (ws : List ℕ) → ((x : ℕ) → a ≤ x → x < a + length ws → t x ≡ false) → fill t value a ws ≡ ws
+pub fill_never : (t : ℕ → Bool) (value a : ℕ) (ws : List ℕ) → ((x : ℕ) → a ≤ x → x < a + length ws → t x ≡ false) → fill t value a ws ≡ ws
 fill_never t value a [] never = refl
 fill_never t value a (w ∷ ws) never =
     ap (λ b. cond b value w ∷ fill t value (a + 1) ws) (never a (omega arith) (omega arith)) ∙ ap (λ r. w ∷ r) (fill_never t value (a + 1) ws (λ x low high. never x (omega (arith, low)) (omega (arith, high))))
@@ -82,21 +79,6 @@ filled_never t value objects never =
     each : (q : ℕ) (o : Option Object) → option_map (filling t value q) o ≡ o
     each q None = refl
     each q (Some o) = ap (λ ws. Some (record o { words = ws })) (fill_never t value q o.words (λ x low high. never x))
-
--- where a word can't be written at, it lies in no object
-pub refused_nowhere : (objects : Map Object) (word : ℕ) (r : Refusal) → first_cause (place_causes objects word 0) ≡ Some r → points objects word ≡ None
-refused_nowhere objects word r refused = at (points objects word) refl
-  where
-    at : (o : Option ℕ) → points objects word ≡ o → o ≡ None
-    at None is = refl
-    at (Some a) is =
-        let there = points_target (extents objects) word a is in
-        let bounds = from_covers a word there.0 there.2 in
-        let none = judged_inside (extents objects) word 0 a there.0 is there.1 (omega (arith, bounds.0)) (omega (arith, bounds.1)) in
-        absurd (none-some r (sym none ∙ refused))
-
-pub written_at : (word value : ℕ) (objects : Map Object) → written (word + 0) value objects ≡ written word value objects
-written_at word value objects = let same : word + 0 ≡ word = omega arith in ap (λ w. written w value objects) same
 
 pub written_is : (word value : ℕ) (objects : Map Object) → written word value objects ≡ filled (λ a. nat_eq a word) value objects
 unfolding written

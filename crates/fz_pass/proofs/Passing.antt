@@ -4,9 +4,9 @@ use Rattle.std.specs.FinMap.{len}
 use Rattle.fz_model.specs.State.{Core}
 use Rattle.fz_model.specs.declared.answers.Pick.{Pick}
 use Rattle.fz_model.specs.Pass.{Passes}
-use Rattle.fz_pass.specs.Decides.{Parts, Decides, parts_of, passed_core}
+use Rattle.fz_pass.specs.Decides.{Parts, Decides, core_parts, passed_core}
 
-pub passes : (c : Core) (found : ℕ → Bool) (picks : List Pick) (new : Parts) (reclaimed : ℕ) → Decides (parts_of c) found picks new → len new.objects + reclaimed ≡ len c.objects → Passes c found (record { pass = c.passes + 1; picked = length picks; reclaimed = reclaimed }) (passed_core c new picks)
+pub passes : (c : Core) (found : ℕ → Bool) (picks : List Pick) (new : Parts) (reclaimed : ℕ) → Decides (core_parts c) found picks new → len new.objects + reclaimed ≡ len c.objects → Passes c found (record { pass = c.passes + 1; picked = length picks; reclaimed = reclaimed }) (passed_core c new picks)
 passes c found picks new reclaimed d fewer = record {
   decision = d.decision;
   is = λ i. passed_core c (d.is i) (d.picked i);

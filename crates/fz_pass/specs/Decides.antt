@@ -1,14 +1,13 @@
 -- What a pass makes of the parts that it goes over.
 use Rattle.std.specs.Prelude.{◌≡◌, ℕ, ◌+◌, ◌++◌, Bool, false, List, length}
-use Rattle.std.specs.FinMap.{len}
+use Rattle.std.specs.FinMap.{len, retain_keys}
 use Rattle.fz_model.specs.declared.answers.Entry.{Entry}
 use Rattle.fz_model.specs.declared.answers.Pick.{Pick}
 use Rattle.fz_model.specs.declared.answers.Registration.{Registration}
 use Rattle.fz_model.specs.State.{Map, Object, Core}
-use Rattle.fz_model.specs.Pass.{Passes, Decision, remaining_objects, without_picks, links_within, entries_of}
-use Rattle.fz_heap.specs.Contents.{Contents}
-use Rattle.fz_table.specs.Registered.{Registered}
+use Rattle.fz_table.specs.Tabled.{Tabled}
 use Rattle.fz_links.specs.Linked.{Linked}
+use Rattle.fz_model.specs.Pass.{Passes, Decision, remaining_objects, without_picks, links_within, entries_of}
 
 pub record Parts : Type 0 where
   pub objects : Map Object
@@ -16,9 +15,13 @@ pub record Parts : Type 0 where
   pub short : Map ℕ
   pub long : Map ℕ
 
--- the parts as they stand in heap, table and links
-abbrev pub parts : Contents → Registered → Linked → Linked → Parts
-parts heap table short long = record { objects = heap.objects; registrations = table.registrations; short = short.links; long = long.links }
+-- the objects, with what tables and links hold
+abbrev pub parts_of : Map Object → Tabled → Linked → Linked → Parts
+parts_of objects table short long = record { objects = objects; registrations = table.registrations; short = short.links; long = long.links }
+
+-- the same after a pass: of the objects, those that are marked
+abbrev pub parts_left : Map Object → (ℕ → Bool) → Tabled → Linked → Linked → Parts
+parts_left objects marked table short long = parts_of (retain_keys objects marked) table short long
 
 -- what a pass with these found objects picks, and what it leaves
 pub record Decides (old : Parts) (found : ℕ → Bool) (picks : List Pick) (new : Parts) : Type 0 where
@@ -31,14 +34,15 @@ pub record Decides (old : Parts) (found : ℕ → Bool) (picks : List Pick) (new
     long = links_within old.objects old.long decision.kept decision.kept;
   }
 
--- the pass of this number decides so, and the entries of its picks come to the end of the queue
-abbrev pub DecidesInto : ℕ → Parts → (ℕ → Bool) → Parts → List Entry → List Entry → Type 0
-DecidesInto pass old found new queue new_queue =
-    (picks : List Pick) × (new_queue ≡ queue ++ entries_of pass (length queue) picks) × Decides old found picks new
+-- the pass of this number queues entries of picks, numbered on from the first; they are the model's, and so is what it leaves, where the marking is exact
+pub record DecidesInto (Exact : Type 0) (pass first : ℕ) (old : Parts) (found : ℕ → Bool) (new : Parts) (queue new_queue : List Entry) : Type 0 where
+  pub picks : List Pick
+  pub queued : new_queue ≡ queue ++ entries_of pass first picks
+  pub exactly : Exact → Decides old found picks new
 
 -- the parts of a core
-abbrev pub parts_of : Core → Parts
-parts_of c = record { objects = c.objects; registrations = c.registrations; short = c.short; long = c.long }
+abbrev pub core_parts : Core → Parts
+core_parts c = record { objects = c.objects; registrations = c.registrations; short = c.short; long = c.long }
 
 -- the core after a pass: with other parts, and with the entries of the picks
 abbrev pub passed_core : Core → Parts → List Pick → Core
@@ -56,5 +60,5 @@ passed_core c new picks = record c {
 -- a decision for the core that is carried out, with its picks queued and held, is a pass of the model
 abbrev pub DecisionsPass : Core → Type 0
 DecisionsPass c = (found : ℕ → Bool) (picks : List Pick) (new : Parts) (reclaimed : ℕ)
-    → Decides (parts_of c) found picks new → len new.objects + reclaimed ≡ len c.objects
+    → Decides (core_parts c) found picks new → len new.objects + reclaimed ≡ len c.objects
     → Passes c found (record { pass = c.passes + 1; picked = length picks; reclaimed = reclaimed }) (passed_core c new picks)

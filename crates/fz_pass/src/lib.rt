@@ -1,15 +1,18 @@
-//! The finalization pass.
+//! The finalization pass, over any heap.
 #![tactic(auto)]
 
+mod all;
 mod clearing;
+mod dropping;
 mod gathered;
-mod keeping;
+mod host;
 mod law;
 mod leading;
+mod listing;
 mod pass;
 mod picking;
-mod ranking;
-mod reclaiming;
 
-pub use law::decisions_pass;
-pub use pass::decide;
+pub use all::queue_all;
+pub use host::Host;
+pub use law::{decisions_pass, passes_are_safe};
+pub use pass::{decide, decide_with_late};

@@ -1,63 +1,163 @@
-//! One pass over heap, marks, table and links.
+//! One pass over a heap, the tables and the links.
 
-ghost use Rattle.std.specs.Prelude.{◌≡◌, ◌≤◌, ◌+◌, ◌*◌, ◌||◌, ◌&&◌, not, ℕ, vec_len, vec_capacity};
-ghost use Rattle.std.specs.FinSet.{contains};
-ghost use Rattle.std.specs.FinSet as sets;
-ghost use Rattle.std.specs.FinMap.{len, contains_key};
-ghost use Rattle.fz_model.specs.declared.limits.TheConstants.{BLOCK_WORDS};
-ghost use Rattle.fz_marker.specs.Marking.{IsClosed};
-ghost use Rattle.fz_pass.specs.Decides.{DecidesInto, parts};
+ghost use Rattle.std.specs.Prelude.{◌≡◌, ◌≤◌, ◌<◌, ◌+◌, ◌^◌, [], ℕ, None, vec_len, vec_capacity, IsTrue};
+ghost use Rattle.std.specs.FinMap.{len};
+ghost use Rattle.fz_model.specs.Memory.{points};
+ghost use Rattle.fz_pass.specs.Decides.{DecidesInto, parts_of, parts_left};
+ghost use Rattle.fz_pass.specs.Late as two_tables;
+ghost use Rattle.fz_pass.specs.Late.{AreApart, AreNormal, both, DecidesLate};
+ghost use Rattle.fz_pass.specs.Leading.{LedAreMarked};
+ghost use Rattle.fz_pass.specs.Marks.{IsClosed, AreRegistered, AreTargets};
+ghost use Rattle.fz_pass.specs.Queued.{MarksLed, QueuesBoth};
 
 use crate::clearing::clear_dead;
-use crate::keeping::keep_within;
-use crate::leading::{list_unreachable, trace_listed};
-use crate::picking::queue_free;
-use crate::reclaiming::condemn_outside;
-use fz_heap::Heap;
+use crate::dropping::{drop_dead, drop_outside};
+use crate::host::Host;
+use crate::leading::mark_led;
+use crate::picking::queue_unmarked;
 use fz_links::Links;
-use fz_marker::Marker;
-use fz_model::Entry;
+use fz_model::{Addr, Entry};
 use fz_table::Table;
 
-/// Carries out a pass in which the marked objects are those that were found, and returns the number of objects that it reclaims.
+/// Marks what the unmarked objects of both tables lead to.
+fn mark_led_by_both<H: Host>(host: &mut H, table: &Table, late: &Table)
+    requires registered { AreRegistered (H.objects host.old) table.now.registrations }
+    requires late { AreRegistered (H.objects host.old) late.now.registrations }
+    requires apart { AreApart table.now.registrations late.now.registrations }
+    requires closed { IsClosed (H.objects host.old) (H.marked host.old) }
+    ensures objects { H.objects host.new ≡ H.objects host.old }
+    ensures marked { MarksLed H.is_exact (H.objects host.old) (H.marked host.old) (H.marked host.new) (both table.now.registrations late.now.registrations) }
+    ensures same { H.is_same host.old host.new }
+{
+    mark_led(host, table);
+    mark_led(host, late);
+}
+
+/// Queues the unmarked objects of both tables, those of the second after the others and only where these don't lead to them.
+fn queue_both<H: Host>(
+    host: &mut H,
+    table: &mut Table,
+    late: &mut Table,
+    ready: &mut Vec<(u8, Addr)>,
+    queue: &mut Vec<Entry>,
+    pass: u64,
+    first: u64,
+)
+    requires registered { AreRegistered (H.objects host.old) table.old.registrations }
+    requires late { AreRegistered (H.objects host.old) late.old.registrations }
+    requires closed { IsClosed (H.objects host.old) (H.marked host.old) }
+    requires led { LedAreMarked (H.objects host.old) table.old.registrations (H.marked host.old) }
+    requires led_late { LedAreMarked (H.objects host.old) late.old.registrations (H.marked host.old) }
+    requires empty { ready.old.items ≡ [] }
+    requires list { len table.old.registrations + len late.old.registrations ≤ vec_capacity ready.old }
+    requires room { vec_len queue.old + (len table.old.registrations + len late.old.registrations) ≤ vec_capacity queue.old }
+    requires numbers { first + (len table.old.registrations + len late.old.registrations) < 2 ^ 64 }
+    ensures empty { ready.new.items ≡ [] }
+    ensures list { vec_capacity ready.old ≤ vec_capacity ready.new }
+    ensures count { vec_len queue.new + (len table.new.registrations + len late.new.registrations) ≡ vec_len queue.old + (len table.old.registrations + len late.old.registrations) }
+    ensures capacity { vec_capacity queue.old ≤ vec_capacity queue.new }
+    ensures queued { QueuesBoth H.is_exact pass first (H.objects host.old) (H.marked host.old) (H.marked host.new) table.old.registered table.new.registered late.old.registered late.new.registered queue.old.items queue.new.items }
+    ensures objects { H.objects host.new ≡ H.objects host.old }
+    ensures same { H.is_same host.old host.new }
+{
+    let before = queue.len();
+    queue_unmarked(host, table, ready, queue, pass, first);
+    let next = first + (queue.len() - before) as u64;
+    queue_unmarked(host, late, ready, queue, pass, next);
+}
+
+/// Carries out a pass in which the marked objects are those that were found. What is marked after it is kept, and the host reclaims the rest.
 ///
-/// It clears the words of dead links, takes the ready registrations out of the table and puts their entries at the end of the queue, by rank, then
-/// address, drops links, and condemns the objects that aren't kept. It takes no memory, and asks for room in the queue for every registration.
-pub fn decide(
-    heap: &mut Heap,
-    marker: &mut Marker,
+/// The order is that of bdwgc's finalize.c. Dead short links are cleared, and go. What unmarked registered objects lead to, by their kinds, is marked.
+/// Those that are still unmarked are picked, by rank, then address: they leave their table, their entries come to the end of the queue, numbered from
+/// `first` on, and they and all that they lead to are marked. Dead long links are cleared, and go; and so do links whose words lie in no marked object.
+///
+/// The objects of the second table are registered as normal ones, and come late: they are picked after the others, and only where these don't lead to
+/// them (`GC_register_finalizer_unreachable`).
+///
+/// It takes no memory: `ready`, which is empty before and after, has room for every registration, and so has the queue.
+pub fn decide_with_late<H: Host>(
+    host: &mut H,
+    table: &mut Table,
+    late: &mut Table,
+    short: &mut Links,
+    long: &mut Links,
+    ready: &mut Vec<(u8, Addr)>,
+    queue: &mut Vec<Entry>,
+    pass: u64,
+    first: u64,
+)
+    requires registered { AreRegistered (H.objects host.old) table.old.registrations }
+    requires late { AreRegistered (H.objects host.old) late.old.registrations }
+    requires apart { AreApart table.old.registrations late.old.registrations }
+    requires normal { AreNormal late.old.registrations }
+    requires short { AreTargets (H.objects host.old) short.old.links }
+    requires long { AreTargets (H.objects host.old) long.old.links }
+    // A word that was cleared points to nothing.
+    requires zero { points (H.objects host.old) 0 ≡ None }
+    requires closed { IsClosed (H.objects host.old) (H.marked host.old) }
+    requires empty { ready.old.items ≡ [] }
+    requires list { len table.old.registrations + len late.old.registrations ≤ vec_capacity ready.old }
+    requires room { vec_len queue.old + (len table.old.registrations + len late.old.registrations) ≤ vec_capacity queue.old }
+    requires numbers { first + (len table.old.registrations + len late.old.registrations) < 2 ^ 64 }
+    ensures decided { DecidesLate H.is_exact pass first (two_tables.parts_of (H.objects host.old) table.old late.old short.old long.old) (H.marked host.old) (two_tables.parts_left (H.objects host.new) (H.marked host.new) table.new late.new short.new long.new) queue.old.items queue.new.items }
+    ensures empty { ready.new.items ≡ [] }
+    ensures list { vec_capacity ready.old ≤ vec_capacity ready.new }
+    ensures count { vec_len queue.new + (len table.new.registrations + len late.new.registrations) ≡ vec_len queue.old + (len table.old.registrations + len late.old.registrations) }
+    ensures capacity { vec_capacity queue.old ≤ vec_capacity queue.new }
+    // Marked objects stay marked, and what they lead to is marked.
+    ensures marks { (a : ℕ) → IsTrue (H.marked host.old a) → IsTrue (H.marked host.new a) }
+    ensures closed { IsClosed (H.objects host.new) (H.marked host.new) }
+    // All else stays.
+    ensures same { H.is_same host.old host.new }
+    ensures table { table.new.registered ≡ record table.old.registered { registrations = table.new.registrations } }
+    ensures late { late.new.registered ≡ record late.old.registered { registrations = late.new.registrations } }
+{
+    clear_dead(host, short);
+    drop_dead(host, short);
+    mark_led_by_both(host, table, late);
+    queue_both(host, table, late, ready, queue, pass, first);
+    clear_dead(host, long);
+    drop_dead(host, long);
+    drop_outside(host, short);
+    drop_outside(host, long);
+}
+
+/// Carries out a pass over one table, as `decide_with_late` does over two.
+pub fn decide<H: Host>(
+    host: &mut H,
     table: &mut Table,
     short: &mut Links,
     long: &mut Links,
+    ready: &mut Vec<(u8, Addr)>,
     queue: &mut Vec<Entry>,
     pass: u64,
-) -> u64
-    requires size { marker.old.size ≡ BLOCK_WORDS * heap.old.blocks }
-    requires closed { IsClosed heap.old.objects marker.old.marked }
+    first: u64,
+)
+    requires registered { AreRegistered (H.objects host.old) table.old.registrations }
+    requires short { AreTargets (H.objects host.old) short.old.links }
+    requires long { AreTargets (H.objects host.old) long.old.links }
+    // A word that was cleared points to nothing.
+    requires zero { points (H.objects host.old) 0 ≡ None }
+    requires closed { IsClosed (H.objects host.old) (H.marked host.old) }
+    requires empty { ready.old.items ≡ [] }
+    requires list { len table.old.registrations ≤ vec_capacity ready.old }
     requires room { vec_len queue.old + len table.old.registrations ≤ vec_capacity queue.old }
-    ensures decided { DecidesInto pass (parts heap.old table.old.registered short.old long.old) (contains marker.old.marked) (parts heap.new table.new.registered short.new long.new) queue.old.items queue.new.items }
-    // The objects that it reclaims are condemned, and no other.
-    ensures condemned { (a : ℕ) → contains heap.new.condemned a ≡ (contains_key heap.old.objects a && not (contains_key heap.new.objects a) || contains heap.old.condemned a) }
-    ensures count { sets.len heap.new.condemned ≡ sets.len heap.old.condemned + result }
-    ensures reclaimed { len heap.new.objects + result ≡ len heap.old.objects }
+    requires numbers { first + len table.old.registrations < 2 ^ 64 }
+    ensures decided { DecidesInto H.is_exact pass first (parts_of (H.objects host.old) table.old short.old long.old) (H.marked host.old) (parts_left (H.objects host.new) (H.marked host.new) table.new short.new long.new) queue.old.items queue.new.items }
+    ensures empty { ready.new.items ≡ [] }
+    ensures list { vec_capacity ready.old ≤ vec_capacity ready.new }
     // There is room for every registration that is left.
     ensures room { vec_len queue.new + len table.new.registrations ≤ vec_capacity queue.new }
+    // Marked objects stay marked, and what they lead to is marked.
+    ensures marks { (a : ℕ) → IsTrue (H.marked host.old a) → IsTrue (H.marked host.new a) }
+    ensures closed { IsClosed (H.objects host.new) (H.marked host.new) }
     // All else stays.
-    ensures heap { heap.new ≡ record heap.old { objects = heap.new.objects; condemned = heap.new.condemned } }
-    ensures marker { marker.new ≡ record marker.old { traced = marker.new.traced; listed = marker.new.listed } }
+    ensures same { H.is_same host.old host.new }
     ensures table { table.new.registered ≡ record table.old.registered { registrations = table.new.registrations } }
 {
-    let before = heap.condemned();
-    clear_dead(heap, short, marker.found());
-    marker.trace_found();
-    list_unreachable(heap, marker, table);
-    queue_free(heap, table, marker.listed(), marker.kept(), queue, pass);
-    trace_listed(heap, marker);
-    let found = marker.found();
-    let kept = marker.kept();
-    clear_dead(heap, long, kept);
-    keep_within(short, heap, found, kept);
-    keep_within(long, heap, kept, kept);
-    condemn_outside(heap, kept);
-    heap.condemned() - before
+    let mut late = Table::new(*queue.allocator());
+    decide_with_late(
+        host, table, &mut late, short, long, ready, queue, pass, first,
+    );
 }

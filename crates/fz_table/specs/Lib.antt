@@ -1,4 +1,4 @@
 pub mod Registered
 pub mod Tabled
-pub mod Ranked
 pub mod Registers
+pub mod Places

@@ -18,3 +18,12 @@ pub record Registers (old : Registered) (object : ℕ) (finalizer : Finalizer) (
   pub number : IfOk result (λ answer. answer.0 ≡ old.next_number)
   pub replaced : IfOk result (λ answer. answer.1 ≡ old_of old.registrations object)
   pub registered : OnOk result (new ≡ record { registrations = insert old.registrations object (registration_of old.next_number finalizer); next_number = old.next_number + 1 })
+
+-- the same where memory alone can be lacking
+pub record RegistersOrLacks (old : Registered) (object : ℕ) (finalizer : Finalizer) (result : Result (ℕ × Option Old) Refusal) (new : Registered) : Type 0 where
+  pub refused : IfErr result (λ r. r ≡ NoMemory)
+  pub growth : OnErr result (IsNone (get old.registrations object))
+  pub unchanged : OnErr result (new ≡ old)
+  pub number : IfOk result (λ answer. answer.0 ≡ old.next_number)
+  pub replaced : IfOk result (λ answer. answer.1 ≡ old_of old.registrations object)
+  pub registered : OnOk result (new ≡ record { registrations = insert old.registrations object (registration_of old.next_number finalizer); next_number = old.next_number + 1 })

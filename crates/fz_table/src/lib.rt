@@ -1,8 +1,10 @@
 //! The table of registrations, one an object.
 #![tactic(auto)]
 
+mod limits;
 mod pairs;
 mod table;
 
+pub use limits::MOST_ENTRIES;
 pub use pairs::Pairs;
 pub use table::Table;

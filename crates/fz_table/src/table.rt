@@ -8,21 +8,21 @@ ghost use Rattle.fz_model.specs.declared.limits.TheConstants.{TABLE_LIMIT, COUNT
 ghost use Rattle.fz_model.specs.declared.refusal.Refusal.TheVariants.{NoMemory};
 ghost use Rattle.fz_model.specs.Causes.{IsJudgedBy, full, register_causes};
 ghost use Rattle.fz_model.specs.Steps.{old_of, registration_of};
-ghost use Rattle.fz_table.specs.Ranked.{ranked, has_rank};
-ghost use Rattle.fz_table.specs.Registers.{Registers};
+ghost use Rattle.fz_table.specs.declared.limits.TheConstants.{MOST_ENTRIES};
+ghost use Rattle.fz_table.specs.Places.{lacks_place};
+ghost use Rattle.fz_table.specs.Registers.{Registers, RegistersOrLacks};
 
+use crate::limits::MOST_ENTRIES;
 use crate::pairs::Pairs;
 use fz_model::{Addr, COUNT_LIMIT, Finalizer, Old, Refusal, Registration, TABLE_LIMIT};
 use indexmap::IndexMap;
 use std::alloc::Global;
 use std::marker::Model;
 
-/// The registrations by the starts of their objects, at most 65,536 at one time. Each gets a number, counted from 0.
+/// The registrations by the starts of their objects, at most 2^32 at one time. Each gets a number, counted from 0.
 pub struct Table {
     entries: IndexMap<Addr, Registration>,
     next_number: u64,
-    /// How many registrations have a rank other than 0.
-    ranked_count: usize,
 }
 
 // Written out: who owns a table then drops it by one call that is proved here, not field by field at each way out of a function.
@@ -31,7 +31,6 @@ impl Drop for Table {
         let Table {
             entries: _,
             next_number: _,
-            ranked_count: _,
         } = self;
     }
 }
@@ -41,9 +40,8 @@ impl Model for Table {
     ghost use Rattle.std.specs.Ordering.{nat_cmp};
     ghost use Rattle.std.specs.FinMap.{len, from_entries};
     ghost use Rattle.indexmap.specs.IndexMap.{spare};
-    ghost use Rattle.fz_model.specs.declared.limits.TheConstants.{TABLE_LIMIT};
+    ghost use Rattle.fz_table.specs.declared.limits.TheConstants.{MOST_ENTRIES};
     ghost use Rattle.fz_table.specs.Tabled.{Tabled, tabled_code};
-    ghost use Rattle.fz_table.specs.Ranked.{ranked};
 
     ghost Value = { Tabled };
 
@@ -51,7 +49,7 @@ impl Model for Table {
 
     ghost view = { λ t. record { registered = record { registrations = from_entries t.entries.entries; next_number = t.next_number }; room = spare t.entries } };
 
-    ghost invariant = { λ t. (len (from_entries {R = nat_cmp} t.entries.entries) ≤ TABLE_LIMIT) × (t.ranked_count ≡ len (ranked (from_entries t.entries.entries))) };
+    ghost invariant = { λ t. len (from_entries {R = nat_cmp} t.entries.entries) ≤ MOST_ENTRIES };
 }
 
 impl Table {
@@ -62,7 +60,6 @@ impl Table {
         Table {
             entries: IndexMap::new(alloc),
             next_number: 0,
-            ranked_count: 0,
         }
     }
 
@@ -81,10 +78,12 @@ impl Table {
     /// Refuses an object that `register` would refuse for another cause than want of memory.
     ///
     /// The refusals, in this order: `Exhausted` once 2^48 numbers are given out, `TableFull` when 65,536 other objects are registered.
+    #[tactic(auto, using(crate::proofs::Entries::place_within))]
     pub fn check(&self, object: Addr) -> Result<(), Refusal>
         ensures judged { IsJudgedBy (register_causes self.now.registrations self.now.next_number object) result }
         ensures few { OnOk result (self.now.next_number < COUNT_LIMIT) }
         ensures room { OnOk result (IsFalse (full self.now.registrations object).0) }
+        ensures place { OnOk result (IsFalse (lacks_place self.now.registrations object)) }
     {
         if self.next_number >= COUNT_LIMIT {
             return Err(Refusal::Exhausted);
@@ -113,7 +112,7 @@ impl Table {
         self.register_checked(object, finalizer)
     }
 
-    /// Registers the object's finalizer, as `register` does. Asked only where `check` refuses nothing.
+    /// Registers the object's finalizer, as `register` does, but up to 2^32 objects.
     ///
     /// Refused `NoMemory` when no room is left for a new object and none can be had.
     pub fn register_checked(
@@ -122,8 +121,10 @@ impl Table {
         finalizer: Finalizer,
     ) -> Result<(u64, Option<Old>), Refusal>
         requires few { self.old.next_number < COUNT_LIMIT }
-        requires room { IsFalse (full self.old.registrations object).0 }
-        ensures registers { Registers self.old.registered object finalizer result self.new.registered }
+        requires place { IsFalse (lacks_place self.old.registrations object) }
+        ensures registers { RegistersOrLacks self.old.registered object finalizer result self.new.registered }
+        // Where fewer than 65,536 other objects are registered, this is what `register` does.
+        ensures within { IsFalse (full self.old.registrations object).0 → Registers self.old.registered object finalizer result self.new.registered }
         // Memory can be lacking only where no room is left.
         ensures wanting { IfErr result (λ r. r ≡ NoMemory → self.old.room ≡ 0) }
         ensures room { self.old.room ≤ self.new.room + 1 }
@@ -133,7 +134,6 @@ impl Table {
         // A refused insertion leaves the entries as they were.
         let replaced = self.entries.insert(object, registration)?;
         self.next_number = number + 1;
-        self.ranked_count = self.ranked_count + ranked_in(Some(registration)) - ranked_in(replaced);
         Ok((number, replaced.map(pair_of)))
     }
 
@@ -145,9 +145,7 @@ impl Table {
         ensures room { self.old.room ≤ self.new.room }
         ensures count { IfSome result (λ _. len self.new.registrations + 1 ≡ len self.old.registrations) }
     {
-        let taken = self.entries.swap_remove(&object);
-        self.ranked_count -= ranked_in(taken);
-        taken
+        self.entries.swap_remove(&object)
     }
 
     /// Removes the object's registration; returns its procedure and client data.
@@ -162,16 +160,9 @@ impl Table {
     /// How many objects are registered.
     pub fn len(&self) -> usize
         ensures count { result ≡ len self.now.registrations }
-        ensures limit { result ≤ TABLE_LIMIT }
+        ensures limit { result ≤ MOST_ENTRIES }
     {
         self.entries.len()
-    }
-
-    /// How many registrations have a rank other than 0.
-    pub fn ranked(&self) -> usize
-        ensures { result ≡ len (ranked self.now.registrations) }
-    {
-        self.ranked_count
     }
 
     /// Whether no object is registered.
@@ -186,7 +177,7 @@ impl Table {
         ensures all { from_entries result ≡ self.now.registrations }
         ensures once { IsDistinct nat_eq (keys_of result) }
         ensures count { length result ≡ len self.now.registrations }
-        ensures limit { length result ≤ TABLE_LIMIT }
+        ensures limit { length result ≤ MOST_ENTRIES }
     {
         Pairs::of(self.entries.iter())
     }
@@ -198,21 +189,34 @@ impl Table {
         self.entries.get(&object).copied()
     }
 
-    /// Whether the table has no room for the object: it is full, and the object isn't registered.
+    /// Goes on with a later number, which is the next that a registration gets.
+    pub fn skip_to(&mut self, number: u64)
+        requires { self.old.next_number ≤ number }
+        ensures skipped { self.new.registered ≡ record self.old.registered { next_number = number } }
+        ensures room { self.new.room ≡ self.old.room }
+    {
+        self.next_number = number;
+    }
+
+    /// The number that the next registration gets.
+    pub fn next_number(&self) -> u64
+        ensures { result ≡ self.now.next_number }
+    {
+        self.next_number
+    }
+
+    /// Whether the table has as many registrations as it can have, and none of the object.
+    pub fn lacks_place(&self, object: Addr) -> bool
+        ensures { result ≡ lacks_place self.now.registrations object }
+    {
+        self.len() as u64 >= MOST_ENTRIES && self.get(object).is_none()
+    }
+
+    /// Whether 65,536 other objects are registered.
     fn is_full_for(&self, object: Addr) -> bool
         ensures { result ≡ (full self.now.registrations object).0 }
     {
         self.len() as u64 >= TABLE_LIMIT && self.get(object).is_none()
-    }
-}
-
-/// 1 where there is a registration, and its rank isn't 0.
-fn ranked_in(registration: Option<Registration>) -> usize
-    ensures { result ≡ cond (has_rank registration) 1 0 }
-{
-    match registration {
-        Some(registration) => (registration.rank != 0) as usize,
-        None => 0,
     }
 }
 

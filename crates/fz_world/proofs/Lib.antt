@@ -5,6 +5,7 @@ pub mod Does
 pub mod Inside
 pub mod Keeping
 pub mod Whole
+pub mod Targets
 pub mod Scans
 pub mod Passing
 pub mod Replying

@@ -1,5 +1,5 @@
 -- Each change of a world's parts keeps what a world keeps of them.
-use Rattle.std.proofs.Common.{◌≡◌, ◌≤◌, ◌<◌, ◌+◌, ◌*◌, ℕ, Bool, true, false, not, List, [], Some, None, refl, sym, ap, ◌∙◌, subst, arith, filter, IsTrue, IsFalse, true≢false, length, replicate, nat_cmp, ◌-◌, cond, nat_le, nat_lt, Equal, ◌&&◌, Option, is_some, slice_get, ◌≢◌, zero, suc, ◌∷◌}
+use Rattle.std.proofs.Common.{◌≡◌, ◌≤◌, ◌<◌, ◌+◌, ℕ, Bool, true, false, not, List, [], Some, None, refl, sym, ap, ◌∙◌, subst, arith, filter, IsTrue, IsFalse, true≢false, length, replicate, nat_cmp, ◌-◌, cond, nat_le, nat_lt, Equal, ◌&&◌, Option, is_some, slice_get, ◌≢◌, zero, suc, ◌∷◌}
 use Rattle.std.proofs.lemmas.Bool.{not-false, leb-true, and_parts}
 use Rattle.std.proofs.lemmas.List.{length-replicate}
 use Rattle.std.specs.Cmp.{nat_cmp_total, ranked}
@@ -11,7 +11,7 @@ use Rattle.fz_model.specs.declared.finalizer.Finalizer.{Finalizer}
 use Rattle.fz_model.specs.declared.answers.Entry.{Entry}
 use Rattle.fz_model.specs.declared.answers.Pick.{Pick}
 use Rattle.fz_model.specs.declared.answers.Registration.{Registration}
-use Rattle.fz_model.specs.declared.limits.TheConstants.{BLOCK_WORDS, MAX_OBJECT_WORDS}
+use Rattle.fz_model.specs.declared.limits.TheConstants.{MAX_OBJECT_WORDS}
 use Rattle.fz_model.specs.State.{Map, Object, Core}
 use Rattle.fz_model.specs.Memory.{written, new_object}
 use Rattle.fz_model.specs.Allocation.{block_of, blocks_for, place_for}
@@ -50,15 +50,14 @@ still_swept condemned first count none =
     ∙ ap (λ b. b && is_left first count q) (ap (λ (s : Set). sets.contains s q) none ∙ sets.contains-empty nat_cmp q)
     ∙ sym (sets.contains-empty nat_cmp q))
 
-pub world_opening : (heap : Contents) (table : Registered) (ready : Ready) (marker : Marking) (pages : Pages) (blocks : ℕ) → heap.blocks ≡ blocks → heap.objects ≡ map.empty → table ≡ record { registrations = map.empty; next_number = 0 } → (ready.queue ≡ []) × (ready.held ≡ []) → marker.size ≡ BLOCK_WORDS * blocks → pages.pages ≡ blocks → IsWorld heap table ready marker pages false
+pub world_opening : (heap : Contents) (table : Registered) (ready : Ready) (marker : Marking) (pages : Pages) (blocks : ℕ) → heap.blocks ≡ blocks → heap.objects ≡ map.empty → table ≡ record { registrations = map.empty; next_number = 0 } → (ready.queue ≡ []) × (ready.held ≡ []) → pages.pages ≡ blocks → IsWorld heap table ready marker pages false
 unfolding IsWorld
-world_opening heap table ready marker pages blocks few none nothing empty size all = (
+world_opening heap table ready marker pages blocks few none nothing empty all = (
   record {
     sound =
         let Sound = λ (objects : Map Object) (t : Registered) (queue held : List Entry). AreSound objects t.registrations t.next_number queue held in
         let first : Sound heap.objects table ready.queue ready.held = rw none (rw nothing (rw empty.0 (rw empty.1 sound_opening))) in
         first;
-    size = size ∙ ap (λ n. BLOCK_WORDS * n) (sym few);
     pages_are = all ∙ sym few;
     room = let zero_ = ap (λ (t : Registered). map.len t.registrations) nothing ∙ len-empty nat_cmp Registration in omega (arith, zero_);
   },
@@ -66,10 +65,6 @@ world_opening heap table ready marker pages blocks few none nothing empty size a
 )
 
 module _ (heap : Contents) (table : Registered) (ready : Ready) (marker : Marking) (pages : Pages) (cycle : Bool) where
-  pub world_size : IsWorld heap table ready marker pages cycle → marker.size ≡ BLOCK_WORDS * heap.blocks
-  unfolding IsWorld
-  world_size h = h.0.size
-
   pub world_pages : IsWorld heap table ready marker pages cycle → pages.pages ≡ heap.blocks
   unfolding IsWorld
   world_pages h = h.0.pages_are
@@ -97,21 +92,20 @@ module _ (heap : Contents) (table : Registered) (ready : Ready) (marker : Markin
   unfolding IsWorld
   world_none_condemned h on = (h.1 on).none_condemned
 
-  -- other marks and pages, for as many addresses and pages
-  resized : (addresses page_count : ℕ) → addresses ≡ marker.size → page_count ≡ pages.pages → IsWhole heap.objects heap.blocks table ready marker.size pages.pages → IsWhole heap.objects heap.blocks table ready addresses page_count
-  resized addresses page_count size all h =
-      subst (λ n. IsWhole heap.objects heap.blocks table ready n page_count) (sym size) (subst (λ n. IsWhole heap.objects heap.blocks table ready marker.size n) (sym all) h)
+  -- as many pages
+  repaged : (page_count : ℕ) → page_count ≡ pages.pages → IsWhole heap.objects heap.blocks table ready pages.pages → IsWhole heap.objects heap.blocks table ready page_count
+  repaged page_count all h = subst (λ n. IsWhole heap.objects heap.blocks table ready n) (sym all) h
 
   -- other marks and pages, while no cycle is open
-  pub world_remarked : (condemned : Set) (other : Marking) (others : Pages) → other.size ≡ marker.size → others.pages ≡ pages.pages → IsWorld heap table ready marker pages cycle → IsWorld (record heap { condemned = condemned }) table ready other others false
+  pub world_remarked : (condemned : Set) (other : Marking) (others : Pages) → others.pages ≡ pages.pages → IsWorld heap table ready marker pages cycle → IsWorld (record heap { condemned = condemned }) table ready other others false
   unfolding IsWorld
-  world_remarked condemned other others size all h = (resized other.size others.pages size all h.0, λ on. absurd (true≢false (sym on)))
+  world_remarked condemned other others all h = (repaged others.pages all h.0, λ on. absurd (true≢false (sym on)))
 
   -- marks begun anew after a sweep, in an open cycle or outside one
-  pub world_anew : (other : Marking) (others : Pages) (opens : Bool) → other.size ≡ marker.size → others.pages ≡ pages.pages → other.scanned ≡ sets.empty → other.scans ≡ 0 → IsWorld heap table ready marker pages cycle → IsWorld (record heap { condemned = sets.empty }) table ready other others opens
+  pub world_anew : (other : Marking) (others : Pages) (opens : Bool) → others.pages ≡ pages.pages → other.scanned ≡ sets.empty → other.scans ≡ 0 → IsWorld heap table ready marker pages cycle → IsWorld (record heap { condemned = sets.empty }) table ready other others opens
   unfolding IsWorld
-  world_anew other others opens size all none zero_ h = (
-    resized other.size others.pages size all h.0,
+  world_anew other others opens all none zero_ h = (
+    repaged others.pages all h.0,
     λ on. record {
       clean = λ a scanned. absurd (true≢false (sym scanned ∙ ap (λ s. sets.contains s a) none ∙ sets.contains-empty nat_cmp a));
       once = omega (arith, zero_);
@@ -120,10 +114,10 @@ module _ (heap : Contents) (table : Registered) (ready : Ready) (marker : Markin
   )
 
   -- marks come, and what is scanned has marked children
-  pub world_stepped : (new : Marking) → new.size ≡ marker.size → IsWithin marker.marked new.marked → ((a : ℕ) → IsTrue (is_newly_in marker.scanned new.scanned a) → HasChildrenIn heap.objects new.marked a) → IsWithin marker.scanned new.scanned → new.scans ≤ marker.scans + readable_count heap.objects (is_newly_in marker.scanned new.scanned) → IsWorld heap table ready marker pages cycle → IsWorld heap table ready new pages cycle
+  pub world_stepped : (new : Marking) → IsWithin marker.marked new.marked → ((a : ℕ) → IsTrue (is_newly_in marker.scanned new.scanned a) → HasChildrenIn heap.objects new.marked a) → IsWithin marker.scanned new.scanned → new.scans ≤ marker.scans + readable_count heap.objects (is_newly_in marker.scanned new.scanned) → IsWorld heap table ready marker pages cycle → IsWorld heap table ready new pages cycle
   unfolding IsWorld
-  world_stepped new size kept closed still each_once h = (
-    resized new.size pages.pages size refl h.0,
+  world_stepped new kept closed still each_once h = (
+    h.0,
     λ on. record {
       clean = λ a scanned off. at a scanned off ((h.1 on).clean a) (sets.contains marker.scanned a) refl;
       once = let was = (h.1 on).once in let more = readable_more heap.objects marker.scanned new.scanned still in omega (arith, was, more, each_once);
@@ -155,7 +149,6 @@ module _ (heap : Contents) (table : Registered) (ready : Ready) (marker : Markin
   world_written place value h = (
     record {
       sound = sound_written heap.objects table.registrations table.next_number ready.queue ready.held place value h.0.sound;
-      size = h.0.size;
       pages_are = h.0.pages_are;
       room = h.0.room;
     },
@@ -172,7 +165,6 @@ module _ (heap : Contents) (table : Registered) (ready : Ready) (marker : Markin
   world_made size kind a none place h = (
     record {
       sound = sound_made heap.objects table.registrations table.next_number ready.queue ready.held heap.blocks heap.next_birth heap.next_birth size kind a none place h.0.sound;
-      size = h.0.size;
       pages_are = h.0.pages_are;
       room = h.0.room;
     },
@@ -198,7 +190,6 @@ module _ (heap : Contents) (table : Registered) (ready : Ready) (marker : Markin
   world_removed object h = (
     record {
       sound = sound_removed heap.objects table.registrations table.next_number ready.queue ready.held object h.0.sound;
-      size = h.0.size;
       pages_are = h.0.pages_are;
       room = let few = fewer in let room = h.0.room in omega (arith, few, room);
     },
@@ -216,7 +207,6 @@ module _ (heap : Contents) (table : Registered) (ready : Ready) (marker : Markin
   world_registered object finalizer roomier none same room h = (
     record {
       sound = subst (Sound roomier.held) (sym same.0) (subst (λ held. Sound held ready.queue) (sym same.1) (sound_registered heap.objects table.registrations table.next_number ready.queue ready.held object finalizer none h.0.sound));
-      size = h.0.size;
       pages_are = h.0.pages_are;
       room = room;
     },
@@ -232,7 +222,6 @@ module _ (heap : Contents) (table : Registered) (ready : Ready) (marker : Markin
   world_roomier roomier same room h = (
     record {
       sound = subst (λ q. AreSound heap.objects table.registrations table.next_number q roomier.held) (sym same.0) (subst (λ q. AreSound heap.objects table.registrations table.next_number ready.queue q) (sym same.1) h.0.sound);
-      size = h.0.size;
       pages_are = h.0.pages_are;
       room = let was = h.0.room in omega (arith, was, room);
     },
@@ -244,7 +233,6 @@ module _ (heap : Contents) (table : Registered) (ready : Ready) (marker : Markin
   world_finished keep fewer queue held room h = (
     record {
       sound = subst (λ q. AreSound heap.objects table.registrations table.next_number q fewer.held) (sym queue) (subst (λ q. AreSound heap.objects table.registrations table.next_number ready.queue q) (sym held) (sound_filtered heap.objects table.registrations table.next_number ready.queue ready.held keep h.0.sound));
-      size = h.0.size;
       pages_are = h.0.pages_are;
       room = let was = h.0.room in omega (arith, was, room);
     },
@@ -305,17 +293,16 @@ left_fit old new found picks d =
 
 module _ (c : Core) (found : ℕ → Bool) (passed : Passed) (new : Core) (p : Passes c found passed new) (reachable : (a : ℕ) → IsReachable c a → IsTrue (found a)) where
   pub world_passed : (heap after : Contents) (table left : Registered) (ready later : Ready) (marker other : Marking) (pages : Pages) → c.objects ≡ heap.objects → c.registrations ≡ table.registrations → c.next_number ≡ table.next_number → c.queue ≡ ready.queue → c.held ≡ ready.held
-      → new.objects ≡ after.objects → new.registrations ≡ left.registrations → new.next_number ≡ left.next_number → new.queue ≡ later.queue → new.held ≡ later.held → after.blocks ≡ heap.blocks → other.size ≡ marker.size → map.len left.registrations ≤ later.room
+      → new.objects ≡ after.objects → new.registrations ≡ left.registrations → new.next_number ≡ left.next_number → new.queue ≡ later.queue → new.held ≡ later.held → after.blocks ≡ heap.blocks → map.len left.registrations ≤ later.room
       → IsWorld heap table ready marker pages false → IsWorld after left later other pages false
   unfolding IsWorld
-  world_passed heap after table left ready later marker other pages o1 o2 o3 o4 o5 n1 n2 n3 n4 n5 blocks size room h = (
+  world_passed heap after table left ready later marker other pages o1 o2 o3 o4 o5 n1 n2 n3 n4 n5 blocks room h = (
     record {
       sound =
           let Sound = λ (objects : Map Object) (registrations : Map Registration) (next : ℕ) (queue held : List Entry). AreSound objects registrations next queue held in
           let before : Sound c.objects c.registrations c.next_number c.queue c.held = rw (o1, o2, o3, o4, o5) h.0.sound in
           let after_ : Sound new.objects new.registrations new.next_number new.queue new.held = sound_passed c found passed new reachable p before in
           rw (← n1, ← n2, ← n3, ← n4, ← n5) after_;
-      size = size ∙ h.0.size ∙ ap (λ n. BLOCK_WORDS * n) (sym blocks);
       pages_are = h.0.pages_are ∙ sym blocks;
       room = room;
     },

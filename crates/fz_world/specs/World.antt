@@ -1,11 +1,11 @@
 -- What contracts see of a world: all that a state of the model keeps but what an open cycle has seen; and of the cycle begun last the marked
 -- and the scanned objects, the noted pages, and the number of scans.
-use Rattle.std.specs.Prelude.{◌≡◌, ℕ, ◌+◌, ◌<◌, ◌≤◌, ◌*◌, Bool, List, if◌then◌else◌, IsTrue, refl}
+use Rattle.std.specs.Prelude.{◌≡◌, ℕ, ◌+◌, ◌<◌, ◌≤◌, Bool, List, if◌then◌else◌, IsTrue, refl}
 use Rattle.std.specs.Coded.{Coded, code_by, coded×, coded_ℕ}
 use Rattle.std.specs.FinSet as sets
 use Rattle.std.specs.FinSet.{contains, insert}
 use Rattle.std.specs.FinMap as map
-use Rattle.fz_model.specs.declared.limits.TheConstants.{BLOCK_WORDS, COUNT_LIMIT}
+use Rattle.fz_model.specs.declared.limits.TheConstants.{COUNT_LIMIT}
 use Rattle.fz_model.specs.State.{Map, Object, Core}
 use Rattle.fz_model.specs.Allocation.{block_of}
 use Rattle.fz_model.specs.Codes.{core_code}
@@ -16,6 +16,7 @@ use Rattle.fz_links.specs.Linked.{Linked}
 use Rattle.fz_bits.specs.Flags.{Set}
 use Rattle.fz_dirty.specs.Pages.{Pages}
 use Rattle.fz_marker.specs.Marking.{Marking, CleanAreClosed, readable_count}
+use Rattle.fz_pass.specs.Marks.{AreTargets}
 use Rattle.fz_world.specs.Ready.{Ready}
 
 pub record WorldView : Type 0 where
@@ -69,10 +70,9 @@ MarksMade old address new =
 abbrev pub NotesWritten : WorldView → ℕ → WorldView → Type 0
 NotesWritten old address new = new ≡ record old { core = new.core; noted = with_in_cycle old.cycle old.noted (block_of address) }
 
--- what a world keeps of its parts, with marks for a number of addresses and a number of pages
-pub record IsWhole (objects : Map Object) (blocks : ℕ) (table : Registered) (ready : Ready) (addresses pages : ℕ) : Type 0 where
+-- what a world keeps of its parts, with a number of pages
+pub record IsWhole (objects : Map Object) (blocks : ℕ) (table : Registered) (ready : Ready) (pages : ℕ) : Type 0 where
   pub sound : AreSound objects table.registrations table.next_number ready.queue ready.held
-  pub size : addresses ≡ BLOCK_WORDS * blocks
   pub pages_are : pages ≡ blocks
   -- there is room for the entries of all registrations
   pub room : map.len table.registrations ≤ ready.room
@@ -88,8 +88,12 @@ pub record IsMidCycle (heap : Contents) (marker : Marking) (noted : Set) : Type 
 -- both as one word that proofs hand on whole
 unfoldable pub IsWorld : Contents → Registered → Ready → Marking → Pages → Bool → Type 0
 IsWorld heap table ready marker pages cycle =
-    IsWhole heap.objects heap.blocks table ready marker.size pages.pages × (IsTrue cycle → IsMidCycle heap marker pages.noted)
+    IsWhole heap.objects heap.blocks table ready pages.pages × (IsTrue cycle → IsMidCycle heap marker pages.noted)
 
 -- a cycle is open only where its pass has a number
 abbrev pub HasNumber : ℕ → Bool → Type 0
 HasNumber passes cycle = IsTrue cycle → passes + 1 < COUNT_LIMIT
+
+-- the targets of links are objects, as one word
+unfoldable pub HaveTargets : Map Object → Map ℕ → Type 0
+HaveTargets objects links = AreTargets objects links

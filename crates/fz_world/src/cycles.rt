@@ -55,7 +55,7 @@ impl World {
         if !self.cycle {
             return Err(Refusal::NoCycle);
         }
-        Ok(self.marker.step(&self.heap, budget))
+        Ok(self.marked.marker.step(&self.marked.heap, budget))
     }
 
     /// Ends the cycle: marks on from the roots as they are now, and from marked objects on noted pages, and carries out a pass.
@@ -89,7 +89,7 @@ impl World {
     {
         self.check_begin()?;
         self.mark_anew(false);
-        self.marker.finish(&self.heap, &self.dirty);
+        self.marked.marker.finish(&self.marked.heap, &self.dirty);
         Ok(self.pass())
     }
 
@@ -97,7 +97,7 @@ impl World {
     pub fn scans(&self) -> u64
         ensures { result ≡ self.now.scans }
     {
-        self.marker.scans()
+        self.marked.marker.scans()
     }
 
     /// How many pages were noted in the cycle begun last; 0 before any.
@@ -130,12 +130,12 @@ impl World {
         ensures core { self.new.core ≡ record self.old.core { cycle = opens } }
         ensures begun { IsBegun self.old self.new }
     {
-        self.heap.sweep_all();
-        self.marker.begin();
+        self.marked.heap.sweep_all();
+        self.marked.marker.begin();
         self.dirty.take_all();
         mark_roots(
-            &mut self.marker,
-            &self.heap,
+            &mut self.marked.marker,
+            &self.marked.heap,
             &self.frames,
             &self.table,
             &self.ready,
@@ -157,14 +157,14 @@ impl World {
         ensures passes { self.old.passes + 1 < COUNT_LIMIT }
     {
         mark_roots(
-            &mut self.marker,
-            &self.heap,
+            &mut self.marked.marker,
+            &self.marked.heap,
             &self.frames,
             &self.table,
             &self.ready,
             self.closed,
         );
-        self.marker.finish(&self.heap, &self.dirty);
+        self.marked.marker.finish(&self.marked.heap, &self.dirty);
         self.cycle = false;
     }
 
@@ -180,8 +180,7 @@ impl World {
         self.passes += 1;
         self.ready.pass(
             self.passes,
-            &mut self.heap,
-            &mut self.marker,
+            &mut self.marked,
             &mut self.table,
             &mut self.short,
             &mut self.long,

@@ -77,8 +77,8 @@ impl World {
     pub fn reclaimed(&self) -> u64
         ensures { result ≡ self.now.next_birth - len self.now.objects }
     {
-        let mut reclaimed = self.heap.births();
-        let mut starts = self.heap.objects();
+        let mut reclaimed = self.marked.heap.births();
+        let mut starts = self.marked.heap.objects();
         while starts.next().is_some() {
             reclaimed = reclaimed.saturating_sub(1);
         }

@@ -1,7 +1,8 @@
 //! Disappearing links.
 
-ghost use Rattle.std.specs.Prelude.{◌≡◌, ◌≤◌, IfOk, IfErr, OnErr, IsSome};
+ghost use Rattle.std.specs.Prelude.{◌≡◌, ◌≤◌, IfOk, IfErr, OnErr, IsSome, IsTrue};
 ghost use Rattle.std.specs.Option.{IsNone};
+ghost use Rattle.std.specs.FinMap.{contains_key};
 ghost use Rattle.fz_model.specs.Memory.{slot_word, address_of};
 ghost use Rattle.fz_model.specs.Causes.{IsJudgedBy, IsJudgedOrLacks};
 ghost use Rattle.fz_model.specs.declared.call.Call.TheVariants as calls;
@@ -38,6 +39,7 @@ fn ends(frames: &Frames, heap: &Heap, place: Place, target: Slot) -> Result<(Add
     ensures judged { IsJudgedBy (end_causes frames.now heap.now.objects place target) result }
     ensures place { IfOk result (λ ends. ends.0 ≡ address_of frames.now place) }
     ensures target { IfOk result (λ ends. ends.1 ≡ slot_word frames.now target) }
+    ensures object { IfOk result (λ ends. IsTrue (contains_key heap.now.objects ends.1)) }
 {
     let word = frames.get(place.slot)?;
     let start = frames.get(target)?;
@@ -88,8 +90,8 @@ impl World {
             frame: target_frame,
             slot: target_slot,
         };
-        let (link, target) = ends(&self.frames, &self.heap, place, target)?;
-        let most = most_entries(&self.heap);
+        let (link, target) = ends(&self.frames, &self.marked.heap, place, target)?;
+        let most = most_entries(&self.marked.heap);
         match which {
             LinkKind::Short => {
                 make_first_room(&mut self.short, most);
@@ -119,7 +121,7 @@ impl World {
         ensures marks { KeepsMarks self.old self.new }
     {
         let word = self.frames.get(Slot { frame, slot })?;
-        let link = self.heap.place(word, offset)?;
+        let link = self.marked.heap.place(word, offset)?;
         Ok(match which {
             LinkKind::Short => self.short.unregister(link),
             LinkKind::Long => self.long.unregister(link),
@@ -157,7 +159,7 @@ impl World {
             },
             offset: to_offset,
         };
-        let (old, new) = places(&self.frames, &self.heap, place, to)?;
+        let (old, new) = places(&self.frames, &self.marked.heap, place, to)?;
         match which {
             LinkKind::Short => self.short.move_link(old, new),
             LinkKind::Long => self.long.move_link(old, new),

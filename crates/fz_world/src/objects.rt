@@ -38,7 +38,7 @@ fn mark_new(marker: &mut Marker, cycle: bool, start: Addr, blocks: u64)
     }
 }
 
-#[tactic(auto, using(fz_model::proofs::Judged::judged_more, fz_model::proofs::Judged::judged_err, crate::proofs::Whole::world_size, crate::proofs::Whole::world_pages, crate::proofs::Whole::world_made, crate::proofs::Whole::world_written, crate::proofs::Does::does_refused, crate::proofs::Does::does_accepted, crate::proofs::Does::does_alloc))]
+#[tactic(auto, using(fz_model::proofs::Judged::judged_more, fz_model::proofs::Judged::judged_err, crate::proofs::Targets::targets_made, crate::proofs::Targets::targets_written, crate::proofs::Whole::world_pages, crate::proofs::Whole::world_made, crate::proofs::Whole::world_written, crate::proofs::Does::does_refused, crate::proofs::Does::does_accepted, crate::proofs::Does::does_alloc))]
 impl World {
     /// Makes an object of `size` words, all of them zero, and puts its address into the slot. Returns the address and the birth. An atomic
     /// object is one of `GC_malloc_atomic`. In an open cycle the object is marked and its page noted.
@@ -58,9 +58,14 @@ impl World {
         ensures marks { IfOk result (λ made. MarksMade self.old made.0 self.new) }
     {
         self.frames.check(Slot { frame, slot })?;
-        let (address, birth) = self.heap.alloc(size, kind)?;
+        let (address, birth) = self.marked.heap.alloc(size, kind)?;
         self.frames.set(Slot { frame, slot }, address);
-        mark_new(&mut self.marker, self.cycle, address, self.heap.blocks());
+        mark_new(
+            &mut self.marked.marker,
+            self.cycle,
+            address,
+            self.marked.heap.blocks(),
+        );
         note_written(&mut self.dirty, self.cycle, address);
         Ok((address, birth))
     }
@@ -87,7 +92,7 @@ impl World {
             slot: to_slot,
         };
         self.frames.check(to)?;
-        let read = self.heap.read(word, offset)?;
+        let read = self.marked.heap.read(word, offset)?;
         self.frames.set(to, read);
         Ok(read)
     }
@@ -114,7 +119,7 @@ impl World {
             frame: from_frame,
             slot: from_slot,
         })?;
-        self.heap.write(word, offset, value)?;
+        self.marked.heap.write(word, offset, value)?;
         note_written(&mut self.dirty, self.cycle, word + offset);
         Ok(())
     }

@@ -1,22 +1,20 @@
 //! The queue of finalizers that are ready, and those of its entries that are held.
 
-ghost use Rattle.std.specs.Prelude.{◌≡◌, ◌≤◌, ◌<◌, ◌+◌, ◌*◌, ◌^◌, [], ◌∷◌, ◌||◌, not, ℕ, filter, length, Contains, vec_len, vec_capacity, OnOk, OnErr, IfOk, IfErr, IfSome, MatchOption};
+ghost use Rattle.std.specs.Prelude.{◌≡◌, ◌≤◌, ◌<◌, ◌+◌, ◌^◌, [], ◌∷◌, ◌||◌, not, ℕ, filter, length, Contains, vec_len, vec_capacity, OnOk, OnErr, IfOk, IfErr, IfSome, MatchOption};
 ghost use Rattle.std.specs.FinSet.{contains};
 ghost use Rattle.std.specs.FinMap.{len};
 ghost use Rattle.fz_model.specs.declared.answers.Entry.{Entry};
-ghost use Rattle.fz_model.specs.declared.limits.TheConstants.{TABLE_LIMIT, BLOCK_WORDS};
 ghost use Rattle.fz_model.specs.Causes.{IsJudgedBy};
 ghost use Rattle.fz_model.specs.Events.{same_entry, not_held};
 ghost use Rattle.fz_marker.specs.Marking.{IsClosed};
-ghost use Rattle.fz_pass.specs.Decides.{parts};
+ghost use Rattle.fz_pass.specs.Decides.{parts_of};
+ghost use Rattle.fz_pass.specs.Marks.{AreRegistered, AreTargets};
 ghost use Rattle.fz_world.specs.Ready.{IsNextHeld, GainsDecided, is_between};
 
 use fz_bits::SparseFlags;
-use fz_heap::Heap;
 use fz_links::Links;
-use fz_marker::Marker;
-use fz_model::{Entry, Passed, Refusal};
-use fz_pass::decide;
+use fz_marked::{Marked, decide};
+use fz_model::{Addr, Entry, Passed, Refusal};
 use fz_table::Table;
 use std::alloc::Global;
 use std::marker::Model;
@@ -28,10 +26,12 @@ pub(crate) struct Ready {
     /// The numbers of the held entries, as bits in two levels: a walk over a long past takes a step for 4,096 finished entries.
     held: SparseFlags,
     outstanding: u64,
+    /// The picks of a pass, by rank, then address, while it goes on; empty between passes.
+    picks: Vec<(u8, Addr)>,
 }
 
 impl Model for Ready {
-    ghost use Rattle.std.specs.Prelude.{◌-◌, min, vec_len, vec_capacity};
+    ghost use Rattle.std.specs.Prelude.{◌≡◌, ◌-◌, [], min, vec_len, vec_capacity};
     ghost use Rattle.fz_world.specs.Ready.{Ready, ready_code, numbered_in, IsReady};
 
     ghost Value = { Ready };
@@ -41,15 +41,15 @@ impl Model for Ready {
     ghost view = { λ r. record {
       queue = r.queue.items;
       held = numbered_in r.held.members r.queue.items;
-      room = min (vec_capacity r.queue - vec_len r.queue) (r.held.size - vec_len r.queue);
+      room = min (min (vec_capacity r.queue - vec_len r.queue) (r.held.size - vec_len r.queue)) (vec_capacity r.picks);
     } };
 
-    ghost invariant = { λ r. IsReady r.queue.items r.held.members r.outstanding };
+    ghost invariant = { λ r. IsReady r.queue.items r.held.members r.outstanding × (r.picks.items ≡ []) };
 }
 
 /// Makes room for `more` entries at the end of a queue; returns how many there may be then.
 fn reserve(queue: &mut Vec<Entry>, more: usize) -> Result<u64, Refusal>
-    requires { more ≤ TABLE_LIMIT }
+    requires { more ≤ 2 ^ 32 }
     ensures refused { IfErr result (λ r. r ≡ Refusal.NoMemory) }
     ensures wanting { OnErr result (vec_capacity queue.old < vec_len queue.old + more) }
     ensures items { queue.new.items ≡ queue.old.items }
@@ -85,6 +85,7 @@ impl Ready {
             queue: Vec::new(alloc),
             held,
             outstanding: 0,
+            picks: Vec::new(alloc),
         })
     }
 
@@ -113,7 +114,7 @@ impl Ready {
 
     /// Makes room for further entries. `NoMemory` where an allocation failed.
     pub(crate) fn reserve(&mut self, more: usize) -> Result<(), Refusal>
-        requires { more ≤ TABLE_LIMIT }
+        requires { more ≤ 2 ^ 32 }
         ensures refused { IfErr result (λ r. r ≡ Refusal.NoMemory) }
         ensures wanting { 0 < more → OnErr result (self.old.room < more) }
         ensures same { (self.new.queue ≡ self.old.queue) × (self.new.held ≡ self.old.held) }
@@ -121,6 +122,7 @@ impl Ready {
         ensures room { OnOk result (more ≤ self.new.room) }
     {
         let entries = reserve(&mut self.queue, more)?;
+        self.picks.reserve(more)?;
         self.held.extend_to(entries.div_ceil(64))
     }
 
@@ -129,25 +131,34 @@ impl Ready {
     pub(crate) fn pass(
         &mut self,
         number: u64,
-        heap: &mut Heap,
-        marker: &mut Marker,
+        marked: &mut Marked,
         table: &mut Table,
         short: &mut Links,
         long: &mut Links,
     ) -> Passed
-        requires size { marker.old.size ≡ BLOCK_WORDS * heap.old.blocks }
-        requires closed { IsClosed heap.old.objects marker.old.marked }
+        requires closed { IsClosed marked.old.heap.objects marked.old.marker.marked }
+        requires registered { AreRegistered marked.old.heap.objects table.old.registrations }
+        requires short { AreTargets marked.old.heap.objects short.old.links }
+        requires long { AreTargets marked.old.heap.objects long.old.links }
         requires room { len table.old.registrations ≤ self.old.room }
-        ensures decided { GainsDecided number (parts heap.old table.old.registered short.old long.old) (contains marker.old.marked) (parts heap.new table.new.registered short.new long.new) result.picked self.old self.new }
+        ensures decided { GainsDecided number (parts_of marked.old.heap.objects table.old short.old long.old) (contains marked.old.marker.marked) (parts_of marked.new.heap.objects table.new short.new long.new) result.picked self.old self.new }
         ensures number { result.pass ≡ number }
-        ensures reclaimed { len heap.new.objects + result.reclaimed ≡ len heap.old.objects }
+        ensures reclaimed { len marked.new.heap.objects + result.reclaimed ≡ len marked.old.heap.objects }
         ensures room { len table.new.registrations ≤ self.new.room }
-        ensures heap { heap.new ≡ record heap.old { objects = heap.new.objects; condemned = heap.new.condemned } }
-        ensures marker { marker.new ≡ record marker.old { traced = marker.new.traced; listed = marker.new.listed } }
+        ensures heap { marked.new.heap ≡ record marked.old.heap { objects = marked.new.heap.objects; condemned = marked.new.heap.condemned } }
+        ensures marker { marked.new.marker ≡ record marked.old.marker { traced = marked.new.marker.traced } }
         ensures table { table.new.registered ≡ record table.old.registered { registrations = table.new.registrations } }
     {
         let first = self.queue.len() as u64;
-        let reclaimed = decide(heap, marker, table, short, long, &mut self.queue, number);
+        let reclaimed = decide(
+            marked,
+            table,
+            short,
+            long,
+            &mut self.picks,
+            &mut self.queue,
+            number,
+        );
         let end = self.queue.len() as u64;
         hold(&mut self.held, first, end);
         self.outstanding += end - first;

@@ -1,8 +1,8 @@
 //! Registrations of finalizers.
 
-ghost use Rattle.std.specs.Prelude.{◌≡◌, ◌≤◌, ◌⊎◌, IsFalse, IfErr, OnOk, OnErr};
+ghost use Rattle.std.specs.Prelude.{◌≡◌, ◌≤◌, ◌⊎◌, IsTrue, IsFalse, IfErr, OnOk, OnErr};
 ghost use Rattle.std.specs.Option.{IsNone};
-ghost use Rattle.std.specs.FinMap.{get, len, insert};
+ghost use Rattle.std.specs.FinMap.{get, contains_key, len, insert};
 ghost use Rattle.fz_model.specs.declared.answers.Registration.{Registration};
 ghost use Rattle.fz_model.specs.declared.limits.TheConstants.{TABLE_LIMIT};
 ghost use Rattle.fz_model.specs.Causes.{IsJudgedBy, start_causes, is_off_heap, full};
@@ -33,6 +33,7 @@ fn is_off_heap(heap: &Heap, word: Word) -> bool
 /// Refuses a word that isn't the start of an object.
 pub(crate) fn check_start(heap: &Heap, word: Word) -> Result<(), Refusal>
     ensures judged { IsJudgedBy (start_causes heap.now.objects word) result }
+    ensures object { OnOk result (IsTrue (contains_key heap.now.objects word)) }
 {
     let Some(start) = heap.resolve(word) else {
         return Err(Refusal::NotPointer);
@@ -78,7 +79,8 @@ fn make_room(table: &Table, ready: &mut Ready, object: Addr) -> Result<(), Refus
     ensures room { OnOk result ((r : Registration) → len (insert table.now.registrations object r) ≤ ready.new.room) }
 {
     // Where the table is full, the object is registered.
-    let more = (table.len() + 1).min(TABLE_LIMIT as usize);
+    let count = table.len();
+    let more = (count + 1).min(count.max(TABLE_LIMIT as usize));
     let Err(refusal) = ready.reserve(more) else {
         return Ok(());
     };
@@ -139,11 +141,15 @@ impl World {
         ensures { RegistersFinalizer self.old slot finalizer result self.new }
     {
         let word = self.frames.get(slot)?;
-        if is_off_heap(&self.heap, word) {
+        if is_off_heap(&self.marked.heap, word) {
             return Ok(RegAnswer::Outside);
         }
-        check_start(&self.heap, word)?;
-        make_first_room(&mut self.table, &mut self.ready, most_entries(&self.heap));
+        check_start(&self.marked.heap, word)?;
+        make_first_room(
+            &mut self.table,
+            &mut self.ready,
+            most_entries(&self.marked.heap),
+        );
         let (number, old) = enroll(&mut self.table, &mut self.ready, word, finalizer)?;
         Ok(RegAnswer::Number(number, old))
     }
@@ -159,10 +165,10 @@ impl World {
         ensures marks { KeepsMarks self.old self.new }
     {
         let word = self.frames.get(Slot { frame, slot })?;
-        if is_off_heap(&self.heap, word) {
+        if is_off_heap(&self.marked.heap, word) {
             return Ok(None);
         }
-        check_start(&self.heap, word)?;
+        check_start(&self.marked.heap, word)?;
         Ok(self.table.remove(word))
     }
 }

@@ -58,21 +58,21 @@ impl World {
         ensures judged { IsJudgedBy (place_causes self.now.objects word offset) result }
         ensures read { IfOk result (λ read. read ≡ word_at self.now.objects (word + offset)) }
     {
-        self.heap.read(word, offset)
+        self.marked.heap.read(word, offset)
     }
 
     /// The starts of all objects, by rising address.
     pub fn starts(&self) -> Starts<'_>
         ensures { result ≡ keys self.now.objects }
     {
-        self.heap.objects()
+        self.marked.heap.objects()
     }
 
     /// The object that starts at the address, if one starts there.
     pub fn object(&self, start: Addr) -> Option<Object>
         ensures { result ≡ option_map (shown_object start) (get self.now.objects start) }
     {
-        let (size, kind, birth) = self.heap.facts(start)?;
+        let (size, kind, birth) = self.marked.heap.facts(start)?;
         Some(Object {
             start,
             size,
@@ -157,7 +157,7 @@ impl World {
     fn first_from(&self, table: Table, from: Addr) -> Option<Addr>
         ensures { MatchOption result (HasNoneFrom self.now.blocks (has_row self.now.core table) from) (IsFirstFrom self.now.blocks (has_row self.now.core table) from) }
     {
-        let end = HEAP_START + BLOCK_WORDS * self.heap.blocks();
+        let end = HEAP_START + BLOCK_WORDS * self.marked.heap.blocks();
         let mut address = from.max(HEAP_START);
         while address < end {
             if self.has_row(table, address) {

@@ -12,6 +12,7 @@ use crate::ready::Ready;
 use fz_dirty::Dirty;
 use fz_heap::Heap;
 use fz_links::Links;
+use fz_marked::Marked;
 use fz_marker::Marker;
 use fz_model::{MAX_FRAMES, Refusal};
 use fz_table::Table;
@@ -33,13 +34,12 @@ pub struct Config {
 /// returns the first of its refusals that stands, and changes nothing that a contract sees. Memory is taken by `open`, `register`, `link` and
 /// `move_link` alone.
 pub struct World {
-    pub(crate) heap: Heap,
+    pub(crate) marked: Marked,
     pub(crate) frames: Frames,
     pub(crate) table: Table,
     pub(crate) short: Links,
     pub(crate) long: Links,
     pub(crate) ready: Ready,
-    pub(crate) marker: Marker,
     pub(crate) dirty: Dirty,
     pub(crate) passes: u64,
     pub(crate) closed: bool,
@@ -50,13 +50,12 @@ pub struct World {
 impl Drop for World {
     fn drop(self) {
         let World {
-            heap: _,
+            marked: _,
             frames: _,
             table: _,
             short: _,
             long: _,
             ready: _,
-            marker: _,
             dirty: _,
             passes: _,
             closed: _,
@@ -66,22 +65,22 @@ impl Drop for World {
 }
 
 impl Model for World {
-    ghost use Rattle.fz_world.specs.World.{WorldView, world_code, core_of, view_of, IsWorld, HasNumber};
+    ghost use Rattle.fz_world.specs.World.{WorldView, world_code, core_of, view_of, IsWorld, HasNumber, HaveTargets};
 
     ghost Value = { WorldView };
 
     ghost coded = { world_code };
 
-    ghost view = { λ w. view_of (core_of w.heap w.frames w.table.registered w.short w.long w.ready w.passes w.closed w.cycle) w.marker w.dirty };
+    ghost view = { λ w. view_of (core_of w.marked.heap w.frames w.table.registered w.short w.long w.ready w.passes w.closed w.cycle) w.marked.marker w.dirty };
 
-    ghost invariant = { λ w. IsWorld w.heap w.table.registered w.ready w.marker w.dirty w.cycle × HasNumber w.passes w.cycle };
+    ghost invariant = { λ w. IsWorld w.marked.heap w.table.registered w.ready w.marked.marker w.dirty w.cycle × HasNumber w.passes w.cycle × HaveTargets w.marked.heap.objects w.short.links × HaveTargets w.marked.heap.objects w.long.links };
 }
 
 /// The marker and the pages of a heap.
 fn marks(alloc: Global, blocks: u64) -> Result<(Marker, Dirty), Refusal>
     requires { blocks ≤ MAX_BLOCKS }
     ensures refused { IfErr result (λ r. r ≡ Refusal.NoMemory) }
-    ensures marker { IfOk result (λ made. made.0 ≡ record { size = BLOCK_WORDS * blocks; marked = empty; scanned = empty; traced = empty; listed = empty; scans = 0 }) }
+    ensures marker { IfOk result (λ made. made.0 ≡ record { size = BLOCK_WORDS * blocks; marked = empty; scanned = empty; traced = empty; scans = 0 }) }
     ensures pages { IfOk result (λ made. made.1 ≡ record { pages = blocks; noted = empty }) }
 {
     let marker = Marker::new(alloc, blocks)?;
@@ -89,7 +88,7 @@ fn marks(alloc: Global, blocks: u64) -> Result<(Marker, Dirty), Refusal>
     Ok((marker, dirty))
 }
 
-#[tactic(auto, using(crate::proofs::Whole::world_opening))]
+#[tactic(auto, using(crate::proofs::Whole::world_opening, crate::proofs::Targets::targets_opening))]
 impl World {
     /// Opens a world without objects, all of whose slots are zero. Heap, marks and pages have all their memory from here on.
     ///
@@ -107,13 +106,12 @@ impl World {
         let ready = Ready::new(alloc)?;
         let (marker, dirty) = marks(alloc, heap.blocks())?;
         Ok(World {
-            heap,
+            marked: Marked { heap, marker },
             frames,
             table: Table::new(alloc),
             short: Links::new(alloc),
             long: Links::new(alloc),
             ready,
-            marker,
             dirty,
             passes: 0,
             closed: false,

@@ -1,13 +1,15 @@
-use Rattle.std.proofs.Common.{◌∙◌, sym, ap}
-use Rattle.std.specs.FinSet.{contains}
-use Rattle.fz_pass.proofs.Filling.{written_is}
-use Rattle.fz_pass.proofs.Dead.{cleared_live, cleared_dead}
+use Rattle.std.proofs.Common.{◌∙◌, sym}
+use Rattle.fz_pass.proofs.Cleared.{cleared_live, cleared_dead}
 use Rattle.fz_pass.proofs.clearing.clear_if_dead.Goals as goal
 
-pub returns-then-is_outside : goal.returns-then-is_outside
-returns-then-is_outside c =
-    c.clear_word.ensures ∙ ap (λ m. record c.args.heap.now { objects = m }) (written_is c.args.link 0 c.args.heap.now.objects)
-    ∙ cleared_dead c.args.heap.now (contains c.args.set.now.members) c.args.link c.args.target (sym c.is_outside.ensures.outside ∙ c.if-is_outside.true)
+pub returns-then-not-is_marked-clause-objects : goal.returns-then-not-is_marked-clause-objects
+returns-then-not-is_marked-clause-objects g c =
+    let t = g.H.Host in
+    let host = c.args.host.now in
+    c.clear.ensures.objects ∙ cleared_dead (t.objects host) (t.marked host) c.args.link c.args.target c.requires.target (sym c.is_marked.ensures ∙ c.if-not-is_marked.true)
 
-pub returns-else-is_outside : goal.returns-else-is_outside
-returns-else-is_outside c = cleared_live c.args.heap.now (contains c.args.set.now.members) c.args.link c.args.target (sym c.is_outside.ensures.outside ∙ c.if-is_outside.false)
+pub returns-else-not-is_marked-clause-objects : goal.returns-else-not-is_marked-clause-objects
+returns-else-not-is_marked-clause-objects g c =
+    let t = g.H.Host in
+    let host = c.args.host.now in
+    cleared_live (t.objects host) (t.marked host) c.args.link c.args.target (sym c.is_marked.ensures ∙ c.if-not-is_marked.false)

@@ -1,10 +1,10 @@
 use Rattle.std.proofs.Common.{◌≡◌, ◌∙◌, ◌-◌, ◌+◌, ◌≤◌, ℕ, length, slice_get, Some, nat_cmp, ap, sym, subst, arith}
 use Rattle.std.specs.FinMap.{len, from_entries, remove}
 use Rattle.std.specs.List.{swap_remove}
-use Rattle.fz_model.specs.declared.limits.TheConstants.{TABLE_LIMIT}
+use Rattle.fz_table.specs.declared.limits.TheConstants.{MOST_ENTRIES}
 use Rattle.fz_model.specs.State.{Map}
 use Rattle.fz_model.proofs.Tables.{get_made, made_removed}
-use Rattle.fz_model.proofs.KeyedEntries.{limit_removed}
+use Rattle.fz_table.proofs.Entries.{limit_removed}
 use Rattle.fz_links.proofs.Dropping.{IsSifted, sifted_kept, sifted_dropped, sifted_all, length-swap_remove}
 use Rattle.fz_links.proofs.links.Links.drop_where.Goals as goal
 
@@ -46,7 +46,7 @@ loop-place-preserved-then-f g c =
     let fewer = ap length left ∙ length-swap_remove es place (link, target) in
     record {
       within = omega (arith, within, fewer);
-      few = subst (λ (m : Map ℕ). len m ≤ TABLE_LIMIT) (sym removed) (limit_removed (from_entries es) link c.loop-place.invariant.few);
+      few = subst (λ (m : Map ℕ). len m ≤ MOST_ENTRIES) (sym removed) (limit_removed (from_entries es) link c.loop-place.invariant.few);
       roomier = let kept = c.swap_remove_index.ensures.room.0 in let before = c.loop-place.invariant.roomier in omega (arith, kept, before);
       sifted = λ test computes.
           sifted_dropped test c.args.self.now.links es c.swap_remove_index.new.self.entries place link target

@@ -1,6 +1,6 @@
 use Rattle.std.proofs.Common.{ℕ, ◌≤◌, Bool, length, nat_cmp}
 use Rattle.std.specs.FinMap.{len, from_entries}
-use Rattle.fz_model.specs.declared.limits.TheConstants.{TABLE_LIMIT}
+use Rattle.fz_table.specs.declared.limits.TheConstants.{MOST_ENTRIES}
 use Rattle.indexmap.specs.IndexMap.{spare}
 use Rattle.fz_links.specs.Dropped.{ComputesTest}
 use Rattle.fz_links.proofs.Dropping.{IsSifted}
@@ -9,7 +9,7 @@ use Rattle.fz_links.proofs.links.Links.drop_where.Given as goal
 abbrev pub invariant-loop-place : goal.invariant-loop-place
 invariant-loop-place g l = record {
   within : l.place ≤ length l.self-inside.entries.entries;
-  few : len (from_entries {R = nat_cmp} l.self-inside.entries.entries) ≤ TABLE_LIMIT;
+  few : len (from_entries {R = nat_cmp} l.self-inside.entries.entries) ≤ MOST_ENTRIES;
   roomier : l.fn.self.room ≤ spare l.self-inside.entries;
   sifted : (test : ℕ → ℕ → Bool) → ComputesTest (λ link target. g.F.Fn.post l.f (link, (target, tt))) test → IsSifted test l.fn.self.links l.place l.self-inside.entries.entries;
 }

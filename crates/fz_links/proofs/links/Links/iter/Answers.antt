@@ -1,6 +1,6 @@
 use Rattle.std.proofs.Common.{length, ◌≤◌, ◌∙◌, ap, sym, subst}
 use Rattle.std.specs.FinMap.{len}
-use Rattle.fz_model.specs.declared.limits.TheConstants.{TABLE_LIMIT}
+use Rattle.fz_table.specs.declared.limits.TheConstants.{MOST_ENTRIES}
 use Rattle.fz_links.specs.Linked.{Linked}
 use Rattle.fz_model.proofs.KeyedEntries.{len_made}
 use Rattle.fz_links.proofs.links.Links.iter.Goals as goal
@@ -11,4 +11,4 @@ returns-clause-count c =
 
 pub returns-clause-limit : goal.returns-clause-limit
 returns-clause-limit c =
-    subst (λ n. n ≤ TABLE_LIMIT) (len_made c.self.inside.entries.entries c.iter.ensures.unique ∙ sym (ap length c.of.ensures ∙ c.iter.ensures.len)) c.self.invariant
+    subst (λ n. n ≤ MOST_ENTRIES) (len_made c.self.inside.entries.entries c.iter.ensures.unique ∙ sym (ap length c.of.ensures ∙ c.iter.ensures.len)) c.self.invariant

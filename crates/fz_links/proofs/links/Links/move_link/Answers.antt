@@ -7,7 +7,7 @@ use Rattle.indexmap.specs.Entry.{map_with_value}
 use Rattle.indexmap.specs.IndexMap.{Updates}
 use Rattle.std.specs.Option.{IfSome}
 use Rattle.std.specs.Map.{lookup}
-use Rattle.fz_model.specs.declared.limits.TheConstants.{TABLE_LIMIT}
+use Rattle.fz_table.specs.declared.limits.TheConstants.{MOST_ENTRIES}
 use Rattle.fz_model.specs.Steps.{moved_to}
 use Rattle.fz_model.proofs.Tables.{made_inserted, made_removed}
 use Rattle.fz_links.specs.Linked.{Linked}
@@ -82,8 +82,8 @@ left c =
 
 pub invariant_of-self-2 : goal.invariant_of-self-2
 invariant_of-self-2 c =
-    let few = subst (λ (t : Linked). len t.links ≤ TABLE_LIMIT) c.self.view_is c.self.invariant in
-    subst (λ n. n ≤ TABLE_LIMIT) (sym (ap len (left c) ∙ len_moved c.args.self.now.links c.args.link c.args.new c.in-Some.target.now c.in-Some.target.now (here c) (free c))) few
+    let few = subst (λ (t : Linked). len t.links ≤ MOST_ENTRIES) c.self.view_is c.self.invariant in
+    subst (λ n. n ≤ MOST_ENTRIES) (sym (ap len (left c) ∙ len_moved c.args.self.now.links c.args.link c.args.new c.in-Some.target.now c.in-Some.target.now (here c) (free c))) few
 
 pub returns-clause-answer : goal.returns-clause-answer
 returns-clause-answer c =

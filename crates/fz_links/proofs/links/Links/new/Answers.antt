@@ -1,8 +1,8 @@
 use Rattle.std.proofs.Common.{ℕ, ◌≤◌, nat_cmp, sym, subst, arith}
 use Rattle.std.specs.FinMap.{len, from_entries, len-empty}
-use Rattle.fz_model.specs.declared.limits.TheConstants.{TABLE_LIMIT}
+use Rattle.fz_table.specs.declared.limits.TheConstants.{MOST_ENTRIES}
 use Rattle.fz_links.proofs.links.Links.new.Goals as goal
 
 pub invariant_of-result : goal.invariant_of-result
 invariant_of-result c =
-    subst (λ es. len (from_entries {R = nat_cmp} es) ≤ TABLE_LIMIT) (sym c.new.ensures.empty) (omega (arith, len-empty nat_cmp ℕ))
+    subst (λ es. len (from_entries {R = nat_cmp} es) ≤ MOST_ENTRIES) (sym c.new.ensures.empty) (omega (arith, len-empty nat_cmp ℕ))

@@ -1,14 +1,14 @@
 use Rattle.std.proofs.Common.{◌≤◌, ◌∙◌, ap, sym, subst, is_some}
 use Rattle.std.specs.FinMap.{get, len, remove}
-use Rattle.fz_model.specs.declared.limits.TheConstants.{TABLE_LIMIT}
+use Rattle.fz_table.specs.declared.limits.TheConstants.{MOST_ENTRIES}
 use Rattle.fz_model.proofs.Tables.{get_made, made_removed}
 use Rattle.fz_links.specs.Linked.{Linked}
-use Rattle.fz_model.proofs.KeyedEntries.{limit_removed}
+use Rattle.fz_table.proofs.Entries.{limit_removed}
 use Rattle.fz_links.proofs.links.Links.unregister.Goals as goal
 
 pub invariant_of-self : goal.invariant_of-self
 invariant_of-self c =
-    subst (λ m. len m ≤ TABLE_LIMIT) (sym (made_removed c.self.inside.entries.entries _ c.args.link c.swap_remove.ensures.updates.0)) (limit_removed _ c.args.link c.self.invariant)
+    subst (λ m. len m ≤ MOST_ENTRIES) (sym (made_removed c.self.inside.entries.entries _ c.args.link c.swap_remove.ensures.updates.0)) (limit_removed _ c.args.link c.self.invariant)
 
 pub returns-clause-answer : goal.returns-clause-answer
 returns-clause-answer c =

@@ -1,4 +1,4 @@
-use Rattle.std.proofs.Common.{◌≡◌, ◌∙◌, ℕ, ◌↔◌, ◌⊎◌, IsTrue, sym, ap, subst, inl, ⊎_elim}
+use Rattle.std.proofs.Common.{◌≡◌, ◌∙◌, ◌↔◌, ◌⊎◌, IsTrue, sym, ap, subst, inl, ⊎_elim}
 use Rattle.std.specs.FinSet.{contains}
 use Rattle.fz_model.proofs.Sets.{inserted_again}
 use Rattle.fz_model.specs.Reachability.{Leads}

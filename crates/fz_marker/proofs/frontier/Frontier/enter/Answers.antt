@@ -1,4 +1,4 @@
-use Rattle.std.proofs.Common.{◌≡◌, ◌≤◌, ◌+◌, ◌∙◌, ℕ, Bool, true, false, refl, sym, ap, subst, arith}
+use Rattle.std.proofs.Common.{◌≡◌, ◌≤◌, ℕ, Bool, true, false, refl, sym, ap, subst, arith}
 use Rattle.std.specs.FinSet.{contains, insert, len}
 use Rattle.fz_bits.specs.Flags.{Set, Flagged}
 use Rattle.fz_model.proofs.Sets.{len_inserted, inserted_again}

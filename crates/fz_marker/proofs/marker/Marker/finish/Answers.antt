@@ -1,7 +1,6 @@
 use Rattle.std.proofs.Common.{◌≡◌, ◌≤◌, ◌+◌, ◌*◌, ℕ, nat_cmp, IsTrue, Contains, subst, sym, ap, ◌∙◌, refl, arith, ⊎_elim}
 use Rattle.std.specs.FinSet.{contains, len, len-empty}
 use Rattle.fz_model.specs.declared.limits.TheConstants.{BLOCK_WORDS}
-use Rattle.fz_bits.specs.Flags.{Flagged}
 use Rattle.fz_model.specs.declared.answers.Progress.TheVariants.{More, Done}
 use Rattle.fz_marker.specs.Frontiers.{Frontier}
 use Rattle.fz_marker.specs.Marking.{Marking, IsLedFrom, CleanAreClosed, is_newly_in, is_to_scan, readable_count}
@@ -9,11 +8,11 @@ use Rattle.fz_marker.proofs.Proceeding.{proceeds_on}
 use Rattle.fz_marker.proofs.Noted.{few_to_scan}
 use Rattle.fz_marker.proofs.Tracing.{nothing_waits}
 use Rattle.fz_marker.proofs.Marked.{forgotten_cycle, forgotten_waits, finish_closed, finish_few}
-use Rattle.fz_marker.proofs.marker.Marker.finish.Goals.{After-clear-2}
+use Rattle.fz_marker.proofs.marker.Marker.finish.Goals.{After-clear}
 use Rattle.fz_marker.proofs.marker.Marker.finish.Goals as goal
 
 -- the last step can't stop before it is done
-all_scanned : (c : After-clear-2) → (a : ℕ) → IsTrue (contains c.step.new.self.marks.members a) → IsTrue (contains c.step.new.self.scanned.members a)
+all_scanned : (c : After-clear) → (a : ℕ) → IsTrue (contains c.step.new.self.marks.members a) → IsTrue (contains c.step.new.self.scanned.members a)
 all_scanned c a h =
     elim c.step.result as (λ r. c.step.result ≡ r → IsTrue (contains c.step.new.self.scanned.members a)) [
       | More ↦ λ is.
@@ -50,7 +49,6 @@ invariant_of-self c =
       size = ap (λ (f : Frontier). f.size) c.clear.ensures ∙ c.self.invariant.size ∙ sym (ap (λ (f : Frontier). f.size) c.forget.ensures.marks) ∙ sym p.size;
       room = omega (arith, none);
       idle = ap (λ (f : Frontier). f.waiting) c.clear.ensures;
-      list_size = ap (λ (f : Flagged). f.size) c.clear-2.ensures ∙ c.self.invariant.list_size ∙ sym (ap (λ (f : Frontier). f.size) c.forget.ensures.marks) ∙ sym p.size;
     }
 
 pub returns-clause-led : goal.returns-clause-led

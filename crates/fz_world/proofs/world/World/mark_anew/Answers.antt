@@ -8,15 +8,15 @@ use Rattle.fz_heap.specs.Contents.{Contents}
 use Rattle.fz_dirty.specs.Pages.{Pages}
 use Rattle.fz_marker.specs.Marking.{Marking}
 use Rattle.fz_world.specs.Roots.{Marks, IsRootHere}
-use Rattle.fz_world.specs.World.{WorldView, IsWorld}
+use Rattle.fz_world.specs.World.{WorldView, IsWorld, HaveTargets}
 use Rattle.fz_world.proofs.Inside.{core_inside}
 use Rattle.fz_world.proofs.Rooted.{registered_here, held_here, just_roots}
-use Rattle.fz_world.proofs.Whole.{world_size, world_sound, world_anew}
+use Rattle.fz_world.proofs.Whole.{world_sound, world_anew}
 use Rattle.fz_world.proofs.world.World.mark_anew.Goals as goal
 
 pub mark_roots-requires-clause-size : goal.mark_roots-requires-clause-size
 mark_roots-requires-clause-size c =
-    ap (λ (m : Marking). m.size) c.begin.ensures ∙ world_size _ _ _ _ _ _ c.self.invariant.0 ∙ ap (λ (h : Contents). BLOCK_WORDS * h.blocks) (sym c.sweep_all.ensures)
+    ap (λ (m : Marking). m.size) c.begin.ensures ∙ c.self.inside.marked.size ∙ ap (λ (h : Contents). BLOCK_WORDS * h.blocks) (sym c.sweep_all.ensures)
 
 pub mark_roots-requires-clause-registered : goal.mark_roots-requires-clause-registered
 mark_roots-requires-clause-registered c a t =
@@ -32,13 +32,14 @@ mark_roots-requires-clause-swept c = ap (λ (h : Contents). h.condemned) c.sweep
 pub invariant_of-self : goal.invariant_of-self
 invariant_of-self c =
     let w = c.self.inside in
-    let size = ap (λ (m : Marking). m.size) c.mark_roots.ensures.same ∙ ap (λ (m : Marking). m.size) c.begin.ensures in
     let pages = ap (λ (p : Pages). p.pages) c.take_all.ensures in
     let scanned = ap (λ (m : Marking). m.scanned) c.mark_roots.ensures.same ∙ ap (λ (m : Marking). m.scanned) c.begin.ensures in
     let scans = ap (λ (m : Marking). m.scans) c.mark_roots.ensures.same ∙ ap (λ (m : Marking). m.scans) c.begin.ensures in (
       subst (λ (h : Contents). IsWorld h w.table.registered w.ready c.mark_roots.new.marker c.take_all.new.self c.args.opens) (sym c.sweep_all.ensures)
-          (world_anew _ _ _ _ _ _ c.mark_roots.new.marker c.take_all.new.self c.args.opens size pages scanned scans c.self.invariant.0),
+          (world_anew _ _ _ _ _ _ c.mark_roots.new.marker c.take_all.new.self c.args.opens pages scanned scans c.self.invariant.0),
       λ on. subst (λ (v : WorldView). v.core.passes + 1 < COUNT_LIMIT) (sym c.self.view_is) c.requires.few,
+      subst (λ (h : Contents). HaveTargets h.objects w.short.links) (sym c.sweep_all.ensures) c.self.invariant.2,
+      subst (λ (h : Contents). HaveTargets h.objects w.long.links) (sym c.sweep_all.ensures) c.self.invariant.3,
     )
 
 pub returns-clause-begun : goal.returns-clause-begun

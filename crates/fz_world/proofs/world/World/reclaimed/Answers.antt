@@ -19,7 +19,7 @@ returns c =
     let so_far = c.loop-starts.invariant in
     let births = c.births-reclaimed.ensures in
     let starts = ap (λ (l : List ℕ). length l) c.objects-starts.ensures.starts in
-    let count = length-keys c.self.inside.heap.objects in
+    let count = length-keys c.self.inside.marked.heap.objects in
     let birth = ap (λ (w : WorldView). w.next_birth) c.self.view_is in
     let objects = ap (λ (w : WorldView). len w.objects) c.self.view_is in
     omega (arith, none, so_far, births, starts, count, birth, objects)

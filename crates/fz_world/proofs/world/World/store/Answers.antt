@@ -10,7 +10,7 @@ use Rattle.fz_world.proofs.world.World.store.Goals as goal
 
 pub returns-in_err-write-clause-caused : goal.returns-in_err-write-clause-caused
 returns-in_err-write-clause-caused c =
-    let heap = c.self.inside.heap in
+    let heap = c.self.inside.marked.heap in
     let first : Causes = slot_causes c.self.inside.frames (slot_at c.args.frame c.args.slot) in
     let second : Causes = slot_causes c.self.inside.frames (slot_at c.args.from_frame c.args.from_slot) in
     let place : Causes = place_causes heap.objects c.in_ok-word.word c.args.offset in

@@ -1,0 +1,38 @@
+//! A table of links that is built anew in the memory that it has.
+
+ghost use Rattle.std.specs.Prelude.{◌≡◌, ◌≤◌, ◌<◌, [], length, vec_capacity, IsSome};
+ghost use Rattle.std.specs.Ordering.{nat_cmp};
+ghost use Rattle.std.specs.FinMap.{get, remove, from_entries};
+ghost use Rattle.indexmap.specs.IndexMap.{spare};
+
+use fz_model::Addr;
+use fz_table::Pairs;
+use indexmap::IndexMap;
+
+/// Puts all links with their targets on an empty list that has room for them.
+pub(crate) fn list_all(links: &IndexMap<Addr, Addr>, list: &mut Vec<(Addr, Addr)>)
+    requires empty { list.old.items ≡ [] }
+    requires room { length links.now.entries ≤ vec_capacity list.old }
+    ensures all { list.new.items ≡ links.now.entries }
+    ensures capacity { vec_capacity list.old ≤ vec_capacity list.new }
+{
+    for entry in Pairs::of(links.iter()) {
+        let _ = list.push(entry);
+    }
+}
+
+/// Puts the listed links into an empty table that has room for them, but one. Then there is room for another.
+pub(crate) fn insert_but(links: &mut IndexMap<Addr, Addr>, list: &mut Vec<(Addr, Addr)>, one: Addr)
+    requires empty { links.old.entries ≡ [] }
+    requires room { length list.old.items ≤ spare links.old }
+    ensures all { from_entries {R = nat_cmp} links.new.entries ≡ remove (from_entries list.old.items) one }
+    ensures room { IsSome (get (from_entries {R = nat_cmp} list.old.items) one) → 0 < spare links.new }
+    ensures empty { list.new.items ≡ [] }
+    ensures capacity { vec_capacity list.old ≤ vec_capacity list.new }
+{
+    while let Some((link, target)) = list.pop() {
+        if link != one {
+            let _ = links.insert(link, target);
+        }
+    }
+}

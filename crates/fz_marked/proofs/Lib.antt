@@ -1,0 +1,3 @@
+pub mod Traced
+pub mod Condemned
+pub mod Carried

@@ -1,0 +1,57 @@
+//! A pass over the modelled heap, by the pass over any heap.
+
+ghost use Rattle.std.specs.Prelude.{◌≡◌, ◌≤◌, ◌+◌, ◌||◌, ◌&&◌, not, [], ℕ, vec_len, vec_capacity};
+ghost use Rattle.std.specs.FinSet.{contains};
+ghost use Rattle.std.specs.FinSet as sets;
+ghost use Rattle.std.specs.FinMap.{len, contains_key};
+ghost use Rattle.fz_marker.specs.Marking.{IsClosed};
+ghost use Rattle.fz_pass.specs.Decides.{parts_of};
+ghost use Rattle.fz_pass.specs.Marks.{AreRegistered, AreTargets};
+ghost use Rattle.fz_marked.specs.Decides.{DecidesInto};
+
+use crate::marked::Marked;
+use crate::reclaiming::condemn_outside;
+use fz_links::Links;
+use fz_model::{Addr, Entry};
+use fz_table::Table;
+
+/// Carries out a pass in which the marked objects are those that were found, and returns the number of objects that it reclaims.
+///
+/// It does what `fz_pass::decide` does, with entries that are numbered by their places in the queue, and condemns the objects that aren't kept.
+pub fn decide(
+    marked: &mut Marked,
+    table: &mut Table,
+    short: &mut Links,
+    long: &mut Links,
+    ready: &mut Vec<(u8, Addr)>,
+    queue: &mut Vec<Entry>,
+    pass: u64,
+) -> u64
+    requires closed { IsClosed marked.old.heap.objects marked.old.marker.marked }
+    requires registered { AreRegistered marked.old.heap.objects table.old.registrations }
+    requires short { AreTargets marked.old.heap.objects short.old.links }
+    requires long { AreTargets marked.old.heap.objects long.old.links }
+    requires empty { ready.old.items ≡ [] }
+    requires list { len table.old.registrations ≤ vec_capacity ready.old }
+    requires room { vec_len queue.old + len table.old.registrations ≤ vec_capacity queue.old }
+    ensures decided { DecidesInto pass (parts_of marked.old.heap.objects table.old short.old long.old) (contains marked.old.marker.marked) (parts_of marked.new.heap.objects table.new short.new long.new) queue.old.items queue.new.items }
+    // The objects that it reclaims are condemned, and no other.
+    ensures condemned { (a : ℕ) → contains marked.new.heap.condemned a ≡ (contains_key marked.old.heap.objects a && not (contains_key marked.new.heap.objects a) || contains marked.old.heap.condemned a) }
+    ensures count { sets.len marked.new.heap.condemned ≡ sets.len marked.old.heap.condemned + result }
+    ensures reclaimed { len marked.new.heap.objects + result ≡ len marked.old.heap.objects }
+    ensures empty { ready.new.items ≡ [] }
+    // There is room for every registration that is left.
+    ensures list { vec_capacity ready.old ≤ vec_capacity ready.new }
+    ensures room { vec_len queue.new + len table.new.registrations ≤ vec_capacity queue.new }
+    // All else stays.
+    ensures heap { marked.new.heap ≡ record marked.old.heap { objects = marked.new.heap.objects; condemned = marked.new.heap.condemned } }
+    ensures marker { marked.new.marker ≡ record marked.old.marker { traced = marked.new.marker.traced } }
+    ensures table { table.new.registered ≡ record table.old.registered { registrations = table.new.registrations } }
+{
+    let first = queue.len() as u64;
+    let before = marked.heap.condemned();
+    marked.marker.trace_found();
+    fz_pass::decide(marked, table, short, long, ready, queue, pass, first);
+    condemn_outside(&mut marked.heap, marked.marker.kept());
+    marked.heap.condemned() - before
+}

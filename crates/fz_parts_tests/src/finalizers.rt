@@ -1,0 +1,207 @@
+//! What no clause says of finalizers: that calls succeed, and that thousands of rounds leave as little as one.
+
+use crate::equal::must_be;
+use fz_finalizers::{
+    Addr, Entry, Finalizer, Finalizers, Kind, LinkAnswer, LinkKind, MoveAnswer, Old, Refused, Root,
+};
+use std::process::Abort;
+
+/// A finalizer of a kind, whose procedure and client data are the object plus 1 and plus 2.
+fn finalizer(kind: Kind, object: Addr, rank: u8) -> Finalizer {
+    Finalizer {
+        kind,
+        procedure: object.saturating_add(1),
+        client_data: object.saturating_add(2),
+        rank,
+    }
+}
+
+/// The entry of an object's registration that `queue_all` queued.
+fn entry(seq: u64, reg: u64, obj: Addr) -> Entry {
+    Entry {
+        seq,
+        pass: 0,
+        reg,
+        obj,
+        birth: 0,
+        proc: obj.saturating_add(1),
+        cd: obj.saturating_add(2),
+    }
+}
+
+#[test]
+fn registers_replaces_and_removes(rt: HostRuntime) {
+    let mut finalizers = Finalizers::new(rt.alloc());
+    let first = finalizers.register(16, finalizer(Kind::Normal, 16, 0));
+    must_be(&rt, first, Ok((0, None)), "the first object");
+    let zero = finalizers.register(0, finalizer(Kind::Normal, 0, 0));
+    must_be(&rt, zero, Err(Refused::Zero), "zero is no object");
+    let second = finalizers.register(32, finalizer(Kind::NoOrder, 32, 1));
+    must_be(&rt, second, Ok((1, None)), "the second object");
+    // The other table takes it over.
+    let again = finalizers.register(16, finalizer(Kind::Unreachable, 16, 0));
+    let old = Some(Old { proc: 17, cd: 18 });
+    must_be(&rt, again, Ok((2, old)), "the first object again");
+    must_be(&rt, finalizers.registrations(), 2, "two objects");
+    let number = finalizers.registration(16).map(|found| found.number);
+    must_be(&rt, number, Some(2), "its new number");
+    let next = finalizers.next_registration(17).map(|found| found.0);
+    must_be(&rt, next, Some(32), "the next object");
+    let last = finalizers.next_registration(33).map(|found| found.0);
+    must_be(&rt, last, None, "none after it");
+    let walked = finalizers.iter().next().is_some();
+    must_be(&rt, walked, true, "a walk over both");
+    must_be(&rt, finalizers.unregister(16), old, "removed");
+    must_be(&rt, finalizers.unregister(16), None, "removed once more");
+    must_be(&rt, finalizers.registrations(), 1, "one object");
+}
+
+#[test]
+fn links_move_and_go(rt: HostRuntime) {
+    let mut finalizers = Finalizers::new(rt.alloc());
+    must_be(&rt, finalizers.reserve(4, 4, 4), Ok(()), "room");
+    let success = Ok(LinkAnswer::Success);
+    let kinds = [LinkKind::Short, LinkKind::Long];
+    for kind in kinds {
+        must_be(&rt, finalizers.link(kind, 8, 16), success, "a link");
+        let zero = finalizers.link(kind, 8, 0);
+        must_be(&rt, zero, Err(Refused::Zero), "zero is no target");
+        let again = finalizers.link(kind, 8, 32);
+        must_be(&rt, again, Ok(LinkAnswer::Duplicate), "a new target");
+        must_be(&rt, finalizers.target(kind, 8), Some(32), "the new target");
+        let moved = finalizers.move_link(kind, 8, 24);
+        must_be(&rt, moved, Ok(MoveAnswer::Success), "a move");
+        let nowhere = finalizers.move_link(kind, 24, 0);
+        must_be(&rt, nowhere, Err(Refused::Zero), "a move to no word");
+        must_be(&rt, finalizers.target(kind, 8), None, "its old word");
+        must_be(
+            &rt,
+            finalizers.next_link(kind, 9),
+            Some((24, 32)),
+            "the link",
+        );
+        let walked = finalizers.iter_links(kind).next();
+        must_be(&rt, walked, Some((24, 32)), "a walk");
+        must_be(&rt, finalizers.links(kind), 1, "one link of the kind");
+    }
+    must_be(&rt, finalizers.unlink(LinkKind::Short, 24), true, "it goes");
+    must_be(
+        &rt,
+        finalizers.links(LinkKind::Long),
+        1,
+        "the long one stays",
+    );
+}
+
+/// Moves one link from word to word, many times, where the table has no place to spare.
+#[test]
+fn moves_in_a_full_table(rt: HostRuntime) {
+    let mut finalizers = Finalizers::new(rt.alloc());
+    for word in 1..=72u64 {
+        let linked = finalizers.link(LinkKind::Short, word, 1_000 + word);
+        must_be(&rt, linked, Ok(LinkAnswer::Success), "one of 72 links");
+    }
+    for word in 72..2_072u64 {
+        let moved = finalizers.move_link(LinkKind::Short, word, word + 1);
+        must_be(&rt, moved, Ok(MoveAnswer::Success), "one of 2,000 moves");
+    }
+    let target = finalizers.target(LinkKind::Short, 2_072);
+    must_be(&rt, target, Some(1_072), "the link in the end");
+    let other = finalizers.target(LinkKind::Short, 71);
+    must_be(&rt, other, Some(1_071), "another one");
+    must_be(&rt, finalizers.links(LinkKind::Short), 72, "all 72");
+}
+
+#[test]
+fn queues_takes_and_finishes(rt: HostRuntime) {
+    let mut finalizers = Finalizers::new(rt.alloc());
+    let objects = [
+        (32, Kind::Normal, 1),
+        (16, Kind::Normal, 1),
+        (48, Kind::IgnoreSelf, 0),
+        (8, Kind::Unreachable, 0),
+    ];
+    for (object, kind, rank) in objects {
+        let _ = finalizers.register(object, finalizer(kind, object, rank));
+    }
+    must_be(&rt, finalizers.queue_all(), 4, "all four");
+    must_be(&rt, finalizers.registrations(), 0, "none is left");
+    must_be(&rt, finalizers.waiting(), 4, "all wait");
+    let (first, second) = (entry(0, 2, 48), entry(1, 1, 16));
+    must_be(&rt, finalizers.take(), Some(first), "the lowest rank");
+    must_be(
+        &rt,
+        finalizers.take_finished(),
+        Some(second),
+        "then by address",
+    );
+    must_be(&rt, finalizers.is_held(&first), true, "the first is held");
+    must_be(&rt, finalizers.is_held(&second), false, "the second isn't");
+    let (mut two, mut others) = ([0; 2], [0; 8]);
+    let mut roots = finalizers.roots(Root::HeldObject);
+    must_be(&rt, roots.fill(&mut two), 2, "two roots");
+    must_be(&rt, roots.fill(&mut others), 1, "and a third");
+    must_be(&rt, (two[0], two[1]), (32, 8), "what waits");
+    must_be(&rt, others[0], 48, "what is held");
+    let data = finalizers.roots(Root::HeldData).fill(&mut others);
+    must_be(&rt, (data, others[2]), (3, 50), "their client data");
+    must_be(
+        &rt,
+        finalizers.finish(&second),
+        Err(Refused::NotHeld),
+        "it isn't held",
+    );
+    must_be(&rt, finalizers.finish(&first), Ok(()), "finished");
+    must_be(
+        &rt,
+        finalizers.finish(&first),
+        Err(Refused::NotHeld),
+        "once",
+    );
+    must_be(
+        &rt,
+        (finalizers.waiting(), finalizers.held(), finalizers.queued()),
+        (2, 0, 4),
+        "the counts",
+    );
+    let walked = finalizers.entries().next().map(|entry| entry.obj);
+    must_be(&rt, walked, Some(32), "a walk over entries");
+    let registered = finalizers.roots(Root::RegisteredData).next();
+    must_be(&rt, registered, None, "no data of registrations");
+    must_be(&rt, finalizers.passes(), 0, "no pass");
+}
+
+/// Registers ten objects, queues and takes them; finishes half of them, and the others a round later.
+fn round(rt: &impl Abort, finalizers: &mut Finalizers, late: &mut [Option<Entry>; 5]) {
+    for object in 1..=10u64 {
+        let registered = finalizers.register(object, finalizer(Kind::Normal, object, 0));
+        must_be(rt, registered.is_ok(), true, "one of ten objects");
+    }
+    must_be(rt, finalizers.queue_all(), 10, "all ten");
+    for place in 0..5 {
+        if let Some(held) = late[place] {
+            must_be(
+                rt,
+                finalizers.finish(&held),
+                Ok(()),
+                "one of the last round",
+            );
+        }
+        late[place] = finalizers.take();
+        let other = finalizers.take();
+        let finished = other.map(|entry| finalizers.finish(&entry));
+        must_be(rt, finished, Some(Ok(())), "one of this round");
+    }
+}
+
+#[test]
+fn thousands_of_rounds_leave_as_much_as_one(rt: HostRuntime) {
+    let mut finalizers = Finalizers::new(rt.alloc());
+    let mut late = [None; 5];
+    for _ in 0..3_000 {
+        round(&rt, &mut finalizers, &mut late);
+    }
+    must_be(&rt, finalizers.queued(), 30_000, "all that came");
+    must_be(&rt, finalizers.waiting(), 0, "none waits");
+    must_be(&rt, finalizers.held(), 5, "those of the last round");
+}

@@ -1,0 +1,30 @@
+-- All that is registered is queued, whatever is marked.
+use Rattle.std.specs.Prelude.{◌≡◌, ℕ, List, [], ◌++◌, map, Some, Contains, All, AllPairs}
+use Rattle.std.specs.FinMap.{get}
+use Rattle.fz_model.specs.declared.kinds.ObjKind.TheVariants.{Atomic}
+use Rattle.fz_model.specs.declared.answers.Entry.{Entry}
+use Rattle.fz_model.specs.declared.answers.Pick.{Pick}
+use Rattle.fz_model.specs.declared.answers.Registration.{Registration}
+use Rattle.fz_model.specs.Extents.{mapped}
+use Rattle.fz_model.specs.State.{Map, Object}
+use Rattle.fz_model.specs.Pass.{ComesBefore, entries_of}
+use Rattle.fz_pass.specs.Picking.{pick_of}
+
+-- an object of which nothing is known
+abbrev pub unknown : Object
+unknown = record { kind = Atomic; birth = 0; words = [] }
+
+abbrev pub unknown_objects : Map Registration → Map Object
+unknown_objects registrations = mapped (λ _ _. unknown) registrations
+
+-- it is the pick of its registration, without a birth
+abbrev pub IsQueuedOf : Map Registration → Pick → Type 0
+IsQueuedOf registrations p = (r : Registration) × (get registrations p.obj ≡ Some r) × (p ≡ pick_of r p.obj unknown)
+
+-- each registration has its entry at the end of the queue, by rank, then object, numbered on from the first, and as of no pass
+pub record QueuesAll (first : ℕ) (registrations : Map Registration) (queue new_queue : List Entry) : Type 0 where
+  pub picks : List Pick
+  pub queued : new_queue ≡ queue ++ entries_of 0 first picks
+  pub ordered : AllPairs (ComesBefore registrations) picks
+  pub each : All (IsQueuedOf registrations) picks
+  pub whole : (a : ℕ) (r : Registration) → get registrations a ≡ Some r → Contains (map (λ (p : Pick). p.obj) picks) a

@@ -1,0 +1,110 @@
+//! All that is registered, queued whatever is marked.
+
+ghost use Rattle.std.specs.Prelude.{◌≡◌, ◌≤◌, ◌+◌, ◌<◌, ◌^◌, [], ℕ, Bool, false, List, length, vec_len, vec_capacity, IsTrue, Some, refl};
+ghost use Rattle.std.proofs.Common.{◌∙◌};
+ghost use Rattle.std.specs.FinMap.{get, contains_key, len, empty};
+ghost use Rattle.fz_model.specs.State.{Map, Object};
+ghost use Rattle.fz_pass.specs.All.{QueuesAll, unknown_objects};
+ghost use Rattle.fz_pass.specs.Gathered.{IsSameQueue};
+ghost use Rattle.fz_pass.specs.Listing.{AreUnmarked, AreRanked};
+ghost use Rattle.fz_pass.specs.Picking.{Picks, IsTaken, Takes};
+
+use crate::gathered::Gathered;
+use crate::host::Host;
+use crate::listing::rank_unmarked;
+use fz_model::{Addr, Entry, Pick};
+use fz_table::Table;
+use std::mem;
+
+/// A host without objects, none of which is marked.
+struct Nothing;
+
+impl Host for Nothing {
+    ghost objects = { λ _. empty };
+
+    ghost marked = { λ _ _. false };
+
+    ghost is_exact = { Unit {0} };
+
+    ghost is_same = { λ _ _. Unit {0} };
+
+    fn is_marked(&self, _object: Addr) -> bool {
+        false
+    }
+
+    fn is_holder_marked(&self, _word: Addr) -> bool {
+        false
+    }
+
+    fn birth(&self, _object: Addr) -> u64 {
+        0
+    }
+
+    fn mark(&mut self, _object: Addr) {}
+
+    fn mark_alone(&mut self, _object: Addr) {}
+
+    fn mark_children(&mut self, _object: Addr, _but_itself: bool) {}
+
+    fn clear(&mut self, _word: Addr) {}
+
+    ghost reflexive = { λ _. tt };
+
+    ghost transitive = { λ _ _ _ _ _. tt };
+}
+
+/// Takes the object's registration out of the table, and returns its pick, without a birth. Asked only of a registered object.
+fn take_unknown(table: &mut Table, object: Addr) -> Pick
+    requires registered { IsTrue (contains_key table.old.registrations object) }
+    ensures taken { (objects : Map Object) (o : Object) → get objects object ≡ Some o → o.birth ≡ 0 → IsTaken objects object table.old.registered table.new.registered result }
+    ensures count { len table.new.registrations + 1 ≡ len table.old.registrations }
+{
+    let registration = table.take(object).unwrap();
+    Pick {
+        reg: registration.number,
+        obj: object,
+        birth: 0,
+        proc: registration.proc,
+        cd: registration.cd,
+    }
+}
+
+/// Takes the listed objects' registrations out of the table, and puts their entries at the end of a queue.
+fn take_all(table: &mut Table, ready: &[(u8, Addr)], out: &mut Gathered)
+    requires listed { AreUnmarked table.old.registrations (λ _. false) AreRanked ready.now }
+    requires room { length out.old.picks + len table.old.registrations ≤ out.old.capacity }
+    requires numbers { out.old.first + length out.old.picks + len table.old.registrations < 2 ^ 64 }
+    ensures count { length out.new.picks + len table.new.registrations ≡ length out.old.picks + len table.old.registrations }
+    ensures capacity { out.old.capacity ≤ out.new.capacity }
+    ensures queue { IsSameQueue out.old out.new }
+    ensures picks { Picks (unknown_objects table.old.registrations) (contains_key table.old.registrations) table.old.registered table.new.registered out.old.picks out.new.picks }
+{
+    for entry in ready {
+        let pick = take_unknown(table, entry.1);
+        out.push(pick);
+    }
+}
+
+/// Queues all that is registered, by rank, then address, whatever is marked: `GC_finalize_all`. The entries are numbered from `first` on; their pass is
+/// 0, and so is each birth.
+///
+/// It takes no memory: `ready`, which is empty before and after, has room for every registration, and so has the queue.
+pub fn queue_all(table: &mut Table, ready: &mut Vec<(u8, Addr)>, queue: &mut Vec<Entry>, first: u64)
+    requires empty { ready.old.items ≡ [] }
+    requires list { len table.old.registrations ≤ vec_capacity ready.old }
+    requires room { vec_len queue.old + len table.old.registrations ≤ vec_capacity queue.old }
+    requires numbers { first + len table.old.registrations < 2 ^ 64 }
+    ensures queued { QueuesAll first table.old.registrations queue.old.items queue.new.items }
+    ensures table { table.new.registered ≡ record table.old.registered { registrations = empty } }
+    ensures count { vec_len queue.new ≡ vec_len queue.old + len table.old.registrations }
+    ensures empty { ready.new.items ≡ [] }
+    ensures list { vec_capacity ready.old ≤ vec_capacity ready.new }
+    ensures capacity { vec_capacity queue.old ≤ vec_capacity queue.new }
+{
+    rank_unmarked(&Nothing, table, ready);
+    let alloc = *queue.allocator();
+    let mut out = Gathered::new(mem::replace(queue, Vec::new(alloc)), 0, first);
+    take_all(table, ready.as_slice(), &mut out);
+    *queue = out.into_queue();
+    ready.clear();
+}

@@ -1,0 +1,45 @@
+//! The registered objects that aren't marked.
+
+ghost use Rattle.std.specs.Prelude.{◌≡◌, ◌≤◌, ◌<◌, ◌++◌, ◌∷◌, [], ℕ, List, length, if◌then◌else◌, vec_len, vec_capacity};
+ghost use Rattle.std.specs.List.{IsDistinct};
+ghost use Rattle.std.specs.Map.{keys_of};
+ghost use Rattle.std.specs.FinMap.{from_entries, len};
+ghost use Rattle.fz_pass.specs.Listing.{AreUnmarked, AreApart, AreRanked};
+
+use crate::host::Host;
+use fz_model::Addr;
+use fz_table::Table;
+
+/// Puts an object with its rank on the list, which has room for it, if the object isn't marked.
+fn list_if_unmarked<H: Host>(host: &H, object: Addr, rank: u8, ready: &mut Vec<(u8, Addr)>)
+    requires room { vec_len ready.old < vec_capacity ready.old }
+    ensures listed { ready.new.items ≡ (if H.marked host.now object then ready.old.items else ready.old.items ++ (rank, object) ∷ []) }
+    ensures capacity { vec_capacity ready.old ≤ vec_capacity ready.new }
+{
+    if !host.is_marked(object) {
+        let _ = ready.push((rank, object));
+    }
+}
+
+/// Puts the registered objects that aren't marked on the list, each with its rank.
+fn list_unmarked<H: Host>(host: &H, table: &Table, ready: &mut Vec<(u8, Addr)>)
+    requires empty { ready.old.items ≡ [] }
+    requires room { len table.now.registrations ≤ vec_capacity ready.old }
+    ensures listed { AreUnmarked table.now.registrations (H.marked host.now) AreApart ready.new.items }
+    ensures capacity { vec_capacity ready.old ≤ vec_capacity ready.new }
+{
+    for (object, registration) in table.iter() {
+        list_if_unmarked(host, object, registration.rank, ready);
+    }
+}
+
+/// Lists the registered objects that aren't marked, by rank, then object.
+pub(crate) fn rank_unmarked<H: Host>(host: &H, table: &Table, ready: &mut Vec<(u8, Addr)>)
+    requires empty { ready.old.items ≡ [] }
+    requires room { len table.now.registrations ≤ vec_capacity ready.old }
+    ensures listed { AreUnmarked table.now.registrations (H.marked host.now) AreRanked ready.new.items }
+    ensures capacity { vec_capacity ready.old ≤ vec_capacity ready.new }
+{
+    list_unmarked(host, table, ready);
+    ready.sort_unstable();
+}
