@@ -1,0 +1,9 @@
+pub mod Counting
+pub mod Fitting
+pub mod Following
+pub mod Joined
+pub mod Filled
+pub mod Nearer
+pub mod Queueing
+pub mod Promised
+pub mod Walked

@@ -1,0 +1,7 @@
+use Rattle.std.proofs.Common.{◌∙◌, ap}
+use Rattle.std.specs.FinMap.{len}
+use Rattle.fz_finalizers.proofs.Counting.{len_moved_to}
+use Rattle.fz_finalizers.proofs.linking.move_link.Goals as goal
+
+pub returns-clause-count : goal.returns-clause-count
+returns-clause-count c = ap len c.move_within.ensures.moved ∙ len_moved_to c.args.links.now.links c.args.word c.args.to

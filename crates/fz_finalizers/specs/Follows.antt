@@ -1,0 +1,71 @@
+-- What the calls do, whatever the host: each is an event, which leads from one state to another.
+use Rattle.std.specs.Prelude.{◌≡◌, ◌≢◌, ℕ, ◌+◌, ◌-◌, ◌^◌, min, if◌then◌else◌, List, ◌++◌, ◌∷◌, length, Some, All, AllPairs}
+use Rattle.std.specs.FinMap.{get, insert, remove, empty}
+use Rattle.fz_model.specs.declared.answers.Entry.{Entry}
+use Rattle.fz_model.specs.declared.answers.Pick.{Pick}
+use Rattle.fz_model.specs.declared.answers.Registration.{Registration}
+use Rattle.fz_model.specs.declared.kinds.LinkKind.{LinkKind}
+use Rattle.fz_model.specs.Pass.{entries_of, without_picks}
+use Rattle.fz_model.specs.State.{Map}
+use Rattle.fz_model.specs.Steps.{registration_of, moved_to}
+use Rattle.fz_finalizers.specs.declared.kinds.Finalizer.{Finalizer}
+use Rattle.fz_finalizers.specs.Kinds.{is_late, table_finalizer}
+use Rattle.fz_finalizers.specs.States.{State, links_of, with_links}
+
+-- the number of the next pass; it stays at the last that there is
+abbrev pub next_pass : ℕ → ℕ
+next_pass passes = min (passes + 1) (2 ^ 64 - 1)
+
+-- a pick has the number, the procedure and the client data of a registration
+abbrev pub IsOf : Map Registration → Pick → Type 0
+IsOf table p = (r : Registration) × (get table p.obj ≡ Some r) × (p.reg ≡ r.number) × (p.proc ≡ r.proc) × (p.cd ≡ r.cd)
+
+-- picks of these registrations, of each object one at most
+pub record ArePicksIn (table : Map Registration) (picks : List Pick) : Type 0 where
+  pub each : All (IsOf table) picks
+  pub apart : AllPairs (λ (p q : Pick). p.obj ≢ q.obj) picks
+
+-- entries of registrations come to the end of what waits, numbered on, and the registrations go
+pub record Queues (pass : ℕ) (old new : State) : Type 0 where
+  pub picks : List Pick
+  pub late : List Pick
+  pub picked : ArePicksIn old.registrations picks
+  pub came_late : ArePicksIn old.late late
+  pub waiting : new.waiting ≡ old.waiting ++ entries_of pass old.queued (picks ++ late)
+  pub queued : new.queued ≡ old.queued + length (picks ++ late)
+  pub left : new.registrations ≡ without_picks old.registrations picks
+  pub left_late : new.late ≡ without_picks old.late late
+  pub held : new.held ≡ old.held
+  pub next_number : new.next_number ≡ old.next_number
+
+pub data Event : Type 0 where
+  Register : ℕ → Finalizer → Event
+  Unregister : ℕ → Event
+  Link : LinkKind → ℕ → ℕ → Event
+  Unlink : LinkKind → ℕ → Event
+  Move : LinkKind → ℕ → ℕ → Event
+  Pass : Event
+  QueueAll : Event
+  Take : Entry → Event
+  TakeFinished : Entry → Event
+  Finish : Entry → Event
+
+-- an object's registration, in the table of its kind
+abbrev pub with_registration : State → ℕ → Finalizer → State
+with_registration s object finalizer =
+    let registration = registration_of s.next_number (table_finalizer finalizer) in
+    if is_late finalizer.kind
+    then record s { registrations = remove s.registrations object; late = insert s.late object registration; next_number = s.next_number + 1 }
+    else record s { registrations = insert s.registrations object registration; late = remove s.late object; next_number = s.next_number + 1 }
+
+abbrev pub Follows : State → Event → State → Type 0
+Follows old (Register object finalizer) new = new ≡ with_registration old object finalizer
+Follows old (Unregister object) new = new ≡ record old { registrations = remove old.registrations object; late = remove old.late object }
+Follows old (Link kind word target) new = new ≡ with_links old kind (insert (links_of old kind) word target)
+Follows old (Unlink kind word) new = new ≡ with_links old kind (remove (links_of old kind) word)
+Follows old (Move kind word to) new = new ≡ with_links old kind (moved_to (links_of old kind) word to (get (links_of old kind) word))
+Follows old Pass new = Queues (next_pass old.passes) old new × (new.passes ≡ next_pass old.passes)
+Follows old QueueAll new = Queues 0 old new × (new.registrations ≡ empty) × (new.late ≡ empty) × (new.short ≡ old.short) × (new.long ≡ old.long) × (new.passes ≡ old.passes)
+Follows old (Take entry) new = (old.waiting ≡ entry ∷ new.waiting) × (new ≡ record old { waiting = new.waiting; held = insert old.held entry.seq entry })
+Follows old (TakeFinished entry) new = (old.waiting ≡ entry ∷ new.waiting) × (new ≡ record old { waiting = new.waiting })
+Follows old (Finish entry) new = (get old.held entry.seq ≡ Some entry) × (new ≡ record old { held = remove old.held entry.seq })

@@ -1,0 +1,23 @@
+-- How the kinds stand in the tables: the unreachable ones as normal ones in a table of their own, whose objects come late.
+use Rattle.std.specs.Prelude.{Bool, true, false, Some}
+use Rattle.fz_model.specs.declared.kinds.RegKind.{RegKind}
+use Rattle.fz_model.specs.declared.kinds.RegKind.TheVariants as table
+use Rattle.fz_model.specs.declared.finalizer.Finalizer as model
+use Rattle.fz_finalizers.specs.declared.kinds.Kind.{Kind}
+use Rattle.fz_finalizers.specs.declared.kinds.Kind.TheVariants.{Normal, IgnoreSelf, NoOrder, Unreachable}
+use Rattle.fz_finalizers.specs.declared.kinds.Finalizer.{Finalizer}
+
+abbrev pub is_late : Kind → Bool
+is_late Normal = false
+is_late IgnoreSelf = false
+is_late NoOrder = false
+is_late Unreachable = true
+
+abbrev pub table_kind : Kind → RegKind
+table_kind Normal = table.Normal
+table_kind IgnoreSelf = table.IgnoreSelf
+table_kind NoOrder = table.NoOrder
+table_kind Unreachable = table.Normal
+
+abbrev pub table_finalizer : Finalizer → model.Finalizer
+table_finalizer f = record { kind = table_kind f.kind; procedure = f.procedure; client_data = f.client_data; rank = Some f.rank }

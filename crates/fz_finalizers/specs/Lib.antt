@@ -1,0 +1,12 @@
+pub mod Kinds
+pub mod Views
+pub mod Ready
+pub mod Causes
+pub mod Registering
+pub mod States
+pub mod Fits
+pub mod Follows
+pub mod Passed
+pub mod Walks
+pub mod Nearest
+pub mod Promises

@@ -1,0 +1,103 @@
+-- What contracts see of finalizers: what is registered, the links, the entries, and for how much more there is room.
+use Rattle.std.specs.Prelude.{ℕ, ◌≤◌, min, if◌then◌else◌, List, [], Option, refl}
+use Rattle.std.specs.Coded.{Coded, code_by, coded×, coded_ℕ, coded_list}
+use Rattle.std.specs.Option.{option_or}
+use Rattle.std.specs.FinMap as map
+use Rattle.std.specs.FinMap.{get, empty}
+use Rattle.fz_model.specs.declared.answers.Entry.{Entry}
+use Rattle.fz_model.specs.declared.answers.Registration.{Registration}
+use Rattle.fz_model.specs.declared.kinds.LinkKind.{LinkKind}
+use Rattle.fz_model.specs.declared.kinds.LinkKind.TheVariants.{Short, Long}
+use Rattle.fz_model.specs.Codes.{entry_code, registration_code}
+use Rattle.fz_model.specs.State.{Map}
+use Rattle.fz_finalizers.specs.declared.kinds.Kind.{Kind}
+use Rattle.fz_table.specs.declared.limits.TheConstants.{MOST_ENTRIES}
+use Rattle.fz_finalizers.specs.Kinds.{is_late}
+
+pub record State : Type 0 where
+  pub registrations : Map Registration  -- by their objects
+  pub late : Map Registration  -- the unreachable ones: no object stands in both
+  pub next_number : ℕ  -- of registrations
+  pub short : Map ℕ  -- the short links: from the word of a link to its target
+  pub long : Map ℕ  -- the long links
+  pub waiting : List Entry  -- what waits to be taken, in the queue's order
+  pub held : Map Entry  -- what was taken and isn't finished, by number
+  pub queued : ℕ  -- how many entries ever came
+  pub passes : ℕ
+
+-- how many more fit before memory is asked for
+pub record Rooms : Type 0 where
+  pub registrations : ℕ
+  pub late : ℕ
+  pub short : ℕ
+  pub long : ℕ
+
+pub record View : Type 0 where
+  pub state : State
+  pub open state use *
+  pub rooms : Rooms
+
+abbrev state_code : Coded State
+state_code =
+    code_by ((Map Registration × (Map Registration × ℕ)) × ((Map ℕ × Map ℕ) × (List Entry × (Map Entry × (ℕ × ℕ)))))
+    (coded× (coded× (map.code coded_ℕ registration_code) (coded× (map.code coded_ℕ registration_code) coded_ℕ)) (coded× (coded× (map.code coded_ℕ coded_ℕ) (map.code coded_ℕ coded_ℕ)) (coded× (coded_list entry_code) (coded× (map.code coded_ℕ entry_code) (coded× coded_ℕ coded_ℕ)))))
+    (λ s. ((s.registrations, (s.late, s.next_number)), ((s.short, s.long), (s.waiting, (s.held, (s.queued, s.passes))))))
+    (λ p. record {
+      registrations = p.0.0;
+      late = p.0.1.0;
+      next_number = p.0.1.1;
+      short = p.1.0.0;
+      long = p.1.0.1;
+      waiting = p.1.1.0;
+      held = p.1.1.1.0;
+      queued = p.1.1.1.1.0;
+      passes = p.1.1.1.1.1;
+    })
+    (λ _. refl)
+
+abbrev rooms_code : Coded Rooms
+rooms_code =
+    code_by (ℕ × (ℕ × (ℕ × ℕ))) (coded× coded_ℕ (coded× coded_ℕ (coded× coded_ℕ coded_ℕ))) (λ r. (r.registrations, (r.late, (r.short, r.long))))
+    (λ p. record { registrations = p.0; late = p.1.0; short = p.1.1.0; long = p.1.1.1 }) (λ _. refl)
+
+abbrev pub view_code : Coded View
+view_code = code_by (State × Rooms) (coded× state_code rooms_code) (λ v. (v.state, v.rooms)) (λ p. record { state = p.0; rooms = p.1 }) (λ _. refl)
+
+-- nothing is registered, and nothing is queued
+abbrev pub opening : State
+opening = record { registrations = empty; late = empty; next_number = 0; short = empty; long = empty; waiting = []; held = empty; queued = 0; passes = 0 }
+
+-- an object's registration, of whichever kind
+abbrev pub registered : State → ℕ → Option Registration
+registered s object = option_or (get s.registrations object) (get s.late object)
+
+-- the links of a kind
+abbrev pub links_of : State → LinkKind → Map ℕ
+links_of s Short = s.short
+links_of s Long = s.long
+
+abbrev pub with_links : State → LinkKind → Map ℕ → State
+with_links s Short links = record s { short = links }
+with_links s Long links = record s { long = links }
+
+abbrev pub room_of : Rooms → LinkKind → ℕ
+room_of rooms Short = rooms.short
+room_of rooms Long = rooms.long
+
+-- the table of a kind, and its room
+abbrev pub table_of : State → Kind → Map Registration
+table_of s kind = if is_late kind then s.late else s.registrations
+
+abbrev pub registration_room : Rooms → Kind → ℕ
+registration_room rooms kind = if is_late kind then rooms.late else rooms.registrations
+
+-- no more than a table can have
+abbrev pub limited : ℕ → ℕ
+limited entries = min entries MOST_ENTRIES
+
+-- there is room for as many more registrations and links
+abbrev pub HasRooms : Rooms → ℕ → ℕ → ℕ → Type 0
+HasRooms rooms registrations shorts longs = (limited registrations ≤ rooms.registrations) × (limited shorts ≤ rooms.short) × (limited longs ≤ rooms.long)
+
+abbrev pub IsRoomier : Rooms → Rooms → Type 0
+IsRoomier old new = (old.registrations ≤ new.registrations) × (old.short ≤ new.short) × (old.long ≤ new.long)

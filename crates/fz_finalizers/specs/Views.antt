@@ -1,0 +1,30 @@
+-- What contracts see of the entries: those that wait, those that are held, and their room.
+use Rattle.std.specs.Prelude.{ℕ, Bool, false, List, refl}
+use Rattle.std.specs.Option.{option_map_or}
+use Rattle.std.specs.Coded.{Coded, code_by, coded×, coded_ℕ, coded_list}
+use Rattle.std.specs.FinMap as map
+use Rattle.std.specs.FinMap.{get}
+use Rattle.fz_model.specs.declared.answers.Entry.{Entry}
+use Rattle.fz_model.specs.Codes.{entry_code}
+use Rattle.fz_model.specs.Events.{same_entry}
+use Rattle.fz_model.specs.State.{Map}
+
+pub record Waiting : Type 0 where
+  pub entries : List Entry
+  pub capacity : ℕ
+
+abbrev pub waiting_code : Coded Waiting
+waiting_code =
+    code_by (List Entry × ℕ) (coded× (coded_list entry_code) coded_ℕ) (λ w. (w.entries, w.capacity)) (λ p. record { entries = p.0; capacity = p.1 }) (λ _. refl)
+
+pub record Held : Type 0 where
+  pub entries : Map Entry
+  pub room : ℕ
+
+abbrev pub held_code : Coded Held
+held_code =
+    code_by (Map Entry × ℕ) (coded× (map.code coded_ℕ entry_code) coded_ℕ) (λ h. (h.entries, h.room)) (λ p. record { entries = p.0; room = p.1 }) (λ _. refl)
+
+-- this very entry is held
+abbrev pub is_held : Map Entry → Entry → Bool
+is_held held entry = option_map_or (same_entry entry) (get held entry.seq) false

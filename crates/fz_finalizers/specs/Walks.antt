@@ -1,0 +1,36 @@
+-- What walks yield.
+use Rattle.std.specs.Prelude.{◌≡◌, ℕ, ◌≤◌, ◌<◌, List, ◌++◌, map, Option, Some, None}
+use Rattle.std.specs.Ordering.{nat_cmp}
+use Rattle.std.specs.FinMap.{get, from_entries}
+use Rattle.fz_model.specs.declared.answers.Entry.{Entry}
+use Rattle.fz_model.specs.declared.answers.Registration.{Registration}
+use Rattle.fz_finalizers.specs.declared.roots.Root.{Root}
+use Rattle.fz_finalizers.specs.declared.roots.Root.TheVariants.{HeldObject, HeldData, RegisteredData}
+use Rattle.fz_finalizers.specs.States.{State, registered}
+
+-- the values of pairs
+abbrev pub values_of : {X : Type 0} → List (ℕ × X) → List X
+values_of es = map (λ e. e.1) es
+
+-- the words that a walk over a sort of roots has left, of these entries or registrations
+abbrev pub words_left : Root → List Entry → List (ℕ × Registration) → List ℕ
+words_left HeldObject entries registrations = map (λ (e : Entry). e.obj) entries
+words_left HeldData entries registrations = map (λ (e : Entry). e.cd) entries
+words_left RegisteredData entries registrations = map (λ (e : ℕ × Registration). e.1.cd) registrations
+
+-- these are the entries that wait or are held
+abbrev pub AreEntries : State → List Entry → Type 0
+AreEntries s entries = (held : List (ℕ × Entry)) × (from_entries held ≡ s.held) × (entries ≡ s.waiting ++ values_of held)
+
+-- these are the registrations
+abbrev pub AreRegistrations : State → List (ℕ × Registration) → Type 0
+AreRegistrations s registrations = (object : ℕ) → get (from_entries {R = nat_cmp} registrations) object ≡ registered s object
+
+-- what the walk over a sort of roots yields
+abbrev pub YieldsRoots : Root → State → List ℕ → Type 0
+YieldsRoots root s words = (entries : List Entry) × (registrations : List (ℕ × Registration)) × AreEntries s entries × AreRegistrations s registrations × (words ≡ words_left root entries registrations)
+
+-- no object is registered as far as that, or it is the first that is
+abbrev pub IsFirstRegistered : State → ℕ → Option (ℕ × Registration) → Type 0
+IsFirstRegistered s from None = (a : ℕ) (r : Registration) → registered s a ≡ Some r → a < from
+IsFirstRegistered s from (Some e) = (registered s e.0 ≡ Some e.1) × (from ≤ e.0) × ((a : ℕ) (r : Registration) → registered s a ≡ Some r → from ≤ a → e.0 ≤ a)

@@ -1,0 +1,91 @@
+//! The entries that were taken and aren't finished.
+
+ghost use Rattle.std.specs.Prelude.{◌≡◌, ◌≤◌, ◌<◌, ◌+◌, nat_eq, if◌then◌else◌, length, OnOk, OnErr};
+ghost use Rattle.std.specs.FinMap.{get, insert, remove, len, empty, from_entries};
+ghost use Rattle.fz_finalizers.specs.Views.{is_held};
+
+use fz_model::Entry;
+use fz_table::Pairs;
+use indexmap::IndexMap;
+use std::alloc::{AllocError, Global};
+use std::marker::Model;
+
+/// The entries that are held, by their numbers.
+#[derive(Drop)]
+pub(crate) struct Held {
+    entries: IndexMap<u64, Entry>,
+}
+
+impl Model for Held {
+    ghost use Rattle.std.specs.FinMap.{from_entries};
+    ghost use Rattle.indexmap.specs.IndexMap.{spare};
+    ghost use Rattle.fz_finalizers.specs.Views.{Held, held_code};
+
+    ghost Value = { Held };
+
+    ghost coded = { held_code };
+
+    ghost view = { λ h. record { entries = from_entries h.entries.entries; room = spare h.entries } };
+}
+
+impl Held {
+    /// None is held.
+    pub(crate) fn new(alloc: Global) -> Held
+        ensures { result.entries ≡ empty }
+    {
+        Held {
+            entries: IndexMap::new(alloc),
+        }
+    }
+
+    /// Makes room for `more` further entries.
+    pub(crate) fn reserve(&mut self, more: usize) -> Result<(), AllocError>
+        ensures same { self.new.entries ≡ self.old.entries }
+        ensures kept { self.old.room ≤ self.new.room }
+        ensures room { OnOk result (more ≤ self.new.room) }
+        ensures full { OnErr result (self.old.room < more) }
+    {
+        self.entries.reserve(more)
+    }
+
+    /// How many are held.
+    pub(crate) fn len(&self) -> usize
+        ensures { result ≡ len self.now.entries }
+    {
+        self.entries.len()
+    }
+
+    /// Holds an entry, for which there is room.
+    pub(crate) fn hold(&mut self, entry: Entry)
+        requires { 0 < self.old.room }
+        ensures held { self.new.entries ≡ insert self.old.entries entry.seq entry }
+        ensures room { self.old.room ≤ self.new.room + 1 }
+    {
+        let _ = self.entries.insert(entry.seq, entry);
+    }
+
+    /// Whether this very entry is held.
+    pub(crate) fn is_held(&self, entry: &Entry) -> bool
+        ensures { result ≡ is_held self.now.entries entry.now }
+    {
+        match self.entries.get(&entry.seq) {
+            Some(held) => *entry == *held,
+            None => false,
+        }
+    }
+
+    /// Lets go of the entry with a number.
+    pub(crate) fn release(&mut self, number: u64)
+        ensures released { self.new.entries ≡ remove self.old.entries number }
+        ensures room { self.old.room ≤ self.new.room }
+    {
+        self.entries.swap_remove(&number);
+    }
+
+    /// Those that are held, in no order that callers may count on.
+    pub(crate) fn iter(&self) -> Pairs<'_, u64, Entry>
+        ensures { from_entries result ≡ self.now.entries }
+    {
+        Pairs::of(self.entries.iter())
+    }
+}

@@ -1,0 +1,28 @@
+//! Finalizers for a host with a heap of its own: what is registered, what waits to be taken, and what isn't finished.
+#![tactic(auto)]
+
+mod entries;
+mod finalizers;
+mod held;
+mod kinds;
+mod law;
+mod linking;
+mod links;
+mod nearest;
+mod passes;
+mod ready;
+mod refused;
+mod registering;
+mod registrations;
+mod roots;
+mod waiting;
+mod walks;
+
+pub use finalizers::Finalizers;
+pub use fz_model::{Addr, Entry, LinkAnswer, LinkKind, MoveAnswer, Old};
+pub use kinds::{Finalizer, Kind};
+pub use law::every_sequence;
+pub use passes::Passed;
+pub use refused::Refused;
+pub use roots::{Root, Roots};
+pub use walks::{Entries, Registrations};

@@ -1,0 +1,79 @@
+//! Disappearing links.
+
+ghost use Rattle.std.specs.Prelude.{◌≡◌, ◌≤◌, ◌<◌, ◌+◌, None, if◌then◌else◌, IfOk, IfErr, OnOk, OnErr};
+ghost use Rattle.std.specs.FinMap.{get, len, contains_key};
+ghost use Rattle.fz_model.specs.Steps.{move_answer};
+ghost use Rattle.fz_finalizers.specs.Causes.{IsJudgedBy, IsJudgedOrLacks, link_causes, move_causes};
+ghost use Rattle.fz_finalizers.specs.Follows.{Follows, Link, Unlink, Move};
+ghost use Rattle.fz_finalizers.specs.States.{links_of, room_of};
+
+use crate::finalizers::Finalizers;
+use crate::linking;
+use crate::refused::Refused;
+use fz_model::{Addr, LinkAnswer, LinkKind, MoveAnswer};
+
+impl Finalizers {
+    /// Makes the word a link to the target, an object; a link that it is already gets the new target.
+    ///
+    /// That the target is an object is the host's duty. Refusals, in their order: `Zero` where the word or the target is 0, `Full` where there are
+    /// 2^32 others of the kind, `NoMemory`.
+    pub fn link(&mut self, kind: LinkKind, word: Addr, target: Addr) -> Result<LinkAnswer, Refused>
+        ensures judged { IsJudgedOrLacks (link_causes (links_of self.old.state kind) word target) result }
+        // Only a new link can want memory, and only where no room is left.
+        ensures fresh { IfErr result (λ r. r ≡ Refused.NoMemory → get (links_of self.old.state kind) word ≡ None) }
+        ensures wanting { IfErr result (λ r. r ≡ Refused.NoMemory → room_of self.old.rooms kind ≡ 0) }
+        ensures refused { OnErr result (self.new.state ≡ self.old.state) }
+        ensures answer { IfOk result (λ answer. answer ≡ (if contains_key (links_of self.old.state kind) word then LinkAnswer.Duplicate else LinkAnswer.Success)) }
+        ensures follows { OnOk result (Follows self.old.state (Link kind word target) self.new.state) }
+    {
+        match kind {
+            LinkKind::Short => linking::link(&mut self.short, &mut self.moves, word, target),
+            LinkKind::Long => linking::link(&mut self.long, &mut self.moves, word, target),
+        }
+    }
+
+    /// Removes a link, and returns whether there was one.
+    pub fn unlink(&mut self, kind: LinkKind, word: Addr) -> bool
+        ensures answer { result ≡ contains_key (links_of self.old.state kind) word }
+        ensures follows { Follows self.old.state (Unlink kind word) self.new.state }
+    {
+        match kind {
+            LinkKind::Short => self.short.unregister(word),
+            LinkKind::Long => self.long.unregister(word),
+        }
+    }
+
+    /// Moves a link, with its target, from a word to another. It takes no memory, but time in proportion to the links of its kind where their table
+    /// is full. Refused `Zero` where the other word is 0.
+    pub fn move_link(&mut self, kind: LinkKind, word: Addr, to: Addr) -> Result<MoveAnswer, Refused>
+        ensures judged { IsJudgedBy (move_causes to) result }
+        ensures refused { OnErr result (self.new.state ≡ self.old.state) }
+        ensures answer { IfOk result (λ answer. answer ≡ move_answer (links_of self.old.state kind) word to) }
+        ensures follows { OnOk result (Follows self.old.state (Move kind word to) self.new.state) }
+    {
+        match kind {
+            LinkKind::Short => linking::move_link(&mut self.short, &mut self.moves, word, to),
+            LinkKind::Long => linking::move_link(&mut self.long, &mut self.moves, word, to),
+        }
+    }
+
+    /// The target of a link.
+    pub fn target(&self, kind: LinkKind, word: Addr) -> Option<Addr>
+        ensures { result ≡ get (links_of self.now.state kind) word }
+    {
+        match kind {
+            LinkKind::Short => self.short.get(word),
+            LinkKind::Long => self.long.get(word),
+        }
+    }
+
+    /// How many links of a kind there are.
+    pub fn links(&self, kind: LinkKind) -> u64
+        ensures { result ≡ len (links_of self.now.state kind) }
+    {
+        match kind {
+            LinkKind::Short => self.short.len() as u64,
+            LinkKind::Long => self.long.len() as u64,
+        }
+    }
+}

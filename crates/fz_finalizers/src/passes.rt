@@ -1,0 +1,113 @@
+//! Passes, and the room that is made for them.
+
+ghost use Rattle.std.specs.Prelude.{◌≡◌, ◌≤◌, ◌+◌, ℕ, None, IfErr, OnOk, OnErr, IsTrue};
+ghost use Rattle.fz_model.specs.Memory.{points};
+ghost use Rattle.fz_pass.specs.Marks.{IsClosed, AreRegistered, AreTargets};
+ghost use Rattle.fz_finalizers.specs.Follows.{Follows, Pass, QueueAll, next_pass};
+ghost use Rattle.fz_finalizers.specs.Passed.{DecidesFor};
+ghost use Rattle.fz_finalizers.specs.Ready.{QueuesTables};
+ghost use Rattle.fz_finalizers.specs.States.{HasRooms, IsRoomier, limited};
+
+use crate::finalizers::Finalizers;
+use crate::refused::Refused;
+use fz_pass::Host;
+use fz_table::MOST_ENTRIES;
+
+/// What a pass did.
+#[derive(Clone, Copy, Debug, PartialEq, Eq)]
+pub struct Passed {
+    /// Its number, counted from 1.
+    pub pass: u64,
+    /// How many entries it queued.
+    pub picked: u64,
+}
+
+/// As many entries, but no more than a table can have.
+fn limited(entries: usize) -> usize
+    ensures { result ≡ limited entries }
+{
+    entries.min(MOST_ENTRIES as usize)
+}
+
+impl Finalizers {
+    /// Makes room for further registrations of the kinds other than `Unreachable`, and for further links of both kinds: of each for 2^32 at the most.
+    ///
+    /// Refused `NoMemory` where an allocation failed.
+    pub fn reserve(
+        &mut self,
+        registrations: usize,
+        shorts: usize,
+        longs: usize,
+    ) -> Result<(), Refused>
+        ensures refused { IfErr result (λ r. r ≡ Refused.NoMemory) }
+        ensures wanting { OnErr result (HasRooms self.old.rooms registrations shorts longs → ⊥) }
+        ensures same { self.new.state ≡ self.old.state }
+        ensures kept { IsRoomier self.old.rooms self.new.rooms }
+        ensures room { OnOk result (HasRooms self.new.rooms registrations shorts longs) }
+    {
+        let more = limited(registrations);
+        self.table.reserve(more).map_err(|_| Refused::NoMemory)?;
+        self.ready
+            .reserve(self.table.len() + self.late.len() + more)?;
+        let (more_short, more_long) = (limited(shorts), limited(longs));
+        self.short
+            .reserve(more_short)
+            .map_err(|_| Refused::NoMemory)?;
+        self.long.reserve(more_long).map_err(|_| Refused::NoMemory)?;
+        self.moves.reserve(self.short.len() + more_short)?;
+        self.moves.reserve(self.long.len() + more_long)?;
+        Ok(())
+    }
+
+    /// Carries out a pass over the host's heap, whose marking is done: the links to what isn't marked are cleared, the finalizers of objects that
+    /// aren't marked come to the queue where no other of these leads to them, and what they need is marked. What isn't marked afterwards is the
+    /// host's to reclaim.
+    ///
+    /// That registered objects and the targets of links are the host's objects is its duty.
+    pub fn pass<H: Host>(&mut self, host: &mut H) -> Passed
+        requires registered { AreRegistered (H.objects host.old) self.old.registrations }
+        requires late { AreRegistered (H.objects host.old) self.old.late }
+        requires short { AreTargets (H.objects host.old) self.old.short }
+        requires long { AreTargets (H.objects host.old) self.old.long }
+        // A word that was cleared points to nothing.
+        requires zero { points (H.objects host.old) 0 ≡ None }
+        requires closed { IsClosed (H.objects host.old) (H.marked host.old) }
+        ensures decided { DecidesFor H.is_exact (next_pass self.old.passes) self.old.state (H.objects host.old) (H.marked host.old) self.new.state (H.objects host.new) (H.marked host.new) }
+        ensures follows { Follows self.old.state Pass self.new.state }
+        ensures pass { result.pass ≡ next_pass self.old.passes }
+        ensures picked { self.new.queued ≡ self.old.queued + result.picked }
+        // Marked objects stay marked, and what they lead to is marked.
+        ensures marks { (a : ℕ) → IsTrue (H.marked host.old a) → IsTrue (H.marked host.new a) }
+        ensures closed { IsClosed (H.objects host.new) (H.marked host.new) }
+        // All else of the host stays.
+        ensures same { H.is_same host.old host.new }
+    {
+        let before = self.ready.queued();
+        let pass = self.passes.saturating_add(1);
+        self.ready.pass(
+            pass,
+            host,
+            &mut self.table,
+            &mut self.late,
+            &mut self.short,
+            &mut self.long,
+        );
+        self.passes = pass;
+        Passed {
+            pass,
+            picked: self.ready.queued() - before,
+        }
+    }
+
+    /// Queues all that is registered, whatever is marked, by rank, then object, and the unreachable ones after the others; returns how many there
+    /// were: `GC_finalize_all`. The entries' pass is 0, and so are their births. Links stay.
+    pub fn queue_all(&mut self) -> u64
+        ensures queued { QueuesTables self.old.queued self.old.registrations self.old.late self.old.waiting self.new.waiting }
+        ensures follows { Follows self.old.state QueueAll self.new.state }
+        ensures count { self.new.queued ≡ self.old.queued + result }
+    {
+        let before = self.ready.queued();
+        self.ready.queue_all(&mut self.table, &mut self.late);
+        self.ready.queued() - before
+    }
+}

@@ -1,0 +1,209 @@
+//! The entries, and the room that is kept for those that are still to come.
+
+ghost use Rattle.std.specs.Prelude.{◌≡◌, ◌≤◌, ◌<◌, ◌+◌, ◌^◌, [], ◌∷◌, ◌++◌, ℕ, None, length, IfErr, OnOk, OnErr, IsTrue};
+ghost use Rattle.std.specs.FinMap.{get, remove, len, empty, from_entries};
+ghost use Rattle.fz_model.specs.Memory.{points};
+ghost use Rattle.fz_pass.specs.Marks.{IsClosed, AreRegistered, AreTargets};
+ghost use Rattle.fz_pass.specs.Late.{AreApart, AreNormal, parts_of, parts_left};
+ghost use Rattle.fz_finalizers.specs.Ready.{Decides, HasSameEntries, QueuesTables, Takes, TakesFinished};
+ghost use Rattle.fz_finalizers.specs.Views.{is_held};
+
+use crate::held::Held;
+use crate::refused::Refused;
+use crate::waiting::Waiting;
+use fz_links::Links;
+use fz_model::{Addr, Entry};
+use fz_pass::{Host, decide_with_late, queue_all};
+use fz_table::{Pairs, Table};
+use std::alloc::Global;
+use std::marker::Model;
+use std::mem;
+
+/// The entries that wait and those that are held, with room for those that a pass may queue.
+#[derive(Drop)]
+pub(crate) struct Ready {
+    /// Empty but in a pass, which lists the objects here whose finalizers are ready.
+    list: Vec<(u8, Addr)>,
+    waiting: Waiting,
+    held: Held,
+    /// How many entries ever came, which is the number of the next.
+    queued: u64,
+}
+
+impl Model for Ready {
+    ghost use Rattle.std.specs.Prelude.{◌≡◌, ◌≤◌, ◌-◌, ◌∷◌, [], min, length, vec_capacity};
+    ghost use Rattle.fz_finalizers.specs.Ready.{Ready, ready_code, IsReady};
+
+    ghost Value = { Ready };
+
+    ghost coded = { ready_code };
+
+    ghost view = { λ r. record {
+      waiting = r.waiting.entries;
+      held = r.held.entries;
+      queued = r.queued;
+      room = min (vec_capacity r.list) (min (r.waiting.capacity - length r.waiting.entries) (r.held.room - length r.waiting.entries));
+    } };
+
+    ghost invariant = { λ r. IsReady r.list.items r.waiting r.held r.queued };
+}
+
+impl Ready {
+    /// No entries, and no room.
+    pub(crate) fn new(alloc: Global) -> Ready
+        ensures waiting { result.waiting ≡ [] }
+        ensures held { result.held ≡ empty }
+        ensures queued { result.queued ≡ 0 }
+    {
+        Ready {
+            list: Vec::new(alloc),
+            waiting: Waiting::of(Vec::new(alloc)),
+            held: Held::new(alloc),
+            queued: 0,
+        }
+    }
+
+    /// Those that wait, in the queue's order.
+    pub(crate) fn waiting(&self) -> &[Entry]
+        ensures { result.now ≡ self.now.waiting }
+    {
+        self.waiting.as_slice()
+    }
+
+    /// How many ever came.
+    pub(crate) fn queued(&self) -> u64
+        ensures { result ≡ self.now.queued }
+    {
+        self.queued
+    }
+
+    /// How many are held.
+    pub(crate) fn held_count(&self) -> usize
+        ensures { result ≡ len self.now.held }
+    {
+        self.held.len()
+    }
+
+    /// Those that are held, by their numbers, in no order that callers may count on.
+    pub(crate) fn held_entries(&self) -> Pairs<'_, u64, Entry>
+        ensures { from_entries result ≡ self.now.held }
+    {
+        self.held.iter()
+    }
+
+    /// Makes room for `most` entries that are still to come.
+    pub(crate) fn reserve(&mut self, most: usize) -> Result<(), Refused>
+        requires { self.old.queued + most < 2 ^ 64 }
+        ensures refused { IfErr result (λ r. r ≡ Refused.NoMemory) }
+        ensures wanting { OnErr result (self.old.room < most) }
+        ensures same { HasSameEntries self.old self.new }
+        ensures kept { self.old.room ≤ self.new.room }
+        ensures room { OnOk result (most ≤ self.new.room) }
+    {
+        self.list.reserve(most)?;
+        self.waiting.reserve(most)?;
+        self.held.reserve(self.waiting.len() + most)?;
+        Ok(())
+    }
+
+    /// Carries out a pass with this number over a host and the tables.
+    pub(crate) fn pass<H: Host>(
+        &mut self,
+        number: u64,
+        host: &mut H,
+        table: &mut Table,
+        late: &mut Table,
+        short: &mut Links,
+        long: &mut Links,
+    )
+        requires registered { AreRegistered (H.objects host.old) table.old.registrations }
+        requires late { AreRegistered (H.objects host.old) late.old.registrations }
+        requires apart { AreApart table.old.registrations late.old.registrations }
+        requires normal { AreNormal late.old.registrations }
+        requires short { AreTargets (H.objects host.old) short.old.links }
+        requires long { AreTargets (H.objects host.old) long.old.links }
+        requires zero { points (H.objects host.old) 0 ≡ None }
+        requires closed { IsClosed (H.objects host.old) (H.marked host.old) }
+        requires room { len table.old.registrations + len late.old.registrations ≤ self.old.room }
+        requires numbers { self.old.queued + (len table.old.registrations + len late.old.registrations) < 2 ^ 64 }
+        ensures decided { Decides H.is_exact number (parts_of (H.objects host.old) table.old late.old short.old long.old) (H.marked host.old) (parts_left (H.objects host.new) (H.marked host.new) table.new late.new short.new long.new) self.old self.new }
+        ensures queued { length self.old.waiting + self.new.queued ≡ length self.new.waiting + self.old.queued }
+        ensures held { self.new.held ≡ self.old.held }
+        ensures count { self.new.queued + (len table.new.registrations + len late.new.registrations) ≡ self.old.queued + (len table.old.registrations + len late.old.registrations) }
+        ensures room { len table.new.registrations + len late.new.registrations ≤ self.new.room }
+        ensures marks { (a : ℕ) → IsTrue (H.marked host.old a) → IsTrue (H.marked host.new a) }
+        ensures closed { IsClosed (H.objects host.new) (H.marked host.new) }
+        ensures same { H.is_same host.old host.new }
+        ensures table { table.new.registered ≡ record table.old.registered { registrations = table.new.registrations } }
+        ensures late { late.new.registered ≡ record late.old.registered { registrations = late.new.registrations } }
+    {
+        let alloc = *self.list.allocator();
+        let none = Waiting::of(Vec::new(alloc));
+        let mut queue = mem::replace(&mut self.waiting, none).into_entries();
+        let before = queue.len();
+        let first = self.queued;
+        let list = &mut self.list;
+        decide_with_late(
+            host, table, late, short, long, list, &mut queue, number, first,
+        );
+        self.queued = first + (queue.len() - before) as u64;
+        self.waiting = Waiting::of(queue);
+    }
+
+    /// Queues all that is registered in the tables.
+    pub(crate) fn queue_all(&mut self, table: &mut Table, late: &mut Table)
+        requires room { len table.old.registrations + len late.old.registrations ≤ self.old.room }
+        requires numbers { self.old.queued + (len table.old.registrations + len late.old.registrations) < 2 ^ 64 }
+        ensures queued { QueuesTables self.old.queued table.old.registrations late.old.registrations self.old.waiting self.new.waiting }
+        ensures grown { length self.old.waiting + self.new.queued ≡ length self.new.waiting + self.old.queued }
+        ensures count { self.new.queued ≡ self.old.queued + (len table.old.registrations + len late.old.registrations) }
+        ensures held { self.new.held ≡ self.old.held }
+        ensures table { table.new.registered ≡ record table.old.registered { registrations = empty } }
+        ensures late { late.new.registered ≡ record late.old.registered { registrations = empty } }
+    {
+        let alloc = *self.list.allocator();
+        let none = Waiting::of(Vec::new(alloc));
+        let mut queue = mem::replace(&mut self.waiting, none).into_entries();
+        let before = queue.len();
+        let first = self.queued;
+        queue_all(table, &mut self.list, &mut queue, first);
+        let next = first + (queue.len() - before) as u64;
+        queue_all(late, &mut self.list, &mut queue, next);
+        self.queued = first + (queue.len() - before) as u64;
+        self.waiting = Waiting::of(queue);
+    }
+
+    /// Takes the first entry that waits, and holds it.
+    pub(crate) fn take(&mut self) -> Option<Entry>
+        ensures takes { Takes result self.old self.new }
+        ensures room { self.old.room ≤ self.new.room }
+    {
+        let entry = self.waiting.take()?;
+        self.held.hold(entry);
+        Some(entry)
+    }
+
+    /// Takes the first entry that waits, and doesn't hold it.
+    pub(crate) fn take_finished(&mut self) -> Option<Entry>
+        ensures takes { TakesFinished result self.old self.new }
+        ensures room { self.old.room ≤ self.new.room }
+    {
+        self.waiting.take()
+    }
+
+    /// Whether this very entry is held.
+    pub(crate) fn is_held(&self, entry: &Entry) -> bool
+        ensures { result ≡ is_held self.now.held entry.now }
+    {
+        self.held.is_held(entry)
+    }
+
+    /// Lets go of the held entry with a number.
+    pub(crate) fn release(&mut self, number: u64)
+        ensures released { self.new.held ≡ remove self.old.held number }
+        ensures same { (self.new.waiting ≡ self.old.waiting) × (self.new.queued ≡ self.old.queued) }
+        ensures room { self.old.room ≤ self.new.room }
+    {
+        self.held.release(number);
+    }
+}

@@ -1,0 +1,67 @@
+//! Registrations.
+
+ghost use Rattle.std.specs.Prelude.{◌≡◌, ◌≤◌, ◌<◌, ◌+◌, None, if◌then◌else◌, IfOk, IfErr, OnOk, OnErr};
+ghost use Rattle.std.specs.FinMap.{get, len};
+ghost use Rattle.fz_finalizers.specs.Causes.{IsJudgedOrLacks, register_causes};
+ghost use Rattle.fz_finalizers.specs.Kinds.{is_late};
+ghost use Rattle.fz_finalizers.specs.Follows.{Follows, Register, Unregister};
+ghost use Rattle.fz_finalizers.specs.Registering.{old_in_either};
+ghost use Rattle.fz_finalizers.specs.States.{table_of, registered, registration_room};
+
+use crate::finalizers::Finalizers;
+use crate::kinds::Finalizer;
+use crate::refused::Refused;
+use crate::registering;
+use fz_model::{Addr, Old, Registration};
+
+impl Finalizers {
+    /// Registers a finalizer of an object, in the place of the one that it has; returns the number of the registration and what was replaced.
+    ///
+    /// Refusals, in their order: `Zero` where the object is 0, `Exhausted` after 2^48 numbers, `Full` where 2^32 others are registered, `NoMemory`.
+    pub fn register(
+        &mut self,
+        object: Addr,
+        finalizer: Finalizer,
+    ) -> Result<(u64, Option<Old>), Refused>
+        ensures judged { IsJudgedOrLacks (register_causes (table_of self.old.state finalizer.kind) self.old.next_number object) result }
+        // Only an object that isn't registered in the table of its kind can want memory, and only where no room is left.
+        ensures fresh { IfErr result (λ r. r ≡ Refused.NoMemory → get (table_of self.old.state finalizer.kind) object ≡ None) }
+        ensures wanting { IfErr result (λ r. r ≡ Refused.NoMemory → registration_room self.old.rooms finalizer.kind ≡ 0) }
+        ensures refused { OnErr result (self.new.state ≡ self.old.state) }
+        ensures number { IfOk result (λ answer. answer.0 ≡ self.old.next_number) }
+        ensures replaced { IfOk result (λ answer. answer.1 ≡ old_in_either self.old.registrations self.old.late object) }
+        ensures follows { OnOk result (Follows self.old.state (Register object finalizer) self.new.state) }
+    {
+        let entered = finalizer.in_table();
+        let ready = &mut self.ready;
+        if finalizer.kind.is_late() {
+            registering::register(&mut self.late, &mut self.table, ready, object, entered)
+        } else {
+            registering::register(&mut self.table, &mut self.late, ready, object, entered)
+        }
+    }
+
+    /// Removes an object's registration; returns its procedure and client data.
+    pub fn unregister(&mut self, object: Addr) -> Option<Old>
+        ensures answer { result ≡ old_in_either self.old.registrations self.old.late object }
+        ensures follows { Follows self.old.state (Unregister object) self.new.state }
+    {
+        let old = self.table.remove(object);
+        let late_old = registering::remove(&mut self.late, object);
+        old.or(late_old)
+    }
+
+    /// An object's registration. Its kind is that of its table: an unreachable one is normal there.
+    pub fn registration(&self, object: Addr) -> Option<Registration>
+        ensures { result ≡ registered self.now.state object }
+    {
+        self.table.get(object).or(self.late.get(object))
+    }
+
+    /// How many objects are registered.
+    pub fn registrations(&self) -> u64
+        ensures { result ≡ len self.now.registrations + len self.now.late }
+    {
+        (self.table.len() + self.late.len()) as u64
+    }
+}

@@ -1,0 +1,89 @@
+//! Walks over what a host's marker takes as roots.
+
+ghost use Rattle.std.specs.Prelude.{◌≡◌, ◌≤◌, ◌<◌, ◌+◌, ◌++◌, ℕ, List, min, map, take, drop, length, Some, IfSome};
+ghost use Rattle.std.specs.FinMap.{get, from_entries};
+ghost use Rattle.std.specs.Iterator.{YieldsFirst, UpTo, at_most, item_count};
+ghost use Rattle.fz_model.specs.declared.answers.Entry.{Entry};
+ghost use Rattle.fz_model.specs.declared.answers.Registration.{Registration};
+ghost use Rattle.fz_finalizers.specs.Walks.{values_of, YieldsRoots};
+
+use crate::finalizers::Finalizers;
+use crate::walks::{Entries, Registrations};
+use std::marker::Model;
+
+/// What a walk over roots yields.
+#[derive(Clone, Copy, Debug, PartialEq, Eq)]
+pub enum Root {
+    /// The objects of entries that wait or are held. They are roots themselves: the host marks these very objects.
+    HeldObject,
+    /// The client data of entries that wait or are held. It is a root where it points to an object.
+    HeldData,
+    /// The client data of registrations, for hosts that keep it: bdwgc leaves this to a choice at its build.
+    RegisteredData,
+}
+
+/// A walk over the roots of a sort, seen as the list of the words that are left.
+#[derive(Drop)]
+pub struct Roots<'a> {
+    root: Root,
+    entries: Entries<'a>,
+    registrations: Registrations<'a>,
+}
+
+impl<'a> Model for Roots<'a> {
+    ghost use Rattle.std.specs.Prelude.{ℕ, List};
+    ghost use Rattle.fz_finalizers.specs.Walks.{words_left};
+
+    ghost Value = { List ℕ };
+
+    ghost view = { λ r. words_left r.root r.entries r.registrations };
+}
+
+impl<'a> Iterator for Roots<'a> {
+    type Item = u64;
+
+    ghost next_gives = { YieldsFirst (λ rest. rest) };
+
+    ghost remaining = { item_count (λ rest. rest) };
+
+    fn next(&mut self) -> Option<u64> {
+        match self.root {
+            Root::HeldObject => Some(self.entries.next()?.obj),
+            Root::HeldData => Some(self.entries.next()?.cd),
+            Root::RegisteredData => Some(self.registrations.next()?.1.cd),
+        }
+    }
+}
+
+impl<'a> Roots<'a> {
+    /// Writes the next words into the buffer, as many as it holds or are left; returns how many.
+    pub fn fill(&mut self, buffer: &mut [u64]) -> usize
+        ensures count { result ≡ min (length buffer.old) (length self.old) }
+        ensures filled { take result buffer.new ≡ take result self.old }
+        ensures left { self.new ≡ drop result self.old }
+    {
+        let mut filled = 0;
+        for place in buffer.iter_mut() {
+            let Some(word) = self.next() else {
+                return filled;
+            };
+            *place = word;
+            filled += 1;
+        }
+        filled
+    }
+}
+
+impl Finalizers {
+    /// The roots of a sort. A host marks from the held objects and their data before each pass; so what a finalizer is called with is there until it
+    /// is finished.
+    pub fn roots(&self, root: Root) -> Roots<'_>
+        ensures { YieldsRoots root self.now.state result }
+    {
+        Roots {
+            root,
+            entries: self.entries(),
+            registrations: self.iter(),
+        }
+    }
+}

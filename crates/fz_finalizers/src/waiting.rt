@@ -1,0 +1,95 @@
+//! The entries that wait to be taken.
+
+ghost use Rattle.std.specs.Prelude.{◌≡◌, ◌≤◌, ◌<◌, ◌+◌, [], ◌∷◌, drop, length, vec_len, vec_capacity, MatchOption, OnOk, OnErr};
+
+use fz_model::Entry;
+use std::alloc::AllocError;
+use std::marker::Model;
+
+/// The entries that wait, in the queue's order. Those that were taken stand before them until room is wanted.
+#[derive(Drop)]
+pub(crate) struct Waiting {
+    entries: Vec<Entry>,
+    taken: usize,
+}
+
+impl Model for Waiting {
+    ghost use Rattle.std.specs.Prelude.{◌≤◌, drop, length, vec_capacity};
+    ghost use Rattle.fz_finalizers.specs.Views.{Waiting, waiting_code};
+
+    ghost Value = { Waiting };
+
+    ghost coded = { waiting_code };
+
+    ghost view = { λ w. record { entries = drop w.taken w.entries.items; capacity = vec_capacity w.entries } };
+
+    ghost invariant = { λ w. w.taken ≤ length w.entries.items };
+}
+
+/// Removes the first entries.
+fn drop_first(entries: &mut Vec<Entry>, taken: usize)
+    requires { taken ≤ length entries.old.items }
+    ensures items { entries.new.items ≡ drop taken entries.old.items }
+    ensures capacity { vec_capacity entries.new ≡ vec_capacity entries.old }
+{
+    let left = entries.len() - taken;
+    entries.as_mut_slice().rotate_left(taken);
+    entries.truncate(left);
+}
+
+impl Waiting {
+    /// These entries wait.
+    pub(crate) fn of(entries: Vec<Entry>) -> Waiting
+        ensures { result ≡ record { entries = entries.items; capacity = vec_capacity entries } }
+    {
+        Waiting { entries, taken: 0 }
+    }
+
+    /// How many wait.
+    pub(crate) fn len(&self) -> usize
+        ensures { result ≡ length self.now.entries }
+    {
+        self.entries.len() - self.taken
+    }
+
+    /// Those that wait.
+    pub(crate) fn as_slice(&self) -> &[Entry]
+        ensures { result.now ≡ self.now.entries }
+    {
+        &self.entries[self.taken..]
+    }
+
+    /// Makes room for `more` further entries.
+    pub(crate) fn reserve(&mut self, more: usize) -> Result<(), AllocError>
+        ensures same { self.new.entries ≡ self.old.entries }
+        ensures kept { self.old.capacity ≤ self.new.capacity }
+        ensures room { OnOk result (length self.new.entries + more ≤ self.new.capacity) }
+        ensures full { OnErr result (self.old.capacity < length self.old.entries + more) }
+    {
+        if self.entries.capacity() - self.entries.len() < more {
+            drop_first(&mut self.entries, self.taken);
+            self.taken = 0;
+        }
+        self.entries.reserve(more)
+    }
+
+    /// Takes the first entry.
+    pub(crate) fn take(&mut self) -> Option<Entry>
+        ensures first { MatchOption result (self.old.entries ≡ []) (λ entry. self.old.entries ≡ entry ∷ self.new.entries) }
+        ensures none { MatchOption result (self.new ≡ self.old) (λ _. self.new.capacity ≡ self.old.capacity) }
+    {
+        let entry = *self.entries.get(self.taken)?;
+        self.taken += 1;
+        Some(entry)
+    }
+
+    /// The entries that wait, with their room.
+    pub(crate) fn into_entries(self) -> Vec<Entry>
+        ensures items { result.items ≡ self.entries }
+        ensures capacity { vec_capacity result ≡ self.capacity }
+    {
+        let Waiting { mut entries, taken } = self;
+        drop_first(&mut entries, taken);
+        entries
+    }
+}

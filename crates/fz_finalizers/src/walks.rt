@@ -1,0 +1,138 @@
+//! Walks over registrations, links and roots.
+
+ghost use Rattle.std.specs.Prelude.{◌≡◌, ◌≤◌, ◌<◌, ◌+◌, ◌++◌, ℕ, List, min, map, take, drop, length, nat_eq, Some, IfSome};
+ghost use Rattle.std.specs.Ordering.{nat_cmp};
+ghost use Rattle.std.specs.FinMap.{get, from_entries};
+ghost use Rattle.std.specs.Iterator.{YieldsFirst, UpTo, at_most, item_count};
+ghost use Rattle.std.specs.Iterator.SizeHint.{IsWithinCount};
+ghost use Rattle.std.specs.List.{IsDistinct};
+ghost use Rattle.std.specs.Map.{keys_of};
+ghost use Rattle.fz_finalizers.specs.States.{links_of, registered};
+ghost use Rattle.fz_model.specs.declared.answers.Entry.{Entry};
+ghost use Rattle.fz_finalizers.specs.Nearest.{IsFirstFrom};
+ghost use Rattle.fz_finalizers.specs.Walks.{IsFirstRegistered, AreEntries, AreRegistrations};
+
+use crate::finalizers::Finalizers;
+use crate::nearest::{first_from, nearer};
+use fz_model::{Addr, Entry, LinkKind, Registration};
+use fz_table::Pairs;
+use std::marker::Model;
+
+/// All registrations with their objects, seen as the list of those that are left.
+#[derive(Drop)]
+pub struct Registrations<'a> {
+    first: Pairs<'a, Addr, Registration>,
+    late: Pairs<'a, Addr, Registration>,
+}
+
+impl<'a> Model for Registrations<'a> {
+    ghost use Rattle.std.specs.Prelude.{◌++◌, ℕ, List};
+    ghost use Rattle.fz_model.specs.declared.answers.Registration.{Registration};
+
+    ghost Value = { List (ℕ × Registration) };
+
+    ghost view = { λ r. r.first ++ r.late };
+}
+
+impl<'a> Iterator for Registrations<'a> {
+    type Item = (Addr, Registration);
+
+    ghost next_gives = { YieldsFirst (λ rest. rest) };
+
+    ghost remaining = { item_count (λ rest. rest) };
+
+    fn next(&mut self) -> Option<(Addr, Registration)> {
+        match self.first.next() {
+            Some(registration) => Some(registration),
+            None => self.late.next(),
+        }
+    }
+}
+
+/// The entries that wait and those that are held, seen as the list of those that are left.
+#[derive(Drop)]
+pub struct Entries<'a> {
+    waiting: &'a [Entry],
+    held: Pairs<'a, u64, Entry>,
+}
+
+impl<'a> Model for Entries<'a> {
+    ghost use Rattle.std.specs.Prelude.{◌++◌, List};
+    ghost use Rattle.fz_model.specs.declared.answers.Entry.{Entry};
+    ghost use Rattle.fz_finalizers.specs.Walks.{values_of};
+
+    ghost Value = { List Entry };
+
+    ghost view = { λ e. e.waiting.now ++ values_of e.held };
+}
+
+impl<'a> Iterator for Entries<'a> {
+    type Item = Entry;
+
+    ghost next_gives = { YieldsFirst (λ rest. rest) };
+
+    ghost remaining = { item_count (λ rest. rest) };
+
+    fn next(&mut self) -> Option<Entry> {
+        if let Some((entry, rest)) = self.waiting.split_first() {
+            self.waiting = rest;
+            return Some(*entry);
+        }
+        let (_, entry) = self.held.next()?;
+        Some(entry)
+    }
+}
+
+impl Finalizers {
+    /// All registrations with their objects, each once, in no order that callers may count on.
+    pub fn iter(&self) -> Registrations<'_>
+        ensures all { AreRegistrations self.now.state result }
+    {
+        Registrations {
+            first: self.table.iter(),
+            late: self.late.iter(),
+        }
+    }
+
+    /// All links of a kind with their targets, each once, in no order that callers may count on.
+    pub fn iter_links(&self, kind: LinkKind) -> Pairs<'_, Addr, Addr>
+        ensures all { from_entries result ≡ links_of self.now.state kind }
+        ensures once { IsDistinct nat_eq (keys_of result) }
+    {
+        match kind {
+            LinkKind::Short => self.short.iter(),
+            LinkKind::Long => self.long.iter(),
+        }
+    }
+
+    /// The first registration whose object is at least `from`, with the object. It goes over all of them.
+    pub fn next_registration(&self, from: Addr) -> Option<(Addr, Registration)>
+        ensures { IsFirstRegistered self.now.state from result }
+    {
+        let found = first_from(self.table.iter(), from);
+        match first_from(self.late.iter(), from) {
+            Some(late) => nearer(found, from, late),
+            None => found,
+        }
+    }
+
+    /// The first link of a kind whose word is at least `from`, with its target. It goes over all of them.
+    pub fn next_link(&self, kind: LinkKind, from: Addr) -> Option<(Addr, Addr)>
+        ensures { IsFirstFrom (links_of self.now.state kind) from result }
+    {
+        match kind {
+            LinkKind::Short => first_from(self.short.iter(), from),
+            LinkKind::Long => first_from(self.long.iter(), from),
+        }
+    }
+
+    /// The entries that wait, in the queue's order, and then those that are held, in no order that callers may count on.
+    pub fn entries(&self) -> Entries<'_>
+        ensures { AreEntries self.now.state result }
+    {
+        Entries {
+            waiting: self.ready.waiting(),
+            held: self.ready.held_entries(),
+        }
+    }
+}
