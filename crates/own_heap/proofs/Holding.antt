@@ -1,0 +1,62 @@
+-- What an entry has that isn't finished is found.
+use Rattle.std.proofs.Common.{◌≡◌, ℕ, zero, suc, ◌∷◌, [], Bool, true, false, cond, List, map, Option, Some, None, is_some, option_map, nat_cmp, refl, sym, ap, ◌∙◌, subst, inr, arith, IsTrue, Contains}
+use Rattle.std.proofs.lemmas.Bool.{both_ways}
+use Rattle.std.proofs.lemmas.Option.{same_Some, none-some}
+use Rattle.std.proofs.lemmas.List.Elements.{Contains-append_left, Contains-append_right}
+use Rattle.std.specs.Cmp.{nat_cmp_total}
+use Rattle.std.specs.Ordering.{eq_by_cmp}
+use Rattle.std.specs.FinMap as finmap
+use Rattle.std.specs.FinMap.{get, contains_key, get-from_entries}
+use Rattle.fz_model.specs.declared.answers.Entry.{Entry}
+use Rattle.fz_model.specs.State.{Map, Object}
+use Rattle.fz_model.specs.Memory.{points}
+use Rattle.fz_model.specs.Reachability.{Itself}
+use Rattle.fz_finalizers.specs.declared.roots.Root.TheVariants.{HeldObject}
+use Rattle.fz_finalizers.specs.States.{State}
+use Rattle.fz_finalizers.specs.Walks.{values_of}
+use Rattle.own_heap.specs.declared.record.Record.{Record}
+use Rattle.own_heap.specs.Records.{start_of, objects_of}
+use Rattle.own_heap.specs.Sound.{IsSound}
+use Rattle.own_heap.specs.Collected.{MarksKept}
+use Rattle.own_heap.proofs.Slots.{stands, address_at, points_is}
+
+-- an object's start points to it
+object_points : (slots : List (Option Record)) (a : ℕ) → IsTrue (contains_key (objects_of slots) a) → points (objects_of slots) a ≡ Some a
+object_points slots a here = at (get (objects_of slots) a) refl here
+  where
+    at : (o : Option Object) → get (objects_of slots) a ≡ o → IsTrue (is_some o) → points (objects_of slots) a ≡ Some a
+    at None is h = absurd (both_ways false refl h)
+    at (Some o) is h =
+        let s = stands slots a o is in
+        let address = address_at a s.place s.at in
+        let start : start_of a ≡ a = omega (arith, address) in
+        points_is slots a ∙ ap (λ x. option_map (λ _. x) (get (objects_of slots) x)) start ∙ ap (option_map (λ _. a)) is
+
+mapped_within : {X Y : Type 0} (f : X → Y) (xs : List X) (x : X) → Contains xs x → Contains (map f xs) (f x)
+mapped_within f [] x within = absurd (omega (arith, within.1))
+mapped_within f (y ∷ xs) x (zero, low, is) = (0, omega arith, ap f is)
+mapped_within f (y ∷ xs) x (suc k, low, is) = let rest = mapped_within f xs x (k, omega arith, is) in (suc rest.0, omega (arith, rest.1), rest.2)
+
+value_within : (es : List (ℕ × Entry)) (number : ℕ) (e : Entry) → finmap.find nat_cmp number es ≡ Some e → Contains (values_of es) e
+value_within [] number e is = absurd (none-some e is)
+value_within (x ∷ es) number e is = at (eq_by_cmp nat_cmp number x.0) (value_within es number e) is
+  where
+    at : (b : Bool) → (finmap.find nat_cmp number es ≡ Some e → Contains (values_of es) e) → cond b (Some x.1) (finmap.find nat_cmp number es) ≡ Some e → Contains (x.1 ∷ values_of es) e
+    at true further is = (0, omega arith, same_Some x.1 e is)
+    at false further is = let rest = further is in (suc rest.0, omega (arith, rest.1), rest.2)
+
+module _ (slots : List (Option Record)) (s : State) (sound : IsSound (objects_of slots) s) (old new : ℕ → Bool) (kept : MarksKept (objects_of slots) HeldObject s old new) where
+  entry_found : (e : Entry) → Contains kept.yielded.0 e → IsTrue (contains_key (objects_of slots) e.obj) → IsTrue (new e.obj)
+  entry_found e within here =
+      kept.marked.least e.obj (inr (e.obj, subst (λ ws. Contains ws e.obj) (sym kept.yielded.4) (mapped_within (λ (x : Entry). x.obj) kept.yielded.0 e within), (e.obj, object_points slots e.obj here, Itself)))
+
+  pub waiting_found : (e : Entry) → Contains s.waiting e → IsTrue (new e.obj)
+  waiting_found e within =
+      let are = kept.yielded.2 in
+      entry_found e (subst (λ es. Contains es e) (sym are.2) (Contains-append_left s.waiting (values_of are.0) e within)) (sound.waiting e within)
+
+  pub held_found : (number : ℕ) (e : Entry) → get s.held number ≡ Some e → IsTrue (new e.obj)
+  held_found number e is =
+      let are = kept.yielded.2 in
+      let found = sym (get-from_entries nat_cmp_total are.0 number) ∙ ap (λ (m : Map Entry). get m number) are.1 ∙ is in
+      entry_found e (subst (λ es. Contains es e) (sym are.2) (Contains-append_right s.waiting (values_of are.0) e (value_within are.0 number e found))) (sound.held number e is)

@@ -1,0 +1,263 @@
+-- What is registered stays there.
+use Rattle.std.proofs.Common.{◌≡◌, ℕ, ◌+◌, ◌<◌, length, set, get_or, Result, Ok, Err, OnOk, OnErr, MatchOption, get_or-set_same, get_or-set_other, ◌&&◌, not, Bool, true, false, cond, List, Option, Some, None, is_some, option_map, refl, sym, ap, ◌∙◌, subst, ⊎_elim, IsTrue, arith, ◌∷◌, [], Contains, ◌++◌, zero, suc}
+use Rattle.std.proofs.lemmas.Bool.{both_ways, cases_eq, and_parts, and_from}
+use Rattle.std.proofs.lemmas.Option.{same_Some, none-some}
+use Rattle.std.specs.Option.{option_map_or}
+use Rattle.std.specs.FinMap.{get, insert, remove, contains_key, get-empty}
+use Rattle.std.specs.Ordering.{nat_cmp}
+use Rattle.fz_model.specs.declared.answers.Registration.{Registration}
+use Rattle.fz_model.specs.State.{Map, Object}
+use Rattle.fz_model.specs.Memory.{filled, points}
+use Rattle.fz_model.specs.Pass.{links_within, cleared, FoundItself, LedFrom}
+use Rattle.fz_model.specs.Reachability.{Itself}
+use Rattle.fz_model.proofs.Maps.{get-insert_same, get-insert_other, get-remove_same, get-remove_other, get-retain, retained_back}
+use Rattle.fz_model.proofs.Sound.{left_back}
+use Rattle.fz_pass.specs.Late.{Parts, DecidesLate}
+use Rattle.fz_pass.specs.Marks.{AreRegistered, AreTargets}
+use Rattle.own_heap.specs.declared.heap.Heap.{Heap}
+use Rattle.own_heap.specs.declared.record.Record.{Record}
+use Rattle.own_heap.specs.declared.record.RecordId.{RecordId}
+use Rattle.own_heap.specs.Records.{address_of, place_of, object_of, objects_of, slot, IsMade}
+use Rattle.own_heap.specs.Sound.{IsSound}
+use Rattle.own_heap.proofs.Slots.{object_in, get-objects, slot_at, place_of-address, slice_low}
+use Rattle.own_heap.proofs.References.{made_is_inserted}
+use Rattle.fz_model.specs.declared.answers.Entry.{Entry}
+use Rattle.fz_model.specs.declared.kinds.LinkKind.{LinkKind}
+use Rattle.fz_model.specs.declared.kinds.LinkKind.TheVariants.{Short, Long}
+use Rattle.fz_model.specs.Steps.{registration_of}
+use Rattle.fz_model.specs.Pass.{is_dead}
+use Rattle.fz_model.proofs.Maps.{get-mapped, filling}
+use Rattle.fz_finalizers.specs.declared.kinds.Finalizer.{Finalizer}
+use Rattle.fz_finalizers.specs.Kinds.{is_late, table_finalizer}
+use Rattle.fz_finalizers.specs.States.{State, opening, links_of, with_links}
+use Rattle.fz_finalizers.specs.Follows.{Follows, Register, Link, Take, Finish, with_registration}
+use Rattle.fz_pass.specs.Late.{both, IsLast, ArePicksOf}
+use Rattle.fz_model.specs.declared.answers.Pick.{Pick}
+use Rattle.fz_model.specs.Pass.{entries_of, IsPicked}
+use Rattle.std.proofs.lemmas.List.Elements.{All-contains, Contains-append_cases}
+use Rattle.fz_pass.proofs.Both.{in_first, in_second}
+
+-- the objects that stand in one map stand in the other
+abbrev pub AreKept : Map Object → Map Object → Type 0
+AreKept old new = (a : ℕ) → IsTrue (contains_key old a) → IsTrue (contains_key new a)
+
+module _ (objects : Map Object) where
+  -- one more is registered, or linked
+  pub registered_more : (m : Map Registration) (o : ℕ) (r : Registration) → IsTrue (contains_key objects o) → AreRegistered objects m → AreRegistered objects (insert m o r)
+  registered_more m o r here all a x is =
+      ⊎_elim (λ same. subst (λ b. IsTrue (contains_key objects b)) (sym same) here) (λ far. all a x (sym (get-insert_other m o r a far) ∙ is)) (cases_eq a o)
+
+  pub registered_less : (m : Map Registration) (o : ℕ) → AreRegistered objects m → AreRegistered objects (remove m o)
+  registered_less m o all a x is = ⊎_elim (λ same. absurd (none-some x (sym (get-remove_same m o) ∙ ap (get (remove m o)) (sym same) ∙ is))) (λ far. all a x (sym (get-remove_other m o a far) ∙ is)) (cases_eq a o)
+
+  pub targets_more : (m : Map ℕ) (word target : ℕ) → IsTrue (contains_key objects target) → AreTargets objects m → AreTargets objects (insert m word target)
+  targets_more m word target here all link x is =
+      ⊎_elim (λ same. subst (λ b. IsTrue (contains_key objects b)) (same_Some target x (sym (get-insert_same m word target) ∙ ap (get (insert m word target)) (sym same) ∙ is)) here)
+      (λ far. all link x (sym (get-insert_other m word target link far) ∙ is)) (cases_eq link word)
+
+-- ---- other objects
+
+pub sound_kept : (old new : Map Object) (s : State) → AreKept old new → IsSound old s → IsSound new s
+sound_kept old new s kept sound = record {
+  registered = λ a r is. kept a (sound.registered a r is);
+  late = λ a r is. kept a (sound.late a r is);
+  short = λ link target is. kept target (sound.short link target is);
+  long = λ link target is. kept target (sound.long link target is);
+  waiting = λ e within. kept e.obj (sound.waiting e within);
+  held = λ number e is. kept e.obj (sound.held number e is);
+}
+
+insert_keeps : (m : Map Object) (k : ℕ) (o : Object) → AreKept m (insert m k o)
+insert_keeps m k o a here = ⊎_elim (λ same. ap is_some (ap (get (insert m k o)) same ∙ get-insert_same m k o)) (λ far. ap is_some (get-insert_other m k o a far) ∙ here) (cases_eq a k)
+
+pub make_keeps : (old new : Heap) (made : Record) (id : Option RecordId) → MatchOption id (new ≡ old) (λ id. IsMade old.records.slots.items new.records.slots.items id made) → AreKept (objects_of old.records.slots.items) (objects_of new.records.slots.items)
+make_keeps old new made None same a here = subst (λ (h : Heap). IsTrue (contains_key (objects_of h.records.slots.items) a)) (sym same) here
+make_keeps old new made (Some id) is a here =
+    subst (λ m. IsTrue (contains_key m a)) (sym (made_is_inserted old.records.slots.items new.records.slots.items id made is)) (insert_keeps (objects_of old.records.slots.items) (address_of id.place) (object_of made) a here)
+
+pub set_keeps : (slots : List (Option Record)) (place : ℕ) (f : Record → Record) → AreKept (objects_of slots) (objects_of (set slots place (option_map f (slot slots place))))
+set_keeps slots place f a here = ap is_some (get-objects new a) ∙ at (place_of a) refl (sym (ap is_some (get-objects slots a)) ∙ here)
+  where
+    new : List (Option Record)
+    new = set slots place (option_map f (slot slots place))
+
+    written : (i : ℕ) (s : Option Record) → i ≡ place → get_or slots i None ≡ s → IsTrue (is_some (option_map object_of s)) → IsTrue (is_some (option_map object_of (get_or new i None)))
+    written i None same is h = absurd (both_ways false refl h)
+    written i (Some r) same is h =
+        let low : place < length slots = subst (λ k. k < length slots) same (slice_low slots i r is) in
+        ap (λ s. is_some (option_map object_of s)) (ap (λ k. get_or new k None) same ∙ get_or-set_same slots place (option_map f (slot slots place)) None low ∙ ap (option_map f) (ap (slot slots) (sym same) ∙ is))
+
+    at : (p : Option ℕ) → place_of a ≡ p → IsTrue (is_some (object_in slots p)) → IsTrue (is_some (object_in new p))
+    at None is h = h
+    at (Some i) is h =
+        ⊎_elim (λ same. written i (get_or slots i None) same refl h) (λ far. ap (λ s. is_some (option_map object_of s)) (get_or-set_other slots place i (option_map f (slot slots place)) None far) ∙ h) (cases_eq i place)
+
+-- a record that stands is an object
+pub stands_object : (slots : List (Option Record)) (place : ℕ) → IsTrue (is_some (slot slots place)) → IsTrue (contains_key (objects_of slots) (address_of place))
+stands_object slots place here = at (slot slots place) refl here
+  where
+    at : (s : Option Record) → slot slots place ≡ s → IsTrue (is_some s) → IsTrue (contains_key (objects_of slots) (address_of place))
+    at None is h = absurd (both_ways false refl h)
+    at (Some r) is h = ap is_some (slot_at slots (address_of place) place (Some r) (place_of-address place) is)
+
+-- ---- what calls do
+
+pub sound_opening : (objects : Map Object) → IsSound objects opening
+sound_opening objects = record {
+  registered = λ a r is. absurd (none-some r (sym (get-empty nat_cmp a) ∙ is));
+  late = λ a r is. absurd (none-some r (sym (get-empty nat_cmp a) ∙ is));
+  short = λ a r is. absurd (none-some r (sym (get-empty nat_cmp a) ∙ is));
+  long = λ a r is. absurd (none-some r (sym (get-empty nat_cmp a) ∙ is));
+  waiting = λ e within. absurd (omega (arith, within.1));
+  held = λ a r is. absurd (none-some r (sym (get-empty nat_cmp a) ∙ is));
+}
+
+with_registration_sound : (objects : Map Object) (s : State) (o : ℕ) (f : Finalizer) → IsTrue (contains_key objects o) → IsSound objects s → IsSound objects (with_registration s o f)
+with_registration_sound objects s o f here sound = at (is_late f.kind)
+  where
+    r : Registration
+    r = registration_of s.next_number (table_finalizer f)
+
+    at : (late : Bool) → IsSound objects (cond late (record s { registrations = remove s.registrations o; late = insert s.late o r; next_number = s.next_number + 1 }) (record s { registrations = insert s.registrations o r; late = remove s.late o; next_number = s.next_number + 1 }))
+    at true = record { registered = registered_less objects s.registrations o sound.registered; late = registered_more objects s.late o r here sound.late; short = sound.short; long = sound.long; waiting = sound.waiting; held = sound.held }
+    at false = record { registered = registered_more objects s.registrations o r here sound.registered; late = registered_less objects s.late o sound.late; short = sound.short; long = sound.long; waiting = sound.waiting; held = sound.held }
+
+pub register_sound : {A E : Type 0} (objects : Map Object) (old new : State) (o : ℕ) (f : Finalizer) (r : Result A E) → OnErr r (new ≡ old) → OnOk r (Follows old (Register o f) new) → IsTrue (contains_key objects o) → IsSound objects old → IsSound objects new
+register_sound objects old new o f (Ok x) refused follows here sound = subst (IsSound objects) (sym follows) (with_registration_sound objects old o f here sound)
+register_sound objects old new o f (Err e) refused follows here sound = subst (IsSound objects) (sym refused) sound
+
+with_link_sound : (objects : Map Object) (s : State) (kind : LinkKind) (word target : ℕ) → IsTrue (contains_key objects target) → IsSound objects s → IsSound objects (with_links s kind (insert (links_of s kind) word target))
+with_link_sound objects s Short word target here sound = record { registered = sound.registered; late = sound.late; short = targets_more objects s.short word target here sound.short; long = sound.long; waiting = sound.waiting; held = sound.held }
+with_link_sound objects s Long word target here sound = record { registered = sound.registered; late = sound.late; short = sound.short; long = targets_more objects s.long word target here sound.long; waiting = sound.waiting; held = sound.held }
+
+pub link_sound : {A E : Type 0} (objects : Map Object) (old new : State) (kind : LinkKind) (word target : ℕ) (r : Result A E) → OnErr r (new ≡ old) → OnOk r (Follows old (Link kind word target) new) → IsTrue (contains_key objects target) → IsSound objects old → IsSound objects new
+link_sound objects old new kind word target (Ok x) refused follows here sound = subst (IsSound objects) (sym follows) (with_link_sound objects old kind word target here sound)
+link_sound objects old new kind word target (Err e) refused follows here sound = subst (IsSound objects) (sym refused) sound
+
+with_taken_sound : (objects : Map Object) (s : State) (entry : Entry) (rest : List Entry) → s.waiting ≡ entry ∷ rest → IsSound objects s → IsSound objects (record s { waiting = rest; held = insert s.held entry.seq entry })
+with_taken_sound objects s entry rest first sound = record {
+  registered = sound.registered;
+  late = sound.late;
+  short = sound.short;
+  long = sound.long;
+  waiting = λ e within. sound.waiting e (subst (λ es. Contains es e) (sym first) (suc within.0, omega (arith, within.1), within.2));
+  held = λ number e is.
+      ⊎_elim
+      (λ (same : number ≡ entry.seq).
+      let it = same_Some entry e (sym (get-insert_same s.held entry.seq entry) ∙ ap (get (insert s.held entry.seq entry)) (sym same) ∙ is) in
+      subst (λ (x : Entry). IsTrue (contains_key objects x.obj)) it (sound.waiting entry (subst (λ es. Contains es entry) (sym first) (0, omega arith, refl))))
+      (λ far. sound.held number e (sym (get-insert_other s.held entry.seq entry number far) ∙ is))
+      (cases_eq number entry.seq);
+}
+
+pub take_sound : (objects : Map Object) (old new : State) (r : Option Entry) → MatchOption r ((old.waiting ≡ []) × (new ≡ old)) (λ entry. Follows old (Take entry) new) → IsSound objects old → IsSound objects new
+take_sound objects old new None same sound = subst (IsSound objects) (sym same.1) sound
+take_sound objects old new (Some entry) follows sound = subst (IsSound objects) (sym follows.1) (with_taken_sound objects old entry new.waiting follows.0 sound)
+
+with_finished_sound : (objects : Map Object) (s : State) (entry : Entry) → IsSound objects s → IsSound objects (record s { held = remove s.held entry.seq })
+with_finished_sound objects s entry sound = record {
+  registered = sound.registered;
+  late = sound.late;
+  short = sound.short;
+  long = sound.long;
+  waiting = sound.waiting;
+  held = λ number e is.
+      ⊎_elim (λ same. absurd (none-some e (sym (get-remove_same s.held entry.seq) ∙ ap (get (remove s.held entry.seq)) (sym same) ∙ is)))
+      (λ far. sound.held number e (sym (get-remove_other s.held entry.seq number far) ∙ is)) (cases_eq number entry.seq);
+}
+
+pub finish_sound : {A E : Type 0} (objects : Map Object) (old new : State) (entry : Entry) (r : Result A E) → OnErr r (new ≡ old) → OnOk r (Follows old (Finish entry) new) → IsSound objects old → IsSound objects new
+finish_sound objects old new entry (Ok x) refused follows sound = subst (IsSound objects) (sym follows.1) (with_finished_sound objects old entry sound)
+finish_sound objects old new entry (Err e) refused follows sound = subst (IsSound objects) (sym refused) sound
+
+-- ---- a pass
+
+entries_have : (pass seq : ℕ) (ps : List Pick) (e : Entry) → Contains (entries_of pass seq ps) e → (p : Pick) × Contains ps p × (p.obj ≡ e.obj)
+entries_have pass seq [] e within = absurd (omega (arith, within.1))
+entries_have pass seq (p ∷ ps) e (zero, low, is) = (p, (0, omega arith, refl), ap (λ (x : Entry). x.obj) is)
+entries_have pass seq (p ∷ ps) e (suc k, low, is) =
+    let rest = entries_have pass (seq + 1) ps e (k, omega arith, is) in
+    (rest.0, (suc rest.1.0, omega (arith, rest.1.1), rest.1.2), rest.2)
+
+-- a link that is left was one, and its target is in the set
+within_back : (objects : Map Object) (links : Map ℕ) (targets containers : ℕ → Bool) (link target : ℕ) → get (links_within objects links targets containers) link ≡ Some target → (get links link ≡ Some target) × IsTrue (targets target)
+within_back objects links targets containers link target is =
+    let back = retained_back links (λ l. option_map_or targets (get links l) false && option_map_or containers (points objects l) false) link target is in
+    let test = (and_parts (option_map_or targets (get links link) false) (option_map_or containers (points objects link) false) back.0).0 in
+    (back.1, sym (ap (λ o. option_map_or targets o false) back.1) ∙ test)
+
+module _ (E : Type 0) (pass first : ℕ) (old : Parts) (found : ℕ → Bool) (new : Parts) (queue new_queue : List Entry) (d : DecidesLate E pass first old found new queue new_queue) where
+  -- an object that was kept stands
+  kept_stands : (a : ℕ) → IsTrue (d.kept a) → IsTrue (contains_key old.objects a) → IsTrue (contains_key new.objects a)
+  kept_stands a kept here =
+      ap (λ (p : Parts). contains_key p.objects a) d.is
+      ∙ ap is_some (get-retain (cleared old.long d.kept (cleared old.short found old.objects)) d.kept a ∙ ap (λ b. cond b (get (cleared old.long d.kept (cleared old.short found old.objects)) a) None) kept)
+      ∙ filled_keys (is_dead (cleared old.short found old.objects) old.long d.kept) (cleared old.short found old.objects) a
+      ∙ filled_keys (is_dead old.objects old.short found) old.objects a
+      ∙ here
+    where
+      same : {X Y : Type 0} (f : X → Y) (o : Option X) → is_some (option_map f o) ≡ is_some o
+      same f None = refl
+      same f (Some x) = refl
+
+      filled_keys : (test : ℕ → Bool) (m : Map Object) (a : ℕ) → contains_key (filled test 0 m) a ≡ contains_key m a
+      filled_keys test m a = ap is_some (get-mapped (filling test 0) m a) ∙ same (filling test 0 a) (get m a)
+
+  found_kept : (a : ℕ) → IsTrue (found a) → IsTrue (d.kept a)
+  found_kept a on = d.keeps a (FoundItself on)
+
+  registered_kept : (a : ℕ) (r : Registration) → get (both old.registrations old.late) a ≡ Some r → IsTrue (contains_key old.objects a) → IsTrue (d.kept a)
+  registered_kept a r is here = at (found a) refl
+    where
+      at : (b : Bool) → found a ≡ b → IsTrue (d.kept a)
+      at true on = found_kept a on
+      at false off = d.keeps a (LedFrom a r (record { registered = is; outside = and_from (contains_key old.objects a) (not (found a)) here (ap not off) }) Itself)
+
+  late_in_both : (a : ℕ) (r : Registration) → get old.late a ≡ Some r → (x : Registration) × (get (both old.registrations old.late) a ≡ Some x)
+  late_in_both a r is = at (get old.registrations a) refl
+    where
+      at : (o : Option Registration) → get old.registrations a ≡ o → (x : Registration) × (get (both old.registrations old.late) a ≡ Some x)
+      at None none = (r, in_second old.registrations old.late a r (λ h. both_ways (contains_key old.registrations a) (ap is_some none) h) is)
+      at (Some x) here = (x, in_first old.registrations old.late a x here)
+
+  -- what was kept of the registrations and the links is sound
+  pub passed_registered : AreRegistered old.objects old.registrations → AreRegistered new.objects new.registrations
+  passed_registered all a r is =
+      let was = left_back old.registrations d.picks a r (sym (ap (λ (p : Parts). get p.registrations a) d.is) ∙ is) in
+      kept_stands a (registered_kept a r (in_first old.registrations old.late a r was) (all a r was)) (all a r was)
+
+  pub passed_late : AreRegistered old.objects old.late → AreRegistered new.objects new.late
+  passed_late all a r is =
+      let was = left_back old.late d.late a r (sym (ap (λ (p : Parts). get p.late a) d.is) ∙ is) in
+      let known = late_in_both a r was in
+      kept_stands a (registered_kept a known.0 known.1 (all a r was)) (all a r was)
+
+  pub passed_short : AreTargets old.objects old.short → AreTargets new.objects new.short
+  passed_short all link target is =
+      let was = within_back old.objects old.short found d.kept link target (sym (ap (λ (p : Parts). get p.short link) d.is) ∙ is) in
+      kept_stands target (found_kept target was.1) (all link target was.0)
+
+  pub passed_long : AreTargets old.objects old.long → AreTargets new.objects new.long
+  passed_long all link target is =
+      let was = within_back old.objects old.long d.kept d.kept link target (sym (ap (λ (p : Parts). get p.long link) d.is) ∙ is) in
+      kept_stands target was.1 (all link target was.0)
+
+  -- a pick's object is kept
+  picked_kept : (table : Map Registration) (May : ℕ → Type 0) (picks : List Pick) → ArePicksOf old found E table May picks → (p : Pick) → Contains picks p → IsTrue (contains_key new.objects p.obj)
+  picked_kept table May picks are p within =
+      let picked = (All-contains (λ (q : Pick). IsPicked old.objects (both old.registrations old.late) old.short found q × IsTrue (contains_key table q.obj) × May q.obj) picks p are.each within).0 in
+      let here = ap is_some picked.here in
+      kept_stands p.obj (registered_kept p.obj picked.registration picked.unreachable.registered here) here
+
+  -- what waits then stands, where what waited was found
+  pub passed_waiting : ((e : Entry) → Contains queue e → IsTrue (found e.obj) × IsTrue (contains_key old.objects e.obj)) → (e : Entry) → Contains new_queue e → IsTrue (contains_key new.objects e.obj)
+  passed_waiting all e within =
+      ⊎_elim (λ before. let was = all e before in kept_stands e.obj (found_kept e.obj was.0) was.1)
+      (λ came.
+      let from = entries_have pass first (d.picks ++ d.late) e came in
+      subst (λ a. IsTrue (contains_key new.objects a)) from.2
+      (⊎_elim (picked_kept old.registrations (λ _. Unit {0}) d.picks d.picked from.0) (picked_kept old.late (IsLast old found) d.late d.came_late from.0) (Contains-append_cases d.picks d.late from.0 from.1)))
+      (Contains-append_cases queue (entries_of pass first (d.picks ++ d.late)) e (subst (λ es. Contains es e) d.queued within))
+
+  pub passed_held : (held : Map Entry) → ((number : ℕ) (e : Entry) → get held number ≡ Some e → IsTrue (found e.obj) × IsTrue (contains_key old.objects e.obj)) → (number : ℕ) (e : Entry) → get held number ≡ Some e → IsTrue (contains_key new.objects e.obj)
+  passed_held held all number e is = let was = all number e is in kept_stands e.obj (found_kept e.obj was.0) was.1

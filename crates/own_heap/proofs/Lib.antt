@@ -1,0 +1,9 @@
+pub mod Slots
+pub mod Clearing
+pub mod Gaining
+pub mod Fields
+pub mod Traced
+pub mod Collected
+pub mod References
+pub mod Keeping
+pub mod Holding

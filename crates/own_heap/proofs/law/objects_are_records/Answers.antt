@@ -1,0 +1,8 @@
+use Rattle.own_heap.proofs.References.{references_are_children, made_is_inserted}
+use Rattle.own_heap.proofs.law.objects_are_records.Goals as goal
+
+pub returns-clause-children : goal.returns-clause-children
+returns-clause-children c = references_are_children
+
+pub returns-clause-made : goal.returns-clause-made
+returns-clause-made c = made_is_inserted

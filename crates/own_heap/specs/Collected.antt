@@ -1,0 +1,35 @@
+-- What a collection does.
+use Rattle.std.specs.Prelude.{ℕ, Bool, false, List, Contains}
+use Rattle.fz_model.specs.State.{Map, Object}
+use Rattle.fz_pass.specs.Marks.{Marks}
+use Rattle.fz_pass.specs.Late.{DecidesLate}
+use Rattle.fz_finalizers.specs.declared.roots.Root.{Root}
+use Rattle.fz_finalizers.specs.declared.roots.Root.TheVariants.{HeldObject, HeldData, RegisteredData}
+use Rattle.fz_finalizers.specs.States.{State}
+use Rattle.fz_finalizers.specs.Follows.{next_pass}
+use Rattle.fz_finalizers.specs.Passed.{parts_in}
+use Rattle.fz_finalizers.specs.Walks.{YieldsRoots}
+use Rattle.own_heap.specs.declared.record.RecordId.{RecordId}
+use Rattle.own_heap.specs.Records.{IsLedByWord, IsLedByRoot}
+
+-- a record that has one of these words leads to it
+abbrev pub IsLedByAny : Map Object → List ℕ → ℕ → Type 0
+IsLedByAny objects words a = (word : ℕ) × Contains words word × IsLedByWord objects word a
+
+-- what the finalizers' roots of a sort lead to came to the marks
+pub record MarksKept (objects : Map Object) (root : Root) (s : State) (old new : ℕ → Bool) : Type 0 where
+  pub words : List ℕ
+  pub yielded : YieldsRoots root s words
+  pub marked : Marks (Unit {0}) objects old new (IsLedByAny objects words)
+
+-- what the roots lead to was marked first, then what the finalizers keep; the rest is the decision of a pass, whose objects are left
+pub record Collects (objects : Map Object) (roots : List RecordId) (old : State) (left : Map Object) (new : State) : Type 0 where
+  pub rooted : ℕ → Bool
+  pub held : ℕ → Bool
+  pub handed : ℕ → Bool
+  pub found : ℕ → Bool
+  pub by_roots : Marks (Unit {0}) objects (λ a. false) rooted (IsLedByRoot objects roots)
+  pub by_objects : MarksKept objects HeldObject old rooted held
+  pub by_data : MarksKept objects HeldData old held handed
+  pub by_registered : MarksKept objects RegisteredData old handed found
+  pub decided : DecidesLate (Unit {0}) (next_pass old.passes) old.queued (parts_in objects old) found (parts_in left new) old.waiting new.waiting

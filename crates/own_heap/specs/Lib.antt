@@ -1,0 +1,5 @@
+pub mod Records
+pub mod Marking
+pub mod Kept
+pub mod Sound
+pub mod Collected

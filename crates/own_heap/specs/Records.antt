@@ -1,0 +1,96 @@
+-- The records as the objects of the model: each has a word for each of its fields.
+use Rattle.std.specs.Prelude.{◌≡◌, ◌≢◌, ◌⊎◌, ◌↔◌, is_some, IsTrue, ◌<◌, ◌≤◌, length, Contains, option_map, slice_set, ℕ, ◌+◌, ◌-◌, ◌*◌, ◌/◌, ◌%◌, ◌==◌, ◌&&◌, if◌then◌else◌, List, [], ◌∷◌, map, Option, Some, None, nat_le, slice_index_or}
+use Rattle.std.specs.List.{range_with_len}
+use Rattle.std.specs.FinMap.{from_entries, insert}
+use Rattle.fz_model.specs.declared.kinds.ObjKind.TheVariants.{Scanned}
+use Rattle.fz_model.specs.State.{Map, Object}
+use Rattle.fz_model.specs.Memory.{points}
+use Rattle.fz_model.specs.Reachability.{Child, Leads}
+use Rattle.own_heap.specs.declared.record.Field.{Field}
+use Rattle.own_heap.specs.declared.record.Field.TheVariants.{Nothing, Number, Reference}
+use Rattle.own_heap.specs.declared.record.Record.{Record}
+use Rattle.own_heap.specs.declared.record.RecordId.{RecordId}
+use Rattle.own_heap.specs.declared.record.TheConstants.{FIELDS}
+
+-- the address of the record at a place, and the place of the record at an address
+abbrev pub address_of : ℕ → ℕ
+address_of place = (place + 1) * FIELDS
+
+unfoldable pub place_of : ℕ → Option ℕ
+place_of address = if address % FIELDS == 0 && nat_le FIELDS address then Some (address / FIELDS - 1) else None
+
+-- the start of the record that would have the word
+abbrev pub start_of : ℕ → ℕ
+start_of word = word - word % FIELDS
+
+-- a reference is the address of its record, and any other field points nowhere
+abbrev pub word_of : Field → ℕ
+word_of Nothing = 0
+word_of (Number n) = 0
+word_of (Reference id) = address_of id.place
+
+abbrev pub words_of : Record → List ℕ
+words_of r = map (λ k. word_of (slice_index_or r.fields k Nothing)) (range_with_len 0 FIELDS)
+
+abbrev pub object_of : Record → Object
+object_of r = record { kind = Scanned; birth = r.birth; words = words_of r }
+
+-- the records from a place on, by their addresses
+abbrev pub object_entries : ℕ → List (Option Record) → List (ℕ × Object)
+object_entries place [] = []
+object_entries place (None ∷ slots) = object_entries (place + 1) slots
+object_entries place (Some r ∷ slots) = (address_of place, object_of r) ∷ object_entries (place + 1) slots
+
+unfoldable pub objects_of : List (Option Record) → Map Object
+objects_of slots = from_entries (object_entries 0 slots)
+
+-- what stands at a place
+abbrev pub slot : List (Option Record) → ℕ → Option Record
+slot slots place = slice_index_or slots place None
+
+-- no place is free from one on
+abbrev pub IsFull : List (Option Record) → ℕ → Type 0
+IsFull slots from = (place : ℕ) → from ≤ place → place < length slots → slot slots place ≢ None
+
+-- a record was made at a place that was free
+pub record IsMade (old new : List (Option Record)) (id : RecordId) (made : Record) : Type 0 where
+  pub within : id.place < length old
+  pub free : slot old id.place ≡ None
+  pub is : new ≡ slice_set old id.place (Some made)
+
+-- a record with another value in a field
+abbrev pub with_field : ℕ → Field → Record → Record
+with_field k value r = record r { fields = slice_set r.fields k value }
+
+-- the field at a place, if a record stands there
+abbrev pub field_at : List (Option Record) → ℕ → ℕ → Option Field
+field_at slots place k = option_map (λ (r : Record). slice_index_or r.fields k Nothing) (slot slots place)
+
+-- each field is what it was, or is empty now
+abbrev pub AreFieldsKept : List (Option Record) → List (Option Record) → Type 0
+AreFieldsKept old new = (place k : ℕ) → (field_at new place k ≡ field_at old place k) ⊎ (field_at new place k ≡ Some Nothing)
+
+-- the record that has the word leads to it
+abbrev pub IsLedByWord : Map Object → ℕ → ℕ → Type 0
+IsLedByWord objects word a = (from : ℕ) × (points objects word ≡ Some from) × Leads objects from a
+
+-- one of these records does
+abbrev pub IsLedByRoot : Map Object → List RecordId → ℕ → Type 0
+IsLedByRoot objects roots a = (id : RecordId) × Contains roots id × IsLedByWord objects (address_of id.place) a
+
+-- a field of a record refers to one that stands
+pub record RefersTo (slots : List (Option Record)) (a b : RecordId) : Type 0 where
+  pub from : Record
+  pub at : slot slots a.place ≡ Some from
+  pub field : ℕ
+  pub within : field < FIELDS
+  pub is : slice_index_or from.fields field Nothing ≡ Reference b
+  pub stands : IsTrue (is_some (slot slots b.place))
+
+-- the children of an object are the records to which its record refers
+abbrev pub ReferencesAreChildren : List (Option Record) → Type 0
+ReferencesAreChildren slots = (a b : RecordId) → RefersTo slots a b ↔ Child (objects_of slots) (address_of a.place) (address_of b.place)
+
+-- a record that is made is an object more
+abbrev pub MadeIsInserted : List (Option Record) → List (Option Record) → Type 0
+MadeIsInserted old new = (id : RecordId) (made : Record) → IsMade old new id made → objects_of new ≡ insert (objects_of old) (address_of id.place) (object_of made)

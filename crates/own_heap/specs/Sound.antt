@@ -1,0 +1,19 @@
+-- What is registered are objects, so are the targets of links, and so is what an entry has that isn't finished.
+use Rattle.std.specs.Prelude.{◌≡◌, ℕ, Some, Contains, IsTrue}
+use Rattle.std.specs.FinMap.{get, contains_key}
+use Rattle.fz_model.specs.declared.answers.Entry.{Entry}
+use Rattle.fz_model.specs.State.{Map, Object}
+use Rattle.fz_pass.specs.Marks.{AreRegistered, AreTargets}
+use Rattle.fz_finalizers.specs.States.{State}
+
+-- the objects of the entries that were taken and aren't finished stand
+abbrev pub HeldStand : Map Object → State → Type 0
+HeldStand objects s = (number : ℕ) (e : Entry) → get s.held number ≡ Some e → IsTrue (contains_key objects e.obj)
+
+pub record IsSound (objects : Map Object) (s : State) : Type 0 where
+  pub registered : AreRegistered objects s.registrations
+  pub late : AreRegistered objects s.late
+  pub short : AreTargets objects s.short
+  pub long : AreTargets objects s.long
+  pub waiting : (e : Entry) → Contains s.waiting e → IsTrue (contains_key objects e.obj)
+  pub held : HeldStand objects s

@@ -1,0 +1,132 @@
+//! A heap of records.
+
+ghost use Rattle.std.specs.Prelude.{◌≡◌, ◌+◌, ◌^◌, ◌<◌, ◌≤◌, ◌⊎◌, [], ℕ, false, is_some, length, option_map, replicate, slice_set, IfOk, IfSome, MatchOption, None, Some};
+ghost use Rattle.std.specs.FinMap.{retain_keys};
+ghost use Rattle.std.specs.Option.{option_copied};
+ghost use Rattle.fz_pass.specs.Marks.{IsClosed, Marks as MarksOf};
+ghost use Rattle.own_heap.specs.Records.{objects_of, slot, with_field, IsFull, IsLedByRoot, IsLedByWord, IsMade};
+ghost use Rattle.own_heap.specs.Marking.{is_marked};
+
+use crate::marks::Marks;
+use crate::record::{FIELDS, Field, Record, RecordId};
+use crate::records::Records;
+use fz_model::Addr;
+use std::alloc::{AllocError, Global};
+
+/// Records, the marks of a collection, and the roots. No call but `new` takes memory.
+#[derive(Drop)]
+pub struct Heap {
+    pub(crate) records: Records,
+    pub(crate) marks: Marks,
+    /// What a collection keeps, with all that it leads to.
+    pub roots: Vec<RecordId>,
+    /// How many records were made.
+    pub(crate) births: u64,
+    /// Each place before it was taken since the last sweep.
+    pub(crate) cursor: usize,
+    pub(crate) ghost few: { length records.slots.items ≤ 2 ^ 32 },
+    pub(crate) ghost size: { length marks.marked.items ≡ length records.slots.items },
+    pub(crate) ghost idle: { marks.waiting.items ≡ [] },
+}
+
+impl Heap {
+    /// An empty heap with places for `size` records.
+    pub fn new(alloc: Global, size: u32) -> Result<Heap, AllocError>
+        ensures records { IfOk result (λ h. h.records.slots.items ≡ replicate size None) }
+        ensures roots { IfOk result (λ h. h.roots.items ≡ []) }
+    {
+        Ok(Heap {
+            records: Records {
+                slots: vec![in alloc; None; size as usize]?,
+            },
+            marks: Marks {
+                marked: vec![in alloc; false; size as usize]?,
+                waiting: Vec::with_capacity(alloc, size as usize)?,
+            },
+            roots: Vec::new(alloc),
+            births: 0,
+            cursor: 0,
+        })
+    }
+
+    /// Makes a record at a free place. `None` where no place is free until the next sweep, or where 2^64 - 1 records were made.
+    pub fn make(&mut self, fields: [Field; FIELDS]) -> Option<RecordId>
+        ensures made { MatchOption result (self.new ≡ self.old) (λ id. IsMade self.old.records.slots.items self.new.records.slots.items id (record { fields = fields; birth = self.old.births })) }
+        ensures full { result ≡ None → IsFull self.old.records.slots.items self.old.cursor ⊎ (self.old.births + 1 ≡ 2 ^ 64) }
+        ensures births { IfSome result (λ _. self.new.births ≡ self.old.births + 1) }
+        ensures rest { (self.new.marks ≡ self.old.marks) × (self.new.roots ≡ self.old.roots) }
+    {
+        let births = self.births.checked_add(1)?;
+        let place = self.records.free_from(self.cursor)?;
+        let made = Record {
+            fields,
+            birth: self.births,
+        };
+        self.records.slots[place] = Some(made);
+        self.births = births;
+        self.cursor = place + 1;
+        Some(RecordId {
+            place: place as u32,
+        })
+    }
+
+    /// The record, or `None` where it was swept.
+    pub fn get(&self, id: RecordId) -> Option<&Record>
+        ensures { option_copied result ≡ slot self.now.records.slots.items id.place }
+    {
+        self.records.slots.get(id.place as usize)?.as_ref()
+    }
+
+    /// Whether the record stands.
+    pub fn stands(&self, id: RecordId) -> bool
+        ensures { result ≡ is_some (slot self.now.records.slots.items id.place) }
+    {
+        self.get(id).is_some()
+    }
+
+    /// Writes a field of a record. Does nothing where it was swept.
+    pub fn set(&mut self, id: RecordId, field: usize, value: Field)
+        requires { field < FIELDS }
+        ensures set { self.new.records.slots.items ≡ slice_set self.old.records.slots.items id.place (option_map (with_field field value) (slot self.old.records.slots.items id.place)) }
+        ensures rest { (self.new.marks ≡ self.old.marks) × (self.new.roots ≡ self.old.roots) × (self.new.births ≡ self.old.births) }
+    {
+        self.records.set(id.place as usize, field, value);
+    }
+
+    /// Marks all that a word leads to, which is the address of a record, or of one of its fields.
+    pub fn mark_word(&mut self, word: Addr)
+        requires closed { IsClosed (objects_of self.old.records.slots.items) (is_marked self.old.marks) }
+        ensures rest { (self.new.records ≡ self.old.records) × (self.new.roots ≡ self.old.roots) × (self.new.births ≡ self.old.births) }
+        ensures marked { MarksOf (Unit {0}) (objects_of self.old.records.slots.items) (is_marked self.old.marks) (is_marked self.new.marks) (IsLedByWord (objects_of self.old.records.slots.items) word) }
+    {
+        if let Some(object) = self.records.holder(word) {
+            self.marks.add(object);
+            self.records.close(&mut self.marks);
+        }
+    }
+
+    /// Begins a collection: marks all that the roots lead to, and nothing else.
+    pub fn mark_roots(&mut self)
+        ensures rest { (self.new.records ≡ self.old.records) × (self.new.roots ≡ self.old.roots) × (self.new.births ≡ self.old.births) }
+        ensures marked { MarksOf (Unit {0}) (objects_of self.old.records.slots.items) (λ a. false) (is_marked self.new.marks) (IsLedByRoot (objects_of self.old.records.slots.items) self.old.roots.items) }
+    {
+        self.marks.marked.fill(false);
+        for index in 0..self.roots.len() {
+            let root = self.roots[index];
+            self.mark_word(root.address());
+        }
+    }
+
+    /// Ends a collection: frees the places of the records that aren't marked.
+    pub fn sweep(&mut self)
+        ensures objects { objects_of self.new.records.slots.items ≡ retain_keys (objects_of self.old.records.slots.items) (is_marked self.old.marks) }
+        ensures rest { (self.new.roots ≡ self.old.roots) × (self.new.births ≡ self.old.births) }
+    {
+        for place in 0..self.records.slots.len() {
+            if !self.marks.marked[place] {
+                self.records.slots[place] = None;
+            }
+        }
+        self.cursor = 0;
+    }
+}

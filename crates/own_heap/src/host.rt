@@ -1,0 +1,62 @@
+//! The heap, as a pass sees it.
+
+ghost use Rattle.std.specs.Prelude.{◌≡◌, refl};
+ghost use Rattle.std.proofs.Common.{◌∙◌};
+ghost use Rattle.own_heap.specs.Records.{objects_of, AreFieldsKept};
+ghost use Rattle.own_heap.specs.Marking.{is_marked};
+ghost use Rattle.own_heap.specs.Kept.{kept_itself, kept_on};
+
+use crate::heap::Heap;
+use fz_model::Addr;
+use fz_pass::Host;
+
+impl Host for Heap {
+    ghost objects = { λ h. objects_of h.records.slots.items };
+
+    ghost marked = { λ h. is_marked h.marks };
+
+    ghost is_exact = { Unit {0} };
+
+    ghost is_same = { λ g h. (h.roots ≡ g.roots) × (h.births ≡ g.births) × (h.cursor ≡ g.cursor) × AreFieldsKept g.records.slots.items h.records.slots.items };
+
+    fn is_marked(&self, object: Addr) -> bool {
+        self.marks.contains(object)
+    }
+
+    fn is_holder_marked(&self, word: Addr) -> bool {
+        match self.records.holder(word) {
+            Some(object) => self.marks.contains(object),
+            None => false,
+        }
+    }
+
+    fn birth(&self, object: Addr) -> u64 {
+        match self.records.at(object) {
+            Some(read) => read.birth,
+            None => 0,
+        }
+    }
+
+    fn mark(&mut self, object: Addr) {
+        self.marks.add(object);
+        self.records.close(&mut self.marks);
+    }
+
+    fn mark_alone(&mut self, object: Addr) {
+        let _ = self.marks.insert(object);
+    }
+
+    fn mark_children(&mut self, object: Addr, but_itself: bool) {
+        self.records
+            .add_children(&mut self.marks, object, but_itself);
+        self.records.close(&mut self.marks);
+    }
+
+    fn clear(&mut self, word: Addr) {
+        self.records.clear(word);
+    }
+
+    ghost reflexive = { λ h. (refl, refl, refl, kept_itself h.records.slots.items) };
+
+    ghost transitive = { λ f g h p q. (q.0 ∙ p.0, q.1 ∙ p.1, q.2 ∙ p.2, kept_on f.records.slots.items g.records.slots.items h.records.slots.items p.3 q.3) };
+}

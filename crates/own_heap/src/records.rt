@@ -1,0 +1,69 @@
+//! The records, by their places.
+
+ghost use Rattle.std.specs.Prelude.{◌≡◌, ◌+◌, ◌<◌, None, Some, option_map, length, slice_set, MatchOption};
+ghost use Rattle.std.specs.FinMap.{get, contains_key};
+ghost use Rattle.fz_model.specs.Memory.{points, written};
+ghost use Rattle.own_heap.specs.Records.{object_of, objects_of, slot, with_field, AreFieldsKept, IsFull};
+
+use crate::record::{FIELDS, Field, Record, place_of};
+use fz_model::{Addr, Word};
+
+/// The records of a heap by their places, of which some are free.
+#[derive(Drop)]
+pub(crate) struct Records {
+    pub(crate) slots: Vec<Option<Record>>,
+}
+
+impl Records {
+    /// The first free place from one on.
+    pub(crate) fn free_from(&self, from: usize) -> Option<usize>
+        ensures { MatchOption result (IsFull self.now.slots.items from) (λ place. (place < length self.now.slots.items) × (slot self.now.slots.items place ≡ None)) }
+    {
+        for place in from..self.slots.len() {
+            if self.slots[place].is_none() {
+                return Some(place);
+            }
+        }
+        None
+    }
+
+    /// The record with the address, if there is one.
+    pub(crate) fn at(&self, address: Addr) -> Option<&Record>
+        ensures { get (objects_of self.now.slots.items) address ≡ option_map (λ r. object_of r.now) result }
+    {
+        self.slots.get(place_of(address)?)?.as_ref()
+    }
+
+    /// The record that has the word among its fields.
+    pub(crate) fn holder(&self, word: Addr) -> Option<Addr>
+        ensures { result ≡ points (objects_of self.now.slots.items) word }
+    {
+        let start = word - word % FIELDS as u64;
+        self.at(start).is_some().then_some(start)
+    }
+
+    /// Writes a field of the record at a place, if one stands there.
+    pub(crate) fn set(&mut self, place: usize, field: usize, value: Field)
+        requires { field < FIELDS }
+        ensures { self.new.slots.items ≡ slice_set self.old.slots.items place (option_map (with_field field value) (slot self.old.slots.items place)) }
+    {
+        let Some(slot) = self.slots.get_mut(place) else {
+            return;
+        };
+        if let Some(read) = slot {
+            read.fields[field] = value;
+        }
+    }
+
+    /// Empties the field with the word.
+    pub(crate) fn clear(&mut self, word: Addr)
+        ensures objects { objects_of self.new.slots.items ≡ written word 0 (objects_of self.old.slots.items) }
+        ensures fields { AreFieldsKept self.old.slots.items self.new.slots.items }
+        ensures size { length self.new.slots.items ≡ length self.old.slots.items }
+    {
+        let start = word - word % FIELDS as u64;
+        if let Some(place) = place_of(start) {
+            self.set(place, (word % FIELDS as u64) as usize, Field::Nothing);
+        }
+    }
+}
