@@ -23,9 +23,8 @@ ready_code =
     code_by (List Entry × (Map Entry × (ℕ × ℕ))) (coded× (coded_list entry_code) (coded× (map.code coded_ℕ entry_code) (coded× coded_ℕ coded_ℕ))) (λ r. (r.waiting, (r.held, (r.queued, r.room))))
     (λ p. record { waiting = p.0; held = p.1.0; queued = p.1.1.0; room = p.1.1.1 }) (λ _. refl)
 
--- the list of a pass is empty, each entry that waits has room to be held, and they are no more than ever came
-pub record IsReady (list : List (ℕ × ℕ)) (waiting : Waiting) (held : Held) (queued : ℕ) : Type 0 where
-  pub empty : list ≡ []
+-- each entry that waits has room to be held, and they are no more than ever came
+pub record IsReady (waiting : Waiting) (held : Held) (queued : ℕ) : Type 0 where
   pub within : length waiting.entries ≤ waiting.capacity
   pub holdable : length waiting.entries ≤ held.room
   pub few : length waiting.entries ≤ queued

@@ -12,18 +12,16 @@ use crate::held::Held;
 use crate::refused::Refused;
 use crate::waiting::Waiting;
 use fz_links::Links;
-use fz_model::{Addr, Entry};
-use fz_pass::{Host, decide_with_late, queue_all};
+use fz_model::Entry;
+use fz_pass::{Host, ReadyList, decide_with_late, queue_all};
 use fz_table::{Pairs, Table};
 use std::alloc::Global;
 use std::marker::Model;
-use std::mem;
 
 /// The entries that wait and those that are held, with room for those that a pass may queue.
 #[derive(Drop)]
 pub(crate) struct Ready {
-    /// Empty but in a pass, which lists the objects here whose finalizers are ready.
-    list: Vec<(u8, Addr)>,
+    list: ReadyList,
     waiting: Waiting,
     held: Held,
     /// How many entries ever came, which is the number of the next.
@@ -42,10 +40,10 @@ impl Model for Ready {
       waiting = r.waiting.entries;
       held = r.held.entries;
       queued = r.queued;
-      room = min (vec_capacity r.list) (min (r.waiting.capacity - length r.waiting.entries) (r.held.room - length r.waiting.entries));
+      room = min r.list.room (min (r.waiting.capacity - length r.waiting.entries) (r.held.room - length r.waiting.entries));
     } };
 
-    ghost invariant = { λ r. IsReady r.list.items r.waiting r.held r.queued };
+    ghost invariant = { λ r. IsReady r.waiting r.held r.queued };
 }
 
 impl Ready {
@@ -56,7 +54,7 @@ impl Ready {
         ensures queued { result.queued ≡ 0 }
     {
         Ready {
-            list: Vec::new(alloc),
+            list: ReadyList::new(alloc),
             waiting: Waiting::of(Vec::new(alloc)),
             held: Held::new(alloc),
             queued: 0,
@@ -137,9 +135,7 @@ impl Ready {
         ensures table { table.new.registered ≡ record table.old.registered { registrations = table.new.registrations } }
         ensures late { late.new.registered ≡ record late.old.registered { registrations = late.new.registrations } }
     {
-        let alloc = *self.list.allocator();
-        let none = Waiting::of(Vec::new(alloc));
-        let mut queue = mem::replace(&mut self.waiting, none).into_entries();
+        let mut queue = self.waiting.take_entries();
         let before = queue.len();
         let first = self.queued;
         let list = &mut self.list;
@@ -161,9 +157,7 @@ impl Ready {
         ensures table { table.new.registered ≡ record table.old.registered { registrations = empty } }
         ensures late { late.new.registered ≡ record late.old.registered { registrations = empty } }
     {
-        let alloc = *self.list.allocator();
-        let none = Waiting::of(Vec::new(alloc));
-        let mut queue = mem::replace(&mut self.waiting, none).into_entries();
+        let mut queue = self.waiting.take_entries();
         let before = queue.len();
         let first = self.queued;
         queue_all(table, &mut self.list, &mut queue, first);

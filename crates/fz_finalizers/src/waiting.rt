@@ -5,6 +5,7 @@ ghost use Rattle.std.specs.Prelude.{◌≡◌, ◌≤◌, ◌<◌, ◌+◌, [], 
 use fz_model::Entry;
 use std::alloc::AllocError;
 use std::marker::Model;
+use std::mem;
 
 /// The entries that wait, in the queue's order. Those that were taken stand before them until room is wanted.
 #[derive(Drop)]
@@ -83,12 +84,13 @@ impl Waiting {
         Some(entry)
     }
 
-    /// The entries that wait, with their room.
-    pub(crate) fn into_entries(self) -> Vec<Entry>
-        ensures items { result.items ≡ self.entries }
-        ensures capacity { vec_capacity result ≡ self.capacity }
+    /// The entries that wait, with their room. None is left.
+    pub(crate) fn take_entries(&mut self) -> Vec<Entry>
+        ensures items { result.items ≡ self.old.entries }
+        ensures capacity { vec_capacity result ≡ self.old.capacity }
     {
-        let Waiting { mut entries, taken } = self;
+        let alloc = *self.entries.allocator();
+        let Waiting { mut entries, taken } = mem::replace(self, Waiting::of(Vec::new(alloc)));
         drop_first(&mut entries, taken);
         entries
     }

@@ -12,7 +12,8 @@ ghost use Rattle.fz_marked.specs.Decides.{DecidesInto};
 use crate::marked::Marked;
 use crate::reclaiming::condemn_outside;
 use fz_links::Links;
-use fz_model::{Addr, Entry};
+use fz_model::Entry;
+use fz_pass::ReadyList;
 use fz_table::Table;
 
 /// Carries out a pass in which the marked objects are those that were found, and returns the number of objects that it reclaims.
@@ -23,7 +24,7 @@ pub fn decide(
     table: &mut Table,
     short: &mut Links,
     long: &mut Links,
-    ready: &mut Vec<(u8, Addr)>,
+    ready: &mut ReadyList,
     queue: &mut Vec<Entry>,
     pass: u64,
 ) -> u64
@@ -31,17 +32,15 @@ pub fn decide(
     requires registered { AreRegistered marked.old.heap.objects table.old.registrations }
     requires short { AreTargets marked.old.heap.objects short.old.links }
     requires long { AreTargets marked.old.heap.objects long.old.links }
-    requires empty { ready.old.items ≡ [] }
-    requires list { len table.old.registrations ≤ vec_capacity ready.old }
+    requires list { len table.old.registrations ≤ ready.old.room }
     requires room { vec_len queue.old + len table.old.registrations ≤ vec_capacity queue.old }
     ensures decided { DecidesInto pass (parts_of marked.old.heap.objects table.old short.old long.old) (contains marked.old.marker.marked) (parts_of marked.new.heap.objects table.new short.new long.new) queue.old.items queue.new.items }
     // The objects that it reclaims are condemned, and no other.
     ensures condemned { (a : ℕ) → contains marked.new.heap.condemned a ≡ (contains_key marked.old.heap.objects a && not (contains_key marked.new.heap.objects a) || contains marked.old.heap.condemned a) }
     ensures count { sets.len marked.new.heap.condemned ≡ sets.len marked.old.heap.condemned + result }
     ensures reclaimed { len marked.new.heap.objects + result ≡ len marked.old.heap.objects }
-    ensures empty { ready.new.items ≡ [] }
     // There is room for every registration that is left.
-    ensures list { vec_capacity ready.old ≤ vec_capacity ready.new }
+    ensures list { ready.old.room ≤ ready.new.room }
     ensures room { vec_len queue.new + len table.new.registrations ≤ vec_capacity queue.new }
     // All else stays.
     ensures heap { marked.new.heap ≡ record marked.old.heap { objects = marked.new.heap.objects; condemned = marked.new.heap.condemned } }

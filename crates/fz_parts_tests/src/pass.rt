@@ -12,6 +12,7 @@ use fz_marked::{Marked, decide};
 use fz_marker::Marker;
 use fz_model::RegKind::{IgnoreSelf, NoOrder, Normal};
 use fz_model::{Addr, Entry, Finalizer, HEAP_START, MAX_BLOCKS, ObjKind, Refusal, RegKind, Word};
+use fz_pass::ReadyList;
 use fz_table::Table;
 use std::alloc::Global;
 use std::process::Abort;
@@ -123,7 +124,8 @@ fn pass_onto(
     root: Word,
     queue: &mut Vec<Entry>,
 ) -> Result<u64, Fail> {
-    let mut ready = Vec::with_capacity(alloc, parts.table.len())?;
+    let mut ready = ReadyList::new(alloc);
+    ready.reserve(parts.table.len())?;
     queue.reserve(parts.table.len())?;
     find(alloc, &mut parts.marked, root)?;
     let marked = &parts.marked;

@@ -12,6 +12,7 @@ ghost use Rattle.fz_pass.specs.Picking.{Picks, IsTaken, Takes};
 use crate::gathered::Gathered;
 use crate::host::Host;
 use crate::listing::rank_unmarked;
+use crate::ready_list::ReadyList;
 use fz_model::{Addr, Entry, Pick};
 use fz_table::Table;
 use std::mem;
@@ -88,17 +89,15 @@ fn take_all(table: &mut Table, ready: &[(u8, Addr)], out: &mut Gathered)
 /// Queues all that is registered, by rank, then address, whatever is marked: `GC_finalize_all`. The entries are numbered from `first` on; their pass is
 /// 0, and so is each birth.
 ///
-/// It takes no memory: `ready`, which is empty before and after, has room for every registration, and so has the queue.
-pub fn queue_all(table: &mut Table, ready: &mut Vec<(u8, Addr)>, queue: &mut Vec<Entry>, first: u64)
-    requires empty { ready.old.items ≡ [] }
-    requires list { len table.old.registrations ≤ vec_capacity ready.old }
+/// It takes no memory: the list has room for every registration, and so has the queue.
+pub fn queue_all(table: &mut Table, ready: &mut ReadyList, queue: &mut Vec<Entry>, first: u64)
+    requires list { len table.old.registrations ≤ ready.old.room }
     requires room { vec_len queue.old + len table.old.registrations ≤ vec_capacity queue.old }
     requires numbers { first + len table.old.registrations < 2 ^ 64 }
     ensures queued { QueuesAll first table.old.registrations queue.old.items queue.new.items }
     ensures table { table.new.registered ≡ record table.old.registered { registrations = empty } }
     ensures count { vec_len queue.new ≡ vec_len queue.old + len table.old.registrations }
-    ensures empty { ready.new.items ≡ [] }
-    ensures list { vec_capacity ready.old ≤ vec_capacity ready.new }
+    ensures list { ready.old.room ≤ ready.new.room }
     ensures capacity { vec_capacity queue.old ≤ vec_capacity queue.new }
 {
     rank_unmarked(&Nothing, table, ready);
@@ -106,5 +105,4 @@ pub fn queue_all(table: &mut Table, ready: &mut Vec<(u8, Addr)>, queue: &mut Vec
     let mut out = Gathered::new(mem::replace(queue, Vec::new(alloc)), 0, first);
     take_all(table, ready.as_slice(), &mut out);
     *queue = out.into_queue();
-    ready.clear();
 }

@@ -2,6 +2,7 @@
 #![tactic(auto)]
 
 mod all;
+mod by_rank;
 mod clearing;
 mod dropping;
 mod gathered;
@@ -11,8 +12,10 @@ mod leading;
 mod listing;
 mod pass;
 mod picking;
+mod ready_list;
 
 pub use all::queue_all;
 pub use host::Host;
 pub use law::{decisions_pass, passes_are_safe};
 pub use pass::{decide, decide_with_late};
+pub use ready_list::ReadyList;

@@ -6,7 +6,9 @@ ghost use Rattle.std.specs.Map.{keys_of};
 ghost use Rattle.std.specs.FinMap.{from_entries, len};
 ghost use Rattle.fz_pass.specs.Listing.{AreUnmarked, AreApart, AreRanked};
 
+use crate::by_rank::{is_of_one_rank, order_by_rank};
 use crate::host::Host;
+use crate::ready_list::ReadyList;
 use fz_model::Addr;
 use fz_table::Table;
 
@@ -26,6 +28,7 @@ fn list_unmarked<H: Host>(host: &H, table: &Table, ready: &mut Vec<(u8, Addr)>)
     requires empty { ready.old.items ≡ [] }
     requires room { len table.now.registrations ≤ vec_capacity ready.old }
     ensures listed { AreUnmarked table.now.registrations (H.marked host.now) AreApart ready.new.items }
+    ensures few { vec_len ready.new ≤ len table.now.registrations }
     ensures capacity { vec_capacity ready.old ≤ vec_capacity ready.new }
 {
     for (object, registration) in table.iter() {
@@ -34,12 +37,15 @@ fn list_unmarked<H: Host>(host: &H, table: &Table, ready: &mut Vec<(u8, Addr)>)
 }
 
 /// Lists the registered objects that aren't marked, by rank, then object.
-pub(crate) fn rank_unmarked<H: Host>(host: &H, table: &Table, ready: &mut Vec<(u8, Addr)>)
-    requires empty { ready.old.items ≡ [] }
-    requires room { len table.now.registrations ≤ vec_capacity ready.old }
-    ensures listed { AreUnmarked table.now.registrations (H.marked host.now) AreRanked ready.new.items }
-    ensures capacity { vec_capacity ready.old ≤ vec_capacity ready.new }
+pub(crate) fn rank_unmarked<H: Host>(host: &H, table: &Table, ready: &mut ReadyList)
+    requires room { len table.now.registrations ≤ ready.old.room }
+    ensures listed { AreUnmarked table.now.registrations (H.marked host.now) AreRanked ready.new.listed }
+    ensures room { ready.old.room ≤ ready.new.room }
 {
-    list_unmarked(host, table, ready);
-    ready.sort_unstable();
+    ready.listed.clear();
+    list_unmarked(host, table, &mut ready.listed);
+    ready.listed.sort_unstable_by_key(|entry| entry.1);
+    if !is_of_one_rank(ready.listed.as_slice()) {
+        order_by_rank(&mut ready.listed, &mut ready.spare);
+    }
 }

@@ -15,8 +15,9 @@ use crate::dropping::{drop_dead, drop_outside};
 use crate::host::Host;
 use crate::leading::mark_led;
 use crate::picking::queue_unmarked;
+use crate::ready_list::ReadyList;
 use fz_links::Links;
-use fz_model::{Addr, Entry};
+use fz_model::Entry;
 use fz_table::Table;
 
 /// Marks what the unmarked objects of both tables lead to.
@@ -38,7 +39,7 @@ fn queue_both<H: Host>(
     host: &mut H,
     table: &mut Table,
     late: &mut Table,
-    ready: &mut Vec<(u8, Addr)>,
+    ready: &mut ReadyList,
     queue: &mut Vec<Entry>,
     pass: u64,
     first: u64,
@@ -48,12 +49,10 @@ fn queue_both<H: Host>(
     requires closed { IsClosed (H.objects host.old) (H.marked host.old) }
     requires led { LedAreMarked (H.objects host.old) table.old.registrations (H.marked host.old) }
     requires led_late { LedAreMarked (H.objects host.old) late.old.registrations (H.marked host.old) }
-    requires empty { ready.old.items ≡ [] }
-    requires list { len table.old.registrations + len late.old.registrations ≤ vec_capacity ready.old }
+    requires list { len table.old.registrations + len late.old.registrations ≤ ready.old.room }
     requires room { vec_len queue.old + (len table.old.registrations + len late.old.registrations) ≤ vec_capacity queue.old }
     requires numbers { first + (len table.old.registrations + len late.old.registrations) < 2 ^ 64 }
-    ensures empty { ready.new.items ≡ [] }
-    ensures list { vec_capacity ready.old ≤ vec_capacity ready.new }
+    ensures list { ready.old.room ≤ ready.new.room }
     ensures count { vec_len queue.new + (len table.new.registrations + len late.new.registrations) ≡ vec_len queue.old + (len table.old.registrations + len late.old.registrations) }
     ensures capacity { vec_capacity queue.old ≤ vec_capacity queue.new }
     ensures queued { QueuesBoth H.is_exact pass first (H.objects host.old) (H.marked host.old) (H.marked host.new) table.old.registered table.new.registered late.old.registered late.new.registered queue.old.items queue.new.items }
@@ -75,14 +74,14 @@ fn queue_both<H: Host>(
 /// The objects of the second table are registered as normal ones, and come late: they are picked after the others, and only where these don't lead to
 /// them (`GC_register_finalizer_unreachable`).
 ///
-/// It takes no memory: `ready`, which is empty before and after, has room for every registration, and so has the queue.
+/// It takes no memory: the list has room for every registration, and so has the queue.
 pub fn decide_with_late<H: Host>(
     host: &mut H,
     table: &mut Table,
     late: &mut Table,
     short: &mut Links,
     long: &mut Links,
-    ready: &mut Vec<(u8, Addr)>,
+    ready: &mut ReadyList,
     queue: &mut Vec<Entry>,
     pass: u64,
     first: u64,
@@ -96,13 +95,11 @@ pub fn decide_with_late<H: Host>(
     // A word that was cleared points to nothing.
     requires zero { points (H.objects host.old) 0 ≡ None }
     requires closed { IsClosed (H.objects host.old) (H.marked host.old) }
-    requires empty { ready.old.items ≡ [] }
-    requires list { len table.old.registrations + len late.old.registrations ≤ vec_capacity ready.old }
+    requires list { len table.old.registrations + len late.old.registrations ≤ ready.old.room }
     requires room { vec_len queue.old + (len table.old.registrations + len late.old.registrations) ≤ vec_capacity queue.old }
     requires numbers { first + (len table.old.registrations + len late.old.registrations) < 2 ^ 64 }
     ensures decided { DecidesLate H.is_exact pass first (two_tables.parts_of (H.objects host.old) table.old late.old short.old long.old) (H.marked host.old) (two_tables.parts_left (H.objects host.new) (H.marked host.new) table.new late.new short.new long.new) queue.old.items queue.new.items }
-    ensures empty { ready.new.items ≡ [] }
-    ensures list { vec_capacity ready.old ≤ vec_capacity ready.new }
+    ensures list { ready.old.room ≤ ready.new.room }
     ensures count { vec_len queue.new + (len table.new.registrations + len late.new.registrations) ≡ vec_len queue.old + (len table.old.registrations + len late.old.registrations) }
     ensures capacity { vec_capacity queue.old ≤ vec_capacity queue.new }
     // Marked objects stay marked, and what they lead to is marked.
@@ -129,7 +126,7 @@ pub fn decide<H: Host>(
     table: &mut Table,
     short: &mut Links,
     long: &mut Links,
-    ready: &mut Vec<(u8, Addr)>,
+    ready: &mut ReadyList,
     queue: &mut Vec<Entry>,
     pass: u64,
     first: u64,
@@ -140,13 +137,11 @@ pub fn decide<H: Host>(
     // A word that was cleared points to nothing.
     requires zero { points (H.objects host.old) 0 ≡ None }
     requires closed { IsClosed (H.objects host.old) (H.marked host.old) }
-    requires empty { ready.old.items ≡ [] }
-    requires list { len table.old.registrations ≤ vec_capacity ready.old }
+    requires list { len table.old.registrations ≤ ready.old.room }
     requires room { vec_len queue.old + len table.old.registrations ≤ vec_capacity queue.old }
     requires numbers { first + len table.old.registrations < 2 ^ 64 }
     ensures decided { DecidesInto H.is_exact pass first (parts_of (H.objects host.old) table.old short.old long.old) (H.marked host.old) (parts_left (H.objects host.new) (H.marked host.new) table.new short.new long.new) queue.old.items queue.new.items }
-    ensures empty { ready.new.items ≡ [] }
-    ensures list { vec_capacity ready.old ≤ vec_capacity ready.new }
+    ensures list { ready.old.room ≤ ready.new.room }
     // There is room for every registration that is left.
     ensures room { vec_len queue.new + len table.new.registrations ≤ vec_capacity queue.new }
     // Marked objects stay marked, and what they lead to is marked.

@@ -14,7 +14,8 @@ ghost use Rattle.fz_world.specs.Ready.{IsNextHeld, GainsDecided, is_between};
 use fz_bits::SparseFlags;
 use fz_links::Links;
 use fz_marked::{Marked, decide};
-use fz_model::{Addr, Entry, Passed, Refusal};
+use fz_model::{Entry, Passed, Refusal};
+use fz_pass::ReadyList;
 use fz_table::Table;
 use std::alloc::Global;
 use std::marker::Model;
@@ -26,12 +27,11 @@ pub(crate) struct Ready {
     /// The numbers of the held entries, as bits in two levels: a walk over a long past takes a step for 4,096 finished entries.
     held: SparseFlags,
     outstanding: u64,
-    /// The picks of a pass, by rank, then address, while it goes on; empty between passes.
-    picks: Vec<(u8, Addr)>,
+    list: ReadyList,
 }
 
 impl Model for Ready {
-    ghost use Rattle.std.specs.Prelude.{◌≡◌, ◌-◌, [], min, vec_len, vec_capacity};
+    ghost use Rattle.std.specs.Prelude.{◌-◌, min, vec_len, vec_capacity};
     ghost use Rattle.fz_world.specs.Ready.{Ready, ready_code, numbered_in, IsReady};
 
     ghost Value = { Ready };
@@ -41,10 +41,10 @@ impl Model for Ready {
     ghost view = { λ r. record {
       queue = r.queue.items;
       held = numbered_in r.held.members r.queue.items;
-      room = min (min (vec_capacity r.queue - vec_len r.queue) (r.held.size - vec_len r.queue)) (vec_capacity r.picks);
+      room = min (min (vec_capacity r.queue - vec_len r.queue) (r.held.size - vec_len r.queue)) r.list.room;
     } };
 
-    ghost invariant = { λ r. IsReady r.queue.items r.held.members r.outstanding × (r.picks.items ≡ []) };
+    ghost invariant = { λ r. IsReady r.queue.items r.held.members r.outstanding };
 }
 
 /// Makes room for `more` entries at the end of a queue; returns how many there may be then.
@@ -85,7 +85,7 @@ impl Ready {
             queue: Vec::new(alloc),
             held,
             outstanding: 0,
-            picks: Vec::new(alloc),
+            list: ReadyList::new(alloc),
         })
     }
 
@@ -122,7 +122,7 @@ impl Ready {
         ensures room { OnOk result (more ≤ self.new.room) }
     {
         let entries = reserve(&mut self.queue, more)?;
-        self.picks.reserve(more)?;
+        self.list.reserve(more)?;
         self.held.extend_to(entries.div_ceil(64))
     }
 
@@ -155,7 +155,7 @@ impl Ready {
             table,
             short,
             long,
-            &mut self.picks,
+            &mut self.list,
             &mut self.queue,
             number,
         );

@@ -10,14 +10,14 @@ use Rattle.fz_pass.proofs.listing.list_unmarked.Goals as goal
 pub loop-object-init : goal.loop-object-init
 loop-object-init g c =
     let none = ap length c.requires.empty in
-    let given = ap length c.into_iter-object-iterator.ensures.into_iter_gives in
-    record { listed = c.requires.empty; few = omega (arith, none, given, c.iter-object-items.ensures.count, c.requires.room); grown = omega arith; rest = refl }
+    record { listed = c.requires.empty; few = omega (arith, none); grown = omega arith; rest = refl }
 
 pub list_if_unmarked-requires : goal.list_if_unmarked-requires
 list_if_unmarked-requires g c =
     let steps = ap length c.in-Some.ensures.steps in
     let len = c.loop-object.ready.ok.0 in
-    record { room = omega (arith, steps, len, c.loop-object.invariant.few) }
+    let given = ap length c.into_iter-object-iterator.ensures.into_iter_gives in
+    record { room = omega (arith, steps, len, given, c.iter-object-items.ensures.count, c.requires.room, c.loop-object.invariant.few, c.loop-object.invariant.grown) }
 
 pub loop-object-preserved : goal.loop-object-preserved
 loop-object-preserved g c =
@@ -29,7 +29,7 @@ loop-object-preserved g c =
     let long = ap length c.list_if_unmarked.ensures.listed in
     record {
       listed = c.list_if_unmarked.ensures.listed ∙ ap (λ (xs : List (ℕ × ℕ)). cond (marked e.0) xs (xs ++ ranked e ∷ [])) inv.listed ∙ sym (unmarked_more marked c.loop-object.yielded e (marked e.0) refl);
-      few = omega (arith, steps, more, long, inv.few, c.list_if_unmarked.ensures.capacity);
+      few = omega (arith, steps, more, long, inv.few);
       grown = omega (arith, inv.grown, c.list_if_unmarked.ensures.capacity);
       rest = one_on c.loop-object.yielded c.loop-object.object-iterator _ c.next.new.self e inv.rest c.in-Some.ensures.steps;
     }
@@ -44,3 +44,8 @@ returns-clause-listed g c =
 
 pub returns-clause-capacity : goal.returns-clause-capacity
 returns-clause-capacity g c = c.loop-object.invariant.grown
+
+pub returns-clause-few : goal.returns-clause-few
+returns-clause-few g c =
+    let given = ap length c.into_iter-object-iterator.ensures.into_iter_gives in
+    omega (arith, c.loop-object.ready.ok.0, c.loop-object.invariant.few, given, c.iter-object-items.ensures.count)

@@ -6,7 +6,7 @@ use Rattle.fz_pass.proofs.listing.list_unmarked.Given as goal
 abbrev pub invariant-loop-object : goal.invariant-loop-object
 invariant-loop-object g l = record {
   listed : l.ready.items ≡ unmarked_in (g.H.Host.marked l.host) l.yielded;
-  few : length l.ready.items + length l.object-iterator ≤ vec_capacity l.ready;
+  few : length l.ready.items + length l.object-iterator ≤ length l.initial.object-iterator;
   grown : vec_capacity l.initial.ready ≤ vec_capacity l.ready;
   rest : l.yielded ++ l.object-iterator ≡ l.initial.object-iterator;
 }

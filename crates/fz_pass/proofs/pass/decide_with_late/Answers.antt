@@ -48,7 +48,6 @@ queue_both-requires g c =
       led = led_are_marked E now (t.marked c.clear_dead.new.host) led first (both first second) (still first c.requires.registered) (in_first first second) marks;
       led_late = led_are_marked E now (t.marked c.clear_dead.new.host) led second (both first second) (still second c.requires.late)
           (λ a r here. in_second first second a r (λ on. c.requires.apart a on (ap is_some here)) here) marks;
-      empty = c.requires.empty;
       list = c.requires.list;
       room = c.requires.room;
       numbers = c.requires.numbers;

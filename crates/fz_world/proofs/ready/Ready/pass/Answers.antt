@@ -42,7 +42,7 @@ pub overflow_add-self : goal.overflow_add-self
 overflow_add-self c =
     let d = c.decide-reclaimed.ensures.decided in
     let few = few_held c.self.inside.held.members c.self.inside.queue.items in
-    omega (arith, few, c.self.invariant.0.counted, c.len-first.ensures, c.len-end.ensures, c.self.inside.queue.ok, c.decide-reclaimed.new.queue.ok, c.decide-reclaimed.new.queue.small)
+    omega (arith, few, c.self.invariant.counted, c.len-first.ensures, c.len-end.ensures, c.self.inside.queue.ok, c.decide-reclaimed.new.queue.ok, c.decide-reclaimed.new.queue.small)
 
 pub invariant_of-self : goal.invariant_of-self
 invariant_of-self c =
@@ -54,12 +54,10 @@ invariant_of-self c =
     let count = length-entries_of c.args.number (length queue) d.0 in
     let first : c.len-first.result ≡ length queue = c.len-first.ensures ∙ c.self.inside.queue.ok.0 in
     let end : c.len-end.result ≡ length queue + length d.0 = omega (arith, longer, count, c.len-end.ensures, c.decide-reclaimed.new.queue.ok) in
-    let gained : c.len-end.result - c.len-first.result ≡ length d.0 = omega (arith, first, end) in (
-      subst (λ (es : List Entry). IsReady es more (c.self.inside.outstanding + (c.len-end.result - c.len-first.result))) (sym d.1)
-          (subst (λ (k : ℕ). IsReady (queue ++ entries_of c.args.number (length queue) d.0) more (c.self.inside.outstanding + k)) (sym gained)
-          (ready_gained queue held more c.self.inside.outstanding c.args.number c.len-end.result d.0 c.self.invariant.0 end (λ n. c.hold.ensures.held n ∙ ap (λ k. is_between k c.len-end.result n || contains held n) first))),
-      c.decide-reclaimed.ensures.empty,
-    )
+    let gained : c.len-end.result - c.len-first.result ≡ length d.0 = omega (arith, first, end) in
+    subst (λ (es : List Entry). IsReady es more (c.self.inside.outstanding + (c.len-end.result - c.len-first.result))) (sym d.1)
+    (subst (λ (k : ℕ). IsReady (queue ++ entries_of c.args.number (length queue) d.0) more (c.self.inside.outstanding + k)) (sym gained)
+    (ready_gained queue held more c.self.inside.outstanding c.args.number c.len-end.result d.0 c.self.invariant end (λ n. c.hold.ensures.held n ∙ ap (λ k. is_between k c.len-end.result n || contains held n) first)))
 
 pub returns-clause-decided : goal.returns-clause-decided
 returns-clause-decided c =
@@ -76,7 +74,7 @@ returns-clause-decided c =
       record {
         queue = d.1 ∙ ap (λ (r : Ready). r.queue ++ entries_of c.args.number (length r.queue) d.0) c.self.view_is;
         held = ap (numbered_in more) d.1
-            ∙ held_gained queue held more c.self.inside.outstanding c.args.number c.len-end.result d.0 c.self.invariant.0 end (λ n. c.hold.ensures.held n ∙ ap (λ k. is_between k c.len-end.result n || contains held n) first)
+            ∙ held_gained queue held more c.self.inside.outstanding c.args.number c.len-end.result d.0 c.self.invariant end (λ n. c.hold.ensures.held n ∙ ap (λ k. is_between k c.len-end.result n || contains held n) first)
             ∙ ap (λ (r : Ready). r.held ++ entries_of c.args.number (length r.queue) d.0) c.self.view_is;
       },
       d.2,
