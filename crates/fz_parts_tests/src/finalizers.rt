@@ -4,6 +4,7 @@ use crate::equal::must_be;
 use fz_finalizers::{
     Addr, Entry, Finalizer, Finalizers, Kind, LinkAnswer, LinkKind, MoveAnswer, Old, Refused, Root,
 };
+use std::alloc::Global;
 use std::process::Abort;
 
 /// A finalizer of a kind, whose procedure and client data are the object plus 1 and plus 2.
@@ -112,9 +113,9 @@ fn moves_in_a_full_table(rt: HostRuntime) {
     must_be(&rt, finalizers.links(LinkKind::Short), 72, "all 72");
 }
 
-#[test]
-fn queues_takes_and_finishes(rt: HostRuntime) {
-    let mut finalizers = Finalizers::new(rt.alloc());
+/// Finalizers whose four registrations are queued, two of which come first for their rank.
+fn with_four_queued(rt: &impl Abort, alloc: Global) -> Finalizers {
+    let mut finalizers = Finalizers::new(alloc);
     let objects = [
         (32, Kind::Normal, 1),
         (16, Kind::Normal, 1),
@@ -124,19 +125,19 @@ fn queues_takes_and_finishes(rt: HostRuntime) {
     for (object, kind, rank) in objects {
         let _ = finalizers.register(object, finalizer(kind, object, rank));
     }
-    must_be(&rt, finalizers.queue_all(), 4, "all four");
+    must_be(rt, finalizers.queue_all(), 4, "all four");
+    finalizers
+}
+
+#[test]
+fn queues_all_and_walks_over_roots(rt: HostRuntime) {
+    let mut finalizers = with_four_queued(&rt, rt.alloc());
     must_be(&rt, finalizers.registrations(), 0, "none is left");
     must_be(&rt, finalizers.waiting(), 4, "all wait");
-    let (first, second) = (entry(0, 2, 48), entry(1, 1, 16));
-    must_be(&rt, finalizers.take(), Some(first), "the lowest rank");
-    must_be(
-        &rt,
-        finalizers.take_finished(),
-        Some(second),
-        "then by address",
-    );
-    must_be(&rt, finalizers.is_held(&first), true, "the first is held");
-    must_be(&rt, finalizers.is_held(&second), false, "the second isn't");
+    let first = finalizers.take();
+    must_be(&rt, first, Some(entry(0, 2, 48)), "the lowest rank");
+    let second = finalizers.take_finished();
+    must_be(&rt, second, Some(entry(1, 1, 16)), "then by address");
     let (mut two, mut others) = ([0; 2], [0; 8]);
     let mut roots = finalizers.roots(Root::HeldObject);
     must_be(&rt, roots.fill(&mut two), 2, "two roots");
@@ -145,29 +146,28 @@ fn queues_takes_and_finishes(rt: HostRuntime) {
     must_be(&rt, others[0], 48, "what is held");
     let data = finalizers.roots(Root::HeldData).fill(&mut others);
     must_be(&rt, (data, others[2]), (3, 50), "their client data");
-    must_be(
-        &rt,
-        finalizers.finish(&second),
-        Err(Refused::NotHeld),
-        "it isn't held",
-    );
-    must_be(&rt, finalizers.finish(&first), Ok(()), "finished");
-    must_be(
-        &rt,
-        finalizers.finish(&first),
-        Err(Refused::NotHeld),
-        "once",
-    );
-    must_be(
-        &rt,
-        (finalizers.waiting(), finalizers.held(), finalizers.queued()),
-        (2, 0, 4),
-        "the counts",
-    );
-    let walked = finalizers.entries().next().map(|entry| entry.obj);
-    must_be(&rt, walked, Some(32), "a walk over entries");
     let registered = finalizers.roots(Root::RegisteredData).next();
     must_be(&rt, registered, None, "no data of registrations");
+}
+
+#[test]
+fn finishes_what_is_held(rt: HostRuntime) {
+    let mut finalizers = with_four_queued(&rt, rt.alloc());
+    let (first, second) = (entry(0, 2, 48), entry(1, 1, 16));
+    must_be(&rt, finalizers.take(), Some(first), "the first is held");
+    must_be(&rt, finalizers.is_held(&first), true, "it is");
+    let taken = finalizers.take_finished();
+    must_be(&rt, taken, Some(second), "the second isn't held");
+    must_be(&rt, finalizers.is_held(&second), false, "it isn't");
+    let never = finalizers.finish(&second);
+    must_be(&rt, never, Err(Refused::NotHeld), "it isn't held");
+    must_be(&rt, finalizers.finish(&first), Ok(()), "finished");
+    let again = finalizers.finish(&first);
+    must_be(&rt, again, Err(Refused::NotHeld), "once");
+    let counts = (finalizers.waiting(), finalizers.held(), finalizers.queued());
+    must_be(&rt, counts, (2, 0, 4), "the counts");
+    let walked = finalizers.entries().next().map(|entry| entry.obj);
+    must_be(&rt, walked, Some(32), "a walk over entries");
     must_be(&rt, finalizers.passes(), 0, "no pass");
 }
 

@@ -130,7 +130,7 @@ fn link(
     Ok(())
 }
 
-/// Collects so many times. Returns how many entries came.
+/// Collects that many times. Returns how many entries came.
 fn collect(runtime: &mut Runtime, collections: u64) -> u64 {
     let mut queued = 0u64;
     for _ in 0..collections {
@@ -139,7 +139,7 @@ fn collect(runtime: &mut Runtime, collections: u64) -> u64 {
     queued
 }
 
-/// Takes and finishes so many entries, if there are as many. Returns the sum of their objects.
+/// Takes and finishes that many entries, or all where fewer wait. Returns the sum of their objects.
 fn finish(runtime: &mut Runtime, count: u64) -> Result<u64, Refused> {
     let mut sum = 0u64;
     for _ in 0..count {
