@@ -173,6 +173,14 @@ all_at test (y ∷ xs) (suc k) x all e = all_at test xs k x (and_parts (test y) 
 block_of_word : (b t : ℕ) → t < 64 → block_of (block_start b + t) ≡ b
 block_of_word b t lt = omega (arith, lt)
 
+-- a cell is in its block
+pub own_block : (b i size p : ℕ) → 1 ≤ size → i < 64 / size → block_start b + i * size ≡ p → block_of p ≡ b
+own_block b i size p some below is =
+    let up = mul-le-mul_right {m = i + 1} {n = 64 / size} size (omega (arith, below)) in
+    let all = div-mul-le_self 64 size in
+    let spread : (i + 1) * size ≡ i * size + size = omega arith in
+    ap block_of (sym is) ∙ block_of_word b (i * size) (omega (arith, up, all, spread, some))
+
 -- a cell of a block that has such objects
 cell_fits : (blocks : ℕ) (m : Map Extent) (size p b i : ℕ) (kind : ObjKind) → 1 ≤ size → AreLaid blocks m → b < blocks → has_class m size kind b ≡ true → i < 64 / size → block_start b + i * size ≡ p → Fits blocks m p size
 cell_fits blocks m size p b i kind some h inside class below is =
@@ -186,7 +194,7 @@ cell_fits blocks m size p b i kind some h inside class below is =
     let there = get_at m e.0 e.1 e.2 in
     let its_block : block_of e.1.0 ≡ b = eqb-true (block_of e.1.0) b first.0 in
     let its_size : e.1.1.size ≡ size = eqb-true e.1.1.size size (and_parts (e.1.1.size == size) (same_kind e.1.1.kind kind) first.1).0 in
-    let own_block : block_of p ≡ b = ap block_of (sym is) ∙ block_of_word b t (omega (arith, ends, some)) in
+    let own_block : block_of p ≡ b = own_block b i size p some below is in
     record {
       low = omega (arith, is);
       high = omega (arith, is, ends, inside);
@@ -197,10 +205,19 @@ cell_fits blocks m size p b i kind some h inside class below is =
     }
 
 -- nothing meets a bare block
-bare_meets : (m : Map Extent) (q a : ℕ) (x : Extent) → is_bare m q ≡ true → get m a ≡ Some x → meets q (a, x) ≡ true → ⊥
+pub bare_meets : (m : Map Extent) (q a : ℕ) (x : Extent) → is_bare m q ≡ true → get m a ≡ Some x → meets q (a, x) ≡ true → ⊥
 bare_meets m q a x bare here on =
     let at = place_of_key m a x here in
     both_ways _ (not-true _ bare) (any_passes_from_place (meets q) (entries m) at.0 (a, x) at.1 on)
+
+-- each block of a run is bare
+pub run_is_bare : (m : Map Extent) (size b : ℕ) → list_all (is_bare m) (range_with_len b (blocks_for size)) ≡ true → (q : ℕ) → b ≤ q → q < b + blocks_for size → is_bare m q ≡ true
+run_is_bare m size b all q from to =
+    let n = length-range_with_len b (blocks_for size) in
+    let place : b + (q - b) ≡ q = omega (arith, from) in
+    let lt : q - b < blocks_for size = omega (arith, from, to) in
+    all_at (is_bare m) (range_with_len b (blocks_for size)) (q - b) q all
+    (slice_get-get_or (range_with_len b (blocks_for size)) (q - b) 0 (omega (arith, lt, n)) ∙ ap Some (get_or-range_with_len b (blocks_for size) (q - b) 0 lt ∙ place))
 
 -- the first of so many blocks without objects
 run_fits : (blocks : ℕ) (m : Map Extent) (size p b : ℕ) → 1 ≤ size → has_run m blocks (blocks_for size) b ≡ true → block_start b ≡ p → Fits blocks m p size
@@ -214,29 +231,35 @@ run_fits blocks m size p b some run is =
       low = omega (arith, is);
       high = omega (arith, is, room, inside);
       cell = (0, sym is ∙ ap block_start (sym own_block) ∙ omega arith, inl refl);
-      alike = λ a x here same. absurd (bare_meets m b a x (bare both.1 b (omega arith) (omega arith)) here (or_left (block_of a == b) (covers (a, x) (block_start b)) (eq-eqb (block_of a) b (same ∙ own_block))));
-      clear_before = λ a x here on. absurd (bare_meets m b a x (bare both.1 b (omega arith) (omega arith)) here (or_right (block_of a == b) (covers (a, x) (block_start b)) (subst (λ q. covers (a, x) (block_start q) ≡ true) own_block on)));
+      alike = λ a x here same. absurd (bare_meets m b a x (run_is_bare m size b both.1 b (omega arith) (omega arith)) here (or_left (block_of a == b) (covers (a, x) (block_start b)) (eq-eqb (block_of a) b (same ∙ own_block))));
+      clear_before = λ a x here on. absurd (bare_meets m b a x (run_is_bare m size b both.1 b (omega arith) (omega arith)) here (or_right (block_of a == b) (covers (a, x) (block_start b)) (subst (λ q. covers (a, x) (block_start q) ≡ true) own_block on)));
       clear_after = λ c y here from to.
-          absurd (bare_meets m (block_of c) c y (bare both.1 (block_of c) (omega (arith, from, is)) (omega (arith, to, is, room))) here (or_left (block_of c == block_of c) (covers (c, y) (block_start (block_of c))) (eq-eqb (block_of c) (block_of c) refl)));
+          absurd (bare_meets m (block_of c) c y (run_is_bare m size b both.1 (block_of c) (omega (arith, from, is)) (omega (arith, to, is, room))) here (or_left (block_of c == block_of c) (covers (c, y) (block_start (block_of c))) (eq-eqb (block_of c) (block_of c) refl)));
     }
-  where
-    bare : list_all (is_bare m) (range_with_len b (blocks_for size)) ≡ true → (q : ℕ) → b ≤ q → q < b + blocks_for size → is_bare m q ≡ true
-    bare all q from to =
-        let n = length-range_with_len b (blocks_for size) in
-        let place : b + (q - b) ≡ q = omega (arith, from) in
-        let lt : q - b < blocks_for size = omega (arith, from, to) in
-        all_at (is_bare m) (range_with_len b (blocks_for size)) (q - b) q all
-        (slice_get-get_or (range_with_len b (blocks_for size)) (q - b) 0 (omega (arith, lt, n)) ∙ ap Some (get_or-range_with_len b (blocks_for size) (q - b) 0 lt ∙ place))
 
-place_fits : (blocks : ℕ) (m : Map Extent) (size p : ℕ) (kind : ObjKind) → 1 ≤ size → AreLaid blocks m → place_in m blocks size kind ≡ Some p → Fits blocks m p size
-place_fits blocks m size p kind some h e = cases _ refl e
+-- a new object's place is a cell of a block that has such objects, or the first word of a run of bare blocks
+pub record IsCellOf (blocks : ℕ) (m : Map Extent) (size p : ℕ) (kind : ObjKind) : Type 0 where
+  pub block : ℕ
+  pub index : ℕ
+  pub inside : block < blocks
+  pub class : has_class m size kind block ≡ true
+  pub below : index < 64 / size
+  pub is : block_start block + index * size ≡ p
+
+pub record BeginsRun (blocks : ℕ) (m : Map Extent) (size p : ℕ) : Type 0 where
+  pub block : ℕ
+  pub run : has_run m blocks (blocks_for size) block ≡ true
+  pub is : block_start block ≡ p
+
+pub place_cases : (blocks : ℕ) (m : Map Extent) (size p : ℕ) (kind : ObjKind) → place_in m blocks size kind ≡ Some p → IsCellOf blocks m size p kind ⊎ BeginsRun blocks m size p
+place_cases blocks m size p kind e = cases _ refl e
   where
-    by_run : (o : Option ℕ) → find (has_run m blocks (blocks_for size)) (range_with_len 0 blocks) ≡ o → option_map block_start o ≡ Some p → Fits blocks m p size
+    by_run : (o : Option ℕ) → find (has_run m blocks (blocks_for size)) (range_with_len 0 blocks) ≡ o → option_map block_start o ≡ Some p → BeginsRun blocks m size p
     by_run None is e = absurd (none-some p e)
-    by_run (Some b) is e = run_fits blocks m size p b some (find_place (has_run m blocks (blocks_for size)) (range_with_len 0 blocks) b is).2 (same_Some (block_start b) p e)
+    by_run (Some b) is e = record { block = b; run = (find_place (has_run m blocks (blocks_for size)) (range_with_len 0 blocks) b is).2; is = same_Some (block_start b) p e }
 
-    cases : (o : Option ℕ) → find (is_free m) (flat_map (cells size) (filter (has_class m size kind) (range_with_len 0 blocks))) ≡ o → option_or o (option_map block_start (find (has_run m blocks (blocks_for size)) (range_with_len 0 blocks))) ≡ Some p → Fits blocks m p size
-    cases None is e = by_run _ refl e
+    cases : (o : Option ℕ) → find (is_free m) (flat_map (cells size) (filter (has_class m size kind) (range_with_len 0 blocks))) ≡ o → option_or o (option_map block_start (find (has_run m blocks (blocks_for size)) (range_with_len 0 blocks))) ≡ Some p → IsCellOf blocks m size p kind ⊎ BeginsRun blocks m size p
+    cases None is e = inr (by_run _ refl e)
     cases (Some c) is e =
         let at = find_place (is_free m) (flat_map (cells size) (filter (has_class m size kind) (range_with_len 0 blocks))) c is in
         let block = flat_at (cells size) (filter (has_class m size kind) (range_with_len 0 blocks)) at.0 c at.1 in
@@ -245,7 +268,21 @@ place_fits blocks m size p kind some h e = cases _ refl e
         let inside = range_at 0 blocks class.0 b class.1 in
         let index = map_at (λ i. block_start b + i * size) (range_with_len 0 (64 / size)) block.1 c block.2 in
         let below = range_at 0 (64 / size) block.1 index.0 index.1 in
-        cell_fits blocks m size p b index.0 kind some h (omega (arith, inside.0, inside.1)) class.2 (omega (arith, below.0, below.1)) (index.2 ∙ same_Some c p e)
+        inl (record {
+          block = b;
+          index = index.0;
+          inside = omega (arith, inside.0, inside.1);
+          class = class.2;
+          below = omega (arith, below.0, below.1);
+          is = index.2 ∙ same_Some c p e;
+        })
+
+place_fits : (blocks : ℕ) (m : Map Extent) (size p : ℕ) (kind : ObjKind) → 1 ≤ size → AreLaid blocks m → place_in m blocks size kind ≡ Some p → Fits blocks m p size
+place_fits blocks m size p kind some h e =
+    ⊎_elim
+    (λ (c : IsCellOf blocks m size p kind). cell_fits blocks m size p c.block c.index kind some h c.inside c.class c.below c.is)
+    (λ (r : BeginsRun blocks m size p). run_fits blocks m size p r.block some r.run r.is)
+    (place_cases blocks m size p kind e)
 
 -- ---- each call
 
@@ -253,7 +290,7 @@ abbrev pub Laid : Core → Type 0
 Laid c = AreLaid c.blocks (extents c.objects)
 
 -- an object that a pass leaves has the extent that it had
-left_extent : (c : Core) (found kept : ℕ → Bool) (a : ℕ) (x : Extent) → get (extents (left c found kept)) a ≡ Some x → get (extents c.objects) a ≡ Some x
+pub left_extent : (c : Core) (found kept : ℕ → Bool) (a : ℕ) (x : Extent) → get (extents (left c found kept)) a ≡ Some x → get (extents c.objects) a ≡ Some x
 left_extent c found kept a x e =
     let q = extent_back (left c found kept) a x e in
     let b = left_before c found kept a q.0 q.1 in

@@ -206,7 +206,7 @@ held_one held e h =
     subst (Contains held) (sym (one_entry e some.1 some.3)) (contains_at held some.0 some.1 some.2)
 
 -- a slot that isn't lacking has what was put into it
-slot_gets : (frames : List (List ℕ)) (slot : Slot) (word : ℕ) → All (λ (f : List ℕ). length f ≡ 16) frames → lacks_slot frames slot ≡ false → slot_word (with_slot frames slot word) slot ≡ word
+pub slot_gets : (frames : List (List ℕ)) (slot : Slot) (word : ℕ) → All (λ (f : List ℕ). length f ≡ 16) frames → lacks_slot frames slot ≡ false → slot_word (with_slot frames slot word) slot ≡ word
 slot_gets frames slot word whole good =
     let both = and_parts (nat_lt slot.frame (length frames)) (nat_lt slot.slot 16) (not-false (nat_lt slot.frame (length frames) && nat_lt slot.slot 16) good) in
     let in_frames = ltb-true slot.frame (length frames) both.0 in

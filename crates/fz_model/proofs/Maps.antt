@@ -1,6 +1,6 @@
 -- Maps by address, and the words of objects.
-use Rattle.std.proofs.Common.{T, is_lt, nat_le, ◌&&◌, Bool, ◌≡◌, ◌≢◌, ℕ, ◌+◌, ◌-◌, ◌/◌, ◌<◌, ◌==◌, true, false, cond, ◌||◌, List, [], ◌∷◌, map, length, Option, Some, None, is_some, option_map, refl, sym, ap, ◌∙◌, subst, arith, slice_index, filter, flat_map, nat_cmp, Equal, suc, zero, true≢false, add-zero}
-use Rattle.std.proofs.lemmas.Bool.{eq-eqb, both_ways, cond-true, not-true, and_parts}
+use Rattle.std.proofs.Common.{T, is_lt, nat_le, ◌&&◌, Bool, ◌≡◌, ◌≢◌, ℕ, ◌+◌, ◌-◌, ◌/◌, ◌<◌, ◌==◌, true, false, cond, ◌||◌, List, [], ◌∷◌, map, length, Option, Some, None, is_some, option_map, refl, sym, ap, ◌∙◌, subst, arith, slice_get, slice_index, filter, flat_map, nat_cmp, Equal, suc, zero, true≢false, add-zero}
+use Rattle.std.proofs.lemmas.Bool.{eq-eqb, both_ways, cond-true, cond-false, not-true, and_parts}
 use Rattle.std.proofs.lemmas.Option.{same_Some, none-some}
 use Rattle.std.proofs.lemmas.List.{map-id}
 use Rattle.std.specs.FinMap as finmap
@@ -161,6 +161,21 @@ fill_at test value a (w ∷ ws) zero h t = cond-true (test a) value w (subst (λ
 fill_at test value a (w ∷ ws) (suc i) h t =
     let next : a + suc i ≡ (a + 1) + i = omega arith in
     fill_at test value (a + 1) ws i (omega arith) (subst (λ x. test x ≡ true) next t)
+
+pub fill_on : (test : ℕ → Bool) (value a : ℕ) (ws : List ℕ) (k : ℕ) → k < length ws → test (a + k) ≡ true → slice_get (fill test value a ws) k ≡ Some value
+fill_on test value a [] k lt on = absurd (omega (arith, lt))
+fill_on test value a (w ∷ ws) zero lt on = ap Some (cond-true (test a) value w (subst (λ x. test x ≡ true) (add-zero a) on))
+fill_on test value a (w ∷ ws) (suc k) lt on =
+    let next : a + suc k ≡ (a + 1) + k = omega arith in
+    fill_on test value (a + 1) ws k (omega (arith, lt)) (subst (λ x. test x ≡ true) next on)
+
+-- a word that isn't filled in stays
+pub fill_off : (test : ℕ → Bool) (value a : ℕ) (ws : List ℕ) (k : ℕ) → test (a + k) ≡ false → slice_get (fill test value a ws) k ≡ slice_get ws k
+fill_off test value a [] k off = refl
+fill_off test value a (w ∷ ws) zero off = ap Some (cond-false (test a) value w (subst (λ x. test x ≡ false) (add-zero a) off))
+fill_off test value a (w ∷ ws) (suc k) off =
+    let next : a + suc k ≡ (a + 1) + k = omega arith in
+    fill_off test value (a + 1) ws k (subst (λ x. test x ≡ false) next off)
 
 -- a zero stays, where zero is what is filled in
 pub fill_zero : (test : ℕ → Bool) (a : ℕ) (ws : List ℕ) (i : ℕ) → slice_index ws i ≡ 0 → slice_index (fill test 0 a ws) i ≡ 0

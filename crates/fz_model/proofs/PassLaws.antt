@@ -23,7 +23,7 @@ use Rattle.fz_model.specs.CallLaws.{Stands}
 use Rattle.fz_model.specs.PassLaws.{HasLost, StandsAround, IsSameBut, StepsOn, LeadsOn, Itself, OneMore, IsLedToByRegistered, WhatStays, WhichLinksStay, Answers, IsLawful, EachPassIsLawful, IsLedToBy, IsOf, StandsBefore, WhatIsQueued}
 use Rattle.fz_model.proofs.Lists.{place_of, contains_at, map_at}
 use Rattle.fz_model.proofs.MapEntries.{at_key}
-use Rattle.fz_model.proofs.Maps.{get-retain, filled_here, filled_back, length-fill, get-remove_other}
+use Rattle.fz_model.proofs.Maps.{get-retain, filled_here, filled_back, length-fill, fill_on, fill_off, get-remove_other}
 use Rattle.fz_model.proofs.Objects.{from_covers}
 use Rattle.fz_model.proofs.Sound.{Sound, length-entries_of, left_back, left_other}
 use Rattle.fz_model.proofs.SeenKept.{points-filled, Child-filled}
@@ -35,20 +35,6 @@ use Rattle.fz_model.proofs.Runs.{reached_sound}
 use Rattle.std.proofs.lemmas.List.Elements.{All-contains}
 
 -- ---- words that are filled in
-
-fill_on : (test : ℕ → Bool) (value a : ℕ) (ws : List ℕ) (k : ℕ) → k < length ws → test (a + k) ≡ true → slice_get (fill test value a ws) k ≡ Some value
-fill_on test value a [] k lt on = absurd (omega (arith, lt))
-fill_on test value a (w ∷ ws) zero lt on = ap Some (cond-true (test a) value w (subst (λ x. test x ≡ true) (add-zero a) on))
-fill_on test value a (w ∷ ws) (suc k) lt on =
-    let next : a + suc k ≡ (a + 1) + k = omega arith in
-    fill_on test value (a + 1) ws k (omega (arith, lt)) (subst (λ x. test x ≡ true) next on)
-
-fill_off : (test : ℕ → Bool) (value a : ℕ) (ws : List ℕ) (k : ℕ) → test (a + k) ≡ false → slice_get (fill test value a ws) k ≡ slice_get ws k
-fill_off test value a [] k off = refl
-fill_off test value a (w ∷ ws) zero off = ap Some (cond-false (test a) value w (subst (λ x. test x ≡ false) (add-zero a) off))
-fill_off test value a (w ∷ ws) (suc k) off =
-    let next : a + suc k ≡ (a + 1) + k = omega arith in
-    fill_off test value (a + 1) ws k (subst (λ x. test x ≡ false) next off)
 
 within_fill : (test : ℕ → Bool) (value a : ℕ) (ws : List ℕ) (k w : ℕ) → slice_get (fill test value a ws) k ≡ Some w → test (a + k) ≡ true → w ≡ value
 within_fill test value a [] k w is on = absurd (none-some w is)

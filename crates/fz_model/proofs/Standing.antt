@@ -112,17 +112,20 @@ link_moved objects links old place h lies = at (get links old) refl
           | false ↦ link_more objects (remove links old) place target (link_fewer objects links old h) (h old target is).0 lies
         ]
 
--- the place of an accepted call lies in an object
-place_lies : (objects : Map Object) (word offset : ℕ) → (other_extent (extents objects) word (word + offset)).0 ≡ false → Lies objects (word + offset)
-place_lies objects word offset none = start (points_in (extents objects) word) (not-false _ none)
+-- the place of an accepted call lies in the object to which its word points
+pub place_pointed : (objects : Map Object) (word address : ℕ) → (other_extent (extents objects) word address).0 ≡ false → (a : ℕ) × (o : Object) × (points objects word ≡ Some a) × (get objects a ≡ Some o) × (covers (a, extent_of o) address ≡ true)
+place_pointed objects word address none = start (points_in (extents objects) word) refl (not-false _ none)
   where
-    within : (a : ℕ) (x : Option Extent) → get (extents objects) a ≡ x → option_map_or (λ (x : Extent). covers (a, x) (word + offset)) x false ≡ true → Lies objects (word + offset)
-    within a None is e = absurd (true≢false (sym e))
-    within a (Some x) is e = let o = extent_back objects a x is in (a, o.0, o.1, subst (λ y. covers (a, y) (word + offset) ≡ true) (sym o.2) e)
+    within : (a : ℕ) → points objects word ≡ Some a → (x : Option Extent) → get (extents objects) a ≡ x → option_map_or (λ (x : Extent). covers (a, x) address) x false ≡ true → (a : ℕ) × (o : Object) × (points objects word ≡ Some a) × (get objects a ≡ Some o) × (covers (a, extent_of o) address ≡ true)
+    within a pointed None is e = absurd (true≢false (sym e))
+    within a pointed (Some x) is e = let o = extent_back objects a x is in (a, o.0, pointed, o.1, subst (λ y. covers (a, y) address ≡ true) (sym o.2) e)
 
-    start : (p : Option ℕ) → option_map_or (λ a. option_map_or (λ (x : Extent). covers (a, x) (word + offset)) (get (extents objects) a) false) p false ≡ true → Lies objects (word + offset)
-    start None e = absurd (true≢false (sym e))
-    start (Some a) e = within a (get (extents objects) a) refl e
+    start : (p : Option ℕ) → points objects word ≡ p → option_map_or (λ a. option_map_or (λ (x : Extent). covers (a, x) address) (get (extents objects) a) false) p false ≡ true → (a : ℕ) × (o : Object) × (points objects word ≡ Some a) × (get objects a ≡ Some o) × (covers (a, extent_of o) address ≡ true)
+    start None is e = absurd (true≢false (sym e))
+    start (Some a) is e = within a is (get (extents objects) a) refl e
+
+place_lies : (objects : Map Object) (word offset : ℕ) → (other_extent (extents objects) word (word + offset)).0 ≡ false → Lies objects (word + offset)
+place_lies objects word offset none = let p = place_pointed objects word (word + offset) none in (p.0, p.1, p.3, p.4)
 
 -- ---- frames
 

@@ -18,6 +18,8 @@ pub mod Refusals
 pub mod Headline
 -- laws that test the model
 pub mod CallLaws
+pub mod ObjectLaws
+pub mod EntryLaws
 pub mod PassLaws
 pub mod CycleLaws
 pub mod OrderLaws

@@ -9,6 +9,8 @@ ghost use Rattle.fz_model.specs.Seen.{SeenIsClosed};
 ghost use Rattle.fz_model.specs.Steps.{IsReached};
 ghost use Rattle.fz_model.specs.Joint.{Joint, Move, IsRun};
 ghost use Rattle.fz_model.specs.CallLaws.{EachCallHasStep, EachJointEventHasStep, LinksStand, LinksAreMade, LinksAreUnlinked, LinksAreMoved, TablesAreWithin, HoldGivesTheObject, EmptyHandIsRefused, ClosesOnce};
+ghost use Rattle.fz_model.specs.ObjectLaws.{SlotsAreSet, WordsAreLoaded, WordsAreStored, ObjectsAreMade, BlocksAreShared, EmptyBlocksAreRoom};
+ghost use Rattle.fz_model.specs.EntryLaws.{ObjectsAreRegistered, ObjectsAreUnregistered, HeldAreCounted, InOneHand};
 ghost use Rattle.fz_model.specs.PassLaws.{EachPassIsLawful};
 ghost use Rattle.fz_model.specs.CycleLaws.{SeenInThisCycle};
 ghost use Rattle.fz_model.specs.OrderLaws.{FirstIsTold, WorkersComeFirst};
@@ -22,6 +24,19 @@ pub fn every_call()
     // No word lies in two objects, and each object lies in the heap.
     ensures apart { (s : State) → IsReached s → AreApart (extents s.objects) }
     ensures within { (s : State) → IsReached s → AreWithin s.blocks (extents s.objects) }
+    // Objects with words in one block have one size and kind; an object takes no more blocks than it fills.
+    ensures blocks_are_shared { (s : State) → IsReached s → BlocksAreShared s }
+    ensures empty_blocks_are_room { (s : State) → IsReached s → EmptyBlocksAreRoom s }
+    // A new object is where and what the call answers, has words of zero, and changes no other object.
+    ensures objects_are_made { (s : State) → IsReached s → ObjectsAreMade s }
+    // A slot gets the word that is given, or that of another slot, which keeps it.
+    ensures slots_are_set { (s : State) → IsReached s → SlotsAreSet s }
+    // A load gives the word that stands at the place. What was stored is loaded, and nothing else has changed.
+    ensures words_are_loaded { (s : State) → IsReached s → WordsAreLoaded s }
+    ensures words_are_stored { (s : State) → IsReached s → WordsAreStored s }
+    // A registration has a new number, and tells what it replaces; one that is removed is gone.
+    ensures objects_are_registered { (s : State) → IsReached s → ObjectsAreRegistered s }
+    ensures objects_are_unregistered { (s : State) → IsReached s → ObjectsAreUnregistered s }
     // Each link's target starts an object, and its word lies in one.
     ensures short_links_stand { (s : State) → IsReached s → LinksStand s.objects s.short }
     ensures long_links_stand { (s : State) → IsReached s → LinksStand s.objects s.long }
@@ -43,6 +58,10 @@ pub fn every_call()
     ensures seen { (s : State) → IsReached s → SeenInThisCycle s }
     // In an open cycle what was seen is closed under children, and has what is reachable now; so a pause may find all of it.
     ensures seen_is_closed { (s : State) → IsReached s → SeenIsClosed s }
+    // The number of held entries goes up by what a pass queues, and down with each finish, which lets go of its entry alone.
+    ensures held_are_counted { (s : State) → IsReached s → HeldAreCounted s }
+    // An entry is in one hand at most, and a forfeited one in none.
+    ensures in_one_hand { (moves : List Move) (end : Joint) → IsRun moves end → InOneHand end }
     // A hold puts the held object's start into the slot; a worker with an empty hand is refused.
     ensures holds { (s : State) → IsReached s → HoldGivesTheObject s }
     ensures empty_hand { (moves : List Move) (end : Joint) → IsRun moves end → EmptyHandIsRefused end }

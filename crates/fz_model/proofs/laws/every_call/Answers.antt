@@ -3,6 +3,8 @@ use Rattle.fz_model.specs.Extents.{extents}
 use Rattle.fz_model.proofs.Allocation.{laid_apart, reached_laid}
 use Rattle.fz_model.proofs.Standing.{reached_standing, links_stand}
 use Rattle.fz_model.proofs.CallLaws.{links_are_made, links_are_unlinked, links_are_moved, hold_gives_the_object}
+use Rattle.fz_model.proofs.ObjectLaws.{slots_are_set, words_are_loaded, words_are_stored, objects_are_made, blocks_are_shared, empty_blocks_are_room}
+use Rattle.fz_model.proofs.EntryLaws.{objects_are_registered, objects_are_unregistered, held_are_counted, in_one_hand}
 use Rattle.fz_model.proofs.PassLaws.{each_pass_is_lawful}
 use Rattle.fz_model.proofs.CycleLaws.{seen_in_this_cycle}
 use Rattle.fz_model.proofs.OrderLaws.{first_is_told, workers_come_first}
@@ -57,3 +59,33 @@ returns-clause-within c s r = (reached_laid s r).within
 
 pub returns-clause-seen_is_closed : goal.returns-clause-seen_is_closed
 returns-clause-seen_is_closed c = seen_is_closed
+
+pub returns-clause-slots_are_set : goal.returns-clause-slots_are_set
+returns-clause-slots_are_set c = slots_are_set
+
+pub returns-clause-words_are_loaded : goal.returns-clause-words_are_loaded
+returns-clause-words_are_loaded c = words_are_loaded
+
+pub returns-clause-words_are_stored : goal.returns-clause-words_are_stored
+returns-clause-words_are_stored c = words_are_stored
+
+pub returns-clause-objects_are_made : goal.returns-clause-objects_are_made
+returns-clause-objects_are_made c = objects_are_made
+
+pub returns-clause-blocks_are_shared : goal.returns-clause-blocks_are_shared
+returns-clause-blocks_are_shared c = blocks_are_shared
+
+pub returns-clause-empty_blocks_are_room : goal.returns-clause-empty_blocks_are_room
+returns-clause-empty_blocks_are_room c = empty_blocks_are_room
+
+pub returns-clause-objects_are_registered : goal.returns-clause-objects_are_registered
+returns-clause-objects_are_registered c = objects_are_registered
+
+pub returns-clause-objects_are_unregistered : goal.returns-clause-objects_are_unregistered
+returns-clause-objects_are_unregistered c = objects_are_unregistered
+
+pub returns-clause-held_are_counted : goal.returns-clause-held_are_counted
+returns-clause-held_are_counted c = held_are_counted
+
+pub returns-clause-in_one_hand : goal.returns-clause-in_one_hand
+returns-clause-in_one_hand c = in_one_hand

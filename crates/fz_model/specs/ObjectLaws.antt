@@ -1,0 +1,113 @@
+-- Laws that test the definitions of the calls on slots, on words and on new objects: what is expected of each, in words that don't repeat how it is
+-- defined.
+use Rattle.std.specs.Prelude.{◌≡◌, ◌≢◌, ℕ, ◌+◌, ◌*◌, ◌<◌, ◌≤◌, ◌⊎◌, length, None, Some, slice_get, Result, Ok, Err}
+use Rattle.std.specs.FinMap.{get}
+use Rattle.fz_model.specs.declared.call.Call.TheVariants.{Alloc, Load, Store, Set, Copy}
+use Rattle.fz_model.specs.declared.places.Slot.{Slot}
+use Rattle.fz_model.specs.declared.places.Place.{Place}
+use Rattle.fz_model.specs.declared.kinds.ObjKind.{ObjKind}
+use Rattle.fz_model.specs.declared.limits.TheConstants.{HEAP_START, BLOCK_WORDS}
+use Rattle.fz_model.specs.declared.refusal.Refusal.{Refusal}
+use Rattle.fz_model.specs.declared.refusal.Refusal.TheVariants.{NoSpace}
+use Rattle.fz_model.specs.State.{Map, Object, State}
+use Rattle.fz_model.specs.Memory.{points, slot_word, address_of}
+use Rattle.fz_model.specs.Events.{Make}
+use Rattle.fz_model.specs.Steps.{Step}
+use Rattle.fz_model.specs.CallLaws.{Stands}
+
+-- ---- slots
+
+-- the slot has the word, and any other what it had; there are no more frames and no fewer
+pub record SlotGets (old : State) (slot : Slot) (word : ℕ) (new : State) : Type 0 where
+  pub gets : slot_word new.frames slot ≡ word
+  pub others : (other : Slot) → other ≢ slot → slot_word new.frames other ≡ slot_word old.frames other
+  pub number : length new.frames ≡ length old.frames
+
+-- and nothing but slots has changed
+abbrev pub OnlySlotsChange : State → State → Type 0
+OnlySlotsChange old new = new.core ≡ record old.core { frames = new.frames }
+
+-- a slot gets the word that is given, or that of another slot, which keeps it
+pub record SlotsAreSet (s : State) : Type 0 where
+  pub set : (slot : Slot) (word : ℕ) (answer : Unit {0}) (new : State) → Step s (Make (Set slot word)) (Ok answer) new → SlotGets s slot word new × OnlySlotsChange s new
+  pub copy : (slot to : Slot) (answer : Unit {0}) (new : State) → Step s (Make (Copy slot to)) (Ok answer) new → SlotGets s to (slot_word s.frames slot) new × (slot_word new.frames slot ≡ slot_word s.frames slot) × OnlySlotsChange s new
+
+-- ---- words
+
+-- the object to which the place's slot points has this word at the place
+pub record HasWord (s : State) (place : Place) (word : ℕ) : Type 0 where
+  pub start : ℕ
+  pub object : Object
+  pub pointed : points s.objects (slot_word s.frames place.slot) ≡ Some start
+  pub here : get s.objects start ≡ Some object
+  pub index : ℕ
+  pub address : address_of s.frames place ≡ start + index
+  pub within : slice_get object.words index ≡ Some word
+
+-- the second slot gets the word that stands at the place
+abbrev pub WordsAreLoaded : State → Type 0
+WordsAreLoaded s =
+    (place : Place) (to : Slot) (word : ℕ) (new : State) → Step s (Make (Load place to)) (Ok word) new
+    → HasWord s place word × SlotGets s to word new × OnlySlotsChange s new
+
+-- an object with its words, but for the one at an address
+pub record IsSameButAt (address a : ℕ) (before after : Object) : Type 0 where
+  pub birth : after.birth ≡ before.birth
+  pub kind : after.kind ≡ before.kind
+  pub size : length after.words ≡ length before.words
+  pub words : (k : ℕ) → a + k ≢ address → slice_get after.words k ≡ slice_get before.words k
+
+-- all objects stand as they stood, but for the word at the address
+pub record ChangesOnly (address : ℕ) (old new : Map Object) : Type 0 where
+  pub stays : (a : ℕ) (before : Object) → get old a ≡ Some before → (after : Object) × (get new a ≡ Some after) × IsSameButAt address a before after
+  pub no_more : (a : ℕ) → Stands new a → Stands old a
+
+-- what was stored is loaded, and nothing else has changed
+pub record WordsAreStored (s : State) : Type 0 where
+  pub stores : (place : Place) (from : Slot) (answer : Unit {0}) (new : State) → Step s (Make (Store place from)) (Ok answer) new → ChangesOnly (address_of s.frames place) s.objects new.objects × (new.core ≡ record s.core { objects = new.objects })
+  pub loads : (place : Place) (from to : Slot) (answer : Unit {0}) (stored : State) (word : ℕ) (loaded : State) → Step s (Make (Store place from)) (Ok answer) stored → Step stored (Make (Load place to)) (Ok word) loaded → word ≡ slot_word s.frames from
+
+-- ---- new objects
+
+-- all words of the new object are zero, and the slot has its address; births count the objects that were made, so no object that stands has this one
+pub record IsMade (old : State) (slot : Slot) (size : ℕ) (kind : ObjKind) (a birth : ℕ) (new : State) : Type 0 where
+  pub object : Object
+  pub here : get new.objects a ≡ Some object
+  pub kind_is : object.kind ≡ kind
+  pub birth_is : object.birth ≡ birth
+  pub size_is : length object.words ≡ size
+  pub zero : (k : ℕ) → k < size → slice_get object.words k ≡ Some 0
+  pub slots : SlotGets old slot a new
+  pub counted : (birth ≡ old.next_birth) × (new.next_birth ≡ birth + 1)
+  pub youngest : (b : ℕ) (o : Object) → get old.objects b ≡ Some o → o.birth < birth
+  -- nothing stood there, every other object is as it was, and so is all else
+  pub free : get old.objects a ≡ None
+  pub others : (b : ℕ) → b ≢ a → get new.objects b ≡ get old.objects b
+  pub rest : new.core ≡ record old.core { objects = new.objects; frames = new.frames; next_birth = new.next_birth }
+
+abbrev pub ObjectsAreMade : State → Type 0
+ObjectsAreMade s =
+    (slot : Slot) (size : ℕ) (kind : ObjKind) (answer : ℕ × ℕ) (new : State) → Step s (Make (Alloc slot size kind)) (Ok answer) new
+    → IsMade s slot size kind answer.0 answer.1 new
+
+-- ---- blocks
+
+abbrev pub IsInBlock : ℕ → ℕ → Type 0
+IsInBlock block address = (HEAP_START + BLOCK_WORDS * block ≤ address) × (address < HEAP_START + BLOCK_WORDS * (block + 1))
+
+-- objects with words in one block have one size and kind, and one that is larger than a block shares none
+abbrev pub BlocksAreShared : State → Type 0
+BlocksAreShared s =
+    (block a b i j : ℕ) (o p : Object) → get s.objects a ≡ Some o → get s.objects b ≡ Some p → i < length o.words → j < length p.words
+    → IsInBlock block (a + i) → IsInBlock block (b + j) → (length o.words ≡ length p.words) × (o.kind ≡ p.kind) × (BLOCK_WORDS < length o.words → a ≡ b)
+
+-- no object has a word in so many blocks, from this one on
+abbrev pub AreEmpty : State → ℕ → ℕ → Type 0
+AreEmpty s block count =
+    (a : ℕ) (o : Object) → get s.objects a ≡ Some o → (a + length o.words ≤ HEAP_START + BLOCK_WORDS * block) ⊎ (HEAP_START + BLOCK_WORDS * (block + count) ≤ a)
+
+-- an object takes no more blocks than it fills: where as many are empty, it isn't refused for want of space
+abbrev pub EmptyBlocksAreRoom : State → Type 0
+EmptyBlocksAreRoom s =
+    (block count size : ℕ) (kind : ObjKind) (slot : Slot) (reply : Result (ℕ × ℕ) Refusal) (new : State) → block + count ≤ s.blocks → size ≤ BLOCK_WORDS * count
+    → AreEmpty s block count → Step s (Make (Alloc slot size kind)) reply new → reply ≢ Err NoSpace
