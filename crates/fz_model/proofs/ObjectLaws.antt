@@ -22,9 +22,9 @@ use Rattle.fz_model.specs.Memory.{new_object, points, fill, written, word_at, la
 use Rattle.fz_model.specs.Allocation.{same_kind, block_start, block_of, meets, is_bare, is_free, cells, has_class, blocks_for, has_run, place_in}
 use Rattle.fz_model.specs.Causes.{first_cause, other_extent}
 use Rattle.fz_model.specs.Refusals.{code_of}
-use Rattle.fz_model.specs.Events.{Event, Make, causes}
+use Rattle.fz_model.specs.Events.{Event, Make, Hold, causes}
 use Rattle.fz_model.specs.Steps.{Step, OneMore, IsReached}
-use Rattle.fz_model.specs.ObjectLaws.{SlotGets, SlotsAreSet, HasWord, WordsAreLoaded, ChangesOnly, WordsAreStored, IsMade, ObjectsAreMade, IsInBlock, BlocksAreShared, AreEmpty, EmptyBlocksAreRoom}
+use Rattle.fz_model.specs.ObjectLaws.{SlotGets, SlotsAreSet, RestIsKept, HasWord, WordsAreLoaded, ChangesOnly, WordsAreStored, IsMade, ObjectsAreMade, IsInBlock, BlocksAreShared, AreEmpty, EmptyBlocksAreRoom}
 use Rattle.fz_model.proofs.Lists.{any_at, found_some}
 use Rattle.fz_model.proofs.MapEntries.{get_at}
 use Rattle.fz_model.proofs.Maps.{get-insert_same, get-insert_other, free_place, extents-insert, extents-filled, filled_here, filled_back, fill_on, fill_off, length-fill}
@@ -75,6 +75,17 @@ slots_are_set s r = record {
       let frames = ap (λ (c : Core). c.frames) step.1 in
       let gets = put s new to (slot_word s.frames slot) r (none_stands (causes s.core (Make (Copy slot to))) step.0).1.0 frames in
       (gets, ⊎_elim (λ same. ap (slot_word new.frames) same ∙ gets.gets) (gets.others slot) (same_or_other slot to), step.1 ∙ ap (λ fs. record s.core { frames = fs }) (sym frames));
+}
+
+pub rest_is_kept : (s : State) → IsReached s → RestIsKept s
+rest_is_kept s r = record {
+  hold = λ slot entry answer new step.
+      let frames = ap (λ (c : Core). c.frames) step.1 in
+      (put s new slot entry.obj r (none_stands (causes s.core (Hold slot entry)) step.0).0 frames, step.1 ∙ ap (λ fs. record s.core { frames = fs }) (sym frames));
+  begin = λ answer new step. let cycle = ap (λ (c : Core). c.cycle) step.1 in (cycle, step.1 ∙ ap (λ b. record s.core { cycle = b }) (sym cycle));
+  close = λ answer new step. let closed = ap (λ (c : Core). c.closed) step.1 in (closed, step.1 ∙ ap (λ b. record s.core { closed = b }) (sym closed));
+  mark = λ budget answer new step. step.1.1;
+  queue = λ answer new step. (step.1.0 ∙ ap (λ (c : Core). c.queue) (sym step.1.1), step.1.1);
 }
 
 -- ---- words

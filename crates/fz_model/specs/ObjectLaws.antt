@@ -1,17 +1,19 @@
 -- Laws that test the definitions of the calls on slots, on words and on new objects: what is expected of each, in words that don't repeat how it is
 -- defined.
-use Rattle.std.specs.Prelude.{◌≡◌, ◌≢◌, ℕ, ◌+◌, ◌*◌, ◌<◌, ◌≤◌, ◌⊎◌, length, None, Some, slice_get, Result, Ok, Err}
+use Rattle.std.specs.Prelude.{◌≡◌, ◌≢◌, ℕ, ◌+◌, ◌*◌, ◌<◌, ◌≤◌, ◌⊎◌, List, length, None, Some, slice_get, Result, Ok, Err, IsTrue}
 use Rattle.std.specs.FinMap.{get}
-use Rattle.fz_model.specs.declared.call.Call.TheVariants.{Alloc, Load, Store, Set, Copy}
+use Rattle.fz_model.specs.declared.call.Call.TheVariants.{Alloc, Load, Store, Set, Copy, Begin, Mark, Close}
 use Rattle.fz_model.specs.declared.places.Slot.{Slot}
 use Rattle.fz_model.specs.declared.places.Place.{Place}
 use Rattle.fz_model.specs.declared.kinds.ObjKind.{ObjKind}
+use Rattle.fz_model.specs.declared.answers.Entry.{Entry}
+use Rattle.fz_model.specs.declared.answers.Progress.{Progress}
 use Rattle.fz_model.specs.declared.limits.TheConstants.{HEAP_START, BLOCK_WORDS}
 use Rattle.fz_model.specs.declared.refusal.Refusal.{Refusal}
 use Rattle.fz_model.specs.declared.refusal.Refusal.TheVariants.{NoSpace}
 use Rattle.fz_model.specs.State.{Map, Object, State}
 use Rattle.fz_model.specs.Memory.{points, slot_word, address_of}
-use Rattle.fz_model.specs.Events.{Make}
+use Rattle.fz_model.specs.Events.{Make, Hold, Queue}
 use Rattle.fz_model.specs.Steps.{Step}
 use Rattle.fz_model.specs.CallLaws.{Stands}
 
@@ -31,6 +33,15 @@ OnlySlotsChange old new = new.core ≡ record old.core { frames = new.frames }
 pub record SlotsAreSet (s : State) : Type 0 where
   pub set : (slot : Slot) (word : ℕ) (answer : Unit {0}) (new : State) → Step s (Make (Set slot word)) (Ok answer) new → SlotGets s slot word new × OnlySlotsChange s new
   pub copy : (slot to : Slot) (answer : Unit {0}) (new : State) → Step s (Make (Copy slot to)) (Ok answer) new → SlotGets s to (slot_word s.frames slot) new × (slot_word new.frames slot ≡ slot_word s.frames slot) × OnlySlotsChange s new
+
+-- what the other calls but passes leave as it was: a hold sets its slot alone, a begin opens a cycle and a close closes the world, and no more; a mark and
+-- a look at the queue change nothing
+pub record RestIsKept (s : State) : Type 0 where
+  pub hold : (slot : Slot) (entry : Entry) (answer : Unit {0}) (new : State) → Step s (Hold slot entry) (Ok answer) new → SlotGets s slot entry.obj new × OnlySlotsChange s new
+  pub begin : (answer : Unit {0}) (new : State) → Step s (Make Begin) (Ok answer) new → IsTrue new.cycle × (new.core ≡ record s.core { cycle = new.cycle })
+  pub close : (answer : Unit {0}) (new : State) → Step s (Make Close) (Ok answer) new → IsTrue new.closed × (new.core ≡ record s.core { closed = new.closed })
+  pub mark : (budget : ℕ) (answer : Progress) (new : State) → Step s (Make (Mark budget)) (Ok answer) new → new.core ≡ s.core
+  pub queue : (answer : List Entry) (new : State) → Step s Queue (Ok answer) new → (answer ≡ new.queue) × (new.core ≡ s.core)
 
 -- ---- words
 

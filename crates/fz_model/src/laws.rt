@@ -9,7 +9,7 @@ ghost use Rattle.fz_model.specs.Seen.{SeenIsClosed};
 ghost use Rattle.fz_model.specs.Steps.{IsReached};
 ghost use Rattle.fz_model.specs.Joint.{Joint, Move, IsRun};
 ghost use Rattle.fz_model.specs.CallLaws.{EachCallHasStep, EachJointEventHasStep, LinksStand, LinksAreMade, LinksAreUnlinked, LinksAreMoved, TablesAreWithin, HoldGivesTheObject, EmptyHandIsRefused, ClosesOnce};
-ghost use Rattle.fz_model.specs.ObjectLaws.{SlotsAreSet, WordsAreLoaded, WordsAreStored, ObjectsAreMade, BlocksAreShared, EmptyBlocksAreRoom};
+ghost use Rattle.fz_model.specs.ObjectLaws.{SlotsAreSet, RestIsKept, WordsAreLoaded, WordsAreStored, ObjectsAreMade, BlocksAreShared, EmptyBlocksAreRoom};
 ghost use Rattle.fz_model.specs.EntryLaws.{ObjectsAreRegistered, ObjectsAreUnregistered, HeldAreCounted, InOneHand};
 ghost use Rattle.fz_model.specs.PassLaws.{EachPassIsLawful};
 ghost use Rattle.fz_model.specs.CycleLaws.{SeenInThisCycle};
@@ -31,6 +31,8 @@ pub fn every_call()
     ensures objects_are_made { (s : State) → IsReached s → ObjectsAreMade s }
     // A slot gets the word that is given, or that of another slot, which keeps it.
     ensures slots_are_set { (s : State) → IsReached s → SlotsAreSet s }
+    // A hold sets its slot, a begin opens a cycle and a close closes the world, and no more; a mark and a look at the queue change nothing.
+    ensures rest_is_kept { (s : State) → IsReached s → RestIsKept s }
     // A load gives the word that stands at the place. What was stored is loaded, and nothing else has changed.
     ensures words_are_loaded { (s : State) → IsReached s → WordsAreLoaded s }
     ensures words_are_stored { (s : State) → IsReached s → WordsAreStored s }

@@ -3,7 +3,7 @@ use Rattle.fz_model.specs.Extents.{extents}
 use Rattle.fz_model.proofs.Allocation.{laid_apart, reached_laid}
 use Rattle.fz_model.proofs.Standing.{reached_standing, links_stand}
 use Rattle.fz_model.proofs.CallLaws.{links_are_made, links_are_unlinked, links_are_moved, hold_gives_the_object}
-use Rattle.fz_model.proofs.ObjectLaws.{slots_are_set, words_are_loaded, words_are_stored, objects_are_made, blocks_are_shared, empty_blocks_are_room}
+use Rattle.fz_model.proofs.ObjectLaws.{slots_are_set, rest_is_kept, words_are_loaded, words_are_stored, objects_are_made, blocks_are_shared, empty_blocks_are_room}
 use Rattle.fz_model.proofs.EntryLaws.{objects_are_registered, objects_are_unregistered, held_are_counted, in_one_hand}
 use Rattle.fz_model.proofs.PassLaws.{each_pass_is_lawful}
 use Rattle.fz_model.proofs.CycleLaws.{seen_in_this_cycle}
@@ -89,3 +89,6 @@ returns-clause-held_are_counted c = held_are_counted
 
 pub returns-clause-in_one_hand : goal.returns-clause-in_one_hand
 returns-clause-in_one_hand c = in_one_hand
+
+pub returns-clause-rest_is_kept : goal.returns-clause-rest_is_kept
+returns-clause-rest_is_kept c = rest_is_kept
