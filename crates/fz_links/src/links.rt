@@ -83,6 +83,7 @@ impl Links {
         ensures answer { IfOk result (λ answer. answer ≡ (if contains_key self.old.links link then LinkAnswer.Duplicate else LinkAnswer.Success)) }
         ensures registered { OnOk result (self.new.links ≡ insert self.old.links link target) }
         ensures room { self.old.room ≤ self.new.room + 1 }
+        ensures kept { OnErr result (self.old.room ≤ self.new.room) }
     {
         if self.is_full_for(link) {
             return Err(Refusal::TableFull);
@@ -102,6 +103,7 @@ impl Links {
         ensures answer { IfOk result (λ answer. answer ≡ (if contains_key self.old.links link then LinkAnswer.Duplicate else LinkAnswer.Success)) }
         ensures registered { OnOk result (self.new.links ≡ insert self.old.links link target) }
         ensures room { self.old.room ≤ self.new.room + 1 }
+        ensures kept { OnErr result (self.old.room ≤ self.new.room) }
     {
         let replaced = self.entries.insert(link, target)?;
         Ok(answer_of(replaced.is_some()))
@@ -127,6 +129,7 @@ impl Links {
         ensures answer { IfOk result (λ answer. answer ≡ move_answer self.old.links link new) }
         ensures moved { OnOk result (self.new.links ≡ moved_to self.old.links link new (get self.old.links link)) }
         ensures room { self.old.room ≤ self.new.room + 1 }
+        ensures kept { OnErr result (self.old.room ≤ self.new.room) }
     {
         let Some((old_place, _, target)) = self.entries.get_full(&link) else {
             return Ok(MoveAnswer::NotFound);

@@ -107,6 +107,7 @@ impl Table {
         // Memory can be lacking only where no room is left.
         ensures wanting { IfErr result (λ r. r ≡ NoMemory → self.old.room ≡ 0) }
         ensures room { self.old.room ≤ self.new.room + 1 }
+        ensures kept { OnErr result (self.old.room ≤ self.new.room) }
     {
         self.check(object)?;
         self.register_checked(object, finalizer)
@@ -128,6 +129,7 @@ impl Table {
         // Memory can be lacking only where no room is left.
         ensures wanting { IfErr result (λ r. r ≡ NoMemory → self.old.room ≡ 0) }
         ensures room { self.old.room ≤ self.new.room + 1 }
+        ensures kept { OnErr result (self.old.room ≤ self.new.room) }
     {
         let number = self.next_number;
         let registration = registration_of(number, finalizer);
