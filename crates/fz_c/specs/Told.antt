@@ -1,5 +1,5 @@
 -- What C is told: the code, and what its places have then.
-use Rattle.std.specs.Prelude.{◌≡◌, ℕ, Option, Some, None, Result, Ok, Err}
+use Rattle.std.specs.Prelude.{◌≡◌, ℕ, Option, Some, None, Result, Ok, Err, OnErr}
 use Rattle.fz_model.specs.declared.refusal.Refusal.{Refusal}
 use Rattle.fz_model.specs.Refusals.{code_of}
 use Rattle.fz_model.specs.Events.{Event, Answer}
@@ -17,10 +17,11 @@ abbrev pub IsFound : {X : Type 0} → Option X → ℕ → (X → Type 0) → Ty
 IsFound (Some x) code told kept = (code ≡ OK) × told x
 IsFound None code told kept = (code ≡ EMPTY) × kept
 
--- the world of a session makes the step, of whose reply C is told
+-- the world of a session makes the step, of whose reply C is told; a refused call leaves it as it was, marks and noted pages too
 pub record Called (old : Held) (e : Event) (new : Held) (code : ℕ) (told : Answer e → Type 0) (kept : Type 0) : Type 0 where
   pub reply : Result (Answer e) Refusal
   pub step : Does old.world e reply new.world
+  pub refused : OnErr reply (new.world ≡ old.world)
   pub taken : new.taken ≡ old.taken
   pub is_told : IsTold reply code told kept
 

@@ -7,11 +7,11 @@ use Rattle.fz_model.specs.Events.{Make, CallAnswer}
 use Rattle.fz_model.specs.Calls.{reply_of}
 use Rattle.fz_world.specs.World.{WorldView}
 use Rattle.fz_world.specs.Does.{Does}
-use Rattle.fz_world.specs.Replies.{Replies}
+use Rattle.fz_world.specs.Replies.{Replies, IsCaused, MarksAs}
 
-pub replies : (old new : WorldView) (c : Call) (answer : CallAnswer c) (reply : Reply) → Does old (Make c) (Ok answer) new → reply ≡ reply_of c answer → Replies old c (Ok reply) new
-replies old new c answer reply does told = record { answer = Ok answer; does = does; told = ap Ok told; kept = tt }
+pub replies : (old new : WorldView) (c : Call) (answer : CallAnswer c) (reply : Reply) → Does old (Make c) (Ok answer) new → reply ≡ reply_of c answer → IsCaused old c (Ok answer) → MarksAs c old answer new → Replies old c (Ok reply) new
+replies old new c answer reply does told caused marks = record { answer = Ok answer; does = does; told = ap Ok told; kept = tt; caused = caused; marks = marks }
 
-pub refuses : (old new : WorldView) (c : Call) (r : Refusal) (result : Result Reply Refusal) → Does old (Make c) (Err r) new → IsErrAnd result (λ x. x ≡ r) → new ≡ old → Replies old c result new
-refuses old new c r (Ok reply) does is same = absurd is
-refuses old new c r (Err x) does is same = record { answer = Err r; does = does; told = ap Err is; kept = same }
+pub refuses : (old new : WorldView) (c : Call) (r : Refusal) (result : Result Reply Refusal) → Does old (Make c) (Err r) new → IsErrAnd result (λ x. x ≡ r) → new ≡ old → IsCaused old c (Err r) → Replies old c result new
+refuses old new c r (Ok reply) does is same caused = absurd is
+refuses old new c r (Err x) does is same caused = record { answer = Err r; does = does; told = ap Err is; kept = same; caused = caused; marks = tt }

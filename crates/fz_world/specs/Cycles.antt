@@ -1,7 +1,13 @@
 -- What the calls of a cycle do to the marks.
-use Rattle.std.specs.Prelude.{◌≡◌, ℕ, ◌↔◌, ◌⊎◌, IsTrue}
+use Rattle.std.specs.Prelude.{◌≡◌, ℕ, ◌+◌, ◌*◌, ◌≤◌, ◌↔◌, ◌⊎◌, IsTrue}
+use Rattle.std.specs.FinSet as sets
 use Rattle.std.specs.FinSet.{contains, empty}
+use Rattle.std.specs.FinMap.{len}
+use Rattle.fz_model.specs.declared.answers.Progress.{Progress}
+use Rattle.fz_model.specs.declared.answers.Progress.TheVariants.{More, Done}
+use Rattle.fz_model.specs.declared.limits.TheConstants.{BLOCK_WORDS}
 use Rattle.fz_model.specs.Reachability.{IsRoot, Leads}
+use Rattle.fz_bits.specs.Flags.{IsWithin}
 use Rattle.fz_marker.specs.Marking.{is_readable}
 use Rattle.fz_world.specs.World.{WorldView}
 
@@ -15,6 +21,25 @@ pub record IsBegun (old new : WorldView) : Type 0 where
 -- each marked object is scanned; an atomic one needs no scan
 abbrev pub AreScanned : WorldView → Type 0
 AreScanned w = (a : ℕ) → IsTrue (contains w.marked a) → IsTrue (is_readable w.objects a) → IsTrue (contains w.scanned a)
+
+-- no mark goes; at More as many objects were scanned as the budget says, and at Done none is left
+pub record ScansSome (budget : ℕ) (old : WorldView) (progress : Progress) (new : WorldView) : Type 0 where
+  pub same : new ≡ record old { marked = new.marked; scanned = new.scanned; scans = new.scans }
+  pub kept : IsWithin old.marked new.marked
+  pub done : progress ≡ Done ↔ AreScanned new
+  pub more : progress ≡ More → new.scans ≡ old.scans + budget
+  pub budgeted : (old.scans ≤ new.scans) × (new.scans ≤ old.scans + budget)
+
+-- over the whole cycle each object once, and at the end once more those of noted pages
+pub record EndsScans (old new : WorldView) : Type 0 where
+  pub scans : old.scans ≤ new.scans
+  pub few : new.scans ≤ len old.objects + BLOCK_WORDS * sets.len old.noted
+  pub noted : new.noted ≡ old.noted
+
+-- a cycle in one step, each object once
+pub record ScansAll (old new : WorldView) : Type 0 where
+  pub few : new.scans ≤ len old.objects
+  pub noted : new.noted ≡ empty
 
 -- a marked object or a root leads to it
 abbrev pub IsLedFromMarks : WorldView → ℕ → Type 0
