@@ -1,5 +1,8 @@
 -- What a take returns.
-use Rattle.std.specs.Prelude.{◌≡◌, ◌<◌, [], ◌∷◌, ◌++◌, All}
+use Rattle.std.specs.Prelude.{◌≡◌, ◌<◌, ◌+◌, [], ◌∷◌, ◌++◌, length, All}
+use Rattle.crossbeam_deque.specs.declared.steal.Steal.{Steal}
+use Rattle.crossbeam_deque.specs.declared.steal.Steal.TheVariants as steal
+use Rattle.fz_model.specs.declared.answers.Entry as answers
 use Rattle.fz_line.specs.States.{SeatState, DutyState}
 use Rattle.fz_line.specs.declared.seat.Take.{Take}
 use Rattle.fz_line.specs.declared.seat.Take.TheVariants.{Taken, Empty, Busy}
@@ -13,3 +16,18 @@ MatchTake (Busy seat) taken same = same seat
 -- the duty is the seat with the entry put to its list, and the entry's number is above all that the seat took before
 abbrev pub GainsEntry : SeatState → DutyState → Type 0
 GainsEntry seat duty = (duty.seat ≡ record seat { took = seat.took ++ duty.entry ∷ [] }) × All (λ e. e.seq < duty.entry.seq) seat.took
+
+-- ---- the steal of a take: means only
+
+-- the seat's list has one entry more than it was done with, where the steal gave one
+abbrev pub FitsSteal : Steal answers.Entry → SeatState → Type 0
+FitsSteal (steal.Success entry) seat = length seat.took ≡ seat.finished + seat.forfeited + 1
+FitsSteal steal.Empty seat = length seat.took ≡ seat.finished + seat.forfeited
+FitsSteal steal.Retry seat = length seat.took ≡ seat.finished + seat.forfeited
+
+-- each answer of the steal is told as what it is
+abbrev pub AnswersSteal : Steal answers.Entry → SeatState → Take → Type 0
+AnswersSteal (steal.Success entry) seat (Taken duty) = duty ≡ record { seat = seat; entry = entry }
+AnswersSteal steal.Empty seat (Empty same) = same ≡ seat
+AnswersSteal steal.Retry seat (Busy same) = same ≡ seat
+AnswersSteal _ _ _ = ⊥

@@ -1,12 +1,13 @@
 //! Seats, which take entries from the line.
 
 ghost use Rattle.std.specs.Prelude.{◌≡◌, ◌+◌, length};
-ghost use Rattle.fz_line.specs.Takes.{MatchTake, GainsEntry};
+ghost use Rattle.fz_line.specs.Takes.{MatchTake, GainsEntry, FitsSteal, AnswersSteal};
 
 use crate::duty::Duty;
 use crate::protocol::Taking;
 use crate::taker::Taker;
 use crossbeam_deque::Steal;
+use fz_model::Entry;
 use std::marker::Model;
 
 /// A worker's seat at the line, with no entry in hand.
@@ -38,17 +39,26 @@ pub enum Take {
     Busy(Seat),
 }
 
+/// What a take returns, by what its steal gave the seat.
+fn answer(taker: Taker, stolen: Steal<Entry>) -> Take
+    requires { FitsSteal stolen taker }
+    ensures { AnswersSteal stolen taker result }
+{
+    match stolen {
+        Steal::Success(entry) => Take::Taken(Duty { taker, entry }),
+        Steal::Empty => Take::Empty(Seat { taker }),
+        Steal::Retry => Take::Busy(Seat { taker }),
+    }
+}
+
 impl Seat {
     /// Takes the first entry of the line: one steal, with no lock and no wait.
     pub fn take(self) -> Take
         ensures { MatchTake result (GainsEntry self) (λ seat. seat ≡ self) }
     {
         let Seat { mut taker } = self;
-        match taker.stealer.steal_as::<Taking>(&mut taker.pass) {
-            Steal::Success(entry) => Take::Taken(Duty { taker, entry }),
-            Steal::Empty => Take::Empty(Seat { taker }),
-            Steal::Retry => Take::Busy(Seat { taker }),
-        }
+        let stolen = taker.stealer.steal_as::<Taking>(&mut taker.pass);
+        answer(taker, stolen)
     }
 
     /// Its number among the seats of its line, counted from 0.

@@ -4,6 +4,8 @@ use Rattle.fz_model.specs.declared.answers.Entry.{Entry}
 use Rattle.fz_model.specs.declared.refusal.Refusal.TheVariants as refusals
 use Rattle.fz_model.specs.Refusals.{code_of}
 use Rattle.fz_line.specs.Takes.{GainsEntry}
+use Rattle.fz_line.specs.declared.seat.Take.{Take}
+use Rattle.fz_line.specs.declared.seat.Take.TheVariants as take
 use Rattle.fz_line_c.specs.Lines.{LineState}
 use Rattle.fz_line_c.specs.declared.codes.TheConstants.{OK, NO_WORLD, HAS_WORLD, EMPTY, BUSY, IN_HAND}
 use Rattle.fz_line_c.specs.declared.seat_session.SeatSession.{SeatSession}
@@ -17,6 +19,13 @@ Takes (Idle seat) (Idle same) code told kept = (same ≡ seat) × ((code ≡ EMP
 Takes (Idle seat) Away code told kept = ⊥
 Takes (Working duty) new code told kept = (new ≡ Working duty) × (code ≡ IN_HAND) × kept
 Takes Away new code told kept = (new ≡ Away) × (code ≡ NO_WORLD) × kept
+
+-- each answer of the line is told as what it is. Means only.
+abbrev pub AnswersTake : Take → SeatSession → ℕ → (Entry → Type 0) → Type 0 → Type 0
+AnswersTake (take.Taken duty) (Working same) code told kept = (same ≡ duty) × (code ≡ OK) × told duty.entry
+AnswersTake (take.Empty seat) (Idle same) code told kept = (same ≡ seat) × (code ≡ EMPTY) × kept
+AnswersTake (take.Busy seat) (Idle same) code told kept = (same ≡ seat) × (code ≡ BUSY) × kept
+AnswersTake _ _ _ _ _ = ⊥
 
 abbrev pub TakesBehind : Option SeatSession → Option SeatSession → ℕ → (Entry → Type 0) → Type 0 → Type 0
 TakesBehind (Some old) (Some new) code told kept = Takes old new code told kept

@@ -2,7 +2,7 @@
 
 ghost use Rattle.std.specs.Prelude.{◌≡◌};
 ghost use Rattle.fz_line_c.specs.Entries.{entry_of};
-ghost use Rattle.fz_line_c.specs.Seats.{Takes, Finishes};
+ghost use Rattle.fz_line_c.specs.Seats.{Takes, AnswersTake, Finishes};
 
 use crate::codes::{BUSY, Code, EMPTY, IN_HAND, NO_WORLD, OK};
 use crate::entry::Entry;
@@ -25,22 +25,30 @@ impl Drop for SeatSession {
     }
 }
 
+/// What is answered of a take, and what is told of it.
+fn answer(taken: Take, entry: &mut Entry) -> (SeatSession, Code)
+    ensures { AnswersTake taken result.0 result.1 (λ taken. entry_of entry.new ≡ taken) (entry.new ≡ entry.old) }
+{
+    match taken {
+        Take::Taken(duty) => {
+            *entry = Entry::of(duty.entry());
+            (SeatSession::Working(duty), OK)
+        }
+        Take::Empty(seat) => (SeatSession::Idle(seat), EMPTY),
+        Take::Busy(seat) => (SeatSession::Idle(seat), BUSY),
+    }
+}
+
 impl SeatSession {
     /// Takes an entry, if none is in hand, and tells it.
+    #[tactic(auto, using(crate::proofs::Answered::takes))]
     pub(crate) fn take(self, entry: &mut Entry) -> (SeatSession, Code)
         ensures { Takes self result.0 result.1 (λ taken. entry_of entry.new ≡ taken) (entry.new ≡ entry.old) }
     {
         match self {
             SeatSession::Working(duty) => (SeatSession::Working(duty), IN_HAND),
             SeatSession::Away => (SeatSession::Away, NO_WORLD),
-            SeatSession::Idle(seat) => match seat.take() {
-                Take::Taken(duty) => {
-                    *entry = Entry::of(duty.entry());
-                    (SeatSession::Working(duty), OK)
-                }
-                Take::Empty(seat) => (SeatSession::Idle(seat), EMPTY),
-                Take::Busy(seat) => (SeatSession::Idle(seat), BUSY),
-            },
+            SeatSession::Idle(seat) => answer(seat.take(), entry),
         }
     }
 
