@@ -1,5 +1,6 @@
 pub mod Keeping
 pub mod Opening
 pub mod Putting
+pub mod Refusing
 pub mod Getting
 pub mod Passing

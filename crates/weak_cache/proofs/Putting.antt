@@ -60,6 +60,15 @@ store_fits c key links none =
     let fourth = first_none outside rest third.1 in
     none_from list (hand ∷ object ∷ outside ∷ []) first.0 (none_from hand (object ∷ outside ∷ []) second.0 (none_from object (outside ∷ []) third.0 (none_from outside [] fourth.0 refl)))
 
+-- so it is in the world that the link leaves
+pub store_stands : (keys : ℕ) (old mid : WorldView) (key : ℕ) (answer : LinkAnswer) → Does old (Make (Link Short (place_at 0 LIST key) (slot_at 0 HAND))) (Ok answer) mid → IsWhole keys old → first_cause (causes mid.core (Make (Store (place_at 0 LIST key) (slot_at 0 HAND)))) ≡ None
+unfolding Does
+store_stands keys old mid key answer link w =
+    let s : State = w.state in
+    let first = link s w.stands in
+    subst (λ (c : Core). first_cause (causes c (Make (Store (place_at 0 LIST key) (slot_at 0 HAND)))) ≡ None) (sym (first.2.core ∙ first.1.1.1))
+    (store_fits s.core key (insert s.short (list_in s.core + key) (slot_word s.frames (slot_at 0 HAND))) first.1.0)
+
 -- the core with the link and the word
 abbrev pub with_put : Core → ℕ → Core
 with_put c key =

@@ -1,18 +1,20 @@
 -- What is cached, and what holds of a cache between two calls.
-use Rattle.std.specs.Prelude.{◌≡◌, ℕ, ◌+◌, ◌<◌, Option, Some, None, Ok, length, slice_get, unwrap_or, refl}
+use Rattle.std.specs.Prelude.{◌≡◌, ℕ, ◌+◌, ◌<◌, ◌⊎◌, true, Option, Some, None, Result, Ok, Err, length, slice_get, unwrap_or, refl}
 use Rattle.std.specs.Coded.{Coded, code_by, coded×, coded_ℕ}
-use Rattle.std.specs.FinMap.{get}
+use Rattle.std.specs.FinMap.{get, empty}
 use Rattle.fz_model.specs.declared.answers.RegAnswer.{RegAnswer}
+use Rattle.fz_model.specs.declared.refusal.Refusal.{Refusal}
 use Rattle.fz_model.specs.declared.kinds.ObjKind.TheVariants.{Atomic}
 use Rattle.fz_model.specs.declared.kinds.RegKind.TheVariants.{Normal}
 use Rattle.fz_model.specs.declared.call.Call.TheVariants.{Alloc, Register}
 use Rattle.fz_model.specs.Places.{slot_at, finalizer_of}
+use Rattle.fz_model.specs.Causes.{Causes, first_cause, IsRefusedFor, alloc_causes}
 use Rattle.fz_model.specs.Events.{Make}
 use Rattle.fz_model.specs.State.{Object, Core, State}
 use Rattle.fz_model.specs.Memory.{slot_word}
 use Rattle.fz_model.specs.Steps.{IsReached}
 use Rattle.fz_world.specs.World.{WorldView, world_code}
-use Rattle.fz_world.specs.Does.{Does, StandsFor}
+use Rattle.fz_world.specs.Does.{Does, StandsFor, open_causes}
 use Rattle.weak_cache.specs.declared.cache.TheConstants.{LIST, HAND}
 
 pub record CacheView : Type 0 where
@@ -43,11 +45,30 @@ SameIn c d = (key : ℕ) → cached_in d key ≡ cached_in c key
 unfoldable pub KeepsCached : WorldView → WorldView → Type 0
 KeepsCached old new = SameIn old.core new.core
 
+-- the causes of refusal of a list with a word for each key, in a new heap
+abbrev pub list_causes : ℕ → ℕ → Causes
+list_causes blocks keys = alloc_causes empty blocks 0 keys Atomic
+
+-- a world of this many blocks and its list were made; or the world was refused; or there was a world, and the list was refused
+abbrev pub IsOpenedFor : {A : Type 0} → (blocks keys : ℕ) → Result A Refusal → Type 0
+IsOpenedFor blocks keys (Ok cache) = (first_cause (open_causes blocks 1) ≡ None) × (first_cause (list_causes blocks keys) ≡ None)
+IsOpenedFor blocks keys (Err r) = IsRefusedFor (open_causes blocks 1) true r ⊎ ((first_cause (open_causes blocks 1) ≡ None) × (first_cause (list_causes blocks keys) ≡ Some r))
+
+-- an object is made, in hand
+abbrev pub MakesObject : WorldView → Result (ℕ × ℕ) Refusal → WorldView → Type 0
+MakesObject = λ old reply new. Does old (Make (Alloc (slot_at 0 HAND) 1 Atomic)) reply new
+
+-- the object in hand is registered with this client data
+abbrev pub RegistersInHand : WorldView → ℕ → Result RegAnswer Refusal → WorldView → Type 0
+RegistersInHand = λ old client_data reply new. Does old (Make (Register (slot_at 0 HAND) (finalizer_of Normal 0 client_data 0))) reply new
+
 -- an object is made, in hand, and then registered with this client data
 abbrev pub Makes : WorldView → ℕ → WorldView → Type 0
-Makes old client_data new =
-    (mid : WorldView) × (made : ℕ × ℕ) × (answer : RegAnswer)
-    × Does old (Make (Alloc (slot_at 0 HAND) 1 Atomic)) (Ok made) mid × Does mid (Make (Register (slot_at 0 HAND) (finalizer_of Normal 0 client_data 0))) (Ok answer) new
+Makes old client_data new = (mid : WorldView) × (made : ℕ × ℕ) × (answer : RegAnswer) × MakesObject old (Ok made) mid × RegistersInHand mid client_data (Ok answer) new
+
+-- either of the two was refused so
+abbrev pub MakesNone : WorldView → ℕ → WorldView → Refusal → Type 0
+MakesNone old client_data new r = MakesObject old (Err r) new ⊎ ((mid : WorldView) × (made : ℕ × ℕ) × MakesObject old (Ok made) mid × RegistersInHand mid client_data (Err r) new)
 
 -- the list has a word for each key, what is cached under it or zero; and no long link stands anywhere
 pub record IsCache (keys : ℕ) (c : Core) : Type 0 where

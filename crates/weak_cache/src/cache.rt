@@ -1,14 +1,16 @@
 //! The cache.
 
-ghost use Rattle.std.specs.Prelude.{◌≡◌, ◌≢◌, ◌<◌, ℕ, Some, None, IfOk, OnOk, IfSome, slice_get};
+ghost use Rattle.std.specs.Prelude.{◌≡◌, ◌≢◌, ◌<◌, ℕ, Some, None, IfOk, IfErr, OnOk, OnErr, IfSome, slice_get};
+ghost use Rattle.fz_model.specs.Causes.{IsJudgedBy, IsJudgedOrLacks};
 ghost use Rattle.fz_model.specs.CallLaws.{Stands};
-ghost use Rattle.fz_model.specs.declared.call.Call.TheVariants.{Set, Collect};
-ghost use Rattle.fz_model.specs.Places.{slot_at};
-ghost use Rattle.fz_model.specs.Events.{Make, Finish};
+ghost use Rattle.fz_model.specs.declared.call.Call.TheVariants.{Load, Set, Link, Collect};
+ghost use Rattle.fz_model.specs.declared.kinds.LinkKind.TheVariants.{Short};
+ghost use Rattle.fz_model.specs.Places.{slot_at, place_at};
+ghost use Rattle.fz_model.specs.Events.{Make, Finish, causes};
 ghost use Rattle.fz_model.specs.Reachability.{IsReachable};
 ghost use Rattle.fz_world.specs.Does.{Does};
-ghost use Rattle.weak_cache.specs.declared.cache.TheConstants.{HAND};
-ghost use Rattle.weak_cache.specs.Cached.{cached, in_hand, KeepsCached, Makes};
+ghost use Rattle.weak_cache.specs.declared.cache.TheConstants.{LIST, HAND};
+ghost use Rattle.weak_cache.specs.Cached.{cached, in_hand, IsOpenedFor, KeepsCached, Makes, MakesNone};
 
 use fz_model::LinkKind::Short;
 use fz_model::ObjKind::Atomic;
@@ -49,7 +51,10 @@ impl Model for Cache {
 #[tactic(auto, using(crate::proofs::Keeping::quiet_calls))]
 impl Cache {
     /// A cache for the keys below a number, in a heap of this many blocks. Nothing is cached.
+    ///
+    /// Refusals, in their order: `BadCount` of the blocks, `NoMemory`, `BadSize` of the keys, which are 1 to 1,024, and `NoSpace` for their list.
     pub(crate) fn open(alloc: Global, blocks: u64, keys: u64) -> Result<Cache, Refusal>
+        ensures judged { IsOpenedFor blocks keys result }
         ensures keys { IfOk result (λ cache. cache.keys ≡ keys) }
         ensures empty { IfOk result (λ cache. (key : ℕ) → cached cache key ≡ None) }
     {
@@ -58,9 +63,10 @@ impl Cache {
         Ok(Cache { world, keys })
     }
 
-    /// Makes an object, in hand, with a finalizer that is told the client data.
+    /// Makes an object, in hand, with a finalizer that is told the client data. Where that is refused, an object without one may be in hand.
     pub(crate) fn make(&mut self, client_data: u64) -> Result<(), Refusal>
         ensures made { OnOk result (Makes self.old.world client_data self.new.world) }
+        ensures refused { IfErr result (MakesNone self.old.world client_data self.new.world) }
         ensures same { KeepsCached self.old.world self.new.world }
         ensures keys { self.new.keys ≡ self.old.keys }
     {
@@ -69,8 +75,10 @@ impl Cache {
         Ok(())
     }
 
-    /// Caches the object in hand under the key.
+    /// Caches the object in hand under the key. Refused where the link from the list to it is.
     pub(crate) fn put(&mut self, key: u64) -> Result<(), Refusal>
+        ensures judged { IsJudgedOrLacks (causes self.old.world.core (Make (Link Short (place_at 0 LIST key) (slot_at 0 HAND)))) result }
+        ensures refused { OnErr result (self.new ≡ self.old) }
         ensures cached { OnOk result (cached self.new key ≡ Some (in_hand self.old)) }
         ensures others { (other : ℕ) → other ≢ key → cached self.new other ≡ cached self.old other }
         ensures keys { self.new.keys ≡ self.old.keys }
@@ -81,6 +89,8 @@ impl Cache {
 
     /// The address of the object under the key, which is in hand then; nothing is in hand where none is cached.
     pub(crate) fn get(&mut self, key: u64) -> Result<Option<Addr>, Refusal>
+        ensures judged { IsJudgedBy (causes self.old.world.core (Make (Load (place_at 0 LIST key) (slot_at 0 HAND)))) result }
+        ensures refused { OnErr result (self.new ≡ self.old) }
         ensures found { key < self.old.keys → IfOk result (λ found. found ≡ cached self.old key) }
         ensures stands { key < self.old.keys → IfOk result (λ found. IfSome found (Stands self.old.world.objects)) }
         ensures same { KeepsCached self.old.world self.new.world }

@@ -2,6 +2,8 @@
 #![tactic(auto)]
 
 mod cache;
+#[cfg(test)]
+mod tests;
 
 use anyhow::Result;
 use cache::Cache;

@@ -1,0 +1,144 @@
+//! A cache of 1,000 keys, and what is refused.
+
+use crate::cache::Cache;
+use fz_model::{Addr, BLOCK_WORDS, HEAP_START, Passed, Refusal};
+use std::fmt::Debug;
+use std::process::Abort;
+use std::test::*;
+
+const KEYS: u64 = 1_000;
+
+/// The blocks of the list, and those of as many objects.
+const BLOCKS: u64 = (KEYS + BLOCK_WORDS - 1) / BLOCK_WORDS;
+
+/// The key of the object that is kept.
+const KEPT: u64 = 500;
+
+/// Stops the test where a value isn't the one that is wanted. The assert stands here alone, since it is proved again at each place where it stands.
+fn must_be<T: PartialEq + Debug + Drop>(rt: &impl Abort, what: &str, found: T, want: T) {
+    assert_eq!(rt; found, want, "{what}");
+}
+
+/// The object that was made for a key.
+fn object_of(key: u64) -> Addr {
+    HEAP_START
+        .wrapping_add(BLOCK_WORDS * BLOCKS)
+        .wrapping_add(key)
+}
+
+/// Makes an object for each key, and caches it.
+fn fill(rt: &impl Abort, cache: &mut Cache) {
+    for key in 0..KEYS {
+        must_be(rt, "make", cache.make(key), Ok(()));
+        must_be(rt, "put", cache.put(key), Ok(()));
+    }
+    for key in 0..KEYS {
+        must_be(rt, "get", cache.get(key), Ok(Some(object_of(key))));
+    }
+    must_be(
+        rt,
+        "a key too many",
+        cache.put(KEYS),
+        Err(Refusal::OutsideObject),
+    );
+    must_be(
+        rt,
+        "a key too many",
+        cache.get(KEYS),
+        Err(Refusal::OutsideObject),
+    );
+}
+
+/// A collection that queues and reclaims as many.
+fn collects(rt: &impl Abort, cache: &mut Cache, pass: u64, picked: u64, reclaimed: u64) {
+    let passed = Passed {
+        pass,
+        picked,
+        reclaimed,
+    };
+    must_be(rt, "collect", cache.collect(), Ok(passed));
+}
+
+/// Each key that was collected is told to its finalizer, once and in order, and nothing is cached under it.
+fn finalize(rt: &impl Abort, cache: &mut Cache) {
+    let mut taken = 0;
+    for key in 0..KEYS {
+        if key != KEPT {
+            must_be(rt, "nothing", cache.get(key), Ok(None));
+            let entry = cache.next(taken).expect(rt, "an entry");
+            must_be(rt, "its key", entry.cd, key);
+            must_be(rt, "finish", cache.finish(&entry), Ok(()));
+            must_be(
+                rt,
+                "finish again",
+                cache.finish(&entry),
+                Err(Refusal::NotHeld),
+            );
+            taken = taken.saturating_add(1);
+        }
+    }
+    must_be(rt, "one entry more", cache.next(taken), None);
+}
+
+/// All objects but one in hand are finalized, then that one, and then there is room for as many again.
+#[test]
+fn a_thousand_keys(rt: HostRuntime) -> Result<(), Refusal> {
+    let mut cache = Cache::open(rt.alloc(), 2 * BLOCKS, KEYS)?;
+    fill(&rt, &mut cache);
+    let kept = Some(object_of(KEPT));
+    must_be(&rt, "the kept one", cache.get(KEPT), Ok(kept));
+    collects(&rt, &mut cache, 1, KEYS - 1, 0);
+    finalize(&rt, &mut cache);
+    must_be(&rt, "the kept one", cache.get(KEPT), Ok(kept));
+    collects(&rt, &mut cache, 2, 0, KEYS - 1);
+    cache.let_go()?;
+    collects(&rt, &mut cache, 3, 1, 0);
+    let last = cache.next(KEYS - 1).expect(&rt, "an entry");
+    must_be(&rt, "its key", last.cd, KEPT);
+    cache.finish(&last)?;
+    collects(&rt, &mut cache, 4, 0, 1);
+    fill(&rt, &mut cache);
+    Ok(())
+}
+
+/// Blocks and keys, and why there is no cache of them.
+const REFUSED: [(u64, u64, Refusal); 5] = [
+    (0, 1, Refusal::BadCount),
+    (4_097, 1, Refusal::BadCount),
+    (1, 0, Refusal::BadSize),
+    (4_096, 1_025, Refusal::BadSize),
+    (BLOCKS - 1, KEYS, Refusal::NoSpace),
+];
+
+#[test]
+fn openings_are_refused(rt: HostRuntime) {
+    for (blocks, keys, want) in REFUSED {
+        let refusal = Cache::open(rt.alloc(), blocks, keys).err();
+        must_be(&rt, "the refusal", refusal, Some(want));
+    }
+}
+
+/// A heap of one block beside the list has room for 64 objects.
+#[test]
+fn a_full_heap_refuses_objects(rt: HostRuntime) -> Result<(), Refusal> {
+    let mut cache = Cache::open(rt.alloc(), BLOCKS + 1, KEYS)?;
+    must_be(
+        &rt,
+        "nothing in hand",
+        cache.put(0),
+        Err(Refusal::NotPointer),
+    );
+    for key in 0..BLOCK_WORDS {
+        cache.make(key)?;
+        cache.put(key)?;
+    }
+    must_be(
+        &rt,
+        "one more",
+        cache.make(BLOCK_WORDS),
+        Err(Refusal::NoSpace),
+    );
+    cache.let_go()?;
+    collects(&rt, &mut cache, 1, BLOCK_WORDS, 0);
+    Ok(())
+}
