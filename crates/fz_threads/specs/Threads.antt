@@ -68,7 +68,7 @@ ExplainsRun BadLine number bytes unread left text = Unreadable BadLine number by
 -- the opening was refused, and its reply was written
 ExplainsRun BadCount number bytes unread left text =
     (asked : Asked) × (unread ≡ []) × IsAtEnd left × IsThreadsFile bytes asked × OpensAt bytes number asked × IsRefusedFor (service_causes asked) true BadCount × (text ≡ text_line (refused_words BadCount))
--- memory was short: of an opening, which nothing else stood against, the reply was written, and of any other call nothing
+-- memory was short: of an opening, which nothing else stood against, the reply was written, and of any other call nothing; or no thread could be started
 ExplainsRun NoMemory number bytes unread left text =
     (number ≡ 0)
     × ((text ≡ []) ⊎ ((asked : Asked) × (unread ≡ []) × IsAtEnd left × IsThreadsFile bytes asked × IsRefusedFor (service_causes asked) true NoMemory × (text ≡ text_line (refused_words NoMemory))))

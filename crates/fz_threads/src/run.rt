@@ -25,6 +25,7 @@ use fz_world::Config;
 use std::alloc::Global;
 use std::marker::Brand;
 use std::sync::Wait;
+use std::thread;
 use std::thread::Threads;
 
 /// A fault that has no line.
@@ -105,6 +106,19 @@ fn tell_summary<W: Sink>(writer: &mut W, tally: Tally) -> Result<(), DriveFault>
     }
 }
 
+/// Starts a thread, which ends at once. A fault says that none can be started.
+fn start_thread<R: Threads>(rt: &R) -> Result<(), DriveFault>
+    ensures { IfErr result (λ fault. fault ≡ lineless Refusal.NoMemory) }
+{
+    match thread::spawn(rt, || ()) {
+        Ok(started) => {
+            started.join(rt);
+            Ok(())
+        }
+        Err(_) => Err(lineless(Refusal::NoMemory)),
+    }
+}
+
 /// Runs the sections over the service that was prepared for them, and writes the summary. The opening was asked for in this line.
 fn run_prepared<O: Opening + Send + Sync, W: Sink, R: Threads + Wait + Sync>(
     alloc: Global,
@@ -124,6 +138,10 @@ fn run_prepared<O: Opening + Send + Sync, W: Sink, R: Threads + Wait + Sync>(
         Ok(opened) => opened,
         Err(refusal) => return Err(tell_refused(writer, refusal, line)),
     };
+    if let Err(fault) = start_thread(rt) {
+        retire_all(seats);
+        return Err(fault);
+    }
     let (seats, refused) = side_by_side(alloc, &service, seats, sections, collections, procs, rt);
     let Ok(refused) = refused else {
         retire_all(seats);
@@ -175,9 +193,9 @@ fn run_plan<W: Sink, T: Threads + Wait + Sync>(
 
 /// Carries out the threads file that the reader hands over, and writes its summary.
 ///
-/// The whole file is read and checked before any thread starts. Then each section runs on a thread of its own, beside the workers; when all
-/// sections have ended, an open cycle is ended and the world is collected as often as the file says; then the workers finish what is left. The
-/// worker at each place has the list of procedures at that place.
+/// The whole file is read and checked before any thread starts. Where none can be started, the fault is `NoMemory`. Else each section runs on a thread
+/// of its own, beside the workers; when all sections have ended, an open cycle is ended and the world is collected as often as the file says; then the
+/// workers finish what is left. The worker at each place has the list of procedures at that place.
 pub fn drive_threads<R: Source, W: Sink, T: Threads + Wait + Sync>(
     alloc: Global,
     reader: &mut R,

@@ -14,8 +14,12 @@ pub returns-in-Err : goal.returns-in-Err
 returns-in-Err g c =
     refusal_stops (asked_from g.O.Opening.origin c.args.collections c.args.sections.now.jobs.items) c.args.line c.in-Err.refusal _ _ c.tell_refused.result (inr (c.requires.within, c.in-Err.ensures.refused, refl)) c.tell_refused.ensures
 
-pub returns-in_default : goal.returns-in_default
-returns-in_default g c =
+pub returns-in-Err-start_thread : goal.returns-in-Err-start_thread
+returns-in-Err-start_thread g c =
+    silence_stops (asked_from g.O.Opening.origin c.args.collections c.args.sections.now.jobs.items) c.args.line (g.W.Sink.log c.args.writer.now) c.in-Err-start_thread.fault c.in-Err-start_thread.ensures
+
+pub returns-in_default-refused : goal.returns-in_default-refused
+returns-in_default-refused g c =
     silence_stops (asked_from g.O.Opening.origin c.args.collections c.args.sections.now.jobs.items) c.args.line (g.W.Sink.log c.args.writer.now) c.lineless.result c.lineless.ensures
 
 pub returns-in-Ok-end_of : goal.returns-in-Ok-end_of
