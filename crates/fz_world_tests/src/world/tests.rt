@@ -1,5 +1,5 @@
 //! Lives of objects from end to end as tables of steps, and the limits of a world. A call that is refused for want of memory is made again at once,
-//! and then every answer is as if nothing had been short: `tests/refused-allocations` makes each allocation of these tests fail in turn. The tests
+//! and then every answer is as if nothing had been short: `tests/refused-allocations` makes allocations of these tests fail, up to four in a row. The tests
 //! whose names end in `with_ample_memory` ask once, so that a call that wants memory without cause fails them.
 
 use fz_model::LinkKind::{Long, Short};
@@ -53,12 +53,18 @@ use Step::{
     Outstanding, Pause, Register, Registers, Scans, Set, Store, Unlink, Unregister,
 };
 
+/// The most refusals of a call, since no more allocations fail.
+const MOST_REFUSALS: u64 = 4;
+
 fn opened(alloc: Global, blocks: u64, frames: u64) -> Result<World, Refusal> {
     let config = Config { blocks, frames };
-    match World::open(alloc, config) {
-        Err(Refusal::NoMemory) => World::open(alloc, config),
-        answer => answer,
+    for _ in 0..MOST_REFUSALS {
+        match World::open(alloc, config) {
+            Err(Refusal::NoMemory) => (),
+            answer => return answer,
+        }
     }
+    World::open(alloc, config)
 }
 
 /// Makes an object into a slot of the first frame; returns its address.
@@ -68,10 +74,13 @@ fn made(world: &mut World, slot: u64, size: u64, kind: ObjKind) -> Result<u64, R
 
 /// Registers what a slot of the first frame holds, with procedure 7 and no client data.
 fn registered(world: &mut World, slot: u64, kind: RegKind, rank: u8) -> Result<RegAnswer, Refusal> {
-    match world.register(0, slot, kind, 7, 0, rank) {
-        Err(Refusal::NoMemory) => world.register(0, slot, kind, 7, 0, rank),
-        answer => answer,
+    for _ in 0..MOST_REFUSALS {
+        match world.register(0, slot, kind, 7, 0, rank) {
+            Err(Refusal::NoMemory) => (),
+            answer => return answer,
+        }
     }
+    world.register(0, slot, kind, 7, 0, rank)
 }
 
 /// Makes a word of what a slot of the first frame points to a link to the object in another slot.
@@ -82,10 +91,13 @@ fn linked(
     offset: u64,
     target: u64,
 ) -> Result<LinkAnswer, Refusal> {
-    match world.link(which, 0, slot, offset, 0, target) {
-        Err(Refusal::NoMemory) => world.link(which, 0, slot, offset, 0, target),
-        answer => answer,
+    for _ in 0..MOST_REFUSALS {
+        match world.link(which, 0, slot, offset, 0, target) {
+            Err(Refusal::NoMemory) => (),
+            answer => return answer,
+        }
     }
+    world.link(which, 0, slot, offset, 0, target)
 }
 
 /// Moves a link between two words of what a slot of the first frame points to.
@@ -96,10 +108,13 @@ fn moved(
     from: u64,
     to: u64,
 ) -> Result<MoveAnswer, Refusal> {
-    match world.move_link(which, 0, slot, from, 0, slot, to) {
-        Err(Refusal::NoMemory) => world.move_link(which, 0, slot, from, 0, slot, to),
-        answer => answer,
+    for _ in 0..MOST_REFUSALS {
+        match world.move_link(which, 0, slot, from, 0, slot, to) {
+            Err(Refusal::NoMemory) => (),
+            answer => return answer,
+        }
     }
+    world.move_link(which, 0, slot, from, 0, slot, to)
 }
 
 /// What a pass answers.
