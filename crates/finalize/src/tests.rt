@@ -117,7 +117,7 @@ fn say_of<R: Files + AllocGlobal + Threads + Wait + Sync>(
 
 #[test]
 fn other_words_are_wrong(rt: HostRuntime) -> Result<(), Fail> {
-    let cases: [&[&str]; 20] = [
+    let cases: [&[&str]; 21] = [
         &[],
         &["run"],
         &["threads"],
@@ -138,6 +138,7 @@ fn other_words_are_wrong(rt: HostRuntime) -> Result<(), Fail> {
         &["Threads", "a"],
         &["thread", "a"],
         &["runs", "a"],
+        &["run"; 20],
     ];
     let want = b"finalize: want run FILE or threads FILE\n";
     for (case, words) in cases.iter().enumerate() {
@@ -151,9 +152,9 @@ fn other_words_are_wrong(rt: HostRuntime) -> Result<(), Fail> {
 const MISSING_NAME: &str =
     "012345678901234567890123456789012345678901234567890123456789012345678901234567890123456789012345678901234567890123456789";
 
-/// 200 bytes.
+/// 255 bytes, as many as the name of a file can have.
 const LONG_NAME: &str =
-    "abcdefghijabcdefghijabcdefghijabcdefghijabcdefghijabcdefghijabcdefghijabcdefghijabcdefghijabcdefghijabcdefghijabcdefghijabcdefghijabcdefghijabcdefghijabcdefghijabcdefghijabcdefghijabcdefghijabcdefghij";
+    "abcdefghijabcdefghijabcdefghijabcdefghijabcdefghijabcdefghijabcdefghijabcdefghijabcdefghijabcdefghijabcdefghijabcdefghijabcdefghijabcdefghijabcdefghijabcdefghijabcdefghijabcdefghijabcdefghijabcdefghijabcdefghijabcdefghijabcdefghijabcdefghijabcdefghijabcde";
 
 /// The program's two names.
 const NAMES: [&str; 2] = ["run", "threads"];
@@ -246,9 +247,12 @@ fn files_are_run(rt: HostRuntime) -> Result<(), Fail> {
 }
 
 #[test]
-fn a_file_has_a_long_name(rt: HostRuntime) -> Result<(), Fail> {
-    let said = say_of(&rt, "run", LONG_NAME, SCRIPT)?;
-    must_say(&rt, 0, &said, 0, REPORT, b"");
+fn files_have_long_names(rt: HostRuntime) -> Result<(), Fail> {
+    let cases = [("run", SCRIPT, REPORT), ("threads", THREADS_FILE, SUMMARY)];
+    for (case, (name, file, out)) in cases.iter().enumerate() {
+        let said = say_of(&rt, *name, LONG_NAME, *file)?;
+        must_say(&rt, case, &said, 0, *out, b"");
+    }
     Ok(())
 }
 
