@@ -163,8 +163,8 @@ typedef struct fz_linked {
     uint64_t place, target;
 } fz_linked;
 
-/* Counts of a world's life: passes; objects reclaimed; entries ever queued, taken by fz_take, and not finished yet;
- * and of the cycle begun last, the objects it has scanned and the pages written meanwhile. */
+/* Counts of a world's life: passes; objects reclaimed; entries ever queued, taken by fz_take or passed over by it, and
+ * not finished yet; and of the cycle begun last, the objects it has scanned and the pages written meanwhile. */
 typedef struct fz_counts {
     uint64_t passes, reclaimed, queued, taken, outstanding, scans, noted;
 } fz_counts;
@@ -308,12 +308,12 @@ fz_code fz_pause(fz_world *world, fz_passed *passed) FZ_NONNULL;
 
 /* ---- the queue of finalizers that are ready */
 
-/* Takes the next entry of the queue into *entry: each entry once, in the queue's order. The entry holds its object, and
- * what its client data points to, until fz_finish.
+/* Takes the next entry of the queue into *entry: each entry once, in the queue's order, and none that is finished. The
+ * entry holds its object, and what its client data points to, until fz_finish.
  * Refused: FZ_NO_WORLD, FZ_EMPTY. */
 fz_code fz_take(fz_world *world, fz_entry *entry) FZ_NONNULL;
 
-/* Tells in *waiting whether the queue has an entry that wasn't taken: GC_should_invoke_finalizers.
+/* Tells in *waiting whether the queue has an entry that is neither taken nor finished: GC_should_invoke_finalizers.
  * Refused: FZ_NO_WORLD. */
 fz_code fz_waiting(fz_world *world, bool *waiting) FZ_NONNULL;
 
@@ -326,8 +326,8 @@ fz_code fz_outstanding(fz_world *world, uint64_t *count) FZ_NONNULL;
  * Refused: FZ_NO_WORLD, FZ_BAD_SLOT, FZ_NOT_HELD. */
 fz_code fz_hold(fz_world *world, fz_slot slot, const fz_entry *entry) FZ_NONNULL;
 
-/* Ends the holding of the entry, taken or not: its finalizer has run. An entry that is never finished keeps its object
- * for good.
+/* Ends the holding of the entry: its finalizer has run. One that isn't taken yet is passed over then by fz_take, so an
+ * urgent one can run before its turn. An entry that is never finished keeps its object for good.
  * Refused: FZ_NO_WORLD, FZ_NOT_HELD. */
 fz_code fz_finish(fz_world *world, const fz_entry *entry) FZ_NONNULL;
 

@@ -515,6 +515,58 @@ static void queue(void)
     fz_destroy(&w);
 }
 
+/* Counts how often it ran, for each number of an entry. */
+static void counts_itself(fz_world *world, const fz_entry *e, void *data)
+{
+    (void)world;
+    ((int *)data)[e->seq]++;
+}
+
+/* Urgent entries run before their turn, and are passed over then. */
+static void urgent_entries(void)
+{
+    fz_world w = {0};
+    const fz_proc procs[] = {counts_itself};
+    int ran[5] = {0};
+
+    OK(fz_open(&w, 8, 1));
+    for (uint64_t slot = 0; slot < 5; slot++) {
+        OK(fz_alloc(&w, fz_at(0, slot), 1, false, &made));
+        OK(fz_register(&w, fz_at(0, slot), 0, 0, 0, &registered));
+        OK(fz_set(&w, fz_at(0, slot), 0));
+    }
+    OK(fz_collect(&w, &passed));
+    for (uint64_t seq = 0; seq < 5; seq += 3) { /* the first, and one in the middle */
+        OK(fz_queued(&w, seq, &entry));
+        counts_itself(&w, &entry, ran);
+        OK(fz_finish(&w, &entry));
+    }
+    OK(fz_waiting(&w, &is));
+    IS(is, true);
+    OK(fz_take(&w, &entry));
+    IS(entry.seq, 1);
+    counts_itself(&w, &entry, ran);
+    OK(fz_finish(&w, &entry));
+    OK(fz_collect(&w, &passed));
+    OK(fz_alloc(&w, A, 1, false, &made)); /* where an urgent entry's object was */
+    IS(fz_invoke_finalizers(&w, procs, 1, ran), 2);
+    for (int seq = 0; seq < 5; seq++)
+        IS(ran[seq], 1);
+    OK(fz_waiting(&w, &is));
+    IS(is, false);
+    OK(fz_count(&w, &counts));
+    IS(counts.queued == 5 && counts.taken == 5 && counts.outstanding == 0, true);
+    OK(fz_register(&w, A, 0, 0, 0, &registered)); /* the last ones of a queue */
+    OK(fz_set(&w, A, 0));
+    OK(fz_collect(&w, &passed));
+    OK(fz_queued(&w, 5, &entry));
+    OK(fz_finish(&w, &entry));
+    OK(fz_waiting(&w, &is));
+    IS(is, false);
+    IS(fz_take(&w, &entry), FZ_EMPTY);
+    fz_destroy(&w);
+}
+
 /* ---- what a world shows */
 
 static void walks(void)
@@ -709,6 +761,7 @@ int main(void)
     links_disappear();
     cycles();
     queue();
+    urgent_entries();
     walks();
     counting();
     full_table();

@@ -1,19 +1,35 @@
--- The taking of entries: in the order of the queue, each once.
-use Rattle.std.specs.Prelude.{◌≡◌, ◌+◌, ℕ, Option, Some, None, if◌then◌else◌, is_some, slice_get}
-use Rattle.fz_c.specs.declared.codes.TheConstants.{NO_WORLD}
+-- The taking of entries: in the order of the queue, each once, and none that is finished.
+use Rattle.std.specs.Prelude.{◌≡◌, ℕ, Bool, Option, Some, None, length, nat_lt}
+use Rattle.fz_model.specs.declared.answers.Entry as answers
+use Rattle.fz_c.specs.declared.codes.TheConstants.{OK, NO_WORLD}
 use Rattle.fz_c.specs.declared.entries.Entry.{Entry}
+use Rattle.fz_c.specs.Next.{IsNext, TakesNext}
 use Rattle.fz_c.specs.Owned.{Held}
 use Rattle.fz_c.specs.Told.{IsFound}
 use Rattle.fz_c.specs.Places.{TellsEntry}
 
--- the entry of the next place is handed out, if there is one, and counted; the world stays as it is
+-- the next entry is handed out, if there is one; the world stays as it is
 pub record Taken (old : Held) (new : Held) (code : ℕ) (entry : Entry) (kept : Type 0) : Type 0 where
   pub same : new.world ≡ old.world
-  pub counted : new.taken ≡ old.taken + (if is_some (slice_get old.world.queue old.taken) then 1 else 0)
-  pub told : IsFound (slice_get old.world.queue old.taken) code (TellsEntry entry) kept
+  pub found : Option answers.Entry
+  pub next : TakesNext old.world old.taken found new.taken
+  pub told : IsFound found code (TellsEntry entry) kept
 
 unfoldable pub Takes : Option Held → Option Held → ℕ → Entry → Type 0 → Type 0
 Takes (Some old) (Some new) code entry kept = Taken old new code entry kept
 Takes None None code entry kept = (code ≡ NO_WORLD) × kept
 Takes (Some old) None code entry kept = ⊥
 Takes None (Some new) code entry kept = ⊥
+
+-- whether there is a next entry is told; what is finished is passed over, and the world stays as it is
+pub record Waited (old : Held) (new : Held) (code : ℕ) (waiting : Bool) : Type 0 where
+  pub same : new.world ≡ old.world
+  pub next : IsNext old.world old.taken new.taken
+  pub ok : code ≡ OK
+  pub told : waiting ≡ nat_lt new.taken (length old.world.queue)
+
+unfoldable pub Waits : Option Held → Option Held → ℕ → Bool → Type 0 → Type 0
+Waits (Some old) (Some new) code waiting kept = Waited old new code waiting
+Waits None None code waiting kept = (code ≡ NO_WORLD) × kept
+Waits (Some old) None code waiting kept = ⊥
+Waits None (Some new) code waiting kept = ⊥

@@ -1,13 +1,12 @@
 //! Entries of the queue, which a program takes, runs and finishes.
 
-ghost use Rattle.std.specs.Prelude.{◌≡◌, length, nat_lt};
+ghost use Rattle.std.specs.Prelude.{◌≡◌};
 ghost use Rattle.fz_model.specs.declared.call.Call.TheVariants.{Outstanding};
 ghost use Rattle.fz_model.specs.Places.{slot_at};
 ghost use Rattle.fz_model.specs.Events.{Make, Hold, Finish};
-ghost use Rattle.fz_c.specs.declared.codes.TheConstants as codes;
-ghost use Rattle.fz_c.specs.Told.{Calls, Looks, IsFound};
+ghost use Rattle.fz_c.specs.Told.{Calls, IsFound};
 ghost use Rattle.fz_c.specs.Places.{entry_of, TellsEntry, TellsWord};
-ghost use Rattle.fz_c.specs.Takes.{Takes};
+ghost use Rattle.fz_c.specs.Takes.{Takes, Waits};
 
 use crate::codes::{Code, EMPTY, NO_WORLD, OK, tell};
 use crate::handle::Handle;
@@ -69,7 +68,7 @@ pub(crate) fn tell_entry(found: Option<fz_model::Entry>, entry: &mut Entry) -> C
     }
 }
 
-/// Hands out the next entry of the queue, which is taken then.
+/// Hands out the next entry of the queue that isn't finished, which is taken then.
 #[unsafe(no_mangle)]
 pub extern "C" fn fz_take(alloc: Global, world: &mut Handle, entry: &mut Entry) -> Code
     ensures { Takes world.old.value world.new.value result entry.new (entry.new ≡ entry.old) }
@@ -82,13 +81,12 @@ pub extern "C" fn fz_take(alloc: Global, world: &mut Handle, entry: &mut Entry) 
     tell_entry(next, entry)
 }
 
-/// Whether the queue has entries that aren't taken.
-#[tactic(auto, using(crate::proofs::Looking::not_looked, crate::proofs::Looking::looked, crate::proofs::Told::none_taken))]
+/// Whether the queue has entries that are neither taken nor finished.
 #[unsafe(no_mangle)]
 pub extern "C" fn fz_waiting(alloc: Global, world: &mut Handle, waiting: &mut bool) -> Code
-    ensures { Looks world.old.value world.new.value result (λ session. (result ≡ codes.OK) × (waiting.new ≡ nat_lt session.taken (length session.world.queue))) (waiting.new ≡ waiting.old) }
+    ensures { Waits world.old.value world.new.value result waiting.new (waiting.new ≡ waiting.old) }
 {
-    let Some(session) = world.take(alloc) else {
+    let Some(mut session) = world.take(alloc) else {
         return NO_WORLD;
     };
     *waiting = session.is_waiting();

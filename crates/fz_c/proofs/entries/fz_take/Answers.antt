@@ -8,4 +8,4 @@ pub returns-in_default : goal.returns-in_default
 returns-in_default c = not_taken _ _ (none_taken _ c.in_default.is c.take.ensures.taken) c.take.ensures.empty refl
 
 pub returns : goal.returns
-returns c = taken _ _ _ _ _ _ _ c.deref_mut.ensures.value c.in-Some.ensures.taken c.put.ensures c.next-next.ensures.world c.next-next.ensures.entry c.next-next.ensures.counted c.tell_entry.ensures
+returns c = taken _ _ _ _ _ _ _ c.deref_mut.ensures.value c.in-Some.ensures.taken c.put.ensures c.next-next.ensures.world c.next-next.ensures.next c.tell_entry.ensures
