@@ -2,10 +2,11 @@
 
 ghost use Rattle.std.specs.Prelude.{◌≡◌};
 
-use super::wanted::{accepted, collects, count_seats, same};
+use super::wanted::{accepted, collects, count_seats, put_back, same};
 use super::workers::{Calls, Recorded, call};
 use super::{
-    ended, make_and_drop, make_and_drop_with, opened, prepared, prepared_with, queue_entries,
+    ended, finish_next, forfeit_next, make_and_drop, make_and_drop_with, opened, prepared,
+    prepared_with, queue_entries,
 };
 use fz_model::{Entry, MAX_WORKERS, Progress, Refusal};
 use fz_service::{Gate, Locked, OpenGate, Opening, Prepared, Proc, retire_all};
@@ -143,6 +144,96 @@ fn sends_thousands<O: Opening, R: Abort + Wait>(rt: &R, prepared: Prepared)
 fn thousands_are_sent_at_once(rt: HostRuntime) {
     let prepared = prepared_with(&rt, rt.alloc(), 80, 1);
     sends_thousands::<Brand, HostRuntime>(&rt, prepared);
+}
+
+/// A thousand entries at a time, 70,000 in all, are sent at once and finished by one seat. Then the service ends.
+fn serves_for_long<O: Opening, R: Abort + Wait>(rt: &R, prepared: Prepared)
+    requires { prepared ≡ O.origin }
+{
+    let (service, mut seats) = opened::<O>(rt, prepared);
+    count_seats(rt, seats.as_slice(), 1);
+    let mut seat = seats.remove(0);
+    for pass in 1..=70u64 {
+        {
+            let mut locked = service.enter(rt);
+            make_and_drop_all(rt, &mut locked, 1_000);
+            let reclaimed = if pass == 1 { 0 } else { 1_000 };
+            collects(rt, &mut locked, pass, 1_000, reclaimed);
+        }
+        let (same_seat, served) = service.invoke_finalizers(seat, &mut [], 5_000, &OpenGate, rt);
+        seat = same_seat;
+        same(rt, "finished", served, 1_000);
+    }
+    seats.push_reserved(seat);
+    let end = ended(rt, service, seats);
+    let counts = (end.enqueued, end.taken, end.finished, end.forfeited);
+    same(rt, "the end's counts", counts, (70_000, 70_000, 70_000, 0));
+    let rest = (end.left.len(), end.passes, end.reclaimed);
+    same(rt, "left, passes and reclaimed", rest, (0, 70, 69_000));
+}
+
+#[test]
+fn seventy_thousand_go_through_a_service(rt: HostRuntime) {
+    let prepared = prepared_with(&rt, rt.alloc(), 32, 1);
+    serves_for_long::<Brand, HostRuntime>(&rt, prepared);
+}
+
+/// Each of eight seats takes an entry and forfeits it, and then takes another one and finishes it.
+fn takes_again<O: Opening, R: Abort + Wait>(rt: &R, prepared: Prepared)
+    requires { prepared ≡ O.origin }
+{
+    let (service, mut seats) = opened::<O>(rt, prepared);
+    queue_entries(rt, &mut service.enter(rt), &[0; 16]);
+    for seq in 0..8u64 {
+        count_seats(rt, seats.as_slice(), 8);
+        let seat = forfeit_next(rt, seats.remove(0), seq);
+        put_back(rt, &mut seats, seat);
+    }
+    for seq in 8..16u64 {
+        count_seats(rt, seats.as_slice(), 8);
+        let seat = finish_next(rt, &service, seats.remove(0), seq);
+        let counts = (seat.taken(), seat.finished(), seat.forfeited());
+        same(rt, "the seat's counts", counts, (2, 1, 1));
+        put_back(rt, &mut seats, seat);
+    }
+    same(rt, "outstanding", service.enter(rt).outstanding(), 8);
+    let end = ended(rt, service, seats);
+    let counts = (end.enqueued, end.taken, end.finished, end.forfeited);
+    same(rt, "the end's counts", counts, (16, 16, 8, 8));
+}
+
+#[test]
+fn each_of_eight_seats_takes_again(rt: HostRuntime) {
+    let prepared = prepared(&rt, rt.alloc(), 8);
+    takes_again::<Brand, HostRuntime>(&rt, prepared);
+}
+
+/// A service ends with 1,001 entries that nobody took, which are told in order.
+fn leaves_many<O: Opening, R: Abort + Wait>(rt: &R, prepared: Prepared)
+    requires { prepared ≡ O.origin }
+{
+    let (service, seats) = opened::<O>(rt, prepared);
+    {
+        let mut locked = service.enter(rt);
+        make_and_drop_all(rt, &mut locked, 1_001);
+        collects(rt, &mut locked, 1, 1_001, 0);
+    }
+    let end = ended(rt, service, seats);
+    same(
+        rt,
+        "taken and left",
+        (end.taken, end.left.len()),
+        (0, 1_001),
+    );
+    for (place, entry) in end.left.iter().enumerate() {
+        same(rt, "an entry", entry.seq, place as u64);
+    }
+}
+
+#[test]
+fn a_thousand_and_one_are_left(rt: HostRuntime) {
+    let prepared = prepared_with(&rt, rt.alloc(), 32, 2);
+    leaves_many::<Brand, HostRuntime>(&rt, prepared);
 }
 
 /// A procedure that collects, and may have work to do before that.

@@ -654,6 +654,42 @@ fn thousands_of_picks(rt: HostRuntime) {
     assert_eq!(rt; first_wrong_of(made, &THOUSANDS_OF_PICKS), Ok(None));
 }
 
+/// How many objects each pass of a long life queues.
+const PICKS: u64 = 64;
+
+/// Makes as many objects, registers and drops them, collects, and finishes the entries. The pass reclaims the objects of the one before.
+fn lives_through(world: &mut World, pass: u64) -> Result<bool, Refusal> {
+    registered_many(world, PICKS)?;
+    world.set(0, 0, 0)?;
+    let reclaimed = if pass == 1 { 0 } else { PICKS };
+    let mut are_right = world.collect() == passed(pass, PICKS, reclaimed);
+    let first = PICKS.wrapping_mul(pass.wrapping_sub(1));
+    for place in first..first.wrapping_add(PICKS) {
+        let entry = entry_at(world, place as usize)?;
+        let numbers = (entry.seq, entry.pass, entry.reg, entry.birth);
+        are_right = are_right && numbers == (place, pass, place, place);
+        world.finish(&entry)?;
+    }
+    Ok(are_right && world.outstanding() == 0)
+}
+
+/// The first of so many passes that doesn't answer so.
+fn first_wrong_pass(alloc: Global, passes: u64) -> Result<Option<u64>, Refusal> {
+    let mut world = opened(alloc, 64, 1)?;
+    for pass in 1..=passes {
+        if !lives_through(&mut world, pass)? {
+            return Ok(Some(pass));
+        }
+    }
+    Ok(None)
+}
+
+/// More than 150,000 entries go through a small world.
+#[test]
+fn a_long_life_with_ample_memory(rt: HostRuntime) {
+    assert_eq!(rt; first_wrong_pass(rt.alloc(), 2_400), Ok(None));
+}
+
 const EDGE_OF_THE_HEAP: [Step; 6] = [
     Registers(0, Ok(RegAnswer::Outside)),
     Set(0, HEAP_START + BLOCK_WORDS * MAX_BLOCKS),
