@@ -85,6 +85,65 @@ static void opening(void)
     fz_destroy(&w);
 }
 
+/* The slots of a world with this number of frames: each of the last frame's keeps a word of its own, and there is none behind. */
+static void last_frame(fz_world *w, uint64_t frames)
+{
+    for (uint64_t slot = 0; slot < FZ_SLOTS; slot++)
+        OK(fz_set(w, fz_at(frames - 1, slot), slot + 1));
+    for (uint64_t slot = 0; slot < FZ_SLOTS; slot++) {
+        OK(fz_get(w, fz_at(frames - 1, slot), &word));
+        IS(word, slot + 1);
+    }
+    IS(fz_set(w, fz_at(frames - 1, FZ_SLOTS), 0), FZ_BAD_SLOT);
+    IS(fz_set(w, fz_at(frames, 0), 0), FZ_BAD_SLOT);
+}
+
+/* Where the last block of a heap starts. */
+static uint64_t last_start(uint64_t blocks)
+{
+    return FZ_HEAP_START + FZ_BLOCK_WORDS * (blocks - 1);
+}
+
+/* The heap of a world with this number of blocks: as many objects of a block, the last of which is queued and finished, and none behind. */
+static void last_block(fz_world *w, fz_slot slot, uint64_t blocks)
+{
+    for (uint64_t block = 0; block < blocks; block++) {
+        OK(fz_alloc(w, slot, FZ_BLOCK_WORDS, true, &made));
+        IS(made.address, FZ_HEAP_START + FZ_BLOCK_WORDS * block);
+    }
+    REFUSED(FZ_NO_SPACE, made, fz_alloc(w, slot, 1, true, &made));
+    OK(fz_load(w, slot, FZ_BLOCK_WORDS - 1, slot, &word));
+    IS(word, 0);
+    OK(fz_set(w, slot, last_start(blocks)));
+    OK(fz_register(w, slot, 7, 8, 0, &registered));
+    OK(fz_set(w, slot, 0));
+    OK(fz_collect(w, &passed));
+    IS(passed.picked, 1);
+    IS(passed.reclaimed, blocks - 1);
+    OK(fz_take(w, &entry));
+    IS(entry.obj, last_start(blocks));
+    OK(fz_finish(w, &entry));
+}
+
+/* Each size of a heap that is at an end of a word of bits, with each number of frames. Past the limits none opens. */
+static void openings(void)
+{
+    static const uint64_t sizes[] = {0, 1, 2, 64, 65, 2049, 3000, 4095, 4096, 4097};
+
+    for (unsigned n = 0; n < sizeof sizes / sizeof *sizes; n++)
+        for (uint64_t frames = 0; frames <= FZ_MAX_FRAMES + 1; frames++) {
+            fz_world w = {0};
+            bool is_within = sizes[n] - 1 < FZ_MAX_BLOCKS && frames - 1 < FZ_MAX_FRAMES;
+
+            IS(fz_open(&w, sizes[n], frames), is_within ? FZ_OK : FZ_BAD_COUNT);
+            if (!is_within)
+                continue;
+            last_frame(&w, frames);
+            last_block(&w, fz_at(frames - 1, 0), sizes[n]);
+            fz_destroy(&w);
+        }
+}
+
 /* Two worlds have nothing in common: not their heaps, nor their births, nor their queues. */
 static void two_worlds(void)
 {
@@ -742,6 +801,7 @@ static void invoking(void)
 int main(void)
 {
     opening();
+    openings();
     two_worlds();
     closing();
     allocating();

@@ -65,6 +65,60 @@ static void calls(void)
     fz_line_destroy(&line);
 }
 
+/* A line of each number of seats: each of them takes an entry, and no further seat is handed out. */
+static void each_number_of_seats(void)
+{
+    for (uint64_t number = 1; number <= FZ_MAX_SEATS; number++) {
+        fz_line line = {0};
+        fz_seat seat[FZ_MAX_SEATS] = {{0}}, further = {0};
+        fz_entry entry, taken;
+
+        OK(fz_line_open(&line, number));
+        for (uint64_t n = 0; n < number; n++) {
+            entry = numbered(n);
+            OK(fz_line_publish(&line, &entry));
+            OK(fz_line_seat(&line, &seat[n]));
+        }
+        IS(fz_line_seat(&line, &further), FZ_EMPTY);
+        for (uint64_t n = 0; n < number; n++) {
+            OK(fz_seat_take(&seat[n], &taken));
+            IS(taken.seq, n);
+        }
+        for (uint64_t n = 0; n < number; n++) {
+            OK(fz_seat_done(&seat[n]));
+            IS(fz_seat_take(&seat[n], &taken), FZ_EMPTY);
+            fz_seat_destroy(&seat[n]);
+        }
+        fz_line_destroy(&line);
+    }
+}
+
+/* A seat that takes as many entries as this, while up to 100 wait. */
+static void long_lived(uint64_t count)
+{
+    fz_line line = {0};
+    fz_seat seat = {0};
+    fz_entry entry, taken;
+
+    OK(fz_line_open(&line, 1));
+    OK(fz_line_seat(&line, &seat));
+    for (uint64_t n = 0; n < count; n++) {
+        entry = numbered(n);
+        OK(fz_line_publish(&line, &entry));
+        if (n % 100 < 99)
+            continue;
+        for (uint64_t first = n - 99; first <= n; first++) {
+            OK(fz_seat_take(&seat, &taken));
+            entry = numbered(first);
+            IS(memcmp(&taken, &entry, sizeof taken), 0);
+            OK(fz_seat_done(&seat));
+        }
+        IS(fz_seat_take(&seat, &taken), FZ_EMPTY);
+    }
+    fz_seat_destroy(&seat);
+    fz_line_destroy(&line);
+}
+
 /* ---- workers beside the thread that has the world */
 
 static void *work(void *seat)
@@ -116,6 +170,8 @@ int main(void)
     uint64_t wrong = 0, held;
 
     calls();
+    each_number_of_seats();
+    long_lived(20000);
     OK(fz_open(&world, 2 * PASS, 1));
     OK(fz_line_open(&line, WORKERS));
     for (int n = 0; n < WORKERS; n++) {
