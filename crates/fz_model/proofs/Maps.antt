@@ -83,7 +83,7 @@ module _ {X Y : Type 0} where
 pub mapped_same : {X : Type 0} (m : Map X) → mapped (λ a x. x) m ≡ m
 mapped_same m = same_entries_map _ m (entries-mapped (λ a x. x) m ∙ map-id (entries m))
 
-not_some : {A : Type 0} (o : Option A) → is_some o ≡ false → o ≡ None
+pub not_some : {A : Type 0} (o : Option A) → is_some o ≡ false → o ≡ None
 not_some None e = refl
 not_some (Some x) e = absurd (true≢false e)
 

@@ -81,7 +81,8 @@ pub rest_is_kept : (s : State) → IsReached s → RestIsKept s
 rest_is_kept s r = record {
   hold = λ slot entry answer new step.
       let frames = ap (λ (c : Core). c.frames) step.1 in
-      (put s new slot entry.obj r (none_stands (causes s.core (Hold slot entry)) step.0).0 frames, step.1 ∙ ap (λ fs. record s.core { frames = fs }) (sym frames));
+      let set = put s new slot _ r (none_stands (causes s.core (Hold slot entry)) step.0).0 frames in
+      (record { gets = refl; others = set.others; number = set.number }, step.1 ∙ ap (λ fs. record s.core { frames = fs }) (sym frames));
   begin = λ answer new step. let cycle = ap (λ (c : Core). c.cycle) step.1 in (cycle, step.1 ∙ ap (λ b. record s.core { cycle = b }) (sym cycle));
   close = λ answer new step. let closed = ap (λ (c : Core). c.closed) step.1 in (closed, step.1 ∙ ap (λ b. record s.core { closed = b }) (sym closed));
   mark = λ budget answer new step. step.1.1;

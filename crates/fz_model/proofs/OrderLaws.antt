@@ -1,9 +1,9 @@
 -- What is told where a call could be refused for two causes.
-use Rattle.std.proofs.Common.{◌≡◌, ℕ, ◌+◌, ◌<◌, ◌≤◌, ◌&&◌, ◌||◌, ◌⊎◌, Bool, true, false, not, if◌then◌else◌, List, [], ◌∷◌, ◌++◌, length, Option, Some, None, is_none, option_map, Ok, Err, refl, sym, ap, ◌∙◌, ⊎_elim, nat_lt, nat_le, arith, subst, MatchOption}
-use Rattle.std.proofs.lemmas.Bool.{and_parts, and_from, and_right, ltb-true, lt-ltb, le-ltb, le-leb, lt-leb}
+use Rattle.std.proofs.Common.{◌≡◌, ℕ, ◌+◌, ◌<◌, ◌≤◌, ◌&&◌, ◌||◌, ◌==◌, ◌⊎◌, Bool, true, false, not, if◌then◌else◌, List, [], ◌∷◌, ◌++◌, length, Option, Some, None, is_none, option_map, Ok, Err, refl, sym, ap, ◌∙◌, ⊎_elim, nat_lt, nat_le, arith, subst, MatchOption, inl, inr, true≢false, IsTrue}
+use Rattle.std.proofs.lemmas.Bool.{and_parts, and_from, and_right, ltb-true, lt-ltb, le-ltb, le-leb, lt-leb, or_left, or_right, eq-eqb, cases_Bool, cases_lt, both_ways, not-true, leb-true}
 use Rattle.std.proofs.lemmas.Option.{same_Some, none-some}
 use Rattle.std.specs.Option.{option_map_or}
-use Rattle.std.specs.FinMap.{get}
+use Rattle.std.specs.FinMap.{get, len, contains_key}
 use Rattle.fz_model.specs.declared.extent.Extent.{Extent}
 use Rattle.fz_model.specs.declared.call.Call.{Call}
 use Rattle.fz_model.specs.declared.call.Call.TheVariants.{Alloc, Load, Store, Set, Copy, Register, Unregister, Link, Unlink, Move, Begin, Mark, Collect}
@@ -12,16 +12,19 @@ use Rattle.fz_model.specs.declared.places.Place.{Place}
 use Rattle.fz_model.specs.declared.kinds.ObjKind.{ObjKind}
 use Rattle.fz_model.specs.declared.finalizer.Finalizer.{Finalizer}
 use Rattle.fz_model.specs.declared.refusal.Refusal.{Refusal}
-use Rattle.fz_model.specs.declared.refusal.Refusal.TheVariants.{BadSlot, NotPointer, OutsideObject, BadSize, BadCount, CycleOpen, NotStart, Exhausted, SeatsMissing}
+use Rattle.fz_model.specs.declared.refusal.Refusal.TheVariants.{BadSlot, NotPointer, OutsideObject, BadSize, BadCount, CycleOpen, NotStart, Exhausted, SeatsMissing, NoMemory, TableFull}
 use Rattle.fz_model.specs.declared.limits.TheConstants.{MAX_OBJECT_WORDS, COUNT_LIMIT, HEAP_START}
-use Rattle.fz_model.specs.State.{Map, Object, State}
+use Rattle.fz_model.specs.State.{Map, Object, State, Core}
 use Rattle.fz_model.specs.Extents.{covers, extents, extent_of, heap_end}
-use Rattle.fz_model.specs.Memory.{points, slot_word, lacks_slot}
-use Rattle.fz_model.specs.Causes.{Causes, first_cause, slot_causes, no_object, other_extent, no_start, start_causes, register_causes, exhausted, bad_size, no_space, is_off_heap}
-use Rattle.fz_model.specs.Events.{Event, Make, Hold, causes}
-use Rattle.fz_model.specs.OrderLaws.{AlwaysRefuses, AlwaysRefusesCall, HasSlot, LacksSlot, PointsNowhere, EndsBefore, HasPlace, SlotsComeFirst, PlacesComeFirst, SizesComeFirst, ObjectsComeFirst, CyclesComeFirst, FirstIsTold, AlwaysRefusesEvent, WorkersComeFirst}
+use Rattle.fz_model.specs.Memory.{points, slot_word, lacks_slot, address_of}
+use Rattle.fz_model.specs.Causes.{Causes, first_cause, slot_causes, no_object, other_extent, no_start, start_causes, register_causes, exhausted, bad_size, no_space, is_off_heap, full}
+use Rattle.fz_model.specs.declared.kinds.LinkKind.TheVariants.{Short, Long}
+use Rattle.fz_model.specs.Refusals.{code_of}
+use Rattle.fz_model.specs.Events.{Event, Make, Hold, causes, may_lack_memory}
+use Rattle.fz_model.specs.Steps.{Step}
+use Rattle.fz_model.specs.OrderLaws.{AlwaysRefuses, AlwaysRefusesCall, HasSlot, LacksSlot, PointsNowhere, EndsBefore, HasPlace, SlotsComeFirst, PlacesComeFirst, SizesComeFirst, ObjectsComeFirst, CyclesComeFirst, FirstIsTold, AlwaysRefusesEvent, WorkersComeFirst, MakesSomething, AnObject, ARegistration, ALink, AMovedLink, IsFullFor, RefusedForACause}
 use Rattle.fz_model.specs.Joint.{Joint, JointEvent, Take, HoldOwn, FinishOwn, Forfeit, no_worker, own_causes, Acts}
-use Rattle.fz_model.proofs.Maps.{get-extents}
+use Rattle.fz_model.proofs.Maps.{get-extents, not_some}
 use Rattle.fz_model.proofs.Objects.{from_covers, to_covers}
 use Rattle.fz_model.proofs.Standing.{pointed_at}
 
@@ -250,3 +253,91 @@ workers_come_first j w missing = record {
   where
     none : (later : Option Refusal) → (if (no_worker j w).0 then Some SeatsMissing else later) ≡ Some SeatsMissing
     none later = stands (no_worker j w) later (ap not (le-ltb w (length j.workers) missing))
+
+-- ---- memory, sizes, counts and tables
+
+-- whether a cause with this number stands
+abbrev stands_as : ℕ → Causes → Bool
+stands_as code [] = false
+stands_as code (cause ∷ causes) = ((code_of cause.1 == code) && cause.0) || stands_as code causes
+
+told_stands : (causes : Causes) (r : Refusal) → first_cause causes ≡ Some r → stands_as (code_of r) causes ≡ true
+told_stands [] r told = absurd (none-some r told)
+told_stands (cause ∷ causes) r told =
+    ⊎_elim
+    (λ on.
+    let same = same_Some cause.1 r (sym (stands cause (first_cause causes) on) ∙ told) in
+    or_left ((code_of cause.1 == code_of r) && cause.0) _ (and_from _ _ (eq-eqb (code_of cause.1) (code_of r) (ap code_of same)) on))
+    (λ off. or_right ((code_of cause.1 == code_of r) && cause.0) _ (told_stands causes r (sym (passes cause (first_cause causes) off) ∙ told)))
+    (cases_Bool cause.0)
+
+-- a call that is refused so has this cause, unless memory was lacking
+refused_stands : (s new : State) (e : Event) (r : Refusal) → (r ≡ NoMemory → ⊥) → Step s e (Err r) new → stands_as (code_of r) (causes s.core e) ≡ true
+refused_stands s new e r other step = ⊎_elim (told_stands (causes s.core e) r) (λ lacks. absurd (other lacks.1)) step.0
+
+-- no list of causes has want of memory
+no_memory : (c : Core) (e : Event) → stands_as 12 (causes c e) ≡ false
+no_memory c (Make (Register slot finalizer)) =
+    let word = slot_word c.frames slot in
+    elim (is_off_heap c.blocks word) as (λ b. stands_as 12 (slot_causes c.frames slot ++ (if b then [] else (start_causes c.objects word ++ register_causes c.registrations c.next_number word))) ≡ false) [ true ↦ refl | false ↦ refl ]
+no_memory c (Make (Unregister slot)) =
+    let word = slot_word c.frames slot in
+    elim (is_off_heap c.blocks word) as (λ b. stands_as 12 (slot_causes c.frames slot ++ (if b then [] else start_causes c.objects word)) ≡ false) [ true ↦ refl | false ↦ refl ]
+no_memory c e = refl
+
+makes_something : (e : Event) → IsTrue (may_lack_memory e) → MakesSomething e
+makes_something (Make (Alloc slot size kind)) may = AnObject slot size kind
+makes_something (Make (Register slot finalizer)) may = ARegistration slot finalizer
+makes_something (Make (Link which place target)) may = ALink which place target
+makes_something (Make (Move which place to)) may = AMovedLink which place to
+makes_something e may = absurd (true≢false (sym may))
+
+or_none : (b : Bool) → (b || false) ≡ true → b ≡ true
+or_none true on = refl
+or_none false on = on
+
+is_full : {X : Type 0} (table : Map X) (key : ℕ) → ((full table key).0 || false) ≡ true → IsFullFor table key
+is_full table key on =
+    let both = and_parts (not (contains_key table key)) (nat_le 65536 (len table)) (or_none _ on) in
+    (leb-true 65536 (len table) both.1, not_some (get table key) (not-true _ both.0))
+
+used_up : (count : ℕ) → ((exhausted count).0 || false) ≡ true → COUNT_LIMIT ≤ count
+used_up count on = leb-true COUNT_LIMIT count (or_none _ on)
+
+is_wrong : (size : ℕ) → (bad_size size).0 ≡ true → (size ≡ 0) ⊎ (MAX_OBJECT_WORDS < size)
+is_wrong size on =
+    ⊎_elim
+    (λ none. inl (omega (arith, none)))
+    (λ some. ⊎_elim inr (λ few. absurd (both_ways _ (right_size size some few) on)) (cases_lt 1024 size))
+    (cases_lt size 1)
+
+size_is_told : BadSize ≡ NoMemory → ⊥
+size_is_told same = omega (arith, ap code_of same)
+
+count_is_told : Exhausted ≡ NoMemory → ⊥
+count_is_told same = omega (arith, ap code_of same)
+
+table_is_told : TableFull ≡ NoMemory → ⊥
+table_is_told same = omega (arith, ap code_of same)
+
+-- a registration whose causes stand is on the heap
+on_heap : (s : State) (slot : Slot) (finalizer : Finalizer) (code : ℕ) → stands_as code (slot_causes s.frames slot ++ []) ≡ false → stands_as code (causes s.core (Make (Register slot finalizer))) ≡ true → stands_as code (slot_causes s.frames slot ++ (start_causes s.objects (slot_word s.frames slot) ++ register_causes s.registrations s.next_number (slot_word s.frames slot))) ≡ true
+on_heap s slot finalizer code none on =
+    let word = slot_word s.frames slot in
+    let of : Bool → Causes = λ b. slot_causes s.frames slot ++ (if b then [] else (start_causes s.objects word ++ register_causes s.registrations s.next_number word)) in
+    ⊎_elim
+    (λ off. absurd (both_ways _ none (subst (λ b. stands_as code (of b) ≡ true) off on)))
+    (λ within. subst (λ b. stands_as code (of b) ≡ true) within on)
+    (cases_Bool (is_off_heap s.blocks word))
+
+pub refused_for_a_cause : (s : State) → RefusedForACause s
+refused_for_a_cause s = record {
+  memory = λ e new step. ⊎_elim (λ told. absurd (both_ways _ (no_memory s.core e) (told_stands (causes s.core e) NoMemory told))) (λ lacks. makes_something e lacks.2) step.0;
+  size = λ slot size kind new step. is_wrong size (or_none _ (refused_stands s new (Make (Alloc slot size kind)) BadSize size_is_told step));
+  births = λ slot size kind new step. used_up s.next_birth (refused_stands s new (Make (Alloc slot size kind)) Exhausted count_is_told step);
+  numbers = λ slot finalizer new step. used_up s.next_number (on_heap s slot finalizer 13 refl (refused_stands s new (Make (Register slot finalizer)) Exhausted count_is_told step));
+  passes = λ new step. ⊎_elim (λ begin. used_up (s.passes + 1) (refused_stands s new (Make Begin) Exhausted count_is_told begin)) (λ collect. used_up (s.passes + 1) (refused_stands s new (Make Collect) Exhausted count_is_told collect)) step;
+  registrations = λ slot finalizer new step. is_full s.registrations (slot_word s.frames slot) (on_heap s slot finalizer 14 refl (refused_stands s new (Make (Register slot finalizer)) TableFull table_is_told step));
+  short = λ place target new step. is_full s.short (address_of s.frames place) (refused_stands s new (Make (Link Short place target)) TableFull table_is_told step);
+  long = λ place target new step. is_full s.long (address_of s.frames place) (refused_stands s new (Make (Link Long place target)) TableFull table_is_told step);
+}

@@ -37,7 +37,7 @@ pub record SlotsAreSet (s : State) : Type 0 where
 -- what the other calls but passes leave as it was: a hold sets its slot alone, a begin opens a cycle and a close closes the world, and no more; a mark and
 -- a look at the queue change nothing
 pub record RestIsKept (s : State) : Type 0 where
-  pub hold : (slot : Slot) (entry : Entry) (answer : Unit {0}) (new : State) → Step s (Hold slot entry) (Ok answer) new → SlotGets s slot entry.obj new × OnlySlotsChange s new
+  pub hold : (slot : Slot) (entry : Entry) (answer : Unit {0}) (new : State) → Step s (Hold slot entry) (Ok answer) new → SlotGets s slot (slot_word new.frames slot) new × OnlySlotsChange s new
   pub begin : (answer : Unit {0}) (new : State) → Step s (Make Begin) (Ok answer) new → IsTrue new.cycle × (new.core ≡ record s.core { cycle = new.cycle })
   pub close : (answer : Unit {0}) (new : State) → Step s (Make Close) (Ok answer) new → IsTrue new.closed × (new.core ≡ record s.core { closed = new.closed })
   pub mark : (budget : ℕ) (answer : Progress) (new : State) → Step s (Make (Mark budget)) (Ok answer) new → new.core ≡ s.core

@@ -1,6 +1,6 @@
--- Laws that test the order of the causes: where a call could be refused for two of them, which is told.
+-- Laws that test the order of the causes: where a call could be refused for two of them, which is told; and of some refusals, that their cause stands.
 use Rattle.std.specs.Prelude.{◌≡◌, ℕ, ◌+◌, ◌<◌, ◌≤◌, ◌⊎◌, length, None, Some, Result, Err, IsTrue}
-use Rattle.std.specs.FinMap.{get}
+use Rattle.std.specs.FinMap.{get, len}
 use Rattle.fz_model.specs.declared.call.Call.{Call}
 use Rattle.fz_model.specs.declared.call.Call.TheVariants.{Alloc, Load, Store, Set, Copy, Register, Unregister, Link, Unlink, Move, Begin, Mark, Collect}
 use Rattle.fz_model.specs.declared.places.Slot.{Slot}
@@ -8,11 +8,12 @@ use Rattle.fz_model.specs.declared.places.Place.{Place}
 use Rattle.fz_model.specs.declared.kinds.ObjKind.{ObjKind}
 use Rattle.fz_model.specs.declared.finalizer.Finalizer.{Finalizer}
 use Rattle.fz_model.specs.declared.kinds.LinkKind.{LinkKind}
+use Rattle.fz_model.specs.declared.kinds.LinkKind.TheVariants.{Short, Long}
 use Rattle.fz_model.specs.declared.answers.Entry.{Entry}
 use Rattle.fz_model.specs.declared.refusal.Refusal.{Refusal}
-use Rattle.fz_model.specs.declared.refusal.Refusal.TheVariants.{BadSlot, NotPointer, OutsideObject, BadSize, BadCount, CycleOpen, NotStart, Exhausted, SeatsMissing}
-use Rattle.fz_model.specs.declared.limits.TheConstants.{SLOTS, MAX_OBJECT_WORDS, COUNT_LIMIT, HEAP_START}
-use Rattle.fz_model.specs.State.{Object, State}
+use Rattle.fz_model.specs.declared.refusal.Refusal.TheVariants.{BadSlot, NotPointer, OutsideObject, BadSize, BadCount, CycleOpen, NotStart, NoMemory, Exhausted, TableFull, SeatsMissing}
+use Rattle.fz_model.specs.declared.limits.TheConstants.{SLOTS, MAX_OBJECT_WORDS, COUNT_LIMIT, TABLE_LIMIT, HEAP_START}
+use Rattle.fz_model.specs.State.{Map, Object, State}
 use Rattle.fz_model.specs.Extents.{heap_end}
 use Rattle.fz_model.specs.Memory.{points, slot_word, address_of}
 use Rattle.fz_model.specs.Events.{Event, Make, Hold, Answer}
@@ -125,3 +126,27 @@ pub record WorkersComeFirst (j : Joint) (w : ℕ) (missing : length j.workers �
   pub hold : (slot : Slot) → AlwaysRefusesEvent j (HoldOwn w slot) SeatsMissing
   pub finish : AlwaysRefusesEvent j (FinishOwn w) SeatsMissing
   pub forfeit : AlwaysRefusesEvent j (Forfeit w) SeatsMissing
+
+-- ---- memory, sizes, counts and tables
+
+-- it makes something: an object, or a registration, a link or a moved link
+pub data MakesSomething : Event → Type 0 where
+  AnObject : (slot : Slot) (size : ℕ) (kind : ObjKind) → MakesSomething (Make (Alloc slot size kind))
+  ARegistration : (slot : Slot) (finalizer : Finalizer) → MakesSomething (Make (Register slot finalizer))
+  ALink : (which : LinkKind) (place : Place) (target : Slot) → MakesSomething (Make (Link which place target))
+  AMovedLink : (which : LinkKind) (place to : Place) → MakesSomething (Make (Move which place to))
+
+-- the table has all that it can have, and not this key
+abbrev pub IsFullFor : {X : Type 0} → Map X → ℕ → Type 0
+IsFullFor table key = (TABLE_LIMIT ≤ len table) × (get table key ≡ None)
+
+-- memory is lacking only where something is made; a size is wrong, a count used up and a table full only where it is so
+pub record RefusedForACause (s : State) : Type 0 where
+  pub memory : (e : Event) (new : State) → Step s e (Err NoMemory) new → MakesSomething e
+  pub size : (slot : Slot) (size : ℕ) (kind : ObjKind) (new : State) → Step s (Make (Alloc slot size kind)) (Err BadSize) new → (size ≡ 0) ⊎ (MAX_OBJECT_WORDS < size)
+  pub births : (slot : Slot) (size : ℕ) (kind : ObjKind) (new : State) → Step s (Make (Alloc slot size kind)) (Err Exhausted) new → COUNT_LIMIT ≤ s.next_birth
+  pub numbers : (slot : Slot) (finalizer : Finalizer) (new : State) → Step s (Make (Register slot finalizer)) (Err Exhausted) new → COUNT_LIMIT ≤ s.next_number
+  pub passes : (new : State) → Step s (Make Begin) (Err Exhausted) new ⊎ Step s (Make Collect) (Err Exhausted) new → COUNT_LIMIT ≤ s.passes + 1
+  pub registrations : (slot : Slot) (finalizer : Finalizer) (new : State) → Step s (Make (Register slot finalizer)) (Err TableFull) new → IsFullFor s.registrations (slot_word s.frames slot)
+  pub short : (place : Place) (target : Slot) (new : State) → Step s (Make (Link Short place target)) (Err TableFull) new → IsFullFor s.short (address_of s.frames place)
+  pub long : (place : Place) (target : Slot) (new : State) → Step s (Make (Link Long place target)) (Err TableFull) new → IsFullFor s.long (address_of s.frames place)

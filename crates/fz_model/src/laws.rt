@@ -13,7 +13,7 @@ ghost use Rattle.fz_model.specs.ObjectLaws.{SlotsAreSet, RestIsKept, WordsAreLoa
 ghost use Rattle.fz_model.specs.EntryLaws.{ObjectsAreRegistered, ObjectsAreUnregistered, HeldAreCounted, InOneHand};
 ghost use Rattle.fz_model.specs.PassLaws.{EachPassIsLawful};
 ghost use Rattle.fz_model.specs.CycleLaws.{SeenInThisCycle};
-ghost use Rattle.fz_model.specs.OrderLaws.{FirstIsTold, WorkersComeFirst};
+ghost use Rattle.fz_model.specs.OrderLaws.{FirstIsTold, WorkersComeFirst, RefusedForACause};
 
 /// Does nothing. Its contract says of every reached state what is expected of each call and of each pass, in words of their own: so it tests the
 /// definitions by which all other contracts speak.
@@ -45,6 +45,8 @@ pub fn every_call()
     // Where a call or a worker could be refused for two causes, the first is told.
     ensures first_is_told { (s : State) → IsReached s → FirstIsTold s }
     ensures workers_come_first { (moves : List Move) (end : Joint) → IsRun moves end → (w : ℕ) (missing : length end.workers ≤ w) → WorkersComeFirst end w missing }
+    // Memory is lacking only where something is made; a size is wrong, a count used up and a table full only where it is so.
+    ensures refused_for_a_cause { (s : State) → IsReached s → RefusedForACause s }
     // No table is larger than its limit.
     ensures tables_are_within { (s : State) → IsReached s → TablesAreWithin s }
     // A link has the target that was named last; one that is removed is gone; a move keeps the target, and the number of links.

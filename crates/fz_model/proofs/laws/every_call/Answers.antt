@@ -7,7 +7,7 @@ use Rattle.fz_model.proofs.ObjectLaws.{slots_are_set, rest_is_kept, words_are_lo
 use Rattle.fz_model.proofs.EntryLaws.{objects_are_registered, objects_are_unregistered, held_are_counted, in_one_hand}
 use Rattle.fz_model.proofs.PassLaws.{each_pass_is_lawful}
 use Rattle.fz_model.proofs.CycleLaws.{seen_in_this_cycle}
-use Rattle.fz_model.proofs.OrderLaws.{first_is_told, workers_come_first}
+use Rattle.fz_model.proofs.OrderLaws.{first_is_told, workers_come_first, refused_for_a_cause}
 use Rattle.fz_model.proofs.WithinLimits.{tables_are_within}
 use Rattle.fz_model.proofs.HasStep.{each_call_has_step, each_event_has_step}
 use Rattle.fz_model.proofs.laws.every_call.Goals as goal
@@ -92,3 +92,6 @@ returns-clause-in_one_hand c = in_one_hand
 
 pub returns-clause-rest_is_kept : goal.returns-clause-rest_is_kept
 returns-clause-rest_is_kept c = rest_is_kept
+
+pub returns-clause-refused_for_a_cause : goal.returns-clause-refused_for_a_cause
+returns-clause-refused_for_a_cause c s r = refused_for_a_cause s
