@@ -8,7 +8,7 @@ ghost use Rattle.std.specs.FinSet as sets;
 ghost use Rattle.std.specs.declared.result.Result.TheVariants.{Ok};
 ghost use Rattle.fz_model.specs.declared.limits.TheConstants.{BLOCK_WORDS};
 ghost use Rattle.fz_model.specs.Memory.{address_of};
-ghost use Rattle.fz_model.specs.Causes.{IsJudgedBy};
+ghost use Rattle.fz_model.specs.Causes.{IsJudgedBy, IsJudgedOrLacks};
 ghost use Rattle.fz_model.specs.declared.call.Call.TheVariants.{Alloc, Load, Store, Set, Copy, Unregister, Link, Unlink, Move, Begin, Mark, Pause, Collect, Close, Outstanding};
 ghost use Rattle.fz_model.specs.Places.{slot_at, place_at, finalizer_of};
 ghost use Rattle.fz_model.specs.Events.{Make, Hold, Queue, causes};
@@ -87,6 +87,8 @@ impl<O: Opening> Locked<O> {
     ) -> Result<Word, Refusal>
         ensures step { Does self.old.world (Make (Load (place_at frame slot offset) (slot_at to_frame to_slot))) result self.new.world }
         ensures line { KeepsLine self.old self.new }
+        ensures caused { IsJudgedBy (causes self.old.world.core (Make (Load (place_at frame slot offset) (slot_at to_frame to_slot)))) result }
+        ensures refused { OnErr result (self.new ≡ self.old) }
         ensures marks { KeepsMarks self.old.world self.new.world }
     {
         self.world.load(frame, slot, offset, to_frame, to_slot)
@@ -105,6 +107,7 @@ impl<O: Opening> Locked<O> {
     ) -> Result<(), Refusal>
         ensures step { Does self.old.world (Make (Store (place_at frame slot offset) (slot_at from_frame from_slot))) result self.new.world }
         ensures line { KeepsLine self.old self.new }
+        ensures caused { IsJudgedBy (causes self.old.world.core (Make (Store (place_at frame slot offset) (slot_at from_frame from_slot)))) result }
         ensures refused { OnErr result (self.new ≡ self.old) }
         ensures marks { OnOk result (NotesWritten self.old.world (address_of self.old.world.frames (place_at frame slot offset)) self.new.world) }
     {
@@ -117,6 +120,8 @@ impl<O: Opening> Locked<O> {
     pub fn set(&mut self, frame: u64, slot: u64, word: Word) -> Result<(), Refusal>
         ensures step { Does self.old.world (Make (Set (slot_at frame slot) word)) result self.new.world }
         ensures line { KeepsLine self.old self.new }
+        ensures caused { IsJudgedBy (causes self.old.world.core (Make (Set (slot_at frame slot) word))) result }
+        ensures refused { OnErr result (self.new ≡ self.old) }
         ensures marks { KeepsMarks self.old.world self.new.world }
     {
         self.world.set(frame, slot, word)
@@ -134,6 +139,8 @@ impl<O: Opening> Locked<O> {
     ) -> Result<(), Refusal>
         ensures step { Does self.old.world (Make (Copy (slot_at frame slot) (slot_at to_frame to_slot))) result self.new.world }
         ensures line { KeepsLine self.old self.new }
+        ensures caused { IsJudgedBy (causes self.old.world.core (Make (Copy (slot_at frame slot) (slot_at to_frame to_slot)))) result }
+        ensures refused { OnErr result (self.new ≡ self.old) }
         ensures marks { KeepsMarks self.old.world self.new.world }
     {
         self.world.copy(frame, slot, to_frame, to_slot)
@@ -163,6 +170,8 @@ impl<O: Opening> Locked<O> {
     pub fn unregister(&mut self, frame: u64, slot: u64) -> Result<Option<Old>, Refusal>
         ensures step { Does self.old.world (Make (Unregister (slot_at frame slot))) result self.new.world }
         ensures line { KeepsLine self.old self.new }
+        ensures caused { IsJudgedBy (causes self.old.world.core (Make (Unregister (slot_at frame slot)))) result }
+        ensures refused { OnErr result (self.new ≡ self.old) }
         ensures marks { KeepsMarks self.old.world self.new.world }
     {
         self.world.unregister(frame, slot)
@@ -183,6 +192,8 @@ impl<O: Opening> Locked<O> {
     ) -> Result<LinkAnswer, Refusal>
         ensures step { Does self.old.world (Make (Link which (place_at frame slot offset) (slot_at target_frame target_slot))) result self.new.world }
         ensures line { KeepsLine self.old self.new }
+        ensures caused { IsJudgedOrLacks (causes self.old.world.core (Make (Link which (place_at frame slot offset) (slot_at target_frame target_slot)))) result }
+        ensures refused { OnErr result (self.new ≡ self.old) }
         ensures growth { IfErr result (λ r. r ≡ Refusal.NoMemory → IsNone (link_at self.old.world.core which (place_at frame slot offset))) }
         ensures marks { KeepsMarks self.old.world self.new.world }
     {
@@ -202,6 +213,8 @@ impl<O: Opening> Locked<O> {
     ) -> Result<bool, Refusal>
         ensures step { Does self.old.world (Make (Unlink which (place_at frame slot offset))) result self.new.world }
         ensures line { KeepsLine self.old self.new }
+        ensures caused { IsJudgedBy (causes self.old.world.core (Make (Unlink which (place_at frame slot offset)))) result }
+        ensures refused { OnErr result (self.new ≡ self.old) }
         ensures marks { KeepsMarks self.old.world self.new.world }
     {
         self.world.unlink(which, frame, slot, offset)
@@ -222,6 +235,8 @@ impl<O: Opening> Locked<O> {
     ) -> Result<MoveAnswer, Refusal>
         ensures step { Does self.old.world (Make (Move which (place_at frame slot offset) (place_at to_frame to_slot to_offset))) result self.new.world }
         ensures line { KeepsLine self.old self.new }
+        ensures caused { IsJudgedOrLacks (causes self.old.world.core (Make (Move which (place_at frame slot offset) (place_at to_frame to_slot to_offset)))) result }
+        ensures refused { OnErr result (self.new ≡ self.old) }
         ensures growth { IfErr result (λ r. r ≡ Refusal.NoMemory → IsSome (link_at self.old.world.core which (place_at frame slot offset)) × IsNone (link_at self.old.world.core which (place_at to_frame to_slot to_offset))) }
         ensures marks { KeepsMarks self.old.world self.new.world }
     {
@@ -265,6 +280,8 @@ impl<O: Opening> Locked<O> {
     pub fn hold(&mut self, frame: u64, slot: u64, entry: &Entry) -> Result<(), Refusal>
         ensures step { Does self.old.world (Hold (slot_at frame slot) entry.now) result self.new.world }
         ensures line { KeepsLine self.old self.new }
+        ensures caused { IsJudgedBy (causes self.old.world.core (Hold (slot_at frame slot) entry.now)) result }
+        ensures refused { OnErr result (self.new ≡ self.old) }
         ensures marks { KeepsMarks self.old.world self.new.world }
     {
         self.world.hold(frame, slot, entry)
@@ -276,6 +293,8 @@ impl<O: Opening> Locked<O> {
     pub fn close(&mut self) -> Result<(), Refusal>
         ensures step { Does self.old.world (Make Close) result self.new.world }
         ensures line { KeepsLine self.old self.new }
+        ensures caused { IsJudgedBy (causes self.old.world.core (Make Close)) result }
+        ensures refused { OnErr result (self.new ≡ self.old) }
         ensures marks { KeepsMarks self.old.world self.new.world }
     {
         self.world.close()

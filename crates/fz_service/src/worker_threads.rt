@@ -1,7 +1,6 @@
 //! Worker threads.
 
-ghost use Rattle.std.specs.Prelude.{◌≡◌, ℕ, ◌<◌, ◌≤◌, [], Option, length, slice_index_or, vec_capacity};
-ghost use Rattle.fz_line.specs.States.{SeatState};
+ghost use Rattle.std.specs.Prelude.{◌≡◌, ◌≢◌, ℕ, ◌<◌, ◌≤◌, [], Some, length, map, slice_get, slice_index_or, vec_capacity};
 ghost use Rattle.fz_service.specs.Workers.{Extends, ExtendEach, SlotExtends, slots_of, in_slots};
 
 use crate::opening::Opening;
@@ -11,7 +10,6 @@ use crate::told::Told;
 use crate::turn::{CameTo, FoundEmpty, Turn};
 use crate::workers::{Gate, Proc, lock_for_next_turn};
 use std::alloc::Global;
-use std::marker::Model;
 use std::sync::Wait;
 use std::sync::atomic::AtomicBool;
 use std::thread::{Parker, Threads};
@@ -76,19 +74,10 @@ fn spin() {
 /// The procedures of one worker.
 type List = Vec<Box<dyn Proc + Send>>;
 
-/// A seat on its way to a thread and back, with the list that goes with it. A contract sees what is in the slot.
+/// A seat on its way to a thread and back, with the list that goes with it.
 struct Worker<O: Opening, L> {
     slot: Option<Seat<O>>,
     procs: L,
-}
-
-impl<O: Opening, L> Model for Worker<O, L> {
-    ghost use Rattle.std.specs.Prelude.{Option};
-    ghost use Rattle.fz_line.specs.States.{SeatState};
-
-    ghost Value = { Option SeatState };
-
-    ghost view = { λ w. w.slot };
 }
 
 impl<O: Opening> Worker<O, List> {
@@ -100,7 +89,7 @@ impl<O: Opening> Worker<O, List> {
         stop: &AtomicBool,
         rt: &R,
     )
-        ensures { SlotExtends self.old self.new }
+        ensures { SlotExtends self.old.slot self.new.slot }
     {
         if let Some(seat) = mem::replace(&mut self.slot, None) {
             let procs = self.procs.as_mut_slice();
@@ -113,7 +102,11 @@ impl<O: Opening> Worker<O, List> {
 }
 
 /// Takes the list of this number out, or an empty one where there is none.
-fn take_list(procs: &mut [List], number: usize, alloc: Global) -> List {
+#[tactic(auto, using(crate::proofs::Slots::set_other))]
+fn take_list(procs: &mut [List], number: usize, alloc: Global) -> List
+    ensures taken { (list : _) → slice_get procs.old number ≡ Some list → result ≡ list }
+    ensures others { (i : ℕ) → i ≢ number → slice_get procs.new i ≡ slice_get procs.old i }
+{
     if number < procs.len() {
         mem::replace(&mut procs[number], Vec::new(alloc))
     } else {
@@ -136,7 +129,9 @@ fn with_lists<O: Opening>(
     mut workers: Vec<Worker<O, List>>,
 ) -> Vec<Worker<O, List>>
     requires room { (workers.items ≡ []) × (length seats.old.items ≤ vec_capacity workers) }
-    ensures workers { result.items ≡ slots_of seats.old.items }
+    ensures workers { map (λ worker. worker.slot) result.items ≡ slots_of seats.old.items }
+    // The worker at a place has the list that stood there.
+    ensures lists { (i : ℕ) (list : _) → slice_get procs.old i ≡ Some list → i < length result.items → slice_get (map (λ worker. worker.procs) result.items) i ≡ Some list }
     ensures seats { (seats.new.items ≡ []) × (vec_capacity seats.new ≡ vec_capacity seats.old) }
 {
     while seats.len() > 0 {
@@ -157,7 +152,7 @@ fn without_lists<O: Opening>(
     mut seats: Vec<Seat<O>>,
 ) -> Vec<Seat<O>>
     requires room { (seats.items ≡ []) × (length workers.items ≤ vec_capacity seats) }
-    ensures { result.items ≡ in_slots workers.items }
+    ensures { result.items ≡ in_slots (map (λ worker. worker.slot) workers.items) }
 {
     let mut number = 0;
     while workers.len() > 0 {
@@ -269,14 +264,14 @@ impl<O: Opening> Service<O> {
     where
         O: Send + Sync,
         ensures len { length workers.new.items ≡ length workers.old.items }
-        ensures each { (i : ℕ) (d : Option SeatState) → i < length workers.old.items → SlotExtends (slice_index_or workers.old.items i d) (slice_index_or workers.new.items i d) }
+        ensures each { (i : ℕ) (d : _) → i < length workers.old.items → SlotExtends (slice_index_or workers.old.items i d).slot (slice_index_or workers.new.items i d).slot }
     {
         let threads = workers.len();
         if threads == 0 {
             return;
         }
         let serve = |_: usize, worker: &mut Worker<O, List>|
-            ensures { SlotExtends worker.old worker.new }
+            ensures { SlotExtends worker.old.slot worker.new.slot }
         { worker.serve_from_slot(self, gate, stop, rt) };
         thread::for_each_mut(rt, workers.as_mut_slice(), threads, &serve);
     }

@@ -1,6 +1,7 @@
 //! Workers, which take entries and run their procedures.
 
-ghost use Rattle.std.specs.Prelude.{◌≡◌, ◌+◌, ◌≤◌, length};
+ghost use Rattle.std.specs.Prelude.{◌≡◌, ◌==◌, ◌+◌, ◌-◌, ◌%◌, ◌≤◌, None, if◌then◌else◌, length};
+ghost use Rattle.fz_service.specs.declared.workers.TheConstants.{TURNS_IN_A_HOLD};
 ghost use Rattle.fz_service.specs.States.{RunsCalls};
 ghost use Rattle.fz_service.specs.Workers.{Extends};
 ghost use Rattle.fz_service.specs.Turns.{UsesUp};
@@ -74,7 +75,9 @@ impl Gate for OpenGate {
 const TURNS_IN_A_HOLD: u64 = 32;
 
 /// What of the lock is kept for the next turn, by how many turns came before this one: nothing each 32nd time, so that others come to it.
-pub(crate) fn lock_for_next_turn<T: Drop>(held: Option<T>, turns_before: u64) -> Option<T> {
+pub(crate) fn lock_for_next_turn<T: Drop>(held: Option<T>, turns_before: u64) -> Option<T>
+    ensures { result ≡ (if turns_before % TURNS_IN_A_HOLD == TURNS_IN_A_HOLD - 1 then None else held) }
+{
     if turns_before % TURNS_IN_A_HOLD == TURNS_IN_A_HOLD - 1 {
         None
     } else {

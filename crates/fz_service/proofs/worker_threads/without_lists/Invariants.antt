@@ -1,10 +1,10 @@
-use Rattle.std.proofs.Common.{◌≡◌, ◌++◌, ◌+◌, ◌≤◌, length, vec_len, vec_capacity}
+use Rattle.std.proofs.Common.{◌≡◌, ◌++◌, ◌+◌, ◌≤◌, length, map, vec_len, vec_capacity}
 use Rattle.fz_service.specs.Workers.{in_slots}
 use Rattle.fz_service.proofs.worker_threads.without_lists.Given as goal
 
 abbrev pub invariant-loop-workers : goal.invariant-loop-workers
 invariant-loop-workers g l = record {
-  all : l.seats.items ++ in_slots l.workers.items ≡ in_slots l.initial.workers.items;
+  all : l.seats.items ++ in_slots (map (λ worker. worker.slot) l.workers.items) ≡ in_slots (map (λ worker. worker.slot) l.initial.workers.items);
   few : length l.seats.items + length l.workers.items ≤ length l.initial.workers.items;
   number : l.number + length l.workers.items ≡ length l.initial.workers.items;
   room : vec_capacity l.seats ≡ vec_capacity l.initial.seats;
