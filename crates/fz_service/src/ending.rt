@@ -70,6 +70,7 @@ impl<O: Opening> Locked<O> {
             published,
             mut book,
             rest,
+            holds: _,
         } = self;
         let (mut plain, mut all) = without_shares(seats, plain, rest);
         book.audit(&mut all);

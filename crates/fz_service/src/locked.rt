@@ -31,6 +31,7 @@ pub struct Locked<O: Opening> {
     pub(crate) book: Book<Finishes<O>>,
     /// What is left of the book's shares, once each seat has its own: no part.
     pub(crate) rest: Share<Finishes<O>>,
+    pub(crate) holds: u64,
 }
 
 impl<O: Opening> Model for Locked<O> {
@@ -65,7 +66,14 @@ impl<O: Opening> Locked<O> {
             published: 0,
             book,
             rest,
+            holds: 0,
         }
+    }
+
+    /// How often the lock was taken since the opening, this hold among them. No contract speaks of it: it shows a test that nobody took the lock more often
+    /// than was asked.
+    pub fn holds(&self) -> u64 {
+        self.holds
     }
 
     /// The entries that weren't sent: the queue from the published count on.

@@ -112,9 +112,9 @@ impl<O: Opening> Service<O> {
     pub fn enter<'a, R: Wait>(&'a self, rt: &R) -> Guard<'a, O>
         ensures { IsInOrder O.origin (mutex_guard_value result) }
     {
-        let guard = self.take_lock(rt);
-        let locked: &Locked<O> = &guard;
-        let _ = &locked.published;
+        let mut guard = self.take_lock(rt);
+        let locked: &mut Locked<O> = &mut guard;
+        locked.holds = locked.holds.wrapping_add(1);
         guard
     }
 

@@ -13,6 +13,8 @@ mod section;
 mod stage;
 mod summary;
 mod tally;
+#[cfg(test)]
+mod tests;
 
 pub use procedures::{Keep, Nothing};
 pub use run::drive_threads;
