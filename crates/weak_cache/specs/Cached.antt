@@ -56,11 +56,11 @@ IsOpenedFor blocks keys (Err r) = IsRefusedFor (open_causes blocks 1) true r ⊎
 
 -- an object is made, in hand
 abbrev pub MakesObject : WorldView → Result (ℕ × ℕ) Refusal → WorldView → Type 0
-MakesObject = λ old reply new. Does old (Make (Alloc (slot_at 0 HAND) 1 Atomic)) reply new
+MakesObject old reply new = Does old (Make (Alloc (slot_at 0 HAND) 1 Atomic)) reply new
 
 -- the object in hand is registered with this client data
 abbrev pub RegistersInHand : WorldView → ℕ → Result RegAnswer Refusal → WorldView → Type 0
-RegistersInHand = λ old client_data reply new. Does old (Make (Register (slot_at 0 HAND) (finalizer_of Normal 0 client_data 0))) reply new
+RegistersInHand old client_data reply new = Does old (Make (Register (slot_at 0 HAND) (finalizer_of Normal 0 client_data 0))) reply new
 
 -- an object is made, in hand, and then registered with this client data
 abbrev pub Makes : WorldView → ℕ → WorldView → Type 0
