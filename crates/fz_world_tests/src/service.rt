@@ -3,6 +3,8 @@
 
 mod eight;
 mod limits;
+mod lists;
+mod lock;
 mod programs;
 mod refused;
 mod rows;

@@ -3,7 +3,7 @@
 ghost use Rattle.std.specs.Prelude.{◌≡◌};
 
 use super::wanted::same;
-use super::workers::{Calls, TURNS};
+use super::workers::{Arrivals, Calls};
 use super::{ended, opened, prepared, queue_entries};
 use fz_model::Entry;
 use fz_service::{Gate, Opening, Prepared, Proc, Seat};
@@ -11,10 +11,9 @@ use fz_world::World;
 use std::alloc::Global;
 use std::marker::Brand;
 use std::process::Abort;
-use std::sync::atomic::{AtomicBool, AtomicU64, Ordering};
+use std::sync::atomic::AtomicBool;
 use std::sync::{Arc, Wait};
 use std::test::*;
-use std::thread;
 use std::thread::Threads;
 
 /// The number of workers, and of the entries of a round.
@@ -23,24 +22,31 @@ const WORKERS: u64 = 8;
 /// The number of rounds. The entries of each have a procedure of their own.
 const ROUNDS: u64 = 6;
 
-/// A gate that lets a round's entries pass once all of them are there. So each worker has one entry of each round.
+/// A gate that lets a round's entries pass once all of them are there, one for each worker. So each worker has one entry of each round.
 #[derive(Drop)]
-struct Rounds {
-    came: AtomicU64,
-    missed: AtomicBool,
+pub(super) struct Rounds {
+    workers: u64,
+    arrivals: Arrivals,
+}
+
+impl Rounds {
+    pub(super) fn of(workers: u64) -> Rounds {
+        Rounds {
+            workers,
+            arrivals: Arrivals::none(),
+        }
+    }
+
+    pub(super) fn missed(&self) -> bool {
+        self.arrivals.missed()
+    }
 }
 
 impl Gate for Rounds {
     fn entered(&self, seq: u64) {
-        let wanted = (seq / WORKERS + 1).saturating_mul(WORKERS);
-        self.came.fetch_add(1, Ordering::SeqCst);
-        for _ in 0..TURNS {
-            if self.came.load(Ordering::SeqCst) >= wanted {
-                return;
-            }
-            thread::yield_now();
-        }
-        self.missed.store(true, Ordering::SeqCst);
+        let round = seq / self.workers.max(1);
+        self.arrivals
+            .come(round.saturating_add(1).saturating_mul(self.workers));
     }
 }
 
@@ -114,14 +120,10 @@ fn eight_workers_have_lists_of_six(rt: HostRuntime) -> Result<(), Fail> {
         all.push(calls)?;
         procs.push(list)?;
     }
-    let gate = Rounds {
-        came: AtomicU64::new(0),
-        missed: AtomicBool::new(false),
-    };
+    let gate = Rounds::of(WORKERS);
     let prepared = prepared(&rt, rt.alloc(), WORKERS);
     serves_rounds::<Brand, HostRuntime>(&rt, prepared, procs.as_mut_slice(), &gate);
-    let missed = gate.missed.load(Ordering::SeqCst);
-    same(&rt, "a worker waited in vain", missed, false);
+    same(&rt, "a worker waited in vain", gate.missed(), false);
     for calls in all.iter() {
         calls_in_each_round(&rt, calls);
     }

@@ -2,6 +2,7 @@
 
 ghost use Rattle.std.specs.Prelude.{◌≡◌};
 
+use super::eight::Rounds;
 use super::wanted::{accepted, collects, count_seats, put_back, same};
 use super::workers::{Calls, Recorded, call};
 use super::{
@@ -20,7 +21,8 @@ use std::test::*;
 use std::thread::{Parker, Threads};
 use std::time::Duration;
 
-/// Serves an entry for each worker with a thread a seat, once the workers were told to stop. All have to be finished.
+/// Serves an entry for each worker with a thread a seat, once the workers were told to stop. No entry passes before each worker has one, and all have to
+/// be finished.
 fn serves_one_each<O: Opening + Send + Sync, R: Abort + Wait + Threads + Sync>(
     rt: &R,
     prepared: Prepared,
@@ -33,11 +35,12 @@ fn serves_one_each<O: Opening + Send + Sync, R: Abort + Wait + Threads + Sync>(
     let numbers = &numbers[..(workers as usize).min(8)];
     queue_entries(rt, &mut service.enter(rt), numbers);
     let stop = AtomicBool::new(true);
-    let seats = service.run_workers(seats, &mut [], &OpenGate, &stop, rt);
+    let gate = Rounds::of(workers);
+    let seats = service.run_workers(seats, &mut [], &gate, &stop, rt);
     let end = ended(rt, service, seats);
     assert_eq!(rt;
-        (end.taken, end.finished),
-        (workers, workers),
+        (end.taken, end.finished, gate.missed()),
+        (workers, workers, false),
         "with {workers} workers"
     );
 }

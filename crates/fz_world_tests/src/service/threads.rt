@@ -28,8 +28,8 @@ fn collect_rounds<O: Opening, R: Abort + Wait>(
 }
 
 /// A seat on its way to a thread. A closure that holds it may be let go, and then the seat is retired.
-struct Taker<O: Opening> {
-    seat: Seat<O>,
+pub(super) struct Taker<O: Opening> {
+    pub(super) seat: Seat<O>,
 }
 
 impl<O: Opening> Drop for Taker<O> {
@@ -40,7 +40,7 @@ impl<O: Opening> Drop for Taker<O> {
 }
 
 impl<O: Opening> Taker<O> {
-    fn seat(self) -> Seat<O> {
+    pub(super) fn seat(self) -> Seat<O> {
         let Self { seat } = self;
         seat
     }

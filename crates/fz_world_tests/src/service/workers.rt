@@ -19,6 +19,44 @@ use std::thread::Threads;
 /// How often a worker that waits for another yields at most.
 pub(super) const TURNS: u32 = 1_000_000;
 
+/// Where workers wait for one another.
+#[derive(Drop)]
+pub(super) struct Arrivals {
+    came: AtomicU64,
+    missed: AtomicBool,
+}
+
+impl Arrivals {
+    pub(super) fn none() -> Arrivals {
+        Arrivals {
+            came: AtomicU64::new(0),
+            missed: AtomicBool::new(false),
+        }
+    }
+
+    /// Comes, and waits until this number have come.
+    pub(super) fn come(&self, wanted: u64) {
+        self.came.fetch_add(1, Ordering::SeqCst);
+        self.wait(wanted);
+    }
+
+    /// Waits until this number have come.
+    pub(super) fn wait(&self, wanted: u64) {
+        for _ in 0..TURNS {
+            if self.came.load(Ordering::SeqCst) >= wanted {
+                return;
+            }
+            thread::yield_now();
+        }
+        self.missed.store(true, Ordering::SeqCst);
+    }
+
+    /// Whether any waited in vain.
+    pub(super) fn missed(&self) -> bool {
+        self.missed.load(Ordering::SeqCst)
+    }
+}
+
 /// The calls of procedures, in their order: each tells the procedure, the entry, and whether it is `run`.
 #[derive(Drop)]
 pub(super) struct Calls {

@@ -54,6 +54,41 @@ fn all_actors_run_side_by_side(rt: HostRuntime) -> Result<(), Fail> {
     Ok(())
 }
 
+/// Runs a threads file of passes alone, which makes this number.
+fn makes_passes<R: AllocGlobal + Abort + Threads + Wait + Sync>(
+    rt: &R,
+    collections: u64,
+    sections: &str,
+    passes: u64,
+) -> Result<(), AllocError> {
+    let file = format!(in rt.alloc(); "open 4 1 1\nsettle {collections}\n{sections}")?;
+    let outcome = run(rt, file.as_str().as_bytes())?;
+    let summary = format!(in rt.alloc();
+        "enqueued 0\nfinished 0\nforfeited 0\nleft 0\npasses {passes}\nreclaimed 0\nrefused 0\n"
+    )?;
+    let text = summary.as_str().as_bytes();
+    prints(rt, "collections", collections, &outcome, text);
+    Ok(())
+}
+
+/// No pass more than the file asks for: its collections, and one where a section left a cycle open.
+#[test]
+fn each_number_of_collections_is_made(rt: HostRuntime) -> Result<(), Fail> {
+    for collections in 0..=10u64 {
+        makes_passes(&rt, collections, "", collections)?;
+        let one_more = collections.saturating_add(1);
+        makes_passes(&rt, collections, "collector\nbegin\n", one_more)?;
+        let two_more = collections.saturating_add(2);
+        makes_passes(
+            &rt,
+            collections,
+            "collector\ncollect\nbegin\nmark 1\n",
+            two_more,
+        )?;
+    }
+    Ok(())
+}
+
 /// What a mutator does before one pass, with how many entries that queues and how many objects it reclaims.
 const ONE_PASS: [(&[u8], u64, u64); 12] = [
     // objects that nothing holds, one of them in the slot's old word
