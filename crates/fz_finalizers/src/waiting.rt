@@ -88,6 +88,7 @@ impl Waiting {
     pub(crate) fn take_entries(&mut self) -> Vec<Entry>
         ensures items { result.items ≡ self.old.entries }
         ensures capacity { vec_capacity result ≡ self.old.capacity }
+        ensures left { self.new.entries ≡ [] }
     {
         let alloc = *self.entries.allocator();
         let Waiting { mut entries, taken } = mem::replace(self, Waiting::of(Vec::new(alloc)));

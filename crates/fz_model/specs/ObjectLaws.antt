@@ -112,7 +112,7 @@ BlocksAreShared s =
     (block a b i j : ℕ) (o p : Object) → get s.objects a ≡ Some o → get s.objects b ≡ Some p → i < length o.words → j < length p.words
     → IsInBlock block (a + i) → IsInBlock block (b + j) → (length o.words ≡ length p.words) × (o.kind ≡ p.kind) × (BLOCK_WORDS < length o.words → a ≡ b)
 
--- no object has a word in so many blocks, from this one on
+-- no object has a word in one of the `count` blocks that begin with this one
 abbrev pub AreEmpty : State → ℕ → ℕ → Type 0
 AreEmpty s block count =
     (a : ℕ) (o : Object) → get s.objects a ≡ Some o → (a + length o.words ≤ HEAP_START + BLOCK_WORDS * block) ⊎ (HEAP_START + BLOCK_WORDS * (block + count) ≤ a)

@@ -214,7 +214,7 @@ fn is_opened<O: Opening, R: Abort + Wait + Print>(
     true
 }
 
-/// Takes a service this way, and again where it couldn't be opened. At most so many calls are refused as allocations fail.
+/// Takes a service this way, and again where it couldn't be opened. No more than `MOST_REFUSALS` calls are refused as allocations fail.
 fn lives<R: Abort + Wait + Print + Alloc<A = Global>>(rt: &R, way: Way) {
     let mut refusals = 0;
     for _ in 0..=MOST_REFUSALS {

@@ -673,7 +673,7 @@ fn lives_through(world: &mut World, pass: u64) -> Result<bool, Refusal> {
     Ok(are_right && world.outstanding() == 0)
 }
 
-/// The first of so many passes that doesn't answer so.
+/// Lives through this number of passes; returns the first that answers wrongly.
 fn first_wrong_pass(alloc: Global, passes: u64) -> Result<Option<u64>, Refusal> {
     let mut world = opened(alloc, 64, 1)?;
     for pass in 1..=passes {
