@@ -8,9 +8,10 @@ ghost use Rattle.std.specs.List.{list_any};
 ghost use Rattle.std.specs.FinMap.{get, keys, contains_key};
 ghost use Rattle.fz_model.specs.declared.answers.Entry.{Entry};
 ghost use Rattle.fz_model.specs.Places.{slot_at};
-ghost use Rattle.fz_model.specs.Memory.{slot_word, word_at};
+ghost use Rattle.fz_model.specs.Memory.{slot_word, word_at, points};
 ghost use Rattle.fz_model.specs.Causes.{IsJudgedBy, slot_causes, place_causes};
 ghost use Rattle.fz_model.specs.Events.{links_of, same_entry};
+ghost use Rattle.fz_world.specs.declared.shown.Object.{Object};
 ghost use Rattle.fz_world.specs.Ready.{IsNextHeld};
 ghost use Rattle.fz_world.specs.Shown.{shown_object, has_row, HasNoneFrom, IsFirstFrom};
 
@@ -79,6 +80,15 @@ impl World {
             kind,
             birth,
         })
+    }
+
+    /// The object to which the word points, interior words included: gc.h's `GC_base` and `GC_size`.
+    pub fn object_of(&self, word: Word) -> Option<Object>
+        ensures start { option_map (λ (o : Object). o.start) result ≡ points self.now.objects word }
+        ensures object { IfSome result (λ object. option_map (shown_object object.start) (get self.now.objects object.start) ≡ Some object) }
+    {
+        let start = self.marked.heap.resolve(word)?;
+        self.object(start)
     }
 
     /// The registration of the object that starts at the address, if it is registered.
