@@ -1,6 +1,6 @@
 /* border.c - times calls of c/include/derrimas.h, as C makes them.
  *   border TEST N    the nanoseconds of one call: the least of some turns, each in a world or with a line of its own
- * bench/run builds it with crates/fz_c and crates/fz_line_c. What N counts stands beside each test.
+ * bench/run builds it with crates/fz_c, crates/fz_line_c and c/src/derrimas.c. What N counts stands beside each test.
  */
 #include "derrimas.h"
 #include <math.h>
@@ -11,44 +11,44 @@
 #include <string.h>
 #include <time.h>
 
-enum { TURNS = 9, BUDGET = 64, MOST_STEPS = FZ_MAX_BLOCKS + 1, ROUND = 8192, IDLE = 101, TAKERS = 4 };
+enum { TURNS = 9, BUDGET = 64, MOST_STEPS = DERRIMAS_MAX_BLOCKS + 1, ROUND = 8192, IDLE = 101, TAKERS = 4 };
 
 static void fail(const char *what) { fprintf(stderr, "border: %s\n", what); exit(1); }
-static void must(fz_code code) { if (code != FZ_OK) fail(fz_name(code)); }
+static void must(derrimas_code code) { if (code != DERRIMAS_OK) fail(derrimas_name(code)); }
 static double clock_of(clockid_t id) { struct timespec t; clock_gettime(id, &t); return t.tv_sec * 1e9 + t.tv_nsec; }
 static double now(void) { return clock_of(CLOCK_PROCESS_CPUTIME_ID); }
 /* the time on the wall: for threads, and for single calls, since the other clock takes longer than some of these */
 static double wall(void) { return clock_of(CLOCK_MONOTONIC); }
 
-static fz_world world;
-static const fz_slot OBJECT = {0, 0}, WORD = {0, 1}, FIRST = {0, 2};
-static fz_made made;
+static derrimas_world world;
+static const derrimas_slot OBJECT = {0, 0}, WORD = {0, 1}, FIRST = {0, 2};
+static derrimas_made made;
 static uint64_t word;
-static fz_passed passed;
-static fz_entry entry;
+static derrimas_passed passed;
+static derrimas_entry entry;
 
 static void open_for(uint64_t objects)
 {
-    uint64_t blocks = (objects + FZ_BLOCK_WORDS - 1) / FZ_BLOCK_WORDS, least = FZ_MAX_SIZE / FZ_BLOCK_WORDS;
+    uint64_t blocks = (objects + DERRIMAS_BLOCK_WORDS - 1) / DERRIMAS_BLOCK_WORDS, least = DERRIMAS_MAX_SIZE / DERRIMAS_BLOCK_WORDS;
 
     blocks = blocks < least ? least : blocks;
-    must(fz_open(&world, blocks > FZ_MAX_BLOCKS ? FZ_MAX_BLOCKS : blocks, 1));
+    must(derrimas_open(&world, blocks > DERRIMAS_MAX_BLOCKS ? DERRIMAS_MAX_BLOCKS : blocks, 1));
 }
 
 /* ---- single calls: each function makes its call n times */
 
-static void set(uint64_t n) { for (uint64_t i = 0; i < n; i++) must(fz_set(&world, OBJECT, i)); }
-static void alloc(uint64_t n) { for (uint64_t i = 0; i < n; i++) must(fz_alloc(&world, OBJECT, 1, false, &made)); }
-static void load(uint64_t n) { for (uint64_t i = 0; i < n; i++) must(fz_load(&world, OBJECT, i % FZ_MAX_SIZE, WORD, &word)); }
-static void store(uint64_t n) { for (uint64_t i = 0; i < n; i++) must(fz_store(&world, OBJECT, i % FZ_MAX_SIZE, WORD)); }
-static void read_word(uint64_t n) { for (uint64_t i = 0; i < n; i++) must(fz_read(&world, FZ_HEAP_START, i % FZ_MAX_SIZE, &word)); }
+static void set(uint64_t n) { for (uint64_t i = 0; i < n; i++) must(derrimas_set(&world, OBJECT, i)); }
+static void alloc(uint64_t n) { for (uint64_t i = 0; i < n; i++) must(derrimas_alloc(&world, OBJECT, 1, DERRIMAS_SCANNED, &made)); }
+static void load(uint64_t n) { for (uint64_t i = 0; i < n; i++) must(derrimas_load(&world, OBJECT, i % DERRIMAS_MAX_SIZE, WORD, &word)); }
+static void store(uint64_t n) { for (uint64_t i = 0; i < n; i++) must(derrimas_store(&world, OBJECT, i % DERRIMAS_MAX_SIZE, WORD)); }
+static void read_word(uint64_t n) { for (uint64_t i = 0; i < n; i++) must(derrimas_read(&world, DERRIMAS_HEAP_START, i % DERRIMAS_MAX_SIZE, &word)); }
 
 /* of n calls, in a world that has an object of as many words as one can have, but before allocations */
 static double of_calls(void (*call)(uint64_t), uint64_t n)
 {
     open_for(n);
     if (call != alloc)
-        must(fz_alloc(&world, OBJECT, FZ_MAX_SIZE, false, &made));
+        must(derrimas_alloc(&world, OBJECT, DERRIMAS_MAX_SIZE, DERRIMAS_SCANNED, &made));
     double t = now();
     call(n);
     return (now() - t) / n;
@@ -67,12 +67,12 @@ static uint64_t seed;
 
 static void make_chain(uint64_t n)
 {
-    must(fz_alloc(&world, FIRST, 1, false, &made));
-    must(fz_copy(&world, FIRST, OBJECT));
+    must(derrimas_alloc(&world, FIRST, 1, DERRIMAS_SCANNED, &made));
+    must(derrimas_copy(&world, FIRST, OBJECT));
     for (uint64_t i = 1; i < n; i++) {
-        must(fz_alloc(&world, WORD, 1, false, &made));
-        must(fz_store(&world, OBJECT, 0, WORD));
-        must(fz_copy(&world, WORD, OBJECT));
+        must(derrimas_alloc(&world, WORD, 1, DERRIMAS_SCANNED, &made));
+        must(derrimas_store(&world, OBJECT, 0, WORD));
+        must(derrimas_copy(&world, WORD, OBJECT));
     }
 }
 
@@ -81,47 +81,47 @@ static void store_by_chance(uint64_t n, uint64_t count)
 {
     for (uint64_t i = 0; i < count; i++) {
         seed ^= seed << 13; seed ^= seed >> 7; seed ^= seed << 17;
-        must(fz_set(&world, OBJECT, FZ_HEAP_START + seed % n));
-        must(fz_load(&world, OBJECT, 0, WORD, &word));
-        must(fz_store(&world, OBJECT, 0, WORD));
+        must(derrimas_set(&world, OBJECT, DERRIMAS_HEAP_START + seed % n));
+        must(derrimas_load(&world, OBJECT, 0, WORD, &word));
+        must(derrimas_store(&world, OBJECT, 0, WORD));
     }
-    must(fz_set(&world, OBJECT, 0));
-    must(fz_set(&world, WORD, 0));
+    must(derrimas_set(&world, OBJECT, 0));
+    must(derrimas_set(&world, WORD, 0));
 }
 
 /* Times each call of a cycle after one that isn't timed, and one more cycle as a whole. `steps` keeps the least time of each step over the turns. */
 static void cycle(uint64_t n, uint64_t between, uint64_t last)
 {
-    fz_counts before, after;
+    derrimas_counts before, after;
     bool done = false;
 
     seed = 88172645463325252u;
     open_for(n);
     make_chain(n);
     store_by_chance(n, 0);
-    must(fz_collect(&world, &passed));
+    must(derrimas_collect(&world, &passed));
     double t = wall();
-    must(fz_begin(&world));
+    must(derrimas_begin(&world));
     begun = wall() - t;
     for (size_t i = 0; !done; i++) {
         if (i == MOST_STEPS)
             fail("more steps than scans");
         t = wall();
-        must(fz_mark(&world, BUDGET, &done));
+        must(derrimas_mark(&world, BUDGET, &done));
         t = wall() - t;
         steps[i] = steps[i] > 0 ? fmin(steps[i], t) : t;
         store_by_chance(n, between);
     }
     store_by_chance(n, last);
-    must(fz_count(&world, &before));
+    must(derrimas_count(&world, &before));
     t = wall();
-    must(fz_pause(&world, &passed));
+    must(derrimas_pause(&world, &passed));
     paused = wall() - t;
-    must(fz_count(&world, &after));
-    if (before.scans != n || after.reclaimed || after.scans - n > FZ_BLOCK_WORDS * after.noted)
+    must(derrimas_count(&world, &after));
+    if (before.scans != n || after.reclaimed || after.scans - n > DERRIMAS_BLOCK_WORDS * after.noted)
         fail("another cycle");
     t = wall();
-    must(fz_collect(&world, &passed));
+    must(derrimas_collect(&world, &passed));
     whole = wall() - t;
 }
 
@@ -143,24 +143,24 @@ static double longest_mark(uint64_t n)
 
 static double idle(uint64_t n, uint64_t held)
 {
-    fz_registered registered;
+    derrimas_registered registered;
 
     open_for(ROUND + held);
     for (uint64_t past = 0; past < n; past += ROUND) {
         for (uint64_t i = 0; i < ROUND; i++) {
-            must(fz_alloc(&world, OBJECT, 1, true, &made));
-            must(fz_register(&world, OBJECT, 0, 0, 0, &registered));
+            must(derrimas_alloc(&world, OBJECT, 1, DERRIMAS_ATOMIC, &made));
+            must(derrimas_register(&world, OBJECT, DERRIMAS_NORMAL, 0, 0, 0, &registered));
         }
-        must(fz_set(&world, OBJECT, 0));
-        must(fz_collect(&world, &passed));
-        while (fz_take(&world, &entry) == FZ_OK)
+        must(derrimas_set(&world, OBJECT, 0));
+        must(derrimas_collect(&world, &passed));
+        while (derrimas_take(&world, &entry) == DERRIMAS_OK)
             if (entry.seq >= held)
-                must(fz_finish(&world, &entry));
-        must(fz_collect(&world, &passed));
+                must(derrimas_finish(&world, &entry));
+        must(derrimas_collect(&world, &passed));
     }
     double t = now();
     for (int i = 0; i < IDLE; i++)
-        must(fz_collect(&world, &passed));
+        must(derrimas_collect(&world, &passed));
     return (now() - t) / IDLE;
 }
 
@@ -170,45 +170,45 @@ static double idle_behind_one(uint64_t n) { return idle(n, 1); }
 
 /* ---- a line, on which one thread publishes n entries */
 
-static fz_line line;
+static derrimas_line line;
 static atomic_bool all_sent;
 
 static void publish(uint64_t seq)
 {
-    const fz_entry sent = {seq, 1, seq, FZ_HEAP_START, seq, 0, 0};
+    const derrimas_entry sent = {seq, 1, seq, DERRIMAS_HEAP_START, seq, 0, 0};
 
-    must(fz_line_publish(&line, &sent));
+    must(derrimas_line_publish(&line, &sent));
 }
 
 /* the same thread takes each of them at once */
 static double line_alone(uint64_t n)
 {
-    fz_seat seat = {0};
+    derrimas_seat seat = {0};
 
-    must(fz_line_open(&line, 1));
-    must(fz_line_seat(&line, &seat));
+    must(derrimas_line_open(&line, 1, 0));
+    must(derrimas_line_seat(&line, &seat));
     double t = now();
     for (uint64_t i = 0; i < n; i++) {
         publish(i);
-        must(fz_seat_take(&seat, &entry));
-        must(fz_seat_done(&seat));
+        must(derrimas_seat_take(&seat, &entry));
+        must(derrimas_seat_done(&seat));
     }
     t = now() - t;
-    fz_seat_destroy(&seat);
-    fz_line_destroy(&line);
+    derrimas_seat_destroy(&seat);
+    derrimas_line_destroy(&line);
     return t / n;
 }
 
 static void *take_all(void *words)
 {
-    fz_seat *seat = words;
-    fz_entry taken;
+    derrimas_seat *seat = words;
+    derrimas_entry taken;
 
     for (bool last = false;;) {
-        fz_code code = fz_seat_take(seat, &taken);
-        if (code == FZ_OK)
-            must(fz_seat_done(seat));
-        else if (last && code == FZ_EMPTY)
+        derrimas_code code = derrimas_seat_take(seat, &taken);
+        if (code == DERRIMAS_OK)
+            must(derrimas_seat_done(seat));
+        else if (last && code == DERRIMAS_EMPTY)
             return NULL;
         last = atomic_load(&all_sent);
     }
@@ -217,12 +217,12 @@ static void *take_all(void *words)
 /* four threads take until all are taken */
 static double line_of_four(uint64_t n)
 {
-    fz_seat seats[TAKERS] = {{0}};
+    derrimas_seat seats[TAKERS] = {{0}};
     pthread_t threads[TAKERS];
 
-    must(fz_line_open(&line, TAKERS));
+    must(derrimas_line_open(&line, TAKERS, 0));
     for (int i = 0; i < TAKERS; i++)
-        must(fz_line_seat(&line, &seats[i]));
+        must(derrimas_line_seat(&line, &seats[i]));
     atomic_store(&all_sent, false);
     double t = wall();
     for (int i = 0; i < TAKERS; i++)
@@ -235,8 +235,8 @@ static double line_of_four(uint64_t n)
         pthread_join(threads[i], NULL);
     t = wall() - t;
     for (int i = 0; i < TAKERS; i++)
-        fz_seat_destroy(&seats[i]);
-    fz_line_destroy(&line);
+        derrimas_seat_destroy(&seats[i]);
+    derrimas_line_destroy(&line);
     return t / n;
 }
 
@@ -257,7 +257,7 @@ int main(int count, char **words)
             double least = INFINITY;
             for (int turn = 0; turn < tests[i].turns; turn++) {
                 least = fmin(least, tests[i].turn(n));
-                fz_destroy(&world);
+                derrimas_destroy(&world);
             }
             printf("%.3f\n", least);
             return 0;

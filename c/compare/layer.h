@@ -151,17 +151,17 @@ static inline uint64_t invoke(void) { return (uint64_t)GC_invoke_finalizers(); }
 #else
 #include "derrimas.h"
 
-static fz_world world;
-static const fz_entry *current;
+static derrimas_world world;
+static const derrimas_entry *current;
 static finalizer finalizers[64];
 static unsigned known = 0;
 
-#define MUST(call) do { if ((call) != FZ_OK) fail(#call); } while (0)
+#define MUST(call) do { if ((call) != DERRIMAS_OK) fail(#call); } while (0)
 
-static fz_slot root(int n) { return fz_at((uint64_t)n / FZ_SLOTS, (uint64_t)n % FZ_SLOTS); }
+static derrimas_slot root(int n) { return derrimas_at((uint64_t)n / DERRIMAS_SLOTS, (uint64_t)n % DERRIMAS_SLOTS); }
 
-static inline void layer_open(void) { MUST(fz_open(&world, 1024, FZ_MAX_FRAMES)); }
-static inline void layer_close(void) { fz_destroy(&world); }
+static inline void layer_open(void) { MUST(derrimas_open(&world, 1024, DERRIMAS_MAX_FRAMES)); }
+static inline void layer_close(void) { derrimas_destroy(&world); }
 
 /* Calls the procedure where nothing of earlier calls is left. */
 static inline void layer_apart(void (*procedure)(void))
@@ -173,20 +173,18 @@ static inline void layer_apart(void (*procedure)(void))
 
 static inline void new_object(int at, uint64_t size, bool is_atomic)
 {
-    fz_made made;
-
-    MUST(fz_alloc(&world, root(at), size, is_atomic, &made));
+    MUST(derrimas_alloc(&world, root(at), size, is_atomic ? DERRIMAS_ATOMIC : DERRIMAS_SCANNED, NULL));
 }
 
-static inline void forget(int at) { MUST(fz_set(&world, root(at), 0)); }
-static inline void copy(int at, int to) { MUST(fz_copy(&world, root(at), root(to))); }
-static inline void store(int at, uint64_t offset, int from) { MUST(fz_store(&world, root(at), offset, root(from))); }
+static inline void forget(int at) { MUST(derrimas_set(&world, root(at), 0)); }
+static inline void copy(int at, int to) { MUST(derrimas_copy(&world, root(at), root(to))); }
+static inline void store(int at, uint64_t offset, int from) { MUST(derrimas_store(&world, root(at), offset, root(from))); }
 
 static inline bool load(int at, uint64_t offset, int to)
 {
     uint64_t word;
 
-    MUST(fz_load(&world, root(at), offset, root(to), &word));
+    MUST(derrimas_load(&world, root(at), offset, root(to), &word));
     return word != 0;
 }
 
@@ -201,58 +199,47 @@ static uint64_t number_of(finalizer f)
 
 static inline void finalize(int at, int kind, finalizer f, uint64_t cd)
 {
-    fz_registered registered;
-    uint64_t proc = number_of(f);
+    static const derrimas_kind kinds[] = {DERRIMAS_NORMAL, DERRIMAS_IGNORE_SELF, DERRIMAS_NO_ORDER};
 
-    if (kind == NORMAL)
-        MUST(fz_register(&world, root(at), proc, cd, 0, &registered));
-    else if (kind == IGNORE_SELF)
-        MUST(fz_register_ignore_self(&world, root(at), proc, cd, 0, &registered));
-    else
-        MUST(fz_register_no_order(&world, root(at), proc, cd, 0, &registered));
+    MUST(derrimas_register_object(&world, root(at), kinds[kind], number_of(f), cd, 0, NULL));
 }
 
-static inline void unfinalize(int at)
-{
-    fz_old old;
+static inline void unfinalize(int at) { MUST(derrimas_unregister(&world, root(at), NULL)); }
 
-    MUST(fz_unregister(&world, root(at), &old));
-}
+static inline void hold(int at) { MUST(derrimas_hold(&world, root(at), current)); }
 
-static inline void hold(int at) { MUST(fz_hold(&world, root(at), current)); }
+static derrimas_links kind_of(bool is_long) { return is_long ? DERRIMAS_LONG : DERRIMAS_SHORT; }
 
 static inline int make_link(bool is_long, int at, uint64_t offset, int target)
 {
-    uint8_t answer;
+    derrimas_link_answer answer;
 
-    MUST(fz_link(&world, is_long, root(at), offset, root(target), &answer));
-    return answer;
+    MUST(derrimas_link(&world, kind_of(is_long), root(at), offset, root(target), &answer));
+    return DERRIMAS_GC_ANSWER(answer);
 }
 
 static inline int remove_link(bool is_long, int at, uint64_t offset)
 {
     bool was;
 
-    MUST(fz_unlink(&world, is_long, root(at), offset, &was));
+    MUST(derrimas_unlink(&world, kind_of(is_long), root(at), offset, &was));
     return was;
 }
 
 static inline int move_link(bool is_long, int at, uint64_t offset, uint64_t to)
 {
-    uint8_t answer;
+    derrimas_link_answer answer;
 
-    MUST(fz_move_link(&world, is_long, root(at), offset, root(at), to, &answer));
-    return answer;
+    MUST(derrimas_move_link(&world, kind_of(is_long), root(at), offset, root(at), to, &answer));
+    return DERRIMAS_GC_ANSWER(answer);
 }
 
 static void collect(void)
 {
-    fz_passed passed;
-
-    MUST(fz_collect(&world, &passed));
+    MUST(derrimas_collect(&world, NULL));
 }
 
-static void run(fz_world *w, const fz_entry *entry, void *data)
+static void run(derrimas_world *w, const derrimas_entry *entry, void *data)
 {
     (void)w;
     (void)data;
@@ -263,11 +250,11 @@ static void run(fz_world *w, const fz_entry *entry, void *data)
 
 static inline uint64_t invoke(void)
 {
-    fz_proc procs[64];
+    derrimas_proc procs[64];
 
     for (unsigned n = 0; n < 64; n++)
         procs[n] = run;
-    return fz_invoke_finalizers(&world, procs, 64, NULL);
+    return derrimas_invoke_finalizers(&world, procs, 64, NULL);
 }
 #endif
 #endif

@@ -1,9 +1,10 @@
 /* random FIRST COUNT: graphs of chance over bdwgc and over derrimas.h, whose outputs are to be the same.
  *
- * A graph has up to 60 objects, scanned and atomic, which lead to each other at random. Some have finalizers of the three kinds; some finalizers
- * keep their objects. All have a long link, and half of them a short one, in two objects that stay; atomic ones have links in their own words. In
- * each of some rounds roots are dropped, objects of the others are changed, and a collection follows. Then the line of the round tells which
- * finalizers have run, as a set, and which words of links are 0: so a 0 among the long ones says that the object is gone.
+ * A graph has up to 60 objects, scanned and atomic, which lead to each other at random. Some have finalizers of the three kinds. Some finalizers keep
+ * their objects, make rings of them, register them again, or move their links from word to word. All objects have a long link, and half of them a short
+ * one, in two objects that stay; atomic ones have links in their own words. In each of some rounds roots are dropped, objects of the others are changed,
+ * and a collection follows. Then the line of the round tells how often each finalizer has run, and which words of links are 0: so a 0 among the long
+ * ones says that the object is gone. What a finalizer does is of its own object alone and was drawn before, since the two run them in unlike orders.
  */
 #include "layer.h"
 #include <string.h>
@@ -26,7 +27,10 @@ static unsigned chance(unsigned below)
 
 struct object {
     unsigned words;
-    bool is_atomic, is_rooted, has_short, has_run, keeps;
+    unsigned runs;
+    int again; /* the kind with which its finalizer registers it again, or -1 */
+    int moved; /* what the moves of its finalizer answered */
+    bool is_atomic, is_rooted, has_short, keeps, rings, moves;
     bool has_link[WORDS]; /* of an atomic object: a link stood there once, so that its word is an address, or 0 */
 };
 
@@ -34,15 +38,36 @@ static struct object objects[MOST];
 static int count;
 static uint64_t number; /* of the graph */
 
-/* The finalizer of all: it tells that it ran, and may put its object into its root again. Its client data is the object's number, which is far
- * below the heap: a larger one might be an address of the library's heap, and keep what stands there. */
+/* Moves the links of the object in a root along its words, from each to the next, and puts all answers into a number. */
+static int moved_along(int root, unsigned words)
+{
+    int answers = 0;
+
+    for (unsigned at = 0; at + 1 < words; at++)
+        for (int is_long = 0; is_long < 2; is_long++)
+            answers = 5 * answers + move_link(is_long, root, at, at + 1);
+    return answers;
+}
+
+/* The finalizer of all: it counts that it ran, and may put its object into its root again, or do more with it. Its client data is the object's number,
+ * which is far below the heap: a larger one might be an address of the library's heap, and keep what stands there. */
 static void note(uint64_t n)
 {
-    objects[n].has_run = true;
-    if (!objects[n].keeps)
+    struct object *o = &objects[n];
+
+    o->runs++;
+    hold(FOUND);
+    if (o->rings && !o->is_atomic)
+        store(FOUND, 0, FOUND);
+    if (o->moves && o->is_atomic)
+        o->moved = moved_along(FOUND, o->words);
+    if (o->again >= 0)
+        finalize(FOUND, o->again, note, n);
+    forget(FOUND);
+    if (!o->keeps)
         return;
     hold((int)n);
-    objects[n].is_rooted = true;
+    o->is_rooted = true;
 }
 
 /* A rooted object of chance, or -1. */
@@ -61,6 +86,7 @@ APART static void make_objects(void)
     for (int n = 0; n < count; n++) {
         struct object *o = &objects[n];
         o->words = 1 + chance(WORDS);
+        o->again = -1;
         o->is_atomic = chance(5) == 0;
         o->is_rooted = true;
         o->has_short = chance(2) == 0;
@@ -88,6 +114,7 @@ static void change_link(int n, int target)
     struct object *o = &objects[n];
     unsigned at = chance(o->words), to = chance(o->words);
     bool is_long = chance(2);
+    int answer;
 
     if (!o->is_atomic)
         return;
@@ -96,7 +123,8 @@ static void change_link(int n, int target)
         printf(" removed %d", remove_link(is_long, n, at));
         break;
     case 1:
-        printf(" moved %d", move_link(is_long, n, at, to));
+        answer = move_link(is_long, n, at, to);
+        printf(" moved %d %d", answer, moved_along(n, o->words));
         break;
     default:
         store(n, at, target);
@@ -107,7 +135,12 @@ static void change_link(int n, int target)
 
 static void change_finalizer(int n)
 {
-    objects[n].keeps = chance(4) == 0;
+    struct object *o = &objects[n];
+
+    o->keeps = chance(4) == 0;
+    o->rings = chance(4) == 0;
+    o->moves = chance(2) == 0;
+    o->again = chance(3) == 0 ? (int)chance(3) : -1;
     if (chance(6) == 0)
         unfinalize(n);
     else
@@ -155,8 +188,8 @@ APART static void tell(void)
 {
     printf(" | ran");
     for (int n = 0; n < count; n++)
-        if (objects[n].has_run)
-            printf(" %d", n);
+        if (objects[n].runs)
+            printf(" %d*%u:%d", n, objects[n].runs, objects[n].moved);
     printf(" | short");
     for (int n = 0; n < count; n++)
         if (objects[n].has_short && is_zero(SHORTS, (uint64_t)n))
@@ -175,7 +208,7 @@ APART static void tell(void)
 
 static void play(void)
 {
-    seed = (number + 1) * UINT64_C(0x9e3779b97f4a7c15);
+    seed = (number + 1) * UINT64_C(0xd1342543de82ef95);
     count = 1 + (int)chance(MOST);
     make_objects();
     for (int round = 0; round < ROUNDS; round++) {

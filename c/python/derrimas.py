@@ -3,39 +3,60 @@
     from derrimas import World
 
     with World(blocks=4) as world:
-        made = world.alloc((0, 0), size=2)
         world.finalizer(0, lambda world, entry: print("finalized", entry.cd))
-        world.register((0, 0), proc=0, cd=7)
-        world.set((0, 0), 0)
+        with world.scope() as scope:
+            slot = scope.slot()
+            world.alloc(slot, size=2)
+            world.register(slot, proc=0, cd=7)
         world.collect()
         world.invoke_finalizers()
 
-A slot is a pair of a frame and a slot of it. Sizes and offsets are in words; addresses, words and client data are numbers. A refused call raises
-Refused. Use a world from one thread at a time. The library is c/out/libderrimas.so, which c/build makes, or the file that the variable DERRIMAS names."""
-import ctypes, os
-from ctypes import POINTER, Structure, byref, c_bool, c_uint8, c_uint64, c_void_p
+A slot is a pair of a frame and a slot of it. Sizes and offsets are in words; addresses, words and client data are numbers. A refused call raises Refused,
+whose text is the library's sentence. Use a world from one thread at a time. The library is c/out/libderrimas.so.1, which c/build makes, or the file that
+the variable DERRIMAS names."""
+from __future__ import annotations
+import ctypes, enum, os
+from ctypes import POINTER, Structure, byref, c_bool, c_char_p, c_uint8, c_uint32, c_uint64, c_void_p
+from typing import Any, Callable, Dict, Iterator, Optional, Tuple
 
 HERE = os.path.dirname(os.path.abspath(__file__))
-NAMES = {1: "BadSlot", 2: "NotPointer", 3: "OutsideObject", 4: "BadSize", 5: "NoSpace", 6: "NotStart", 7: "BadCount", 8: "CycleOpen", 9: "NoCycle",
-         10: "NotHeld", 11: "Closed", 12: "NoMemory", 13: "Exhausted", 14: "TableFull", 64: "NoWorld", 65: "HasWorld", 66: "Empty"}
 EMPTY = 66
-NORMAL, IGNORE_SELF, NO_ORDER = range(3)
-SUCCESS, DUPLICATE, NOT_FOUND = 0, 1, 4
+At = Tuple[int, int]
+
+
+class Kind(enum.IntEnum):
+    """The kinds of registrations."""
+    NORMAL, IGNORE_SELF, NO_ORDER = range(3)
+
+
+class Words(enum.IntEnum):
+    """The kinds of objects: the words of an atomic one keep nothing."""
+    SCANNED, ATOMIC = range(2)
+
+
+class Links(enum.IntEnum):
+    """The kinds of links."""
+    SHORT, LONG = range(2)
+
+
+class LinkAnswer(enum.IntEnum):
+    """What is answered about a link."""
+    LINKED, DUPLICATE, NOT_FOUND = range(128, 131)
 
 
 class Refused(Exception):
-    """A call was refused, and changed nothing. `code` is the number of the refusal, and the text its name."""
+    """A call was refused, and changed nothing: `code` is the number of the refusal, `name` its name, and the text says what it means."""
 
-    def __init__(self, code):
-        super().__init__(NAMES.get(code, str(code)))
-        self.code = code
+    def __init__(self, code: int) -> None:
+        super().__init__(LIBRARY.derrimas_strerror(code).decode())
+        self.code, self.name = code, LIBRARY.derrimas_name(code).decode()
 
 
-def struct(name, doc, *fields):
+def struct(name: str, doc: str, *fields: Any) -> Any:
     """A struct of C whose fields are numbers, but for those that name their type."""
     typed = [field if isinstance(field, tuple) else (field, c_uint64) for field in fields]
 
-    def show(self):
+    def show(self: Any) -> str:
         return f"{name}({', '.join(f'{field}={getattr(self, field)}' for field, _ in typed)})"
     return type(name, (Structure,), {"__doc__": doc, "_fields_": typed, "__repr__": show})
 
@@ -48,170 +69,180 @@ Passed = struct("Passed", "What a pass did: its number, the entries that it queu
 Entry = struct("Entry", "An entry of the queue: its place, its pass, its registration, object, birth, procedure and client data.",
                "seq", "passed", "reg", "obj", "birth", "proc", "cd")
 Object = struct("Object", "An object that stands in the heap.", "start", "size", "birth", ("atomic", c_bool))
-Registration = struct("Registration", "A registration that stands; kind is NORMAL, IGNORE_SELF or NO_ORDER.",
-                      "object", "number", "proc", "cd", ("kind", c_uint8), ("rank", c_uint8))
+Registration = struct("Registration", "A registration that stands; its kind is a Kind.", "object", "number", "proc", "cd", ("kind", c_uint32), ("rank", c_uint8))
 Linked = struct("Linked", "A link that stands: the address of its word, and that of its target.", "place", "target")
 Counts = struct("Counts", "Counts of a world's life.", "passes", "reclaimed", "queued", "taken", "outstanding", "scans", "noted")
 SAMPLED = {"slot": Slot, "made": Made, "replaced": Old, "registered": Registered, "passed": Passed, "entry": Entry, "object": Object,
            "registration": Registration, "linked": Linked, "counts": Counts}
-Samples = struct("Samples", "One of each struct, as fz_sample fills them.", *SAMPLED.items())
+Samples = struct("Samples", "One of each struct, as derrimas_sample fills them.", *SAMPLED.items())
 Handle = struct("Handle", "What stands for a world in C.", ("inside", c_void_p))
+PROCEDURE = ctypes.CFUNCTYPE(None, POINTER(Handle), POINTER(Entry), c_void_p)
 
 
-def library():
+def library() -> ctypes.CDLL:
     """The library, each of whose calls knows its types: after the world the arguments, and last the place for a result."""
-    lib, n, slot = ctypes.CDLL(os.environ.get("DERRIMAS", os.path.join(HERE, "..", "out", "libderrimas.so"))), c_uint64, Slot
-    registering = [slot, n, n, c_uint8, POINTER(Registered)]
+    lib, n, kind = ctypes.CDLL(os.environ.get("DERRIMAS", os.path.join(HERE, "..", "out", "libderrimas.so.1"))), c_uint64, c_uint32
     for name, types in {
-        "open": [n, n], "close": [], "alloc": [slot, n, c_bool, POINTER(Made)], "set": [slot, n], "get": [slot, POINTER(n)], "copy": [slot, slot],
-        "load": [slot, n, slot, POINTER(n)], "store": [slot, n, slot], "read": [n, n, POINTER(n)], "register": registering,
-        "register_ignore_self": registering, "register_no_order": registering, "unregister": [slot, POINTER(Old)],
-        "link": [c_bool, slot, n, slot, POINTER(c_uint8)], "unlink": [c_bool, slot, n, POINTER(c_bool)],
-        "move_link": [c_bool, slot, n, slot, n, POINTER(c_uint8)], "begin": [], "mark": [n, POINTER(c_bool)], "pause": [POINTER(Passed)],
-        "collect": [POINTER(Passed)], "take": [POINTER(Entry)], "waiting": [POINTER(c_bool)], "outstanding": [POINTER(n)],
-        "hold": [slot, POINTER(Entry)], "finish": [POINTER(Entry)], "next_object": [n, POINTER(Object)], "next_registration": [n, POINTER(Registration)],
-        "next_link": [c_bool, n, POINTER(Linked)], "next_held": [n, POINTER(Entry)], "queued": [n, POINTER(Entry)], "count": [POINTER(Counts)],
+        "open": [n, n], "close": [], "alloc": [Slot, n, kind, POINTER(Made)], "set": [Slot, n], "get": [Slot, POINTER(n)], "copy": [Slot, Slot],
+        "load": [Slot, n, Slot, POINTER(n)], "store": [Slot, n, Slot], "write": [Slot, n, n], "read": [n, n, POINTER(n)], "base": [n, POINTER(Object)],
+        "register_object": [Slot, kind, n, n, c_uint8, POINTER(Registered)], "unregister": [Slot, POINTER(Old)],
+        "link": [kind, Slot, n, Slot, POINTER(kind)], "unlink": [kind, Slot, n, POINTER(c_bool)], "move_link": [kind, Slot, n, Slot, n, POINTER(kind)],
+        "begin": [], "mark": [n, POINTER(c_bool)], "pause": [POINTER(Passed)], "collect": [POINTER(Passed)], "take": [POINTER(Entry)],
+        "waiting": [POINTER(c_bool)], "outstanding": [POINTER(n)], "hold": [Slot, POINTER(Entry)], "finish": [POINTER(Entry)],
+        "next_object": [n, POINTER(Object)], "next_registration": [n, POINTER(Registration)], "next_link": [kind, n, POINTER(Linked)],
+        "next_held": [n, POINTER(Entry)], "queued": [n, POINTER(Entry)], "count": [POINTER(Counts)],
+        "finalize_all": [Slot, POINTER(PROCEDURE), ctypes.c_size_t, c_void_p, POINTER(n)],
     }.items():
-        call = getattr(lib, "fz_" + name)
-        call.restype, call.argtypes = c_uint8, [POINTER(Handle), *types]
-    lib.fz_destroy.restype, lib.fz_destroy.argtypes = None, [POINTER(Handle)]
-    lib.fz_sample.restype, lib.fz_sample.argtypes = None, [POINTER(Samples)]
+        call = getattr(lib, "derrimas_" + name)
+        call.restype, call.argtypes = c_uint32, [POINTER(Handle), *types]
+    for name in ("name", "strerror"):
+        text = getattr(lib, "derrimas_" + name)
+        text.restype, text.argtypes = c_char_p, [c_uint32]
+    lib.derrimas_destroy.restype, lib.derrimas_destroy.argtypes = None, [POINTER(Handle)]
+    lib.derrimas_sample.restype, lib.derrimas_sample.argtypes = None, [POINTER(Samples)]
     return lib
 
 
 LIBRARY = library()
 
 
-def sample():
+def sample() -> Samples:
     """One of each struct, as the library fills them: the fields are 1, 2, 3 and so on."""
     samples = Samples()
-    LIBRARY.fz_sample(byref(samples))
+    LIBRARY.derrimas_sample(byref(samples))
     return samples
 
 
 class World:
     """A world with a heap of so many blocks of 64 words, and frames of 16 slots each. Leaving a `with` destroys it, and so does letting go of it."""
 
-    def __init__(self, blocks=64, frames=1):
+    def __init__(self, blocks: int = 64, frames: int = 1) -> None:
         self.handle = Handle()
-        self.procedures = {}
+        self.procedures: Dict[int, Callable[[World, Any], Any]] = {}
         self._call("open", blocks, frames)
 
-    def __enter__(self):
+    def __enter__(self) -> World:
         return self
 
-    def __exit__(self, *_):
+    def __exit__(self, *_: Any) -> None:
         self.destroy()
 
-    def __del__(self):
+    def __del__(self) -> None:
         self.destroy()
 
-    def _call(self, name, *arguments, answer=None):
+    def _call(self, name: str, *arguments: Any, answer: Any = None) -> Any:
         """Makes a call; `answer` is the type of its result, of which numbers and truths come as Python's."""
         place = answer() if answer else None
-        code = getattr(LIBRARY, "fz_" + name)(byref(self.handle), *arguments, *([byref(place)] if answer else []))
+        code = getattr(LIBRARY, "derrimas_" + name)(byref(self.handle), *arguments, *([byref(place)] if answer else []))
         if code:
             raise Refused(code)
         return getattr(place, "value", place)
 
-    def destroy(self):
+    def destroy(self) -> None:
         """Frees the world. No finalizer runs. Every call but this one is refused as NoWorld from then on."""
-        LIBRARY.fz_destroy(byref(self.handle))
+        LIBRARY.derrimas_destroy(byref(self.handle))
 
-    def close(self):
+    def close(self) -> None:
         """Closes the world: no pass queues anything from now on."""
         self._call("close")
 
-    def alloc(self, slot, size, atomic=False):
-        """Makes an object of `size` zero words, whose address goes into the slot. The words of an atomic one keep nothing."""
-        return self._call("alloc", Slot(*slot), size, atomic, answer=Made)
+    def alloc(self, slot: At, size: int, words: Words = Words.SCANNED) -> Made:
+        """Makes an object of `size` zero words, whose address goes into the slot."""
+        return self._call("alloc", Slot(*slot), size, words, answer=Made)
 
-    def set(self, slot, word):
+    def set(self, slot: At, word: int) -> None:
         """Puts a word into a slot."""
         self._call("set", Slot(*slot), word)
 
-    def get(self, slot):
+    def get(self, slot: At) -> int:
         """The word of a slot."""
         return self._call("get", Slot(*slot), answer=c_uint64)
 
-    def copy(self, slot, to):
+    def copy(self, slot: At, to: At) -> None:
         """Puts the word of a slot into another."""
         self._call("copy", Slot(*slot), Slot(*to))
 
-    def load(self, slot, offset, to):
+    def load(self, slot: At, offset: int, to: At) -> int:
         """The word at the slot's word plus the offset, which goes into the slot `to`, too."""
         return self._call("load", Slot(*slot), offset, Slot(*to), answer=c_uint64)
 
-    def store(self, slot, offset, source):
+    def store(self, slot: At, offset: int, source: At) -> None:
         """Writes the word of the slot `source` at the slot's word plus the offset."""
         self._call("store", Slot(*slot), offset, Slot(*source))
 
-    def read(self, word, offset=0):
+    def write(self, slot: At, offset: int, value: int) -> None:
+        """Writes a number at the slot's word plus the offset."""
+        self._call("write", Slot(*slot), offset, value)
+
+    def read(self, word: int, offset: int = 0) -> int:
         """The word at this word plus the offset, which nothing keeps."""
         return self._call("read", word, offset, answer=c_uint64)
 
-    def register(self, slot, proc, cd=0, rank=0, kind=NORMAL):
-        """Registers a finalizer of the object that starts at the slot's word."""
-        name = ("register", "register_ignore_self", "register_no_order")[kind]
-        return self._call(name, Slot(*slot), proc, cd, rank, answer=Registered)
+    def base(self, word: int) -> Optional[Object]:
+        """The object to which a word points, or None."""
+        return self._or_none("base", word, answer=Object)
 
-    def unregister(self, slot):
+    def register(self, slot: At, proc: int, cd: int = 0, rank: int = 0, kind: Kind = Kind.NORMAL) -> Registered:
+        """Registers a finalizer of the object that starts at the slot's word. Refused where the slot has let go of its object."""
+        return self._call("register_object", Slot(*slot), kind, proc, cd, rank, answer=Registered)
+
+    def unregister(self, slot: At) -> Old:
         """Removes the finalizer of the object, and tells what it was."""
         return self._call("unregister", Slot(*slot), answer=Old)
 
-    def link(self, slot, offset, target, long=False):
-        """Makes the word at the place a link to the object at the target slot's word: SUCCESS or DUPLICATE. Store the address there yourself."""
-        return self._call("link", long, Slot(*slot), offset, Slot(*target), answer=c_uint8)
+    def link(self, slot: At, offset: int, target: At, kind: Links = Links.SHORT) -> LinkAnswer:
+        """Makes the word at the place a link to the object at the target slot's word. Store the address there yourself."""
+        return LinkAnswer(self._call("link", kind, Slot(*slot), offset, Slot(*target), answer=c_uint32))
 
-    def unlink(self, slot, offset, long=False):
+    def unlink(self, slot: At, offset: int, kind: Links = Links.SHORT) -> bool:
         """Removes the link at the place, and tells whether there was one."""
-        return self._call("unlink", long, Slot(*slot), offset, answer=c_bool)
+        return self._call("unlink", kind, Slot(*slot), offset, answer=c_bool)
 
-    def move_link(self, slot, offset, to, to_offset, long=False):
-        """Moves a link: SUCCESS, DUPLICATE or NOT_FOUND."""
-        return self._call("move_link", long, Slot(*slot), offset, Slot(*to), to_offset, answer=c_uint8)
+    def move_link(self, slot: At, offset: int, to: At, to_offset: int, kind: Links = Links.SHORT) -> LinkAnswer:
+        """Moves a link."""
+        return LinkAnswer(self._call("move_link", kind, Slot(*slot), offset, Slot(*to), to_offset, answer=c_uint32))
 
-    def collect(self):
+    def collect(self) -> Passed:
         """A whole cycle with its pass."""
         return self._call("collect", answer=Passed)
 
-    def begin(self):
+    def begin(self) -> None:
         """Opens a cycle."""
         self._call("begin")
 
-    def mark(self, budget):
+    def mark(self, budget: int) -> bool:
         """Scans at most `budget` objects, and tells whether none is left."""
         return self._call("mark", budget, answer=c_bool)
 
-    def pause(self):
+    def pause(self) -> Passed:
         """Ends the cycle with a pass."""
         return self._call("pause", answer=Passed)
 
-    def take(self):
+    def take(self) -> Optional[Entry]:
         """The next entry of the queue, or None."""
         return self._or_none("take", answer=Entry)
 
-    def waiting(self):
-        """Whether the queue has an entry that wasn't taken."""
+    def waiting(self) -> bool:
+        """Whether the queue has an entry that is neither taken nor finished."""
         return self._call("waiting", answer=c_bool)
 
-    def outstanding(self):
+    def outstanding(self) -> int:
         """How many entries aren't finished."""
         return self._call("outstanding", answer=c_uint64)
 
-    def hold(self, slot, entry):
+    def hold(self, slot: At, entry: Entry) -> None:
         """Puts the address of the entry's object into a slot."""
         self._call("hold", Slot(*slot), byref(entry))
 
-    def finish(self, entry):
+    def finish(self, entry: Entry) -> None:
         """Ends the holding of the entry."""
         self._call("finish", byref(entry))
 
-    def finalizer(self, proc, function):
+    def finalizer(self, proc: int, function: Callable[[World, Any], Any]) -> None:
         """Names the procedure of a number: a function of the world and the entry."""
         self.procedures[proc] = function
 
-    def invoke_finalizers(self):
+    def invoke_finalizers(self) -> int:
         """Takes entries until none is left, calls the procedure of each, and finishes it, also where the procedure raised. Returns their number."""
         taken = 0
         while (entry := self.take()) is not None:
@@ -222,7 +253,28 @@ class World:
                 self.finish(entry)
         return taken
 
-    def _or_none(self, name, *arguments, answer):
+    def finalize_all(self, slot: At) -> int:
+        """For the end: runs the entries that wait, and then the finalizer of each registered object, by rank, then address, as no pass would. The slot keeps
+        an object meanwhile. What a procedure raises is raised here, once all have run. Returns how many ran."""
+        raised = []
+
+        def run(_: Any, entry: Any, __: Any) -> None:
+            try:
+                self.procedures.get(entry.contents.proc, lambda world, entry: None)(self, entry.contents)
+            except Exception as why:  # nothing may be raised through C
+                raised.append(why)
+        count = max(self.procedures, default=-1) + 1
+        table = (PROCEDURE * max(count, 1))(*[PROCEDURE(run)] * count)
+        ran = self._call("finalize_all", Slot(*slot), table, count, None, answer=c_uint64)
+        if raised:
+            raise raised[0]
+        return ran
+
+    def scope(self, frame: int = 0, first: int = 0) -> Scope:
+        """Slots of a frame from one on, for a `with`."""
+        return Scope(self, frame, first)
+
+    def _or_none(self, name: str, *arguments: Any, answer: Any) -> Any:
         try:
             return self._call(name, *arguments, answer=answer)
         except Refused as refused:
@@ -230,32 +282,58 @@ class World:
                 raise
             return None
 
-    def _walk(self, name, field, answer, *arguments):
+    def _walk(self, name: str, field: str, answer: Any, *arguments: Any) -> Iterator[Any]:
         start = 0
         while (found := self._or_none(name, *arguments, start, answer=answer)) is not None:
             yield found
             start = getattr(found, field) + 1
 
-    def objects(self):
+    def objects(self) -> Iterator[Object]:
         """The objects that stand in the heap, by address."""
         return self._walk("next_object", "start", Object)
 
-    def registrations(self):
+    def registrations(self) -> Iterator[Registration]:
         """The registrations that stand, by the addresses of their objects."""
         return self._walk("next_registration", "object", Registration)
 
-    def links(self, long=False):
+    def links(self, kind: Links = Links.SHORT) -> Iterator[Linked]:
         """The links of a kind that stand, by the addresses of their words."""
-        return self._walk("next_link", "place", Linked, long)
+        return self._walk("next_link", "place", Linked, kind)
 
-    def held(self):
+    def held(self) -> Iterator[Entry]:
         """The entries that aren't finished, in the queue's order."""
         return self._walk("next_held", "seq", Entry)
 
-    def queued(self, seq):
+    def queued(self, seq: int) -> Optional[Entry]:
         """The entry at a place of the queue, or None."""
         return self._or_none("queued", seq, answer=Entry)
 
-    def counts(self):
+    def counts(self) -> Counts:
         """Counts of the world's life."""
         return self._call("count", answer=Counts)
+
+
+class Scope:
+    """Slots of a frame from one on, lent one after another. Leaving its `with` gives them back: each lets go of its object."""
+
+    def __init__(self, world: World, frame: int, first: int) -> None:
+        self.world, self.frame, self.first, self.next = world, frame, first, first
+
+    def __enter__(self) -> Scope:
+        return self
+
+    def __exit__(self, *_: Any) -> None:
+        while self.next > self.first:
+            self.next -= 1
+            self.world.set((self.frame, self.next), 0)
+
+    def slot(self) -> At:
+        """The next slot, at 0. Refused as BadSlot where the frame has none left."""
+        slot = (self.frame, self.next)
+        self.world.set(slot, 0)
+        self.next += 1
+        return slot
+
+    def scope(self) -> Scope:
+        """A scope within this one, of the slots that this one hasn't lent."""
+        return Scope(self.world, self.frame, self.next)

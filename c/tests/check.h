@@ -36,7 +36,7 @@ static inline bool is_filled(const void *at, size_t size)
 }
 
 #define IS(found, wanted) check(__LINE__, #found, (uint64_t)(found), (uint64_t)(wanted))
-#define OK(call) IS(call, FZ_OK)
+#define OK(call) IS(call, DERRIMAS_OK)
 
 /* The call is refused with this code, and leaves the place for its result as it was. */
 #define REFUSED(code, place, call)                                                                                     \

@@ -3,7 +3,7 @@
 
 int main(void)
 {
-    fz_world *world = &(fz_world){0};
+    derrimas_world *world = &(derrimas_world){0};
 
-    return fz_open(world, 1, 1) != FZ_OK;
+    return derrimas_open(world, 1, 1) != DERRIMAS_OK;
 }

@@ -1,4 +1,4 @@
-/* Want of memory: malloc and realloc are refused, one after another, and each call that answers FZ_NO_MEMORY has changed nothing.
+/* Want of memory: malloc and realloc are refused, one after another, and each call that answers DERRIMAS_NO_MEMORY has changed nothing.
  *
  * Linked with --wrap=malloc,--wrap=realloc,--wrap=calloc, so that the library's allocations come here.
  */
@@ -29,59 +29,59 @@ void *__wrap_malloc(size_t size) { return is_refused() ? NULL : __real_malloc(si
 void *__wrap_calloc(size_t count, size_t size) { return is_refused() ? NULL : __real_calloc(count, size); }
 void *__wrap_realloc(void *at, size_t size) { return is_refused() ? NULL : __real_realloc(at, size); }
 
-static fz_world world;
-static const fz_slot A = {0, 0};
+static derrimas_world world;
+static const derrimas_slot A = {0, 0};
 
 /* Opens a world with fewer allocations than it wants. Returns how many it wants. */
 static long opening(void)
 {
     for (long few = 0;; few++) {
-        fz_code code;
+        derrimas_code code;
         granted = few;
-        code = fz_open(&world, 64, 1);
+        code = derrimas_open(&world, 64, 1);
         granted = -1;
-        if (code == FZ_OK)
+        if (code == DERRIMAS_OK)
             return few;
-        IS(code, FZ_NO_MEMORY);
+        IS(code, DERRIMAS_NO_MEMORY);
         IS(world.inside == NULL, true);
     }
 }
 
 /* Links the object in A to itself, and moves the link to its second word: asks for each without memory, and if that is refused, with it. Returns how
  * many refusals there were. */
-static unsigned linking(bool is_long, uint64_t address)
+static unsigned linking(derrimas_links kind, uint64_t address)
 {
     unsigned refusals = 0;
-    uint8_t answer;
-    fz_linked linked;
-    fz_code code;
+    derrimas_link_answer answer;
+    derrimas_linked linked;
+    derrimas_code code;
 
     granted = 0;
     memset(&answer, 1, sizeof answer);
-    code = fz_link(&world, is_long, A, 0, A, &answer);
-    if (code == FZ_NO_MEMORY) {
+    code = derrimas_link(&world, kind, A, 0, A, &answer);
+    if (code == DERRIMAS_NO_MEMORY) {
         refusals++;
         IS(is_filled(&answer, sizeof answer), true);
-        IS(fz_next_link(&world, is_long, address, &linked), FZ_EMPTY);
+        IS(derrimas_next_link(&world, kind, address, &linked), DERRIMAS_EMPTY);
         granted = -1;
-        code = fz_link(&world, is_long, A, 0, A, &answer);
+        code = derrimas_link(&world, kind, A, 0, A, &answer);
     }
     OK(code);
-    IS(answer, FZ_SUCCESS);
+    IS(answer, DERRIMAS_LINKED);
     granted = 0;
     memset(&answer, 1, sizeof answer);
-    code = fz_move_link(&world, is_long, A, 0, A, 1, &answer);
-    if (code == FZ_NO_MEMORY) {
+    code = derrimas_move_link(&world, kind, A, 0, A, 1, &answer);
+    if (code == DERRIMAS_NO_MEMORY) {
         refusals++;
         IS(is_filled(&answer, sizeof answer), true);
-        OK(fz_next_link(&world, is_long, address, &linked));
+        OK(derrimas_next_link(&world, kind, address, &linked));
         IS(linked.place, address);
         granted = -1;
-        code = fz_move_link(&world, is_long, A, 0, A, 1, &answer);
+        code = derrimas_move_link(&world, kind, A, 0, A, 1, &answer);
     }
     OK(code);
-    IS(answer, FZ_SUCCESS);
-    OK(fz_next_link(&world, is_long, address, &linked));
+    IS(answer, DERRIMAS_LINKED);
+    OK(derrimas_next_link(&world, kind, address, &linked));
     IS(linked.place, address + 1);
     return refusals;
 }
@@ -89,35 +89,35 @@ static unsigned linking(bool is_long, uint64_t address)
 /* Makes, registers and links objects until memory was refused so often, and asks again each time. Returns how many it made. */
 static uint64_t filling(unsigned *refusals)
 {
-    fz_made made;
-    fz_registered registered;
+    derrimas_made made;
+    derrimas_registered registered;
     uint64_t objects = 0;
 
     while (*refusals < 20 && objects < 1500) {
-        fz_code code;
+        derrimas_code code;
         granted = 0;
-        REFUSED(FZ_BAD_SLOT, made, fz_alloc(&world, fz_at(1, 0), 1, true, &made)); /* other causes come first */
-        code = fz_alloc(&world, A, 2, true, &made);
-        if (code == FZ_NO_MEMORY) {
+        REFUSED(DERRIMAS_BAD_SLOT, made, derrimas_alloc(&world, derrimas_at(1, 0), 1, DERRIMAS_ATOMIC, &made)); /* other causes come first */
+        code = derrimas_alloc(&world, A, 2, DERRIMAS_ATOMIC, &made);
+        if (code == DERRIMAS_NO_MEMORY) {
             granted = -1;
-            code = fz_alloc(&world, A, 2, true, &made);
+            code = derrimas_alloc(&world, A, 2, DERRIMAS_ATOMIC, &made);
         }
         OK(code);
         granted = 0;
         memset(&registered, 1, sizeof registered);
-        code = fz_register(&world, A, objects, 0, 0, &registered);
-        if (code == FZ_NO_MEMORY) {
-            fz_registration none;
+        code = derrimas_register(&world, A, DERRIMAS_NORMAL, objects, 0, 0, &registered);
+        if (code == DERRIMAS_NO_MEMORY) {
+            derrimas_registration none;
             ++*refusals;
             IS(is_filled(&registered, sizeof registered), true);
-            IS(fz_next_registration(&world, made.address, &none), FZ_EMPTY);
+            IS(derrimas_next_registration(&world, made.address, &none), DERRIMAS_EMPTY);
             granted = -1;
-            code = fz_register(&world, A, objects, 0, 0, &registered);
+            code = derrimas_register(&world, A, DERRIMAS_NORMAL, objects, 0, 0, &registered);
         }
         OK(code);
         IS(registered.number, objects); /* a refused call takes no number */
-        for (int is_long = 0; is_long < 2; is_long++)
-            *refusals += linking(is_long, made.address);
+        *refusals += linking(DERRIMAS_SHORT, made.address);
+        *refusals += linking(DERRIMAS_LONG, made.address);
         objects++;
     }
     return objects;
@@ -126,20 +126,20 @@ static uint64_t filling(unsigned *refusals)
 /* What needs no memory: a collection of all that, its queue, and the end. */
 static void without_memory(uint64_t objects)
 {
-    fz_passed passed;
-    fz_counts counts;
+    derrimas_passed passed;
+    derrimas_counts counts;
 
     granted = 0;
-    OK(fz_set(&world, A, 0));
-    OK(fz_collect(&world, &passed));
+    OK(derrimas_set(&world, A, 0));
+    OK(derrimas_collect(&world, &passed));
     IS(passed.picked, objects);
-    IS(fz_invoke_finalizers(&world, NULL, 0, NULL), objects);
-    OK(fz_collect(&world, &passed));
+    IS(derrimas_invoke_finalizers(&world, NULL, 0, NULL), objects);
+    OK(derrimas_collect(&world, &passed));
     IS(passed.reclaimed, objects);
-    OK(fz_count(&world, &counts));
+    OK(derrimas_count(&world, &counts));
     IS(counts.queued, objects);
-    OK(fz_close(&world));
-    fz_destroy(&world);
+    OK(derrimas_close(&world));
+    derrimas_destroy(&world);
     granted = -1;
 }
 
@@ -147,42 +147,42 @@ static void without_memory(uint64_t objects)
  * of these were refused. */
 static unsigned publishing(void)
 {
-    fz_line line = {0};
-    fz_seat seat = {0};
-    fz_entry entry = {0, 0, 0, 0, 0, 0, 0}, taken;
-    fz_code code;
+    derrimas_line line = {0};
+    derrimas_seat seat = {0};
+    derrimas_entry entry = {0, 0, 0, 0, 0, 0, 0}, taken;
+    derrimas_code code;
     unsigned refusals = 0;
 
-    for (granted = 0; (code = fz_line_open(&line, 1)) != FZ_OK; refusals++) {
-        IS(code, FZ_NO_MEMORY);
+    for (granted = 0; (code = derrimas_line_open(&line, 1, 0)) != DERRIMAS_OK; refusals++) {
+        IS(code, DERRIMAS_NO_MEMORY);
         IS(line.inside == NULL, true);
         granted = refusals + 1;
     }
     IS(refusals > 0, true);
     granted = 0;
-    IS(fz_line_seat(&line, &seat), FZ_NO_MEMORY);
+    IS(derrimas_line_seat(&line, &seat), DERRIMAS_NO_MEMORY);
     IS(seat.inside == NULL, true);
     granted = -1;
-    OK(fz_line_seat(&line, &seat));
+    OK(derrimas_line_seat(&line, &seat));
     for (refusals = 0; entry.seq < 1000; entry.seq++) {
         granted = 0;
-        code = fz_line_publish(&line, &entry);
+        code = derrimas_line_publish(&line, &entry);
         granted = -1;
-        if (code == FZ_OK)
+        if (code == DERRIMAS_OK)
             continue;
-        IS(code, FZ_NO_MEMORY);
+        IS(code, DERRIMAS_NO_MEMORY);
         IS(entry.seq >= 64, true);
-        OK(fz_line_publish(&line, &entry));
+        OK(derrimas_line_publish(&line, &entry));
         refusals++;
     }
     granted = 0;
     for (uint64_t n = 0; n < 1000; n++) {
-        OK(fz_seat_take(&seat, &taken));
+        OK(derrimas_seat_take(&seat, &taken));
         IS(taken.seq, n);
-        OK(fz_seat_done(&seat));
+        OK(derrimas_seat_done(&seat));
     }
-    fz_line_destroy(&line);
-    fz_seat_destroy(&seat);
+    derrimas_line_destroy(&line);
+    derrimas_seat_destroy(&seat);
     granted = -1;
     return refusals;
 }

@@ -10,10 +10,10 @@ enum { MOST_FIELDS = 8, MOST_WORKERS = 8, MOST_BYTES = 200, SEATS_MISSING = 16 }
 /* A worker's hand: the entry that it took last, until it has finished it or given it up. */
 struct hand {
     bool has;
-    fz_entry entry;
+    derrimas_entry entry;
 };
 
-static fz_world world;
+static derrimas_world world;
 static struct hand hands[MOST_WORKERS];
 static uint64_t workers, finished, forfeited, line_number = 1;
 
@@ -23,7 +23,7 @@ static uint64_t workers, finished, forfeited, line_number = 1;
 _Noreturn static void malformed(void)
 {
     printf("line %" PRIu64 " refused 15 BadLine\n", line_number);
-    fz_destroy(&world);
+    derrimas_destroy(&world);
     exit(1);
 }
 
@@ -52,7 +52,7 @@ static uint8_t rank(const char *word)
     return (uint8_t)value;
 }
 
-static fz_slot slot(char **field) { return fz_at(number(field[0]), number(field[1])); }
+static derrimas_slot slot(char **field) { return derrimas_at(number(field[0]), number(field[1])); }
 
 /* Which of two words a field is. */
 static bool is_second(const char *word, const char *first, const char *second)
@@ -62,36 +62,36 @@ static bool is_second(const char *word, const char *first, const char *second)
     return strcmp(word, second) == 0;
 }
 
-static bool is_atomic(const char *word) { return is_second(word, "scanned", "atomic"); }
-static bool is_long(const char *word) { return is_second(word, "short", "long"); }
+static derrimas_words words(const char *word) { return is_second(word, "scanned", "atomic") ? DERRIMAS_ATOMIC : DERRIMAS_SCANNED; }
+static derrimas_links links(const char *word) { return is_second(word, "short", "long") ? DERRIMAS_LONG : DERRIMAS_SHORT; }
 
 /* ---- replies */
 
 /* Tells a refusal. Returns whether the call was accepted, so that its answer is to be told. */
-static bool accepted(fz_code code)
+static bool accepted(unsigned code)
 {
-    if (code == FZ_OK)
+    if (code == DERRIMAS_OK)
         return true;
-    printf("refused %d %s\n", code, code == SEATS_MISSING ? "SeatsMissing" : fz_name(code));
+    printf("refused %u %s\n", code, code == SEATS_MISSING ? "SeatsMissing" : derrimas_name((derrimas_code)code));
     return false;
 }
 
-static void tell_done(fz_code code)
+static void tell_done(derrimas_code code)
 {
     if (accepted(code))
         puts("ok");
 }
 
-static void tell_passed(fz_code code, const fz_passed *passed)
+static void tell_passed(derrimas_code code, const derrimas_passed *passed)
 {
     if (accepted(code))
         printf("pass %" PRIu64 " picked %" PRIu64 " reclaimed %" PRIu64 "\n", passed->pass, passed->picked, passed->reclaimed);
 }
 
-static void tell_link(fz_code code, uint8_t answer)
+static void tell_link(derrimas_code code, derrimas_link_answer answer)
 {
     if (accepted(code))
-        puts(answer == FZ_SUCCESS ? "success" : answer == FZ_DUPLICATE ? "duplicate" : "notfound");
+        puts(answer == DERRIMAS_LINKED ? "success" : answer == DERRIMAS_LINK_DUPLICATE ? "duplicate" : "notfound");
 }
 
 /* ---- steps: each has the fields after its verb, and NULL after the last */
@@ -99,67 +99,64 @@ static void tell_link(fz_code code, uint8_t answer)
 static void step_open(char **field)
 {
     uint64_t blocks = number(field[0]), frames = number(field[1]);
-    fz_code code = FZ_BAD_COUNT;
+    derrimas_code code = DERRIMAS_BAD_COUNT;
 
     workers = number(field[2]);
     if (workers >= 1 && workers <= MOST_WORKERS)
-        code = fz_open(&world, blocks, frames);
+        code = derrimas_open(&world, blocks, frames);
     tell_done(code);
-    if (code != FZ_OK)
+    if (code != DERRIMAS_OK)
         exit(1);
 }
 
 static void step_new(char **field)
 {
-    fz_made made;
+    derrimas_made made;
 
-    if (accepted(fz_alloc(&world, slot(field), number(field[2]), is_atomic(field[3]), &made)))
+    if (accepted(derrimas_alloc(&world, slot(field), number(field[2]), words(field[3]), &made)))
         printf("new %" PRIu64 " %" PRIu64 "\n", made.address, made.birth);
 }
 
 static void step_set(char **field)
 {
-    tell_done(fz_set(&world, slot(field), number(field[2])));
+    tell_done(derrimas_set(&world, slot(field), number(field[2])));
 }
 
 static void step_copy(char **field)
 {
-    tell_done(fz_copy(&world, slot(field), slot(field + 2)));
+    tell_done(derrimas_copy(&world, slot(field), slot(field + 2)));
 }
 
 static void step_load(char **field)
 {
     uint64_t word;
 
-    if (accepted(fz_load(&world, slot(field), number(field[2]), slot(field + 3), &word)))
+    if (accepted(derrimas_load(&world, slot(field), number(field[2]), slot(field + 3), &word)))
         printf("word %" PRIu64 "\n", word);
 }
 
 static void step_store(char **field)
 {
-    tell_done(fz_store(&world, slot(field), number(field[2]), slot(field + 3)));
+    tell_done(derrimas_store(&world, slot(field), number(field[2]), slot(field + 3)));
 }
 
-typedef fz_code registering(fz_world *, fz_slot, uint64_t, uint64_t, uint8_t, fz_registered *);
-
-/* The call for a kind of registration. */
-static registering *kind(const char *word)
+/* A kind of registration. */
+static derrimas_kind kind(const char *word)
 {
     if (strcmp(word, "normal") == 0)
-        return fz_register;
+        return DERRIMAS_NORMAL;
     if (strcmp(word, "ignore_self") == 0)
-        return fz_register_ignore_self;
+        return DERRIMAS_IGNORE_SELF;
     if (strcmp(word, "no_order") != 0)
         malformed();
-    return fz_register_no_order;
+    return DERRIMAS_NO_ORDER;
 }
 
 static void step_register(char **field)
 {
-    registering *call = kind(field[2]);
-    fz_registered r;
+    derrimas_registered r;
 
-    if (!accepted(call(&world, slot(field), number(field[3]), number(field[4]), rank(field[5]), &r)))
+    if (!accepted(derrimas_register(&world, slot(field), kind(field[2]), number(field[3]), number(field[4]), rank(field[5]), &r)))
         return;
     if (!r.made)
         puts("outside");
@@ -171,9 +168,9 @@ static void step_register(char **field)
 
 static void step_unregister(char **field)
 {
-    fz_old old;
+    derrimas_old old;
 
-    if (!accepted(fz_unregister(&world, slot(field), &old)))
+    if (!accepted(derrimas_unregister(&world, slot(field), &old)))
         return;
     if (old.was)
         printf("old %" PRIu64 " %" PRIu64 "\n", old.proc, old.cd);
@@ -183,8 +180,8 @@ static void step_unregister(char **field)
 
 static void step_link(char **field)
 {
-    uint8_t answer = 0;
-    fz_code code = fz_link(&world, is_long(field[0]), slot(field + 1), number(field[3]), slot(field + 4), &answer);
+    derrimas_link_answer answer = DERRIMAS_LINKED;
+    derrimas_code code = derrimas_link(&world, links(field[0]), slot(field + 1), number(field[3]), slot(field + 4), &answer);
 
     tell_link(code, answer);
 }
@@ -193,14 +190,14 @@ static void step_unlink(char **field)
 {
     bool was;
 
-    if (accepted(fz_unlink(&world, is_long(field[0]), slot(field + 1), number(field[3]), &was)))
+    if (accepted(derrimas_unlink(&world, links(field[0]), slot(field + 1), number(field[3]), &was)))
         puts(was ? "true" : "false");
 }
 
 static void step_move(char **field)
 {
-    uint8_t answer = 0;
-    fz_code code = fz_move_link(&world, is_long(field[0]), slot(field + 1), number(field[3]), slot(field + 4), number(field[6]), &answer);
+    derrimas_link_answer answer = DERRIMAS_LINKED;
+    derrimas_code code = derrimas_move_link(&world, links(field[0]), slot(field + 1), number(field[3]), slot(field + 4), number(field[6]), &answer);
 
     tell_link(code, answer);
 }
@@ -208,21 +205,21 @@ static void step_move(char **field)
 static void step_begin(char **field)
 {
     (void)field;
-    tell_done(fz_begin(&world));
+    tell_done(derrimas_begin(&world));
 }
 
 static void step_mark(char **field)
 {
     bool done;
 
-    if (accepted(fz_mark(&world, number(field[0]), &done)))
+    if (accepted(derrimas_mark(&world, number(field[0]), &done)))
         puts(done ? "done" : "more");
 }
 
 static void step_pause(char **field)
 {
-    fz_passed passed;
-    fz_code code = fz_pause(&world, &passed);
+    derrimas_passed passed;
+    derrimas_code code = derrimas_pause(&world, &passed);
 
     (void)field;
     tell_passed(code, &passed);
@@ -230,8 +227,8 @@ static void step_pause(char **field)
 
 static void step_collect(char **field)
 {
-    fz_passed passed;
-    fz_code code = fz_collect(&world, &passed);
+    derrimas_passed passed;
+    derrimas_code code = derrimas_collect(&world, &passed);
 
     (void)field;
     tell_passed(code, &passed);
@@ -240,7 +237,7 @@ static void step_collect(char **field)
 static void step_close(char **field)
 {
     (void)field;
-    tell_done(fz_close(&world));
+    tell_done(derrimas_close(&world));
 }
 
 static void step_outstanding(char **field)
@@ -248,7 +245,7 @@ static void step_outstanding(char **field)
     uint64_t outstanding;
 
     (void)field;
-    if (accepted(fz_outstanding(&world, &outstanding)))
+    if (accepted(derrimas_outstanding(&world, &outstanding)))
         printf("outstanding %" PRIu64 "\n", outstanding);
 }
 
@@ -264,7 +261,7 @@ static struct hand *hand_of(const char *word, bool is_to_have)
         return NULL;
     }
     if (!hands[worker].has && is_to_have) {
-        accepted(FZ_NOT_HELD);
+        accepted(DERRIMAS_NOT_HELD);
         return NULL;
     }
     return &hands[worker];
@@ -273,12 +270,12 @@ static struct hand *hand_of(const char *word, bool is_to_have)
 static void step_take(char **field)
 {
     struct hand *hand = hand_of(field[0], false);
-    fz_entry *e;
+    derrimas_entry *e;
 
     if (!hand)
         return;
     e = &hand->entry;
-    hand->has = fz_take(&world, e) == FZ_OK;
+    hand->has = derrimas_take(&world, e) == DERRIMAS_OK;
     if (hand->has)
         printf("entry %" PRIu64 " %" PRIu64 " %" PRIu64 " %" PRIu64 " %" PRIu64 " %" PRIu64 " %" PRIu64 "\n", e->seq, e->pass, e->reg,
                e->obj, e->birth, e->proc, e->cd);
@@ -288,23 +285,23 @@ static void step_take(char **field)
 
 static void step_hold(char **field)
 {
-    fz_slot to = slot(field + 1);
+    derrimas_slot to = slot(field + 1);
     struct hand *hand = hand_of(field[0], true);
 
     if (hand)
-        tell_done(fz_hold(&world, to, &hand->entry));
+        tell_done(derrimas_hold(&world, to, &hand->entry));
 }
 
 static void step_finish(char **field)
 {
     struct hand *hand = hand_of(field[0], true);
-    fz_code code;
+    derrimas_code code;
 
     if (!hand)
         return;
-    code = fz_finish(&world, &hand->entry);
-    finished += code == FZ_OK;
-    hand->has = code != FZ_OK;
+    code = derrimas_finish(&world, &hand->entry);
+    finished += code == DERRIMAS_OK;
+    hand->has = code != DERRIMAS_OK;
     tell_done(code);
 }
 
@@ -316,7 +313,7 @@ static void step_forfeit(char **field)
         return;
     hand->has = false;
     forfeited++;
-    tell_done(FZ_OK);
+    tell_done(DERRIMAS_OK);
 }
 
 /* ---- scripts */
@@ -389,11 +386,11 @@ static bool read_line(FILE *script, char *line)
 static void tell_end(void)
 {
     uint64_t in_hand = 0;
-    fz_counts counts;
+    derrimas_counts counts;
 
     for (uint64_t n = 0; n < workers; n++)
         in_hand += hands[n].has;
-    if (accepted(fz_count(&world, &counts)))
+    if (accepted(derrimas_count(&world, &counts)))
         printf("end enqueued %" PRIu64 " finished %" PRIu64 " forfeited %" PRIu64 " in_hand %" PRIu64 " left %" PRIu64 "\n",
                counts.queued, finished, forfeited, in_hand, counts.queued - counts.taken);
 }
@@ -414,6 +411,6 @@ int main(int count, char **words)
     if (workers == 0)
         malformed();
     tell_end();
-    fz_destroy(&world);
+    derrimas_destroy(&world);
     return 0;
 }

@@ -11,7 +11,7 @@
 
 enum { MAKERS = 4, WORKERS = 3, ALONE = 2, EACH = 2500, ALL = MAKERS * EACH };
 
-static fz_world world;
+static derrimas_world world;
 static pthread_mutex_t lock = PTHREAD_MUTEX_INITIALIZER;
 static atomic_uint finished;
 static atomic_uchar ran[ALL];
@@ -35,23 +35,23 @@ static void leave(void)
 /* Each maker has a slot of its own, in which it makes one object after another: each goes when the next comes. */
 static void *make(void *maker)
 {
-    fz_slot slot = fz_at(0, *(const uint64_t *)maker);
-    fz_made made;
-    fz_registered registered;
+    derrimas_slot slot = derrimas_at(0, *(const uint64_t *)maker);
+    derrimas_made made;
+    derrimas_registered registered;
 
     for (uint64_t n = 0; n < EACH;) {
-        fz_code code;
+        derrimas_code code;
         enter();
-        code = fz_alloc(&world, slot, 1, false, &made);
-        if (code == FZ_OK) {
-            must(fz_register(&world, slot, 0, slot.slot * EACH + n, 0, &registered) == FZ_OK, "register");
+        code = derrimas_alloc(&world, slot, 1, DERRIMAS_SCANNED, &made);
+        if (code == DERRIMAS_OK) {
+            must(derrimas_register(&world, slot, DERRIMAS_NORMAL, 0, slot.slot * EACH + n, 0, &registered) == DERRIMAS_OK, "register");
             n++;
         }
         leave();
-        must(code == FZ_OK || code == FZ_NO_SPACE, "alloc");
+        must(code == DERRIMAS_OK || code == DERRIMAS_NO_SPACE, "alloc");
     }
     enter();
-    must(fz_set(&world, slot, 0) == FZ_OK, "set");
+    must(derrimas_set(&world, slot, 0) == DERRIMAS_OK, "set");
     leave();
     return NULL;
 }
@@ -59,31 +59,31 @@ static void *make(void *maker)
 /* A cycle in steps, between which the others have the lock. */
 static void collect_in_steps(void)
 {
-    fz_passed passed;
+    derrimas_passed passed;
     bool done = false;
 
     enter();
-    must(fz_begin(&world) == FZ_OK, "begin");
+    must(derrimas_begin(&world) == DERRIMAS_OK, "begin");
     leave();
     while (!done) {
         enter();
-        must(fz_mark(&world, 4, &done) == FZ_OK, "mark");
+        must(derrimas_mark(&world, 4, &done) == DERRIMAS_OK, "mark");
         leave();
     }
     enter();
-    must(fz_pause(&world, &passed) == FZ_OK, "pause");
+    must(derrimas_pause(&world, &passed) == DERRIMAS_OK, "pause");
     leave();
 }
 
 static void *collect(void *unused)
 {
-    fz_passed passed;
+    derrimas_passed passed;
 
     (void)unused;
     while (atomic_load(&finished) < ALL) {
         collect_in_steps();
         enter();
-        must(fz_collect(&world, &passed) == FZ_OK, "collect");
+        must(derrimas_collect(&world, &passed) == DERRIMAS_OK, "collect");
         leave();
     }
     return NULL;
@@ -91,21 +91,21 @@ static void *collect(void *unused)
 
 static void *work(void *unused)
 {
-    fz_entry entry;
+    derrimas_entry entry;
 
     (void)unused;
     while (atomic_load(&finished) < ALL) {
-        fz_code code;
+        derrimas_code code;
         enter();
-        code = fz_take(&world, &entry);
+        code = derrimas_take(&world, &entry);
         leave();
-        if (code == FZ_EMPTY)
+        if (code == DERRIMAS_EMPTY)
             continue;
-        must(code == FZ_OK, "take");
+        must(code == DERRIMAS_OK, "take");
         must(entry.cd < ALL, "client data");
         atomic_fetch_add(&ran[entry.cd], 1); /* the procedure, without the lock */
         enter();
-        must(fz_finish(&world, &entry) == FZ_OK, "finish");
+        must(derrimas_finish(&world, &entry) == DERRIMAS_OK, "finish");
         leave();
         atomic_fetch_add(&finished, 1);
     }
@@ -114,7 +114,7 @@ static void *work(void *unused)
 
 /* ---- a thread with a world of its own */
 
-static void count_up(fz_world *own, const fz_entry *entry, void *count)
+static void count_up(derrimas_world *own, const derrimas_entry *entry, void *count)
 {
     (void)own;
     (void)entry;
@@ -123,23 +123,23 @@ static void count_up(fz_world *own, const fz_entry *entry, void *count)
 
 static void *live_alone(void *count)
 {
-    fz_world own = {0};
-    fz_made made;
-    fz_registered registered;
-    fz_passed passed;
-    const fz_proc procs[] = {count_up};
+    derrimas_world own = {0};
+    derrimas_made made;
+    derrimas_registered registered;
+    derrimas_passed passed;
+    const derrimas_proc procs[] = {count_up};
 
-    must(fz_open(&own, 8, 1) == FZ_OK, "open");
+    must(derrimas_open(&own, 8, 1) == DERRIMAS_OK, "open");
     for (uint64_t n = 0; n < EACH; n++) {
-        must(fz_alloc(&own, fz_at(0, 0), 1, false, &made) == FZ_OK, "alloc");
-        must(fz_register(&own, fz_at(0, 0), 0, 0, 0, &registered) == FZ_OK, "register");
-        must(n % 64 < 63 || fz_collect(&own, &passed) == FZ_OK, "collect");
-        fz_invoke_finalizers(&own, procs, 1, count);
+        must(derrimas_alloc(&own, derrimas_at(0, 0), 1, DERRIMAS_SCANNED, &made) == DERRIMAS_OK, "alloc");
+        must(derrimas_register(&own, derrimas_at(0, 0), DERRIMAS_NORMAL, 0, 0, 0, &registered) == DERRIMAS_OK, "register");
+        must(n % 64 < 63 || derrimas_collect(&own, &passed) == DERRIMAS_OK, "collect");
+        derrimas_invoke_finalizers(&own, procs, 1, count);
     }
-    must(fz_set(&own, fz_at(0, 0), 0) == FZ_OK, "set");
-    must(fz_collect(&own, &passed) == FZ_OK, "collect");
-    fz_invoke_finalizers(&own, procs, 1, count);
-    fz_destroy(&own);
+    must(derrimas_set(&own, derrimas_at(0, 0), 0) == DERRIMAS_OK, "set");
+    must(derrimas_collect(&own, &passed) == DERRIMAS_OK, "collect");
+    derrimas_invoke_finalizers(&own, procs, 1, count);
+    derrimas_destroy(&own);
     return NULL;
 }
 
@@ -154,7 +154,7 @@ int main(void)
     uint64_t slots[MAKERS], counts[ALONE] = {0};
     unsigned wrong = 0;
 
-    must(fz_open(&world, 64, 1) == FZ_OK, "open");
+    must(derrimas_open(&world, 64, 1) == DERRIMAS_OK, "open");
     for (uint64_t n = 0; n < MAKERS; n++) {
         slots[n] = n;
         start(&makers[n], make, &slots[n]);
@@ -173,7 +173,7 @@ int main(void)
         pthread_join(alone[n], NULL);
         wrong += counts[n] != EACH;
     }
-    fz_destroy(&world);
+    derrimas_destroy(&world);
     for (int n = 0; n < ALL; n++)
         wrong += ran[n] != 1;
     printf("%d finalizers, %u not run once\n", ALL + ALONE * EACH, wrong);

@@ -54,12 +54,17 @@ static value open_port(value arguments)
 
 static value read_line(value arguments)
 {
-    char line[MOST_TEXT];
+    char line[MOST_TEXT] = "";
+    FILE *file = files[file_of(car(arguments))];
+    size_t length = 0;
+    int c;
 
-    if (!fgets(line, sizeof line, files[file_of(car(arguments))]))
-        return FALSE;
-    line[strcspn(line, "\n")] = 0;
-    return make_string(line);
+    while ((c = getc(file)) != '\n' && c != EOF) {
+        if (c == 0 || length == MOST_TEXT - 1)
+            fail(c == 0 ? "a line has a byte that is 0" : "a line is too long", "");
+        line[length++] = (char)c;
+    }
+    return c == EOF && length == 0 ? FALSE : make_string(line);
 }
 
 static value close_port(value arguments)

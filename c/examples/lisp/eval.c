@@ -10,7 +10,7 @@
 static enum { EVALUATE, GIVE, APPLY, READ } state = READ;
 
 /* What is done with a value when it is there. No value of Lisp is the same. */
-enum { THEN_READ = FZ_HEAP_START / 2, THEN_IF, THEN_SEQUENCE, THEN_ASSIGN,
+enum { THEN_READ = DERRIMAS_HEAP_START / 2, THEN_IF, THEN_SEQUENCE, THEN_ASSIGN,
        THEN_ARGUMENT, THEN_TRIED, THEN_HANDLE, THEN_FINALIZED };
 
 static jmp_buf on_error;
@@ -164,7 +164,7 @@ static const struct { const char *name; void (*carry_out)(value rest); } forms[F
 /* Stops what is evaluated, if an object is gone, for the procedure of its finalizer: one at a time. */
 static void evaluate_step(void)
 {
-    const fz_entry *entry = finalizing ? NULL : next_finalizer();
+    const derrimas_entry *entry = finalizing ? NULL : next_finalizer();
     value expr = get(EXPR);
 
     if (entry) {
@@ -298,11 +298,14 @@ int main(int count, char **words)
     }
     if (count < 2 || !freopen(words[1], "r", stdin))
         fail("want a file", "");
-    open_heap(count > 2 ? strtoull(words[2], NULL, 10) : FZ_MAX_BLOCKS, count > 3);
+    open_heap(count > 2 ? strtoull(words[2], NULL, 10) : DERRIMAS_MAX_BLOCKS, count > 3);
     for (int n = 0; n < FORMS; n++)
         intern(forms[n].name);
     name_builtins();
     run();
     close_heap();
-    return !are_files_closed();
+    if (are_files_closed())
+        return 0;
+    fprintf(stderr, "lisp: a file wasn't closed\n");
+    return 1;
 }

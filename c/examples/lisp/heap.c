@@ -3,22 +3,22 @@
 #include <stdlib.h>
 #include <string.h>
 
-enum { PART_FIELDS = FZ_BLOCK_WORDS - 1 };
+enum { PART_FIELDS = DERRIMAS_BLOCK_WORDS - 1 };
 
-static fz_world world;
+static derrimas_world world;
 static uint64_t few;      /* a collection that frees no more objects isn't worth another */
 static bool stressed;     /* whether there is a collection before each object */
 static uint64_t used = 1; /* fields of the uppermost part of the stack */
-static fz_entry running;  /* the entry whose Lisp procedure is next, or runs */
+static derrimas_entry running;  /* the entry whose Lisp procedure is next, or runs */
 
-static fz_slot at(enum reg reg) { return fz_at(0, reg); }
+static derrimas_slot at(enum reg reg) { return derrimas_at(0, reg); }
 
 /* For calls to which this program gives no cause of refusal, unless it was given a wrong number of blocks. */
-static void must(fz_code code)
+static void must(derrimas_code code)
 {
-    if (code == FZ_OK)
+    if (code == DERRIMAS_OK)
         return;
-    fprintf(stderr, "lisp: %s\n", fz_name(code));
+    fprintf(stderr, "lisp: %s\n", derrimas_name(code));
     exit(2);
 }
 
@@ -26,11 +26,11 @@ value get(enum reg reg)
 {
     value v;
 
-    must(fz_get(&world, at(reg), &v));
+    must(derrimas_get(&world, at(reg), &v));
     return v;
 }
 
-void set(enum reg reg, value v) { must(fz_set(&world, at(reg), v)); }
+void set(enum reg reg, value v) { must(derrimas_set(&world, at(reg), v)); }
 
 /* ---- words of objects */
 
@@ -38,7 +38,7 @@ static value word(value object, uint64_t offset)
 {
     value v;
 
-    must(fz_read(&world, object, offset, &v));
+    must(derrimas_read(&world, object, offset, &v));
     return v;
 }
 
@@ -56,7 +56,7 @@ value set_field(value object, enum type type, uint64_t number, value v)
     (void)field(object, type, number);
     set(HOLDER, object);
     set(WORD, v);
-    must(fz_store(&world, at(HOLDER), number, at(WORD)));
+    must(derrimas_store(&world, at(HOLDER), number, at(WORD)));
     return v;
 }
 
@@ -64,24 +64,24 @@ value set_field(value object, enum type type, uint64_t number, value v)
 
 value make(enum type type, uint64_t count, const value *fields)
 {
-    bool atomic = type == STRING || type == WEAK_BOX; /* whose fields keep nothing */
-    uint64_t kept = type == STRING ? 0 : 2;           /* fields to be kept: any others are 0 or bytes */
-    fz_made made;
-    fz_code code;
+    derrimas_words words = type == STRING || type == WEAK_BOX ? DERRIMAS_ATOMIC : DERRIMAS_SCANNED;
+    uint64_t kept = type == STRING ? 0 : 2; /* fields to be kept: any others are 0 or bytes */
+    derrimas_made made;
+    derrimas_code code;
 
     for (uint64_t n = 0; n < kept && n < count; n++)
         set(FIELDS + (enum reg)n, fields[n]);
     if (stressed)
         collect();
-    code = fz_alloc(&world, at(NEW), 1 + count, atomic, &made);
-    if (code != FZ_OK && collect() > few)
-        code = fz_alloc(&world, at(NEW), 1 + count, atomic, &made);
+    code = derrimas_alloc(&world, at(NEW), 1 + count, words, &made);
+    if (code != DERRIMAS_OK && collect() > few)
+        code = derrimas_alloc(&world, at(NEW), 1 + count, words, &made);
     for (uint64_t n = 0; n < kept; n++)
         set(FIELDS + (enum reg)n, NOTHING);
-    if (code != FZ_OK)
+    if (code != DERRIMAS_OK)
         fail("out of memory", "");
     set(WORD, type);
-    must(fz_store(&world, at(NEW), 0, at(WORD)));
+    must(derrimas_store(&world, at(NEW), 0, at(WORD)));
     for (uint64_t n = 0; n < count; n++)
         set_field(made.address, type, 1 + n, fields[n]);
     return made.address;
@@ -111,10 +111,9 @@ const char *copy_text(value string, char *text)
 value make_weak_box(value v)
 {
     value box = make(WEAK_BOX, 1, &v);
-    uint8_t answer;
 
     set(HOLDER, v);
-    if (is_object(v) && fz_link(&world, false, at(NEW), 1, at(HOLDER), &answer) != FZ_OK)
+    if (is_object(v) && derrimas_link(&world, DERRIMAS_SHORT, at(NEW), 1, at(HOLDER), NULL) != DERRIMAS_OK)
         fail("too many weak boxes", "");
     return box;
 }
@@ -146,16 +145,16 @@ value pop(void)
 /* Closes the files of the ports that went. What Lisp is to be called for stays in the queue. */
 uint64_t collect(void)
 {
-    fz_passed passed;
-    fz_entry entry;
+    derrimas_passed passed;
+    derrimas_entry entry;
 
     for (enum reg reg = NEW; reg < FIELDS; reg++)
         set(reg, NOTHING);
-    must(fz_collect(&world, &passed));
-    while (fz_take(&world, &entry) == FZ_OK)
+    must(derrimas_collect(&world, &passed));
+    while (derrimas_take(&world, &entry) == DERRIMAS_OK)
         if (entry.proc == CLOSE_FILE) {
             close_file(entry.cd);
-            must(fz_finish(&world, &entry));
+            must(derrimas_finish(&world, &entry));
         }
     return passed.reclaimed;
 }
@@ -164,32 +163,28 @@ uint64_t collect(void)
  * each other in rings. The data is kept. */
 void on_collect(value object, uint64_t procedure, value data)
 {
-    fz_registered registered;
-
     set(HOLDER, object);
-    if (fz_register_no_order(&world, at(HOLDER), procedure, data, 0, &registered) != FZ_OK)
+    if (derrimas_register_no_order(&world, at(HOLDER), procedure, data) != DERRIMAS_OK)
         fail("too many finalizers", "");
 }
 
 /* No procedure is called for the object. */
 void never_mind(value object)
 {
-    fz_old old;
-
     set(HOLDER, object);
-    must(fz_unregister(&world, at(HOLDER), &old));
+    must(derrimas_unregister(&world, at(HOLDER), NULL));
 }
 
 /* What Lisp is to call next, with the object and the procedure, which it keeps until it is finished. */
-const fz_entry *next_finalizer(void) { return fz_next_held(&world, 0, &running) == FZ_OK ? &running : NULL; }
+const derrimas_entry *next_finalizer(void) { return derrimas_next_held(&world, 0, &running) == DERRIMAS_OK ? &running : NULL; }
 
-void finish_finalizer(void) { must(fz_finish(&world, &running)); }
+void finish_finalizer(void) { must(derrimas_finish(&world, &running)); }
 
 /* ---- the world */
 
 void open_heap(uint64_t blocks, bool stress)
 {
-    must(fz_open(&world, blocks, 1));
+    must(derrimas_open(&world, blocks, 1));
     set(GLOBALS, make(GLOBAL, MOST_SYMBOLS, (value[MOST_SYMBOLS]){NOTHING}));
     set(STACK, make(PART, PART_FIELDS, (value[PART_FIELDS]){NIL}));
     set(ENV, NIL);
@@ -197,11 +192,20 @@ void open_heap(uint64_t blocks, bool stress)
     stressed = stress;
 }
 
-/* Lets go of all, so that each file is closed, and frees the heap. */
+static void close_for(derrimas_world *w, const derrimas_entry *entry, void *data)
+{
+    (void)w;
+    (void)data;
+    close_file(entry->cd);
+}
+
+/* Closes the file of each port that has one, also of those that finalizers of Lisp still lead to, and frees the heap. */
 void close_heap(void)
 {
+    static const derrimas_proc procs[] = {[CLOSE_FILE] = close_for};
+
     for (enum reg reg = EXPR; reg < REGISTERS; reg++)
         set(reg, NOTHING);
-    collect();
-    fz_destroy(&world);
+    must(derrimas_finalize_all(&world, at(HOLDER), procs, sizeof procs / sizeof *procs, NULL, NULL));
+    derrimas_destroy(&world);
 }

@@ -15,7 +15,7 @@
 #include "derrimas.h"
 #include <stdio.h>
 
-/* A value is a word. With the highest bit set it is an integer of 63 bits. From FZ_HEAP_START on it is the
+/* A value is a word. With the highest bit set it is an integer of 63 bits. From DERRIMAS_HEAP_START on it is the
  * address of an object, whose first word is its type. Below that it is a constant, a symbol or a builtin. */
 typedef uint64_t value;
 
@@ -69,7 +69,7 @@ value pop(void);
 uint64_t collect(void); /* returns how many objects it freed */
 void on_collect(value object, uint64_t procedure, value data);
 void never_mind(value object);
-const fz_entry *next_finalizer(void); /* NULL if there is none */
+const derrimas_entry *next_finalizer(void); /* NULL if there is none */
 void finish_finalizer(void);
 
 void open_heap(uint64_t blocks, bool stress);
@@ -101,9 +101,9 @@ static inline value truth(bool is) { return is ? TRUE : FALSE; }
 static inline value integer(uint64_t n) { return n | UINT64_C(1) << 63; }
 static inline int64_t number(value v) { return (int64_t)(v << 1) / 2; }
 static inline bool is_integer(value v) { return v >> 63; }
-static inline bool is_object(value v) { return v >= FZ_HEAP_START && !is_integer(v); }
+static inline bool is_object(value v) { return v >= DERRIMAS_HEAP_START && !is_integer(v); }
 static inline bool is_symbol(value v) { return v >= FIRST_SYMBOL && v < MOST_SYMBOLS; }
-static inline bool is_builtin(value v) { return v >= FIRST_BUILTIN && v < FZ_HEAP_START; }
+static inline bool is_builtin(value v) { return v >= FIRST_BUILTIN && v < DERRIMAS_HEAP_START; }
 static inline bool is_pair(value v) { return type_of(v) == PAIR; }
 
 static inline value cons(value first, value rest) { return make(PAIR, 2, (value[]){first, rest}); }

@@ -4,7 +4,7 @@
 #include <stdlib.h>
 #include <string.h>
 
-enum { MOST_NAME = 40, DEEPEST = 200, LONGEST = 1000 };
+enum { MOST_NAME = 40, DEEPEST = 200, LONGEST = 1000, MOST_PRINTED = 2000 };
 
 /* The names of constants, types and symbols. A symbol stays for good. */
 static char names[MOST_SYMBOLS][MOST_NAME + 1] = {
@@ -27,35 +27,49 @@ const char *name_of(value v) { return names[v % MOST_SYMBOLS]; }
 
 /* ---- reading */
 
+/* A byte of the program. A 0 would end each text of C, and is an error. */
+static int read_byte(void)
+{
+    int c = getchar();
+
+    if (c == 0)
+        fail("the program has a byte that is 0", "");
+    return c;
+}
+
 /* The next byte that is neither blank nor of a comment. */
 static int next_byte(void)
 {
     int c;
 
-    while ((c = getchar()) == ';' || isspace(c))
+    while ((c = read_byte()) == ';' || isspace(c))
         if (c == ';')
             while (c != '\n' && c != EOF)
-                c = getchar();
+                c = read_byte();
     return c;
 }
 
 static value read_string(void)
 {
     char text[MOST_TEXT] = "";
+    int c;
 
-    if (scanf("%1023[^\"]", text) == EOF || getchar() != '"')
-        fail("a string has no end", "");
+    for (size_t length = 0; (c = read_byte()) != '"'; text[length++] = (char)c)
+        if (c == EOF || length == MOST_TEXT - 1)
+            fail(c == EOF ? "a string has no end" : "a string is too long", "");
     return make_string(text);
 }
 
 /* A number of at most 18 bytes, or else a name. */
 static value read_word(int c)
 {
-    char word[MOST_NAME + 2], *end;
+    char word[MOST_NAME + 2] = "", *end;
 
-    ungetc(c, stdin);
-    if (scanf("%41[^()\"'; \t\n\v\f\r]", word) != 1)
+    if (c == EOF)
         fail("a list has no end", "");
+    for (size_t length = 0; c != EOF && !strchr("()\"'; \t\n\v\f\r", c) && length <= MOST_NAME; c = read_byte())
+        word[length++] = (char)c;
+    ungetc(c, stdin);
     value n = integer((uint64_t)strtoll(word, &end, 10));
     return *end == 0 && strlen(word) <= 18 ? n : intern(word);
 }
@@ -92,11 +106,13 @@ bool read_value(void)
     return true;
 }
 
-/* ---- printing: of a list in lists, and of a long one, no more than a limit, since either may be a ring */
+/* ---- printing: of lists in lists, of a long one, and of all together no more than a limit, since each may be a ring */
+
+static int printed;
 
 static void print_list(value list, int depth)
 {
-    for (int count = 0; is_pair(list) && count < LONGEST; count++) {
+    for (int count = 0; is_pair(list) && count < LONGEST && printed < MOST_PRINTED; count++) {
         putchar(count > 0 ? ' ' : '(');
         print_value(car(list), depth + 1);
         list = cdr(list);
@@ -112,6 +128,7 @@ static void print_list(value list, int depth)
 
 void print_value(value v, int depth)
 {
+    printed = depth == 0 ? 0 : printed + 1;
     if (depth > DEEPEST)
         fputs("..", stdout);
     else if (is_integer(v))

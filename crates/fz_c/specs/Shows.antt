@@ -7,7 +7,7 @@ use Rattle.fz_model.specs.declared.answers.Registration.{Registration}
 use Rattle.fz_model.specs.declared.kinds.LinkKind.{LinkKind}
 use Rattle.fz_model.specs.declared.refusal.Refusal.{Refusal}
 use Rattle.fz_model.specs.Places.{slot_at}
-use Rattle.fz_model.specs.Memory.{slot_word, word_at}
+use Rattle.fz_model.specs.Memory.{slot_word, word_at, points}
 use Rattle.fz_model.specs.Causes.{IsJudgedBy, slot_causes, place_causes}
 use Rattle.fz_model.specs.Events.{links_of}
 use Rattle.fz_world.specs.declared.shown.Object.{Object}
@@ -26,6 +26,10 @@ abbrev pub IsNextObject : WorldView → ℕ → Option Object → Type 0
 IsNextObject w from found =
     MatchOption found (HasNoneFrom w.blocks (contains_key w.objects) from) (λ object. IsFirstFrom w.blocks (contains_key w.objects) from object.start)
     × IfSome found (λ object. option_map (shown_object object.start) (get w.objects object.start) ≡ Some object)
+
+abbrev pub IsObjectOf : WorldView → ℕ → Option Object → Type 0
+IsObjectOf w word found =
+    (option_map (λ (o : Object). o.start) found ≡ points w.objects word) × IfSome found (λ object. option_map (shown_object object.start) (get w.objects object.start) ≡ Some object)
 
 abbrev pub IsNextRegistration : WorldView → ℕ → Option (ℕ × Registration) → Type 0
 IsNextRegistration w from found =

@@ -30,8 +30,8 @@ pub use objects::{Made, fz_alloc, fz_load, fz_read, fz_store};
 pub use samples::{Samples, fz_sample};
 pub use session::Session;
 pub use shown::{
-    Counts, Linked, Object, Registration, fz_count, fz_next_held, fz_next_link, fz_next_object,
-    fz_next_registration, fz_queued,
+    Counts, Linked, Object, Registration, fz_base, fz_count, fz_next_held, fz_next_link,
+    fz_next_object, fz_next_registration, fz_queued,
 };
 pub use slots::{CSlot, fz_copy, fz_get, fz_set};
 pub use worlds::{fz_close, fz_destroy, fz_open};

@@ -4,7 +4,7 @@ ghost use Rattle.std.specs.Prelude.{◌≡◌, slice_get};
 ghost use Rattle.fz_c.specs.declared.codes.TheConstants as codes;
 ghost use Rattle.fz_c.specs.Told.{IsFound, Looks, Finds};
 ghost use Rattle.fz_c.specs.Places.{kind_of, number_of, link_kind_of, TellsEntry, TellsObject, TellsRegistration, TellsLinked};
-ghost use Rattle.fz_c.specs.Shows.{IsNextObject, IsNextRegistration, IsNextLink, IsNextHeldEntry, IsCounted};
+ghost use Rattle.fz_c.specs.Shows.{IsNextObject, IsObjectOf, IsNextRegistration, IsNextLink, IsNextHeldEntry, IsCounted};
 
 use crate::codes::{Code, EMPTY, NO_WORLD, OK};
 use crate::entries::{Entry, tell_entry};
@@ -34,7 +34,7 @@ pub struct Registration {
     pub proc: u64,
     pub cd: u64,
     /// 0, 1 or 2, as `number_for` has them.
-    pub kind: u8,
+    pub kind: u32,
     pub rank: u8,
 }
 
@@ -66,8 +66,6 @@ pub struct Counts {
     /// Pages that were noted, in the cycle begun last.
     pub noted: u64,
 }
-
-/// The number of a kind of registration.
 
 fn tell_object(found: Option<fz_world::Object>, object: &mut Object) -> Code
     ensures { IsFound found result (TellsObject object.new) (object.new ≡ object.old) }
@@ -112,7 +110,21 @@ pub extern "C" fn fz_next_object(
     tell_object(found, object)
 }
 
-fn number_for(kind: RegKind) -> u8
+/// `World::object_of`.
+#[tactic(auto, using(crate::proofs::Looking::not_found, crate::proofs::Looking::finds, crate::proofs::Told::none_taken))]
+#[unsafe(no_mangle)]
+pub extern "C" fn fz_base(alloc: Global, world: &mut Handle, word: u64, object: &mut Object) -> Code
+    ensures { Finds world.old.value world.new.value result (λ session. IsObjectOf session.world word) (TellsObject object.new) (object.new ≡ object.old) }
+{
+    let Some(session) = world.take(alloc) else {
+        return NO_WORLD;
+    };
+    let found = session.world.object_of(word);
+    world.put(session);
+    tell_object(found, object)
+}
+
+fn number_for(kind: RegKind) -> u32
     ensures { result ≡ number_of kind }
 {
     match kind {
