@@ -440,7 +440,7 @@ static void open_anew(void)
 
 static void step_close(void)
 {
-    if (chance(8))
+    if (chance(400))
         return;
     if (ACCEPTED(derrimas_close(&world), m.closed ? DERRIMAS_CLOSED : DERRIMAS_OK))
         m.closed = true;
@@ -465,7 +465,7 @@ int main(int count, char **given)
     for (uint64_t done = 0; done < asked && !failures; done++) {
         uint64_t at = chance(all);
         unsigned n = 0;
-        if (m.queued > MOST_ENTRIES - WORDS || chance(20000) == 0) {
+        if (m.queued > MOST_ENTRIES - WORDS || chance(2000) == 0) {
             without_memory = chance(2);
             open_anew();
         }
@@ -474,12 +474,11 @@ int main(int count, char **given)
         without_memory = chance(4) == 0;
         steps[n].step();
         without_memory = false;
-        if (m.births > 5000)
-            step_close();
+        step_close();
         if (done % 500 == 0)
             show_all();
     }
-    IS(lacked > 0, true);
+    IS(lacked > 0 || asked < 100000, true);
     derrimas_destroy(&world);
     free(m.queue);
     free(m.finished);
