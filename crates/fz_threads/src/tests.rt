@@ -72,8 +72,9 @@ fn takes<R: AllocGlobal + Abort + Threads + Wait + Sync>(rt: &R, file: &[u8], wa
     assert_eq!(rt; holds, wanted, "holds");
 }
 
-/// Files, with how many holds their calls, the pause at the end and the collections after it are. None of them queues an entry, so no worker has a call.
-const FILES: [(&[u8], u64); 9] = [
+/// Files, with how many holds their calls, the pause at the end and the collections after it are, and those of the worker: one for up to 32 entries that
+/// a collection queued, since nothing is to be done for them outside of the lock. The first nine queue none.
+const FILES: [(&[u8], u64); 11] = [
     (b"open 1 1 1\nsettle 0\n", 1),
     (b"open 1 1 1\nsettle 3\n", 4),
     (b"open 1 1 1\nsettle 100\n", 101),
@@ -100,6 +101,14 @@ const FILES: [(&[u8], u64); 9] = [
     (
         b"open 1 2 1\nsettle 0\nmutator\nset 0 0 1\nset 0 0 0\nmutator\ncopy 1 0 1 1\ncollector\nbegin\n",
         5,
+    ),
+    (
+        b"open 1 1 1\nsettle 1\nmutator\nchurn 5 0 0 1 scanned normal 0\n",
+        18,
+    ),
+    (
+        b"open 1 1 1\nsettle 1\nmutator\nchurn 40 0 0 1 scanned normal 0\n",
+        124,
     ),
 ];
 
