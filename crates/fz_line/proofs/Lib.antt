@@ -4,6 +4,5 @@ pub mod Permutations
 pub mod Views
 pub mod Steps
 pub mod Passes
-pub mod Answered
 pub mod Draining
 pub mod Seats

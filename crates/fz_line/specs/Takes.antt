@@ -2,6 +2,7 @@
 use Rattle.std.specs.Prelude.{◌≡◌, ◌<◌, ◌+◌, [], ◌∷◌, ◌++◌, length, All}
 use Rattle.crossbeam_deque.specs.declared.steal.Steal.{Steal}
 use Rattle.crossbeam_deque.specs.declared.steal.Steal.TheVariants as steal
+use Rattle.crossbeam_deque.specs.Steals.{MatchSteal}
 use Rattle.fz_model.specs.declared.answers.Entry as answers
 use Rattle.fz_line.specs.States.{SeatState, DutyState}
 use Rattle.fz_line.specs.declared.seat.Take.{Take}
@@ -17,7 +18,13 @@ MatchTake (Busy seat) taken same = same seat
 abbrev pub GainsEntry : SeatState → DutyState → Type 0
 GainsEntry seat duty = (duty.seat ≡ record seat { took = seat.took ++ duty.entry ∷ [] }) × All (λ e. e.seq < duty.entry.seq) seat.took
 
--- ---- the steal of a take: means only
+-- ---- the steal of a take
+
+-- what a steal gave: an entry more, or nothing
+abbrev pub Gives : Steal answers.Entry → SeatState → SeatState → Type 0
+Gives r old seat = MatchSteal r (seat ≡ old) (seat ≡ old) (λ x. GainsEntry old (record { seat = seat; entry = x }))
+
+-- ---- means only
 
 -- the seat's list has one entry more than it was done with, where the steal gave one
 abbrev pub FitsSteal : Steal answers.Entry → SeatState → Type 0

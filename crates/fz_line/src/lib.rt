@@ -13,8 +13,10 @@ mod protocol;
 mod seat;
 mod taker;
 
+pub use crossbeam_deque::Steal;
 pub use duty::Duty;
 pub use opening::{line, retire_all};
 pub use owner::Owner;
 pub use plain_line::PlainLine;
 pub use seat::{Seat, Take};
+pub use taker::{Deque, Front, Taker};

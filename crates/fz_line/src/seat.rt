@@ -4,8 +4,7 @@ ghost use Rattle.std.specs.Prelude.{◌≡◌, ◌+◌, length};
 ghost use Rattle.fz_line.specs.Takes.{MatchTake, GainsEntry, FitsSteal, AnswersSteal};
 
 use crate::duty::Duty;
-use crate::protocol::Taking;
-use crate::taker::Taker;
+use crate::taker::{Deque, Front, Taker};
 use crossbeam_deque::Steal;
 use fz_model::Entry;
 use std::marker::Model;
@@ -56,8 +55,15 @@ impl Seat {
     pub fn take(self) -> Take
         ensures { MatchTake result (GainsEntry self) (λ seat. seat ≡ self) }
     {
+        self.take_from(&mut Deque)
+    }
+
+    /// A take from this front of the line: one steal.
+    pub fn take_from<F: Front>(self, front: &mut F) -> Take
+        ensures { MatchTake result (GainsEntry self) (λ seat. seat ≡ self) }
+    {
         let Seat { mut taker } = self;
-        let stolen = taker.stealer.steal_as::<Taking>(&mut taker.pass);
+        let stolen = front.steal(&mut taker);
         answer(taker, stolen)
     }
 

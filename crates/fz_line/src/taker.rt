@@ -1,11 +1,15 @@
-//! What a seat and a duty have in common.
+//! What a seat and a duty have in common, and the front of the line, where they take.
 
-use crate::protocol::{LinePass, LineStealer};
+ghost use Rattle.fz_line.specs.Takes.{Gives};
+
+use crate::protocol::{LinePass, LineStealer, Taking};
+use crossbeam_deque::Steal;
+use fz_model::Entry;
 use std::marker::Model;
 
 /// What takes from the line for a seat: its end of the line, the pass that carries the list of what it took, and its counts. How many entries it took
-/// is no count of its own: it is what it finished and forfeited, and one more for a duty.
-pub(crate) struct Taker {
+/// is no count of its own: it is what it finished and forfeited, and one more for a duty. A contract sees it as the seat.
+pub struct Taker {
     pub(crate) stealer: LineStealer,
     pub(crate) pass: LinePass,
     pub(crate) index: usize,
@@ -23,4 +27,21 @@ impl Model for Taker {
     ghost view = { λ t. seat_state (stealer_deque t.stealer).0 t.index (took_by t.pass) t.finished t.forfeited };
 
     ghost invariant = { λ t. IsSeatPass (stealer_deque t.stealer) t.pass };
+}
+
+/// The front of a line, where a take steals: `Deque`, or in a test what answers as the test wants, since no test can bring a deque to answer `Retry`.
+pub trait Front {
+    /// One attempt to take the first entry of the line.
+    fn steal(&mut self, taker: &mut Taker) -> Steal<Entry>
+        ensures { Gives result taker.old taker.new };
+}
+
+/// The front of the line itself: one steal from its deque, with no lock and no wait.
+#[derive(Clone, Copy)]
+pub struct Deque;
+
+impl Front for Deque {
+    fn steal(&mut self, taker: &mut Taker) -> Steal<Entry> {
+        taker.stealer.steal_as::<Taking>(&mut taker.pass)
+    }
 }

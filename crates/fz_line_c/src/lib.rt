@@ -10,6 +10,8 @@ mod line_session;
 mod lines;
 mod seat_session;
 mod seats;
+#[cfg(test)]
+mod tests;
 
 pub use codes::Code;
 pub use entry::Entry;

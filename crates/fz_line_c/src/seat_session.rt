@@ -6,7 +6,7 @@ ghost use Rattle.fz_line_c.specs.Seats.{Takes, AnswersTake, Finishes};
 
 use crate::codes::{BUSY, Code, EMPTY, IN_HAND, NO_WORLD, OK};
 use crate::entry::Entry;
-use fz_line::{Duty, Seat, Take};
+use fz_line::{Duty, Front, Seat, Take};
 
 /// A seat, which may have an entry in hand; `Away` where a call has it just now.
 pub enum SeatSession {
@@ -40,15 +40,15 @@ fn answer(taken: Take, entry: &mut Entry) -> (SeatSession, Code)
 }
 
 impl SeatSession {
-    /// Takes an entry, if none is in hand, and tells it.
+    /// Takes an entry from this front of the line, if none is in hand, and tells it.
     #[tactic(auto, using(crate::proofs::Answered::takes))]
-    pub(crate) fn take(self, entry: &mut Entry) -> (SeatSession, Code)
+    pub(crate) fn take<F: Front>(self, front: &mut F, entry: &mut Entry) -> (SeatSession, Code)
         ensures { Takes self result.0 result.1 (λ taken. entry_of entry.new ≡ taken) (entry.new ≡ entry.old) }
     {
         match self {
             SeatSession::Working(duty) => (SeatSession::Working(duty), IN_HAND),
             SeatSession::Away => (SeatSession::Away, NO_WORLD),
-            SeatSession::Idle(seat) => answer(seat.take(), entry),
+            SeatSession::Idle(seat) => answer(seat.take_from(front), entry),
         }
     }
 

@@ -8,21 +8,34 @@ use crate::codes::{Code, NO_WORLD};
 use crate::entry::Entry;
 use crate::handle::SeatHandle;
 use crate::seat_session::SeatSession;
+use fz_line::{Deque, Front};
 use std::alloc::Global;
 use std::mem::replace;
+
+/// A take from this front of the line.
+pub(crate) fn take_from<F: Front>(
+    alloc: Global,
+    seat: &mut SeatHandle,
+    front: &mut F,
+    entry: &mut Entry,
+) -> Code
+    ensures { TakesBehind seat.old.value seat.new.value result (λ taken. entry_of entry.new ≡ taken) (entry.new ≡ entry.old) }
+{
+    let Some(mut session) = seat.take(alloc) else {
+        return NO_WORLD;
+    };
+    let (next, code) = replace(&mut *session, SeatSession::Away).take(front, entry);
+    *session = next;
+    seat.put(session);
+    code
+}
 
 /// `Seat::take`: with no lock and no wait.
 #[unsafe(no_mangle)]
 pub extern "C" fn fz_seat_take(alloc: Global, seat: &mut SeatHandle, entry: &mut Entry) -> Code
     ensures { TakesBehind seat.old.value seat.new.value result (λ taken. entry_of entry.new ≡ taken) (entry.new ≡ entry.old) }
 {
-    let Some(mut session) = seat.take(alloc) else {
-        return NO_WORLD;
-    };
-    let (next, code) = replace(&mut *session, SeatSession::Away).take(entry);
-    *session = next;
-    seat.put(session);
-    code
+    take_from(alloc, seat, &mut Deque, entry)
 }
 
 /// `Duty::done`.

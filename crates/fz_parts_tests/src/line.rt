@@ -4,6 +4,8 @@ ghost use Rattle.std.specs.Prelude.{◌≡◌, ◌<◌, ◌≤◌, [], length, v
 ghost use Rattle.fz_line.specs.Numbers.{AreNumberedFrom};
 ghost use Rattle.fz_line.specs.States.{owner_state, new_seats};
 
+mod steals;
+
 use fz_line::{Duty, Owner, PlainLine, Seat, Take, line, retire_all};
 use fz_model::{Entry, Refusal};
 use std::alloc::{AllocError, Global};

@@ -8,7 +8,7 @@ use crate::seat_session::SeatSession;
 use fz_handle::Pointer;
 
 impl LineHandle {
-    pub(super) fn of(pointer: Pointer<LineSession>) -> LineHandle
+    pub(crate) fn of(pointer: Pointer<LineSession>) -> LineHandle
         ensures { result.value ≡ pointer.value }
     {
         let Pointer { at, alloc } = pointer;
@@ -30,7 +30,7 @@ impl LineHandle {
 }
 
 impl SeatHandle {
-    pub(super) fn of(pointer: Pointer<SeatSession>) -> SeatHandle
+    pub(crate) fn of(pointer: Pointer<SeatSession>) -> SeatHandle
         ensures { result.value ≡ pointer.value }
     {
         let Pointer { at, alloc } = pointer;

@@ -1,0 +1,89 @@
+//! What C's seat answers where a steal gives `Retry`, which no test can bring a deque to do, `Empty` or an entry.
+
+use crate::codes::{BUSY, EMPTY, OK};
+use crate::entry::Entry;
+use crate::handle::{LineHandle, SeatHandle};
+use crate::lines::{fz_line_destroy, fz_line_open, fz_line_publish, fz_line_seat};
+use crate::seats::{fz_seat_destroy, take_from};
+use fz_handle::Pointer;
+use fz_line::{Deque, Front, Steal, Taker};
+use std::fmt::Debug;
+use std::process::Abort;
+
+/// The entry that is sent.
+const SENT: Entry = Entry {
+    seq: 0,
+    pass: 1,
+    reg: 2,
+    obj: 65_536,
+    birth: 3,
+    proc: 7,
+    cd: 8,
+};
+
+/// What stands in C's place before an entry is told.
+const UNTOLD: Entry = Entry {
+    seq: 9,
+    pass: 9,
+    reg: 9,
+    obj: 9,
+    birth: 9,
+    proc: 9,
+    cd: 9,
+};
+
+/// Gives these answers, one a take, and then those of the line. A task comes from the line too.
+#[derive(Drop)]
+struct Told<'a> {
+    answers: &'a [Steal<()>],
+}
+
+impl Front for Told<'_> {
+    fn steal(&mut self, taker: &mut Taker) -> Steal<fz_model::Entry> {
+        let Some((first, rest)) = self.answers.split_first() else {
+            return Deque.steal(taker);
+        };
+        self.answers = rest;
+        match *first {
+            Steal::Empty => Steal::Empty,
+            Steal::Success(()) => Deque.steal(taker),
+            Steal::Retry => Steal::Retry,
+        }
+    }
+}
+
+/// Stops the test where a value isn't the one that is wanted.
+fn must_be<T: Copy + Debug + PartialEq>(rt: &impl Abort, found: T, want: T, what: &str) {
+    assert_eq!(rt; found, want, "{what}");
+}
+
+#[test]
+fn a_retry_is_busy_and_the_entry_comes_later(rt: HostRuntime) {
+    let alloc = rt.alloc();
+    let mut line = LineHandle::of(Pointer::null(alloc));
+    let mut seat = SeatHandle::of(Pointer::null(alloc));
+    must_be(&rt, fz_line_open(alloc, &mut line, 1), OK, "a line");
+    must_be(&rt, fz_line_seat(alloc, &mut line, &mut seat), OK, "a seat");
+    must_be(
+        &rt,
+        fz_line_publish(alloc, &mut line, &SENT),
+        OK,
+        "an entry",
+    );
+
+    let mut entry = UNTOLD;
+    let mut front = Told {
+        answers: &[Steal::Retry, Steal::Empty, Steal::Retry, Steal::Success(())],
+    };
+    for code in [BUSY, EMPTY, BUSY] {
+        let told = take_from(alloc, &mut seat, &mut front, &mut entry);
+        must_be(&rt, told, code, "no entry");
+        must_be(&rt, entry.read(), UNTOLD.read(), "nothing is told");
+    }
+    let told = take_from(alloc, &mut seat, &mut front, &mut entry);
+    must_be(&rt, told, OK, "the entry");
+    must_be(&rt, entry.read(), SENT.read(), "the entry is told");
+
+    fz_seat_destroy(alloc, &mut seat);
+    fz_line_destroy(alloc, &mut line);
+}

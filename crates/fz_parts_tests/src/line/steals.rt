@@ -1,0 +1,54 @@
+//! What a take answers where its steal gives `Retry`, which no test can bring a deque to do, `Empty` or an entry.
+
+use super::{counts, entry, must_be};
+use fz_line::{Deque, Front, Seat, Steal, Take, Taker, line, retire_all};
+use fz_model::Entry;
+use std::test::*;
+
+/// Gives these answers, one a take, and then those of the line. A task comes from the line too.
+#[derive(Drop)]
+struct Told<'a> {
+    answers: &'a [Steal<()>],
+}
+
+impl Front for Told<'_> {
+    fn steal(&mut self, taker: &mut Taker) -> Steal<Entry> {
+        let Some((first, rest)) = self.answers.split_first() else {
+            return Deque.steal(taker);
+        };
+        self.answers = rest;
+        match *first {
+            Steal::Empty => Steal::Empty,
+            Steal::Success(()) => Deque.steal(taker),
+            Steal::Retry => Steal::Retry,
+        }
+    }
+}
+
+/// What a take answered, with the number of its entry, and the seat, which gave the entry up.
+fn answered(taken: Take) -> (Steal<u64>, Seat) {
+    match taken {
+        Take::Empty(same) => (Steal::Empty, same),
+        Take::Busy(same) => (Steal::Retry, same),
+        Take::Taken(duty) => (Steal::Success(duty.entry().seq), duty.forfeit()),
+    }
+}
+
+#[test]
+fn a_retry_is_busy_and_the_entry_comes_later(rt: HostRuntime) {
+    let (mut owner, mut seats) = line(rt.alloc(), 1, 64).expect(&rt, "a line");
+    let mut seat = seats.pop().expect(&rt, "a seat");
+    must_be(&rt, owner.publish(&[entry(0)]), 1, "an entry is sent");
+
+    let mut front = Told {
+        answers: &[Steal::Retry, Steal::Empty, Steal::Retry, Steal::Success(())],
+    };
+    for want in [Steal::Retry, Steal::Empty, Steal::Retry, Steal::Success(0)] {
+        let (found, same) = answered(seat.take_from(&mut front));
+        must_be(&rt, found, want, "the answer of the front");
+        seat = same;
+    }
+    must_be(&rt, counts(&seat), (1, 0, 1), "the entry is given up");
+    seat.retire();
+    retire_all(seats);
+}
