@@ -3,7 +3,9 @@
 use crate::codes::{BUSY, EMPTY, OK};
 use crate::entry::Entry;
 use crate::handle::{LineHandle, SeatHandle};
+use crate::line_session::LineSession;
 use crate::lines::{fz_line_destroy, fz_line_open, fz_line_publish, fz_line_seat};
+use crate::seat_session::SeatSession;
 use crate::seats::{fz_seat_destroy, take_from};
 use fz_handle::Pointer;
 use fz_line::{Deque, Front, Steal, Taker};
@@ -52,6 +54,9 @@ impl Front for Told<'_> {
     }
 }
 
+/// Asks that a type may go to another thread. The proofs of handles cite that their sessions may, and a check of tests proves it only where it is asked for.
+fn may_go_to_a_thread<T: Send>() {}
+
 /// Stops the test where a value isn't the one that is wanted.
 fn must_be<T: Copy + Debug + PartialEq>(rt: &impl Abort, found: T, want: T, what: &str) {
     assert_eq!(rt; found, want, "{what}");
@@ -59,6 +64,8 @@ fn must_be<T: Copy + Debug + PartialEq>(rt: &impl Abort, found: T, want: T, what
 
 #[test]
 fn a_retry_is_busy_and_the_entry_comes_later(rt: HostRuntime) {
+    may_go_to_a_thread::<LineSession>();
+    may_go_to_a_thread::<SeatSession>();
     let alloc = rt.alloc();
     let mut line = LineHandle::of(Pointer::null(alloc));
     let mut seat = SeatHandle::of(Pointer::null(alloc));
