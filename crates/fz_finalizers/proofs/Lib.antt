@@ -5,5 +5,6 @@ pub mod Joined
 pub mod Filled
 pub mod Nearer
 pub mod Queueing
+pub mod OneQueued
 pub mod Promised
 pub mod Walked

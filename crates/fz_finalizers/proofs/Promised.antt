@@ -22,10 +22,11 @@ use Rattle.fz_pass.specs.Late.{AreApart}
 use Rattle.fz_finalizers.specs.declared.kinds.Finalizer.{Finalizer}
 use Rattle.fz_finalizers.specs.Kinds.{is_late, table_finalizer}
 use Rattle.fz_finalizers.specs.States.{State, opening, registered, with_links}
-use Rattle.fz_finalizers.specs.Follows.{Event, Follows, Queues, with_registration, Register, Unregister, Link, Unlink, Move, Pass, QueueAll, Take, TakeFinished, Finish}
+use Rattle.fz_finalizers.specs.Follows.{Event, Follows, Queues, with_registration, Register, Unregister, Link, Unlink, Move, Pass, Begin, Queue, QueueAll, Take, TakeFinished, Finish}
 use Rattle.fz_finalizers.specs.Promises.{Past, came, with_event, IsReached, Opened, Then, Promises}
 use Rattle.fz_finalizers.proofs.Fitting.{still, apart_removed, apart_entered, apart_entered_late}
 use Rattle.fz_finalizers.proofs.Queueing as queueing
+use Rattle.fz_finalizers.proofs.OneQueued.{queued_queues}
 
 -- no entries are among none
 none_among : {X : Type 0} (x : X) → Contains [] x → ⊥
@@ -72,6 +73,23 @@ linked s past Short links p = record {
   kept = p.kept;
 }
 linked s past Long links p = record {
+  takes = p.takes;
+  numbered = p.numbered;
+  counted = p.counted;
+  apart = p.apart;
+  one = p.one;
+  once = p.once;
+  gone = p.gone;
+  below = p.below;
+  queued_below = p.queued_below;
+  held = p.held;
+  by_number = p.by_number;
+  finished_taken = p.finished_taken;
+  kept = p.kept;
+}
+
+begun : (s : State) (past : Past) (passes : ℕ) → Promises s past → Promises (record s { passes = passes }) past
+begun s past passes p = record {
   takes = p.takes;
   numbered = p.numbered;
   counted = p.counted;
@@ -438,6 +456,8 @@ step old now past (Link kind word target) p does = subst (λ s. Promises s past)
 step old now past (Unlink kind word) p does = subst (λ s. Promises s past) (sym does) (linked old past kind _ p)
 step old now past (Move kind word to) p does = subst (λ s. Promises s past) (sym does) (linked old past kind _ p)
 step old now past Pass p does = come _ old now past p does.0 _ refl
+step old now past Begin p does = subst (λ s. Promises s past) (sym does) (begun old past _ p)
+step old now past (Queue object) p does = come _ old now past p (queued_queues old now object p.apart does) _ refl
 step old now past QueueAll p does = come _ old now past p does.0 _ refl
 step old now past (Take entry) p does = subst (λ s. Promises s (record past { taken = past.taken ++ entry ∷ [] })) (sym does.1) (taken old past entry now.waiting p does.0)
 step old now past (TakeFinished entry) p does =

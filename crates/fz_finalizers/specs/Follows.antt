@@ -1,16 +1,19 @@
 -- What the calls do, whatever the host: each is an event, which leads from one state to another.
-use Rattle.std.specs.Prelude.{◌≡◌, ◌≢◌, ℕ, ◌+◌, ◌-◌, ◌^◌, min, if◌then◌else◌, List, ◌++◌, ◌∷◌, length, Some, All, AllPairs}
+use Rattle.std.specs.Prelude.{◌≡◌, ◌≢◌, ℕ, ◌+◌, ◌-◌, ◌^◌, min, if◌then◌else◌, List, [], ◌++◌, ◌∷◌, length, Some, All, AllPairs}
 use Rattle.std.specs.FinMap.{get, insert, remove, empty}
+use Rattle.std.specs.Option.{option_map_or}
 use Rattle.fz_model.specs.declared.answers.Entry.{Entry}
 use Rattle.fz_model.specs.declared.answers.Pick.{Pick}
 use Rattle.fz_model.specs.declared.answers.Registration.{Registration}
 use Rattle.fz_model.specs.declared.kinds.LinkKind.{LinkKind}
-use Rattle.fz_model.specs.Pass.{entries_of, without_picks}
+use Rattle.fz_model.specs.Pass.{entry_of, entries_of, without_picks}
 use Rattle.fz_model.specs.State.{Map}
 use Rattle.fz_model.specs.Steps.{registration_of, moved_to}
+use Rattle.fz_pass.specs.All.{unknown}
+use Rattle.fz_pass.specs.Picking.{pick_of}
 use Rattle.fz_finalizers.specs.declared.kinds.Finalizer.{Finalizer}
 use Rattle.fz_finalizers.specs.Kinds.{is_late, table_finalizer}
-use Rattle.fz_finalizers.specs.States.{State, links_of, with_links}
+use Rattle.fz_finalizers.specs.States.{State, links_of, registered, with_links}
 
 -- the number of the next pass; it stays at the last that there is
 abbrev pub next_pass : ℕ → ℕ
@@ -45,6 +48,8 @@ pub data Event : Type 0 where
   Unlink : LinkKind → ℕ → Event
   Move : LinkKind → ℕ → ℕ → Event
   Pass : Event
+  Begin : Event
+  Queue : ℕ → Event
   QueueAll : Event
   Take : Entry → Event
   TakeFinished : Entry → Event
@@ -58,6 +63,19 @@ with_registration s object finalizer =
     then record s { registrations = remove s.registrations object; late = insert s.late object registration; next_number = s.next_number + 1 }
     else record s { registrations = insert s.registrations object registration; late = remove s.late object; next_number = s.next_number + 1 }
 
+-- an object's registration comes to the end of what waits, as an entry of the pass that began last
+abbrev pub queued_one : State → ℕ → Registration → State
+queued_one s object r = record s {
+  registrations = remove s.registrations object;
+  late = remove s.late object;
+  waiting = s.waiting ++ entry_of s.passes s.queued (pick_of r object unknown) ∷ [];
+  queued = s.queued + 1;
+}
+
+-- the same if it is registered
+abbrev pub queued_object : State → ℕ → State
+queued_object s object = option_map_or (queued_one s object) (registered s object) s
+
 abbrev pub Follows : State → Event → State → Type 0
 Follows old (Register object finalizer) new = new ≡ with_registration old object finalizer
 Follows old (Unregister object) new = new ≡ record old { registrations = remove old.registrations object; late = remove old.late object }
@@ -65,6 +83,8 @@ Follows old (Link kind word target) new = new ≡ with_links old kind (insert (l
 Follows old (Unlink kind word) new = new ≡ with_links old kind (remove (links_of old kind) word)
 Follows old (Move kind word to) new = new ≡ with_links old kind (moved_to (links_of old kind) word to (get (links_of old kind) word))
 Follows old Pass new = Queues (next_pass old.passes) old new × (new.passes ≡ next_pass old.passes)
+Follows old Begin new = new ≡ record old { passes = next_pass old.passes }
+Follows old (Queue object) new = new ≡ queued_object old object
 Follows old QueueAll new = Queues 0 old new × (new.registrations ≡ empty) × (new.late ≡ empty) × (new.short ≡ old.short) × (new.long ≡ old.long) × (new.passes ≡ old.passes)
 Follows old (Take entry) new = (old.waiting ≡ entry ∷ new.waiting) × (new ≡ record old { waiting = new.waiting; held = insert old.held entry.seq entry })
 Follows old (TakeFinished entry) new = (old.waiting ≡ entry ∷ new.waiting) × (new ≡ record old { waiting = new.waiting })

@@ -19,5 +19,11 @@ table_kind IgnoreSelf = table.IgnoreSelf
 table_kind NoOrder = table.NoOrder
 table_kind Unreachable = table.Normal
 
+-- the kind of a registration in the table of those that don't come late
+abbrev pub of_table : RegKind → Kind
+of_table table.Normal = Normal
+of_table table.IgnoreSelf = IgnoreSelf
+of_table table.NoOrder = NoOrder
+
 abbrev pub table_finalizer : Finalizer → model.Finalizer
 table_finalizer f = record { kind = table_kind f.kind; procedure = f.procedure; client_data = f.client_data; rank = Some f.rank }

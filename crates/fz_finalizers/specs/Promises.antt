@@ -6,7 +6,7 @@ use Rattle.fz_model.specs.declared.answers.Registration.{Registration}
 use Rattle.fz_pass.specs.Late.{AreApart}
 use Rattle.fz_finalizers.specs.declared.roots.Root.TheVariants.{HeldObject, HeldData}
 use Rattle.fz_finalizers.specs.States.{State, opening, registered}
-use Rattle.fz_finalizers.specs.Follows.{Event, Follows, Register, Unregister, Link, Unlink, Move, Pass, QueueAll, Take, TakeFinished, Finish}
+use Rattle.fz_finalizers.specs.Follows.{Event, Follows, Register, Unregister, Link, Unlink, Move, Pass, Begin, Queue, QueueAll, Take, TakeFinished, Finish}
 use Rattle.fz_finalizers.specs.Walks.{YieldsRoots}
 
 -- every entry ever, in the queue's order; those that were taken, in the order of the takes; and those that are finished
@@ -22,6 +22,7 @@ came old new = drop (length old.waiting) new.waiting
 -- the past with an event
 abbrev pub with_event : Past → State → Event → State → Past
 with_event past old Pass new = record past { queue = past.queue ++ came old new }
+with_event past old (Queue object) new = record past { queue = past.queue ++ came old new }
 with_event past old QueueAll new = record past { queue = past.queue ++ came old new }
 with_event past old (Take entry) new = record past { taken = past.taken ++ entry ∷ [] }
 with_event past old (TakeFinished entry) new = record past { taken = past.taken ++ entry ∷ []; finished = past.finished ++ entry ∷ [] }
@@ -31,6 +32,7 @@ with_event past old (Unregister object) new = past
 with_event past old (Link kind word target) new = past
 with_event past old (Unlink kind word) new = past
 with_event past old (Move kind word to) new = past
+with_event past old Begin new = past
 
 -- the states that calls reach, each with its past
 pub data IsReached : State → Past → Type 0 where

@@ -1,5 +1,5 @@
 -- What contracts see of finalizers: what is registered, the links, the entries, and for how much more there is room.
-use Rattle.std.specs.Prelude.{ℕ, ◌≤◌, min, if◌then◌else◌, List, [], Option, refl}
+use Rattle.std.specs.Prelude.{ℕ, ◌≤◌, min, if◌then◌else◌, List, [], Option, option_map, refl}
 use Rattle.std.specs.Coded.{Coded, code_by, coded×, coded_ℕ, coded_list}
 use Rattle.std.specs.Option.{option_or}
 use Rattle.std.specs.FinMap as map
@@ -12,7 +12,8 @@ use Rattle.fz_model.specs.Codes.{entry_code, registration_code}
 use Rattle.fz_model.specs.State.{Map}
 use Rattle.fz_finalizers.specs.declared.kinds.Kind.{Kind}
 use Rattle.fz_table.specs.declared.limits.TheConstants.{MOST_ENTRIES}
-use Rattle.fz_finalizers.specs.Kinds.{is_late}
+use Rattle.fz_finalizers.specs.declared.kinds.Kind.TheVariants.{Unreachable}
+use Rattle.fz_finalizers.specs.Kinds.{is_late, of_table}
 
 pub record State : Type 0 where
   pub registrations : Map Registration  -- by their objects
@@ -70,6 +71,10 @@ opening = record { registrations = empty; late = empty; next_number = 0; short =
 -- an object's registration, of whichever kind
 abbrev pub registered : State → ℕ → Option Registration
 registered s object = option_or (get s.registrations object) (get s.late object)
+
+-- the kind of an object's registration
+abbrev pub kind_at : State → ℕ → Option Kind
+kind_at s object = option_or (option_map (λ (r : Registration). of_table r.kind) (get s.registrations object)) (option_map (λ _. Unreachable) (get s.late object))
 
 -- the links of a kind
 abbrev pub links_of : State → LinkKind → Map ℕ

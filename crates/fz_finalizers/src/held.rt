@@ -84,7 +84,8 @@ impl Held {
 
     /// Those that are held, in no order that callers may count on.
     pub(crate) fn iter(&self) -> Pairs<'_, u64, Entry>
-        ensures { from_entries result ≡ self.now.entries }
+        ensures all { from_entries result ≡ self.now.entries }
+        ensures count { length result ≡ len self.now.entries }
     {
         Pairs::of(self.entries.iter())
     }

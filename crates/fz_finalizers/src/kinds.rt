@@ -1,7 +1,7 @@
 //! What is registered.
 
 ghost use Rattle.std.specs.Prelude.{◌≡◌};
-ghost use Rattle.fz_finalizers.specs.Kinds.{table_kind, table_finalizer, is_late};
+ghost use Rattle.fz_finalizers.specs.Kinds.{table_kind, table_finalizer, is_late, of_table};
 
 use fz_model::RegKind;
 
@@ -40,6 +40,17 @@ impl Kind {
         match self {
             Kind::Unreachable => true,
             Kind::Normal | Kind::IgnoreSelf | Kind::NoOrder => false,
+        }
+    }
+
+    /// The kind of a registration in the table of those that don't come late.
+    pub fn of_table(kind: RegKind) -> Kind
+        ensures { result ≡ of_table kind }
+    {
+        match kind {
+            RegKind::Normal => Kind::Normal,
+            RegKind::IgnoreSelf => Kind::IgnoreSelf,
+            RegKind::NoOrder => Kind::NoOrder,
         }
     }
 

@@ -15,6 +15,7 @@ mod refused;
 mod registering;
 mod registrations;
 mod roots;
+mod stepwise;
 mod waiting;
 mod walks;
 

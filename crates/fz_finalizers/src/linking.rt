@@ -30,6 +30,19 @@ fn make_room(links: &Links, moves: &mut Vec<(Addr, Addr)>, word: Addr) -> Result
     Err(Refused::NoMemory)
 }
 
+/// Refuses what can't be linked, whatever memory there is.
+pub(crate) fn check(links: &Links, word: Addr, target: Addr) -> Result<(), Refused>
+    ensures { IsJudgedBy (link_causes links.now.links word target) result }
+{
+    if word == 0 || target == 0 {
+        return Err(Refused::Zero);
+    }
+    if links.lacks_place(word) {
+        return Err(Refused::Full);
+    }
+    Ok(())
+}
+
 /// Makes a link from the word to the target.
 pub(crate) fn link(
     links: &mut Links,
@@ -50,12 +63,7 @@ pub(crate) fn link(
     ensures room { len links.new.links ≤ vec_capacity moves.new }
     ensures roomier { links.old.room ≤ links.new.room + 1 }
 {
-    if word == 0 || target == 0 {
-        return Err(Refused::Zero);
-    }
-    if links.lacks_place(word) {
-        return Err(Refused::Full);
-    }
+    check(links, word, target)?;
     make_room(links, moves, word)?;
     links
         .register_checked(word, target)

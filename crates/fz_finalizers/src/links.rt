@@ -32,6 +32,16 @@ impl Finalizers {
         }
     }
 
+    /// Refuses what `link` refuses of a word and a target, whatever memory there is.
+    pub fn check_link(&self, kind: LinkKind, word: Addr, target: Addr) -> Result<(), Refused>
+        ensures judged { IsJudgedBy (link_causes (links_of self.now.state kind) word target) result }
+    {
+        match kind {
+            LinkKind::Short => linking::check(&self.short, word, target),
+            LinkKind::Long => linking::check(&self.long, word, target),
+        }
+    }
+
     /// Removes a link, and returns whether there was one.
     pub fn unlink(&mut self, kind: LinkKind, word: Addr) -> bool
         ensures answer { result ≡ contains_key (links_of self.old.state kind) word }

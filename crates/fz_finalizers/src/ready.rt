@@ -3,6 +3,9 @@
 ghost use Rattle.std.specs.Prelude.{◌≡◌, ◌≤◌, ◌<◌, ◌+◌, ◌^◌, [], ◌∷◌, ◌++◌, ℕ, None, length, IfErr, OnOk, OnErr, IsTrue};
 ghost use Rattle.std.specs.FinMap.{get, remove, len, empty, from_entries};
 ghost use Rattle.fz_model.specs.Memory.{points};
+ghost use Rattle.fz_model.specs.Pass.{entry_of};
+ghost use Rattle.fz_pass.specs.All.{unknown};
+ghost use Rattle.fz_pass.specs.Picking.{pick_of};
 ghost use Rattle.fz_pass.specs.Marks.{IsClosed, AreRegistered, AreTargets};
 ghost use Rattle.fz_pass.specs.Late.{AreApart, AreNormal, parts_of, parts_left};
 ghost use Rattle.fz_finalizers.specs.Ready.{Decides, HasSameEntries, QueuesTables, Takes, TakesFinished};
@@ -12,7 +15,7 @@ use crate::held::Held;
 use crate::refused::Refused;
 use crate::waiting::Waiting;
 use fz_links::Links;
-use fz_model::Entry;
+use fz_model::{Addr, Entry, Registration};
 use fz_pass::{Host, ReadyList, decide_with_late, queue_all};
 use fz_table::{Pairs, Table};
 use std::alloc::Global;
@@ -84,7 +87,8 @@ impl Ready {
 
     /// Those that are held, by their numbers, in no order that callers may count on.
     pub(crate) fn held_entries(&self) -> Pairs<'_, u64, Entry>
-        ensures { from_entries result ≡ self.now.held }
+        ensures all { from_entries result ≡ self.now.held }
+        ensures count { length result ≡ len self.now.held }
     {
         self.held.iter()
     }
@@ -165,6 +169,27 @@ impl Ready {
         queue_all(late, &mut self.list, &mut queue, next);
         self.queued = first + (queue.len() - before) as u64;
         self.waiting = Waiting::of(queue);
+    }
+
+    /// Puts the entry of an object's registration at the end of those that wait, as of a pass.
+    pub(crate) fn push(&mut self, pass: u64, object: Addr, registration: Registration)
+        requires room { 0 < self.old.room }
+        requires number { self.old.queued + 1 < 2 ^ 64 }
+        ensures waiting { self.new.waiting ≡ self.old.waiting ++ entry_of pass self.old.queued (pick_of registration object unknown) ∷ [] }
+        ensures held { self.new.held ≡ self.old.held }
+        ensures queued { self.new.queued ≡ self.old.queued + 1 }
+        ensures room { self.old.room ≤ self.new.room + 1 }
+    {
+        self.waiting.push(Entry {
+            seq: self.queued,
+            pass,
+            reg: registration.number,
+            obj: object,
+            birth: 0,
+            proc: registration.proc,
+            cd: registration.cd,
+        });
+        self.queued += 1;
     }
 
     /// Takes the first entry that waits, and holds it.

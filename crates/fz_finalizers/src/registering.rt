@@ -11,11 +11,11 @@ ghost use Rattle.fz_finalizers.specs.Registering.{HasRoomFor, old_in_either};
 
 use crate::ready::Ready;
 use crate::refused::Refused;
-use fz_model::{Addr, COUNT_LIMIT, Finalizer, Old};
+use fz_model::{Addr, COUNT_LIMIT, Finalizer, Old, Registration};
 use fz_table::Table;
 
 /// Refuses what can't be registered, whatever memory there is.
-fn check(table: &Table, object: Addr) -> Result<(), Refused>
+pub(crate) fn check(table: &Table, object: Addr) -> Result<(), Refused>
     ensures { IsJudgedBy (register_causes table.now.registrations table.now.next_number object) result }
 {
     if object == 0 {
@@ -61,6 +61,18 @@ pub(crate) fn remove(table: &mut Table, object: Addr) -> Option<Old>
         return None;
     }
     table.remove(object)
+}
+
+/// Takes an object's registration out of the table of the late ones, which is mostly empty.
+pub(crate) fn take_late(late: &mut Table, object: Addr) -> Option<Registration>
+    ensures answer { result ≡ get late.old.registrations object }
+    ensures removed { late.new.registered ≡ record late.old.registered { registrations = remove late.old.registrations object } }
+    ensures room { late.old.room ≤ late.new.room }
+{
+    if late.is_empty() {
+        return None;
+    }
+    late.take(object)
 }
 
 /// Registers an object's finalizer in its table, and removes what the other has of the object; returns the number and what was replaced.

@@ -2,14 +2,14 @@
 
 ghost use Rattle.std.specs.Prelude.{◌≡◌, ◌≤◌, ◌<◌, ◌+◌, None, if◌then◌else◌, IfOk, IfErr, OnOk, OnErr};
 ghost use Rattle.std.specs.FinMap.{get, len};
-ghost use Rattle.fz_finalizers.specs.Causes.{IsJudgedOrLacks, register_causes};
+ghost use Rattle.fz_finalizers.specs.Causes.{IsJudgedBy, IsJudgedOrLacks, register_causes};
 ghost use Rattle.fz_finalizers.specs.Kinds.{is_late};
 ghost use Rattle.fz_finalizers.specs.Follows.{Follows, Register, Unregister};
 ghost use Rattle.fz_finalizers.specs.Registering.{old_in_either};
-ghost use Rattle.fz_finalizers.specs.States.{table_of, registered, registration_room};
+ghost use Rattle.fz_finalizers.specs.States.{kind_at, table_of, registered, registration_room};
 
 use crate::finalizers::Finalizers;
-use crate::kinds::Finalizer;
+use crate::kinds::{Finalizer, Kind};
 use crate::refused::Refused;
 use crate::registering;
 use fz_model::{Addr, Old, Registration};
@@ -41,6 +41,17 @@ impl Finalizers {
         }
     }
 
+    /// Refuses what `register` refuses of an object and a kind, whatever memory there is.
+    pub fn check(&self, object: Addr, kind: Kind) -> Result<(), Refused>
+        ensures judged { IsJudgedBy (register_causes (table_of self.now.state kind) self.now.next_number object) result }
+    {
+        if kind.is_late() {
+            registering::check(&self.late, object)
+        } else {
+            registering::check(&self.table, object)
+        }
+    }
+
     /// Removes an object's registration; returns its procedure and client data.
     pub fn unregister(&mut self, object: Addr) -> Option<Old>
         ensures answer { result ≡ old_in_either self.old.registrations self.old.late object }
@@ -56,6 +67,19 @@ impl Finalizers {
         ensures { result ≡ registered self.now.state object }
     {
         self.table.get(object).or(self.late.get(object))
+    }
+
+    /// The kind of an object's registration.
+    pub fn kind(&self, object: Addr) -> Option<Kind>
+        ensures { result ≡ kind_at self.now.state object }
+    {
+        if let Some(registration) = self.table.get(object) {
+            return Some(Kind::of_table(registration.kind));
+        }
+        if self.late.get(object).is_some() {
+            return Some(Kind::Unreachable);
+        }
+        None
     }
 
     /// How many objects are registered.

@@ -1,6 +1,6 @@
 //! The entries that wait to be taken.
 
-ghost use Rattle.std.specs.Prelude.{◌≡◌, ◌≤◌, ◌<◌, ◌+◌, [], ◌∷◌, drop, length, vec_len, vec_capacity, MatchOption, OnOk, OnErr};
+ghost use Rattle.std.specs.Prelude.{◌≡◌, ◌≤◌, ◌<◌, ◌+◌, [], ◌∷◌, ◌++◌, drop, length, vec_len, vec_capacity, MatchOption, OnOk, OnErr};
 
 use fz_model::Entry;
 use std::alloc::AllocError;
@@ -72,6 +72,19 @@ impl Waiting {
             self.taken = 0;
         }
         self.entries.reserve(more)
+    }
+
+    /// Puts an entry at the end, for which there has to be room.
+    pub(crate) fn push(&mut self, entry: Entry)
+        requires { length self.old.entries < self.old.capacity }
+        ensures pushed { self.new.entries ≡ self.old.entries ++ entry ∷ [] }
+        ensures capacity { self.old.capacity ≤ self.new.capacity }
+    {
+        if self.entries.len() == self.entries.capacity() {
+            drop_first(&mut self.entries, self.taken);
+            self.taken = 0;
+        }
+        let _ = self.entries.push(entry);
     }
 
     /// Takes the first entry.

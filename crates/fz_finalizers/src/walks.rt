@@ -2,7 +2,7 @@
 
 ghost use Rattle.std.specs.Prelude.{◌≡◌, ◌≤◌, ◌<◌, ◌+◌, ◌++◌, ℕ, List, min, map, take, drop, length, nat_eq, Some, IfSome};
 ghost use Rattle.std.specs.Ordering.{nat_cmp};
-ghost use Rattle.std.specs.FinMap.{get, from_entries};
+ghost use Rattle.std.specs.FinMap.{get, len, from_entries};
 ghost use Rattle.std.specs.Iterator.{YieldsFirst, UpTo, at_most, item_count};
 ghost use Rattle.std.specs.Iterator.SizeHint.{IsWithinCount};
 ghost use Rattle.std.specs.List.{IsDistinct};
@@ -87,6 +87,8 @@ impl Finalizers {
     /// All registrations with their objects, each once, in no order that callers may count on.
     pub fn iter(&self) -> Registrations<'_>
         ensures all { AreRegistrations self.now.state result }
+        // So each stands there once.
+        ensures count { length result ≡ len self.now.registrations + len self.now.late }
     {
         Registrations {
             first: self.table.iter(),
@@ -94,10 +96,29 @@ impl Finalizers {
         }
     }
 
+    /// The registrations of kind `Unreachable`, which come late in a pass, with their objects, each once, in no order that callers may count on.
+    pub fn iter_late(&self) -> Pairs<'_, Addr, Registration>
+        ensures all { from_entries result ≡ self.now.late }
+        ensures once { IsDistinct nat_eq (keys_of result) }
+        ensures count { length result ≡ len self.now.late }
+    {
+        self.late.iter()
+    }
+
+    /// The registrations of the other kinds, in the same way.
+    pub fn iter_others(&self) -> Pairs<'_, Addr, Registration>
+        ensures all { from_entries result ≡ self.now.registrations }
+        ensures once { IsDistinct nat_eq (keys_of result) }
+        ensures count { length result ≡ len self.now.registrations }
+    {
+        self.table.iter()
+    }
+
     /// All links of a kind with their targets, each once, in no order that callers may count on.
     pub fn iter_links(&self, kind: LinkKind) -> Pairs<'_, Addr, Addr>
         ensures all { from_entries result ≡ links_of self.now.state kind }
         ensures once { IsDistinct nat_eq (keys_of result) }
+        ensures count { length result ≡ len (links_of self.now.state kind) }
     {
         match kind {
             LinkKind::Short => self.short.iter(),
@@ -128,7 +149,9 @@ impl Finalizers {
 
     /// The entries that wait, in the queue's order, and then those that are held, in no order that callers may count on.
     pub fn entries(&self) -> Entries<'_>
-        ensures { AreEntries self.now.state result }
+        ensures all { AreEntries self.now.state result }
+        // So each stands there once.
+        ensures count { length result ≡ length self.now.waiting + len self.now.held }
     {
         Entries {
             waiting: self.ready.waiting(),

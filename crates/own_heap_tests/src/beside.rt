@@ -1,5 +1,6 @@
-//! The heap of records beside a world: over the same graphs they pick the same, and keep the same.
+//! The heap of records, and a graph whose finalizers ask, beside a world: over the same graphs they pick the same, and keep the same.
 
+use crate::asked::Asked;
 use crate::equal::must_be;
 use fz_finalizers::{Finalizer, Kind};
 use fz_model::LinkKind::{Long, Short};
@@ -30,59 +31,67 @@ impl Random {
     }
 }
 
-/// A world and a heap of records with the same objects. Each object stands in the slot of its number, until that is emptied.
+/// A world, a heap of records and a graph with the same objects. Each object stands in the slot of its number, until that is emptied; in the graph its number
+/// is one more.
 #[derive(Drop)]
-struct Both {
+struct All {
     world: World,
     runtime: Runtime,
+    asked: Asked,
     starts: Vec<Addr>,
     ids: Vec<RecordId>,
 }
 
 /// Objects without edges.
-fn objects(rt: &impl Abort, alloc: Global) -> Both {
+fn objects(rt: &impl Abort, alloc: Global) -> All {
     let config = Config {
         blocks: 8,
         frames: 1,
     };
-    let mut both = Both {
+    let mut all = All {
         world: World::open(alloc, config).expect(rt, "a world"),
         runtime: Runtime::new(alloc, OBJECTS as u32).expect(rt, "a runtime"),
+        asked: Asked::new(alloc),
         starts: Vec::new(alloc),
         ids: Vec::new(alloc),
     };
     for slot in 0..OBJECTS {
-        let made = both.world.alloc(0, slot, FIELDS as u64, Scanned);
-        both.starts
+        let made = all.world.alloc(0, slot, FIELDS as u64, Scanned);
+        all.starts
             .push(made.expect(rt, "an object").0)
             .expect(rt, "memory");
-        let id = both.runtime.make([Nothing; FIELDS]).expect(rt, "a record");
-        both.ids.push(id).expect(rt, "memory");
+        let id = all.runtime.make([Nothing; FIELDS]).expect(rt, "a record");
+        all.ids.push(id).expect(rt, "memory");
     }
-    both
+    all
 }
 
 /// A record's name, by the number of its object.
-fn id_of(rt: &impl Abort, both: &Both, object: u64) -> RecordId {
-    both.ids
+fn id_of(rt: &impl Abort, all: &All, object: u64) -> RecordId {
+    all.ids
         .get(object as usize)
         .copied()
         .expect(rt, "an object")
 }
 
 /// Writes a reference to an object into a field of another.
-fn refer(rt: &impl Abort, both: &mut Both, object: u64, field: u64, to: u64) {
-    both.world
+fn refer(rt: &impl Abort, all: &mut All, object: u64, field: u64, to: u64) {
+    all.world
         .store(0, object, field, 0, to)
         .expect(rt, "a word");
-    let id = id_of(rt, both, object);
-    let target = id_of(rt, both, to);
-    both.runtime
+    let id = id_of(rt, all, object);
+    let target = id_of(rt, all, to);
+    all.runtime
         .set(id, field as usize % FIELDS, Reference(target));
+    all.asked.refer(
+        object.saturating_add(1),
+        field as usize,
+        to.saturating_add(1),
+    );
 }
 
-/// Registers an object, in one of the kinds that both have, with client data that may refer to another.
-fn register(rt: &impl Abort, both: &mut Both, object: u64, random: &mut Random) {
+/// Registers an object, in one of the kinds that all have, with client data that may refer to another.
+fn register(rt: &impl Abort, all: &mut All, object: u64, random: &mut Random) {
     let (kind, same_kind) = match random.below(3) {
         0 => (RegKind::Normal, Kind::Normal),
         1 => (RegKind::IgnoreSelf, Kind::IgnoreSelf),
@@ -90,11 +99,11 @@ fn register(rt: &impl Abort, both: &mut Both, object: u64, random: &mut Random) 
     };
     let rank = u8::from(random.below(2) == 0);
     let to = random.below(OBJECTS * 8);
-    let word: Word = both.starts.get(to as usize).copied().unwrap_or(0);
-    both.world
+    let word: Word = all.starts.get(to as usize).copied().unwrap_or(0);
+    all.world
         .register(0, object, kind, object, word, rank)
         .expect(rt, "a registration");
-    let client_data = match both.ids.get(to as usize) {
+    let client_data = match all.ids.get(to as usize) {
         Some(id) => id.address(),
         None => 0,
     };
@@ -104,93 +113,124 @@ fn register(rt: &impl Abort, both: &mut Both, object: u64, random: &mut Random) 
         client_data,
         rank,
     };
-    let id = id_of(rt, both, object);
-    if both.runtime.heap().stands(id) {
-        both.runtime.register(id, finalizer).expect(rt, "the same");
+    let id = id_of(rt, all, object);
+    if all.runtime.heap().stands(id) {
+        all.runtime.register(id, finalizer).expect(rt, "the same");
     }
+    let client_data = if to < OBJECTS { to + 1 } else { 0 };
+    let asked_finalizer = Finalizer {
+        client_data,
+        ..finalizer
+    };
+    all.asked
+        .register(rt, object.saturating_add(1), asked_finalizer);
 }
 
 /// Makes a field of an object a link to another.
-fn link(rt: &impl Abort, both: &mut Both, object: u64, to: u64, random: &mut Random) {
+fn link(rt: &impl Abort, all: &mut All, object: u64, to: u64, random: &mut Random) {
     let kind = if random.below(2) == 0 { Short } else { Long };
     let field = random.below(FIELDS as u64);
-    both.world
+    all.world
         .link(kind, 0, object, field, 0, to)
         .expect(rt, "a link");
-    let id = id_of(rt, both, object);
-    let target = id_of(rt, both, to);
-    if both.runtime.heap().stands(target) {
-        both.runtime
+    let id = id_of(rt, all, object);
+    let target = id_of(rt, all, to);
+    if all.runtime.heap().stands(target) {
+        all.runtime
             .link(kind, id, field as usize % FIELDS, target)
             .expect(rt, "the same");
     }
+    all.asked.link(
+        rt,
+        kind,
+        object.saturating_add(1),
+        field as usize,
+        to.saturating_add(1),
+    );
 }
 
 /// Edges, registrations and links of an object.
-fn furnish(rt: &impl Abort, both: &mut Both, object: u64, random: &mut Random) {
+fn furnish(rt: &impl Abort, all: &mut All, object: u64, random: &mut Random) {
     for field in 0..FIELDS as u64 {
         if random.below(5) == 0 {
-            refer(rt, both, object, field, random.below(OBJECTS));
+            refer(rt, all, object, field, random.below(OBJECTS));
         }
     }
     if random.below(2) == 0 {
-        register(rt, both, object, random);
+        register(rt, all, object, random);
     }
     if random.below(3) == 0 {
-        link(rt, both, object, random.below(OBJECTS), random);
+        link(rt, all, object, random.below(OBJECTS), random);
     }
 }
 
 /// Leaves an object to what leads to it, or makes it a root.
-fn settle(rt: &impl Abort, both: &mut Both, object: u64, random: &mut Random) {
+fn settle(rt: &impl Abort, all: &mut All, object: u64, random: &mut Random) {
     if random.below(8) == 0 {
-        let id = id_of(rt, both, object);
-        both.runtime.add_root(id).expect(rt, "memory");
+        let id = id_of(rt, all, object);
+        all.runtime.add_root(id).expect(rt, "memory");
+        all.asked.add_root(object.saturating_add(1));
     } else {
-        both.world.set(0, object, 0).expect(rt, "a slot");
+        all.world.set(0, object, 0).expect(rt, "a slot");
     }
 }
 
-/// Takes what both have queued, in their order, and finishes it. Returns how many entries were taken so far.
-fn take_same(rt: &impl Abort, both: &mut Both, taken: u64) -> u64 {
+/// Takes what all have queued, in their order, and finishes it. Returns how many entries were taken so far.
+fn take_same(rt: &impl Abort, all: &mut All, taken: u64) -> u64 {
     for number in taken..u64::MAX {
-        let Some(entry) = both.world.next(number) else {
-            must_be(rt, both.runtime.take().is_none(), true, "no other pick");
+        let Some(entry) = all.world.next(number) else {
+            must_be(rt, all.runtime.take().is_none(), true, "no other pick");
+            must_be(rt, all.asked.take(rt).is_none(), true, "no other pick");
             return number;
         };
-        let same = both.runtime.take().expect(rt, "an entry of both");
+        let same = all.runtime.take().expect(rt, "an entry of all");
         let numbers = (same.reg, same.birth, same.proc);
         must_be(rt, numbers, (entry.reg, entry.birth, entry.proc), "a pick");
-        both.world.finish(&entry).expect(rt, "the end");
-        both.runtime.finish(&same).expect(rt, "the end");
+        let third = all.asked.take(rt).expect(rt, "an entry of all");
+        let numbers = (third.reg, third.obj, third.proc);
+        let number_of_its = entry.proc.saturating_add(1);
+        must_be(
+            rt,
+            numbers,
+            (entry.reg, number_of_its, entry.proc),
+            "its pick",
+        );
+        all.asked.finish(rt, &third);
+        all.world.finish(&entry).expect(rt, "the end");
+        all.runtime.finish(&same).expect(rt, "the end");
     }
     taken
 }
 
 /// The same objects stand.
-fn stand_same(rt: &impl Abort, both: &Both) {
-    for (start, id) in both.starts.iter().zip(both.ids.iter()) {
-        let stands = both.world.object(*start).is_some();
-        must_be(rt, both.runtime.heap().stands(*id), stands, "an object");
+fn stand_same(rt: &impl Abort, all: &All) {
+    for (start, id) in all.starts.iter().zip(all.ids.iter()) {
+        let stands = all.world.object(*start).is_some();
+        must_be(rt, all.runtime.heap().stands(*id), stands, "an object");
+    }
+    for (start, number) in all.starts.iter().zip(1..=OBJECTS) {
+        let stands = all.world.object(*start).is_some();
+        must_be(rt, all.asked.stands(number), stands, "a numbered object");
     }
 }
 
 /// A graph that looks random, and collections of it. Returns how many picks there were.
 fn collect_same(rt: &impl Abort, alloc: Global, seed: u64) -> u64 {
     let mut random = Random(seed);
-    let mut both = objects(rt, alloc);
+    let mut all = objects(rt, alloc);
     for object in 0..OBJECTS {
-        furnish(rt, &mut both, object, &mut random);
+        furnish(rt, &mut all, object, &mut random);
     }
     for object in 0..OBJECTS {
-        settle(rt, &mut both, object, &mut random);
+        settle(rt, &mut all, object, &mut random);
     }
     let mut taken = 0;
     for _ in 0..6 {
-        let passed = both.world.collect().expect(rt, "a collection");
-        must_be(rt, both.runtime.collect().picked, passed.picked, "as many");
-        stand_same(rt, &both);
-        taken = take_same(rt, &mut both, taken);
+        let passed = all.world.collect().expect(rt, "a collection");
+        must_be(rt, all.runtime.collect().picked, passed.picked, "as many");
+        must_be(rt, all.asked.collect(rt).picked, passed.picked, "as many");
+        stand_same(rt, &all);
+        taken = take_same(rt, &mut all, taken);
     }
     taken
 }

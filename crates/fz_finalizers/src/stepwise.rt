@@ -1,0 +1,36 @@
+//! Passes that are carried out call by call.
+
+ghost use Rattle.std.specs.Prelude.{◌≡◌, ◌≤◌, ◌<◌, ◌+◌, is_some};
+ghost use Rattle.std.specs.FinMap.{from_entries};
+ghost use Rattle.fz_finalizers.specs.Follows.{Follows, Begin, Queue, next_pass};
+ghost use Rattle.fz_finalizers.specs.States.{registered};
+
+use crate::finalizers::Finalizers;
+use crate::registering::take_late;
+use fz_model::Addr;
+
+impl Finalizers {
+    /// Begins a pass that is carried out call by call, and returns its number: `queue` makes entries of it from now on.
+    pub fn begin_pass(&mut self) -> u64
+        ensures number { result ≡ next_pass self.old.passes }
+        ensures follows { Follows self.old.state Begin self.new.state }
+    {
+        self.passes = self.passes.saturating_add(1);
+        self.passes
+    }
+
+    /// Moves an object's registration to the end of the queue, as an entry of the pass that began last, with birth 0. Returns whether the object was
+    /// registered. It takes no memory.
+    pub fn queue(&mut self, object: Addr) -> bool
+        ensures answer { result ≡ is_some (registered self.old.state object) }
+        ensures follows { Follows self.old.state (Queue object) self.new.state }
+    {
+        let first = self.table.take(object);
+        let late = take_late(&mut self.late, object);
+        let Some(registration) = first.or(late) else {
+            return false;
+        };
+        self.ready.push(self.passes, object, registration);
+        true
+    }
+}

@@ -1,0 +1,32 @@
+-- A list that is filled from the entries of a map.
+use Rattle.std.proofs.Common.{◌≡◌, ◌++◌, ◌≤◌, ◌<◌, ◌+◌, ℕ, List, [], ◌∷◌, map, length, refl, sym, ap, ◌∙◌, append_assoc, append-nil, arith}
+use Rattle.std.proofs.lemmas.List.{map-append, length-append}
+
+module _ {X Y : Type 0} (f : X → Y) (before : List Y) (es : List X) where
+  -- the entries that were yielded stand on the list, behind what stood there
+  pub record AreListed (items : List Y) (done it : List X) : Type 0 where
+    pub listed : items ≡ before ++ map f done
+    pub few : length items + length it ≤ length before + length es
+    pub rest : done ++ it ≡ es
+
+  pub none_listed : AreListed before [] es
+  none_listed = record { listed = sym (append-nil before); few = omega arith; rest = refl }
+
+  module _ (items : List Y) (done it : List X) (are : AreListed items done it) where
+    pub one_more : (new : List Y) (next : List X) (e : X) → new ≡ items ++ f e ∷ [] → it ≡ e ∷ next → AreListed new (done ++ e ∷ []) next
+    one_more new next e is steps =
+        let long = ap length is ∙ length-append items (f e ∷ []) in
+        let left = ap length steps in
+        let few = are.few in
+        record {
+          listed = is ∙ ap (λ xs. xs ++ f e ∷ []) are.listed ∙ append_assoc before (map f done) (f e ∷ []) ∙ ap (λ xs. before ++ xs) (sym (map-append f done (e ∷ [])));
+          few = omega (arith, long, left, few);
+          rest = append_assoc done (e ∷ []) next ∙ ap (λ xs. done ++ xs) (sym steps) ∙ are.rest;
+        }
+
+    pub all_listed : it ≡ [] → items ≡ before ++ map f es
+    all_listed none = are.listed ∙ ap (λ xs. before ++ map f xs) (sym (append-nil done) ∙ ap (λ xs. done ++ xs) (sym none) ∙ are.rest)
+
+    -- there is room for one more
+    pub has_room : (room : ℕ) (next : List X) (e : X) → it ≡ e ∷ next → length before + length es ≤ room → length items < room
+    has_room room next e steps enough = let left = ap length steps in let few = are.few in omega (arith, left, few, enough)

@@ -1,0 +1,113 @@
+-- The list of a phase has room for all that may come onto it.
+use Rattle.std.proofs.Common.{◌≡◌, ◌≤◌, ℕ, Bool, true, false, cond, List, [], ◌∷◌, is_some, Option, Some, None, Result, Ok, Err, OnOk, OnErr, nat_cmp, sym, ap, subst, arith}
+use Rattle.std.specs.FinMap.{get, len, remove, empty, len-empty}
+use Rattle.std.specs.Option.{option_map_or}
+use Rattle.fz_model.specs.declared.answers.Registration.{Registration}
+use Rattle.fz_model.specs.declared.kinds.LinkKind.{LinkKind}
+use Rattle.fz_model.specs.declared.kinds.LinkKind.TheVariants.{Short, Long}
+use Rattle.fz_model.specs.Steps.{moved_to}
+use Rattle.fz_finalizers.specs.declared.refused.Refused.{Refused}
+use Rattle.fz_finalizers.specs.Follows.{queued_one, queued_object}
+use Rattle.fz_finalizers.specs.Kinds.{is_late}
+use Rattle.fz_finalizers.specs.States.{State, opening, registered, links_of, with_links}
+use Rattle.fz_finalizers.proofs.Counting.{len_less, len_moved_to}
+use Rattle.fz_machine.specs.declared.item.Item.{Item}
+use Rattle.fz_machine.specs.declared.phase.Phase.{Phase}
+use Rattle.fz_machine.specs.declared.phase.Phase.TheVariants.{ShortTargets, ShortWords, Objects, Children, Again, Picks, LateAgain, LatePicks, LongTargets, LongWords, ShortHolders, LongHolders}
+use Rattle.fz_machine.specs.Going.{HasRoom}
+use Rattle.fz_machine.specs.Phases.{after, asks}
+use Rattle.fz_machine.specs.Steps.{Going, step, stepped, steps, skip, skipped}
+
+pub opened : (room : ℕ) → HasRoom opening room
+opened room = let none = len-empty nat_cmp Registration in let no_links = len-empty nat_cmp ℕ in record { registrations = omega (arith, none); short = omega (arith, no_links); long = omega (arith, no_links) }
+
+pub roomier : (s : State) (room more : ℕ) → room ≤ more → HasRoom s room → HasRoom s more
+roomier s room more le h =
+    let a = h.registrations in
+    let b = h.short in
+    let c = h.long in
+    record { registrations = omega (arith, a, le); short = omega (arith, b, le); long = omega (arith, c, le) }
+
+module _ (s : State) (room : ℕ) (h : HasRoom s room) where
+  pub emptied : (new : State) → new.registrations ≡ empty → new.late ≡ empty → new.short ≡ s.short → new.long ≡ s.long → HasRoom new room
+  emptied new none none_late short long =
+      let zero_long = len-empty nat_cmp Registration in
+      let a = ap len none in
+      let b = ap len none_late in
+      let c = ap len short in
+      let d = ap len long in
+      let few_short = h.short in
+      let few_long = h.long in
+      record { registrations = omega (arith, zero_long, a, b); short = omega (arith, c, few_short); long = omega (arith, d, few_long) }
+
+  pub moved : (kind : LinkKind) (word to : ℕ) → HasRoom (with_links s kind (moved_to (links_of s kind) word to (get (links_of s kind) word))) room
+  moved Short word to = let same = len_moved_to s.short word to in let a = h.short in record { registrations = h.registrations; short = omega (arith, same, a); long = h.long }
+  moved Long word to = let same = len_moved_to s.long word to in let a = h.long in record { registrations = h.registrations; short = h.short; long = omega (arith, same, a) }
+
+  pub removed : (object : ℕ) → HasRoom (record s { registrations = remove s.registrations object; late = remove s.late object }) room
+  removed object =
+      let less = len_less s.registrations object in
+      let less_late = len_less s.late object in
+      let a = h.registrations in
+      record { registrations = omega (arith, less, less_late, a); short = h.short; long = h.long }
+
+  pub unlinked : (kind : LinkKind) (word : ℕ) → HasRoom (with_links s kind (remove (links_of s kind) word)) room
+  unlinked Short word = let less = len_less s.short word in let a = h.short in record { registrations = h.registrations; short = omega (arith, less, a); long = h.long }
+  unlinked Long word = let less = len_less s.long word in let a = h.long in record { registrations = h.registrations; short = h.short; long = omega (arith, less, a) }
+
+  pub queued : (object : ℕ) → HasRoom (queued_object s object) room
+  queued object = by (registered s object)
+    where
+      by : (o : Option Registration) → HasRoom (option_map_or (queued_one s object) o s) room
+      by None = h
+      by (Some r) = let less = removed object in record { registrations = less.registrations; short = less.short; long = less.long }
+
+  pub moved_or_not : {A : Type 0} (kind : LinkKind) (word to : ℕ) (new : State) (result : Result A Refused) → OnErr result (new ≡ s)
+      → OnOk result (new ≡ with_links s kind (moved_to (links_of s kind) word to (get (links_of s kind) word))) → HasRoom new room
+  moved_or_not kind word to new (Ok x) same is = subst (λ (t : State). HasRoom t room) (sym is) (moved kind word to)
+  moved_or_not kind word to new (Err r) same is = subst (λ (t : State). HasRoom t room) (sym same) h
+
+  cases : (b : Bool) (t u : State) → HasRoom t room → HasRoom u room → HasRoom (cond b t u) room
+  cases true t u x y = x
+  cases false t u x y = y
+
+  pub still : (phase : Phase) (item : Item) (answer : Bool) → HasRoom (after phase item answer s) room
+  still ShortTargets item answer = h
+  still ShortWords item answer = unlinked Short item.word
+  still Objects item answer = h
+  still Children item answer = h
+  still Again item answer = h
+  still Picks item answer = cases (is_late item.kind) s (queued_object s item.object) h (queued item.object)
+  still LateAgain item answer = h
+  still LatePicks item answer = queued item.object
+  still LongTargets item answer = h
+  still LongWords item answer = unlinked Long item.word
+  still ShortHolders item answer = cases answer s (with_links s Short (remove s.short item.word)) h (unlinked Short item.word)
+  still LongHolders item answer = cases answer s (with_links s Long (remove s.long item.word)) h (unlinked Long item.word)
+
+module _ (phase : Phase) (room : ℕ) where
+  pub step_room : (answer : Bool) (g : Going) → HasRoom g.finalizers room → HasRoom (step phase answer g).finalizers room
+  step_room answer g h = by g.left
+    where
+      by : (xs : List Item) → HasRoom (stepped phase answer g xs).finalizers room
+      by [] = h
+      by (item ∷ left) = still g.finalizers room h phase item answer
+
+  pub steps_room : (xs : List Bool) (g : Going) → HasRoom g.finalizers room → HasRoom (steps phase xs g).finalizers room
+  steps_room [] g h = h
+  steps_room (x ∷ xs) g h = steps_room xs (step phase x g) (step_room x g h)
+
+  either : (b : Bool) (g k : Going) → HasRoom g.finalizers room → HasRoom k.finalizers room → HasRoom (cond b g k).finalizers room
+  either true g k x y = x
+  either false g k x y = y
+
+  skipped_room : (xs : List Item) (g : Going) → HasRoom g.finalizers room → HasRoom (skipped phase xs g).finalizers room
+  skipped_room [] g h = h
+  skipped_room (item ∷ left) g h = either (is_some (asks phase item)) g (skipped phase left (step phase false g)) h (skipped_room left (step phase false g) (step_room false g h))
+
+  pub skip_room : (g : Going) → HasRoom g.finalizers room → HasRoom (skip phase g).finalizers room
+  skip_room g h = skipped_room g.left g h
+
+-- as parts are seen to be what they were
+pub same_room : (s new : State) (room new_room : ℕ) → new ≡ s → new_room ≡ room → HasRoom s room → HasRoom new new_room
+same_room s new room new_room same same_number h = subst (λ r. HasRoom new r) (sym same_number) (subst (λ (t : State). HasRoom t room) (sym same) h)

@@ -1,0 +1,21 @@
+-- The parts of a machine, as the steps of a pass see them.
+use Rattle.std.specs.Prelude.{ℕ, ◌+◌, ◌≤◌}
+use Rattle.std.specs.FinMap.{len}
+use Rattle.fz_finalizers.specs.States.{State, View, limited}
+use Rattle.fz_machine.specs.Steps.{Going}
+use Rattle.fz_machine.specs.Walks.{Walk}
+
+abbrev pub going : View → Walk → Going
+going finalizers walk = record { finalizers = finalizers.state; kept = walk.kept; left = walk.left }
+
+-- a list of this many items has room for all registrations, and for all links of each kind
+pub record HasRoom (s : State) (room : ℕ) : Type 0 where
+  pub registrations : len s.registrations + len s.late ≤ room
+  pub short : len s.short ≤ room
+  pub long : len s.long ≤ room
+
+-- the same with further registrations and links
+pub record HasRoomForMore (s : State) (registrations shorts longs room : ℕ) : Type 0 where
+  pub registered : (len s.registrations + len s.late) + limited registrations ≤ room
+  pub short : len s.short + limited shorts ≤ room
+  pub long : len s.long + limited longs ≤ room

@@ -1,0 +1,43 @@
+-- What phases go over: links and registrations.
+use Rattle.std.specs.Prelude.{◌≡◌, ℕ, ◌+◌, ◌*◌, ◌^◌, List, ◌++◌, map, nat_eq}
+use Rattle.std.specs.List.{IsDistinct}
+use Rattle.std.specs.List.Sorted.{IsPermutation, IsNonDecreasingBy}
+use Rattle.std.specs.Map.{keys_of}
+use Rattle.std.specs.FinMap.{from_entries}
+use Rattle.fz_model.specs.declared.answers.Registration.{Registration}
+use Rattle.fz_model.specs.State.{Map}
+use Rattle.fz_finalizers.specs.declared.kinds.Kind.TheVariants.{Normal, Unreachable}
+use Rattle.fz_finalizers.specs.Kinds.{of_table}
+use Rattle.fz_machine.specs.declared.item.Item.{Item}
+
+-- a link
+abbrev pub of_link : ℕ × ℕ → Item
+of_link e = record { object = e.1; word = e.0; kind = Normal; turn = 0 }
+
+-- a registration that doesn't come late, and one that does
+abbrev pub of_other : ℕ × Registration → Item
+of_other e = record { object = e.0; word = 0; kind = of_table e.1.kind; turn = e.1.rank }
+
+abbrev pub of_late : ℕ × Registration → Item
+of_late e = record { object = e.0; word = 0; kind = Unreachable; turn = 256 + e.1.rank }
+
+-- these are the entries of a map, each once
+abbrev pub AreEntriesOf : {X : Type 0} → Map X → List (ℕ × X) → Type 0
+AreEntriesOf m es = (from_entries es ≡ m) × IsDistinct nat_eq (keys_of es)
+
+-- the items are the links
+abbrev pub AreLinks : Map ℕ → List Item → Type 0
+AreLinks links items = (es : List (ℕ × ℕ)) × AreEntriesOf links es × (items ≡ map of_link es)
+
+-- the items are the registrations, those that come late behind the others
+abbrev pub AreObjects : Map Registration → Map Registration → List Item → Type 0
+AreObjects registrations late items =
+    (es : List (ℕ × Registration)) × (ls : List (ℕ × Registration)) × AreEntriesOf registrations es × AreEntriesOf late ls × (items ≡ map of_other es ++ map of_late ls)
+
+-- its place among items: by turn, then object
+abbrev pub place_of : Item → ℕ
+place_of item = item.turn * 2 ^ 64 + item.object
+
+-- the same items, by their places
+abbrev pub AreInTurn : List Item → List Item → Type 0
+AreInTurn items ordered = IsPermutation items ordered × IsNonDecreasingBy place_of ordered

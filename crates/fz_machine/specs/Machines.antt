@@ -1,0 +1,94 @@
+-- What contracts see of finalizers whose pass asks.
+use Rattle.std.specs.Prelude.{◌≡◌, ℕ, ◌-◌, zero, suc, Bool, List, Option, Some, None, refl}
+use Rattle.std.specs.Coded.{Coded, code_by, coded×, coded_ℕ, coded_option}
+use Rattle.fz_finalizers.specs.States.{View, view_code}
+use Rattle.fz_machine.specs.declared.phase.Phase.{Phase}
+use Rattle.fz_machine.specs.declared.phase.Phase.TheVariants.{ShortTargets, ShortWords, Objects, Children, Again, Picks, LateAgain, LatePicks, LongTargets, LongWords, ShortHolders, LongHolders}
+use Rattle.fz_machine.specs.declared.pass.Next.{Next}
+use Rattle.fz_machine.specs.declared.pass.Next.TheVariants.{Asks, Ended}
+use Rattle.fz_finalizers.specs.Follows.{next_pass}
+use Rattle.fz_machine.specs.Going.{going}
+use Rattle.fz_machine.specs.Steps.{Begins, GoesOn, IsQuestion, steps}
+use Rattle.fz_machine.specs.Walks.{Walk, walk_code}
+
+pub record Machine : Type 0 where
+  pub finalizers : View
+  pub walk : Walk  -- of the phase
+  pub phase : Option Phase  -- of the pass that is open
+  pub asked : ℕ  -- about how many items the last question was
+  pub before : ℕ  -- how many entries had come when the pass began
+
+abbrev phase_code : Coded Phase
+phase_code = code_by ℕ coded_ℕ to back same
+  where
+    to : Phase → ℕ
+    to ShortTargets = 0
+    to ShortWords = 1
+    to Objects = 2
+    to Children = 3
+    to Again = 4
+    to Picks = 5
+    to LateAgain = 6
+    to LatePicks = 7
+    to LongTargets = 8
+    to LongWords = 9
+    to ShortHolders = 10
+    to LongHolders = 11
+
+    back : ℕ → Phase
+    back zero = ShortTargets
+    back (suc zero) = ShortWords
+    back (suc (suc zero)) = Objects
+    back (suc (suc (suc zero))) = Children
+    back (suc (suc (suc (suc zero)))) = Again
+    back (suc (suc (suc (suc (suc zero))))) = Picks
+    back (suc (suc (suc (suc (suc (suc zero)))))) = LateAgain
+    back (suc (suc (suc (suc (suc (suc (suc zero))))))) = LatePicks
+    back (suc (suc (suc (suc (suc (suc (suc (suc zero)))))))) = LongTargets
+    back (suc (suc (suc (suc (suc (suc (suc (suc (suc zero))))))))) = LongWords
+    back (suc (suc (suc (suc (suc (suc (suc (suc (suc (suc zero)))))))))) = ShortHolders
+    back (suc (suc (suc (suc (suc (suc (suc (suc (suc (suc (suc n))))))))))) = LongHolders
+
+    same : (p : Phase) → back (to p) ≡ p
+    same ShortTargets = refl
+    same ShortWords = refl
+    same Objects = refl
+    same Children = refl
+    same Again = refl
+    same Picks = refl
+    same LateAgain = refl
+    same LatePicks = refl
+    same LongTargets = refl
+    same LongWords = refl
+    same ShortHolders = refl
+    same LongHolders = refl
+
+abbrev pub machine_code : Coded Machine
+machine_code =
+    code_by (View × (Walk × (Option Phase × (ℕ × ℕ)))) (coded× view_code (coded× walk_code (coded× (coded_option phase_code) (coded× coded_ℕ coded_ℕ)))) (λ m. (m.finalizers, (m.walk, (m.phase, (m.asked, m.before)))))
+    (λ p. record { finalizers = p.0; walk = p.1.0; phase = p.1.1.0; asked = p.1.1.1.0; before = p.1.1.1.1 }) (λ _. refl)
+
+-- no pass is open
+abbrev pub IsIdle : Machine → Type 0
+IsIdle m = m.phase ≡ None
+
+-- a pass has begun
+pub record IsBegun (old new : Machine) : Type 0 where
+  pub phase : new.phase ≡ Some ShortTargets
+  pub finalizers : new.finalizers.state ≡ record old.finalizers.state { passes = next_pass old.finalizers.passes }
+  pub begins : Begins ShortTargets (record (going old.finalizers old.walk) { finalizers = new.finalizers.state }) (going new.finalizers new.walk)
+  pub asked : new.asked ≡ 0
+  pub before : new.before ≡ old.finalizers.queued
+
+-- what a pass tells: the question of the phase that it is in, or what it did
+abbrev Tells : Machine → Next → Type 0
+Tells m (Asks question) = (phase : Phase) × (m.phase ≡ Some phase) × IsQuestion phase m.walk.left question × (m.asked ≡ question.count)
+Tells m (Ended passed) = (m.phase ≡ None) × (passed.pass ≡ m.finalizers.passes) × (passed.picked ≡ m.finalizers.queued - m.before)
+
+-- a pass hears answers, and goes on
+pub record GoesTo (old : Machine) (answers : List Bool) (new : Machine) (next : Next) : Type 0 where
+  pub phase : Phase
+  pub was : old.phase ≡ Some phase
+  pub goes : GoesOn phase (steps phase answers (going old.finalizers old.walk)) new.phase (going new.finalizers new.walk)
+  pub tells : Tells new next
+  pub before : new.before ≡ old.before

@@ -1,0 +1,123 @@
+-- The phases of a pass: each goes over a list, with one question an item.
+use Rattle.std.specs.Prelude.{◌≡◌, ℕ, Bool, true, false, not, if◌then◌else◌, List, Option, Some, None}
+use Rattle.std.specs.FinMap.{remove}
+use Rattle.fz_finalizers.specs.declared.kinds.Kind.{Kind}
+use Rattle.fz_finalizers.specs.declared.kinds.Kind.TheVariants.{Normal, IgnoreSelf, NoOrder, Unreachable}
+use Rattle.fz_finalizers.specs.Follows.{queued_object}
+use Rattle.fz_finalizers.specs.Kinds.{is_late}
+use Rattle.fz_finalizers.specs.States.{State}
+use Rattle.fz_machine.specs.declared.item.Item.{Item}
+use Rattle.fz_machine.specs.declared.phase.Phase.{Phase}
+use Rattle.fz_machine.specs.declared.phase.Phase.TheVariants.{ShortTargets, ShortWords, Objects, Children, Again, Picks, LateAgain, LatePicks, LongTargets, LongWords, ShortHolders, LongHolders}
+use Rattle.fz_machine.specs.declared.question.Ask.{Ask}
+use Rattle.fz_machine.specs.declared.question.Ask.TheVariants.{IsMarked, MarkChildren, MarkOthers, Mark, MarkAlone, Clear, IsHolderMarked}
+use Rattle.fz_machine.specs.Items.{AreLinks, AreObjects, AreInTurn}
+
+abbrev pub next_phase : Phase → Option Phase
+next_phase ShortTargets = Some ShortWords
+next_phase ShortWords = Some Objects
+next_phase Objects = Some Children
+next_phase Children = Some Again
+next_phase Again = Some Picks
+next_phase Picks = Some LateAgain
+next_phase LateAgain = Some LatePicks
+next_phase LatePicks = Some LongTargets
+next_phase LongTargets = Some LongWords
+next_phase LongWords = Some ShortHolders
+next_phase ShortHolders = Some LongHolders
+next_phase LongHolders = None
+
+-- what marks the children of an unmarked object, by its kind
+abbrev pub child_ask : Kind → Option Ask
+child_ask Normal = Some MarkChildren
+child_ask IgnoreSelf = Some MarkOthers
+child_ask NoOrder = None
+child_ask Unreachable = Some MarkChildren
+
+-- what marks a picked object; one that comes late waits for its phase
+abbrev pub pick_ask : Kind → Option Ask
+pick_ask Normal = Some MarkAlone
+pick_ask IgnoreSelf = Some MarkAlone
+pick_ask NoOrder = Some Mark
+pick_ask Unreachable = None
+
+-- what a phase asks of an item
+abbrev pub asks : Phase → Item → Option Ask
+asks ShortTargets item = Some IsMarked
+asks ShortWords item = Some Clear
+asks Objects item = Some IsMarked
+asks Children item = child_ask item.kind
+asks Again item = Some IsMarked
+asks Picks item = pick_ask item.kind
+asks LateAgain item = Some IsMarked
+asks LatePicks item = Some MarkAlone
+asks LongTargets item = Some IsMarked
+asks LongWords item = Some Clear
+asks ShortHolders item = Some IsHolderMarked
+asks LongHolders item = Some IsHolderMarked
+
+-- the object or the word that it asks about
+abbrev pub subject : Phase → Item → ℕ
+subject ShortTargets item = item.object
+subject ShortWords item = item.word
+subject Objects item = item.object
+subject Children item = item.object
+subject Again item = item.object
+subject Picks item = item.object
+subject LateAgain item = item.object
+subject LatePicks item = item.object
+subject LongTargets item = item.object
+subject LongWords item = item.word
+subject ShortHolders item = item.word
+subject LongHolders item = item.word
+
+-- whether the next phase goes over the item too, by the answer: over what isn't marked
+abbrev pub keeps : Phase → Item → Bool → Bool
+keeps ShortTargets item answer = not answer
+keeps ShortWords item answer = false
+keeps Objects item answer = not answer
+keeps Children item answer = true
+keeps Again item answer = not answer
+keeps Picks item answer = is_late item.kind
+keeps LateAgain item answer = not answer
+keeps LatePicks item answer = false
+keeps LongTargets item answer = not answer
+keeps LongWords item answer = false
+keeps ShortHolders item answer = false
+keeps LongHolders item answer = false
+
+abbrev without_short : State → ℕ → State
+without_short s word = record s { short = remove s.short word }
+
+abbrev without_long : State → ℕ → State
+without_long s word = record s { long = remove s.long word }
+
+-- what becomes of the finalizers: a cleared link goes, and one whose holder isn't marked; a picked object is queued
+abbrev pub after : Phase → Item → Bool → State → State
+after ShortTargets item answer s = s
+after ShortWords item answer s = without_short s item.word
+after Objects item answer s = s
+after Children item answer s = s
+after Again item answer s = s
+after Picks item answer s = if is_late item.kind then s else queued_object s item.object
+after LateAgain item answer s = s
+after LatePicks item answer s = queued_object s item.object
+after LongTargets item answer s = s
+after LongWords item answer s = without_long s item.word
+after ShortHolders item answer s = if answer then s else without_short s item.word
+after LongHolders item answer s = if answer then s else without_long s item.word
+
+-- the list that a phase goes over, by what the phase before kept
+abbrev pub Lists : Phase → State → List Item → List Item → Type 0
+Lists ShortTargets s kept items = AreLinks s.short items
+Lists ShortWords s kept items = items ≡ kept
+Lists Objects s kept items = AreObjects s.registrations s.late items
+Lists Children s kept items = items ≡ kept
+Lists Again s kept items = items ≡ kept
+Lists Picks s kept items = AreInTurn kept items
+Lists LateAgain s kept items = items ≡ kept
+Lists LatePicks s kept items = items ≡ kept
+Lists LongTargets s kept items = AreLinks s.long items
+Lists LongWords s kept items = items ≡ kept
+Lists ShortHolders s kept items = AreLinks s.short items
+Lists LongHolders s kept items = AreLinks s.long items

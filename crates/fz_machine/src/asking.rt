@@ -1,0 +1,75 @@
+//! The steps of a pass.
+
+ghost use Rattle.std.specs.Prelude.{◌≡◌, ◌≤◌, ◌<◌, ◌∷◌, [], drop, is_some};
+ghost use Rattle.fz_machine.specs.Phases.{after, asks};
+ghost use Rattle.fz_machine.specs.Steps.{step, steps, skip};
+ghost use Rattle.fz_machine.specs.Going.{going};
+
+use crate::item::Item;
+use crate::phase::Phase;
+use crate::walk::Walk;
+use fz_finalizers::{Finalizers, Kind};
+use fz_model::LinkKind;
+
+/// Does what an answer about an item wants of the finalizers.
+fn act(finalizers: &mut Finalizers, phase: Phase, item: Item, yes: bool)
+    ensures { finalizers.new.state ≡ after phase item yes finalizers.old.state }
+{
+    match phase {
+        Phase::ShortWords => {
+            finalizers.unlink(LinkKind::Short, item.word);
+        }
+        Phase::LongWords => {
+            finalizers.unlink(LinkKind::Long, item.word);
+        }
+        Phase::ShortHolders if !yes => {
+            finalizers.unlink(LinkKind::Short, item.word);
+        }
+        Phase::LongHolders if !yes => {
+            finalizers.unlink(LinkKind::Long, item.word);
+        }
+        Phase::Picks if item.kind != Kind::Unreachable => {
+            finalizers.queue(item.object);
+        }
+        Phase::LatePicks => {
+            finalizers.queue(item.object);
+        }
+        _ => {}
+    }
+}
+
+/// Goes on with the answer about the first item that is left.
+fn step(finalizers: &mut Finalizers, walk: &mut Walk, phase: Phase, item: Item, yes: bool)
+    requires first { walk.old.left ≡ item ∷ drop 1 walk.old.left }
+    ensures stepped { going finalizers.new walk.new ≡ step phase yes (going finalizers.old walk.old) }
+    ensures room { walk.new.room ≡ walk.old.room }
+{
+    act(finalizers, phase, item, yes);
+    walk.pass_on(item, phase.keeps(&item, yes));
+}
+
+/// Goes on with answers about the first items that are left, one after another.
+pub(crate) fn hear(finalizers: &mut Finalizers, walk: &mut Walk, phase: Phase, answers: &[bool])
+    ensures heard { going finalizers.new walk.new ≡ steps phase answers.now (going finalizers.old walk.old) }
+    ensures room { walk.new.room ≡ walk.old.room }
+{
+    for yes in answers {
+        let Some(item) = walk.first() else {
+            return;
+        };
+        step(finalizers, walk, phase, item, *yes);
+    }
+}
+
+/// Goes past the items of which nothing is asked.
+pub(crate) fn skip(finalizers: &mut Finalizers, walk: &mut Walk, phase: Phase)
+    ensures skipped { going finalizers.new walk.new ≡ skip phase (going finalizers.old walk.old) }
+    ensures room { walk.new.room ≡ walk.old.room }
+{
+    while let Some(item) = walk.first() {
+        if phase.asks(&item).is_some() {
+            return;
+        }
+        step(finalizers, walk, phase, item, false);
+    }
+}

@@ -1,0 +1,185 @@
+//! The calls of finalizers that change them, refused while a pass is open.
+
+ghost use Rattle.std.specs.Prelude.{◌≡◌, ◌≤◌, ◌+◌, ◌⊎◌, [], None, if◌then◌else◌, MatchOption, IfOk, IfErr, OnOk, OnErr};
+ghost use Rattle.std.specs.FinMap.{get, len, contains_key};
+ghost use Rattle.fz_model.specs.Steps.{move_answer};
+ghost use Rattle.fz_finalizers.specs.Causes.{finish_causes, link_causes, move_causes, register_causes};
+ghost use Rattle.fz_finalizers.specs.Follows.{Follows, Register, Unregister, Link, Unlink, Move, QueueAll, Take, TakeFinished, Finish};
+ghost use Rattle.fz_finalizers.specs.Ready.{QueuesTables};
+ghost use Rattle.fz_finalizers.specs.Registering.{old_in_either};
+ghost use Rattle.fz_finalizers.specs.States.{HasRooms, links_of, room_of, registration_room, table_of};
+ghost use Rattle.fz_machine.specs.Causes.{IsJudgedBy, IsJudgedOrLacks};
+ghost use Rattle.fz_machine.specs.Going.{HasRoomForMore};
+ghost use Rattle.fz_machine.specs.Machines.{IsIdle};
+ghost use Rattle.fz_finalizers.specs.declared.refused.Refused.TheVariants.{NoMemory};
+
+use crate::machine::Machine;
+use crate::refused::Refused;
+use crate::reserving;
+use fz_finalizers::{Addr, Entry, Finalizer, LinkAnswer, LinkKind, MoveAnswer, Old};
+
+impl Machine {
+    /// Refuses a change while a pass is open.
+    fn check(&self) -> Result<(), Refused>
+        ensures { IsJudgedBy self.now.phase [] result }
+    {
+        if self.phase.is_some() {
+            return Err(Refused::PassOpen);
+        }
+        Ok(())
+    }
+
+    /// Makes room for further registrations of the kinds other than `Unreachable`, and for further links of both kinds: of each for 2^32 at the most.
+    /// Up to there no call wants memory.
+    ///
+    /// Refused `PassOpen`, and `NoMemory` where an allocation failed.
+    pub fn reserve(
+        &mut self,
+        registrations: usize,
+        shorts: usize,
+        longs: usize,
+    ) -> Result<(), Refused>
+        ensures judged { IsJudgedOrLacks self.old.phase [] result }
+        ensures wanting { IfErr result (λ r. r ≡ Refused.Finalizers NoMemory → HasRooms self.old.finalizers.rooms registrations shorts longs → HasRoomForMore self.old.finalizers.state registrations shorts longs self.old.walk.room → ⊥) }
+        ensures same { (self.new.phase ≡ self.old.phase) × (self.new.finalizers.state ≡ self.old.finalizers.state) }
+        ensures room { OnOk result (HasRooms self.new.finalizers.rooms registrations shorts longs × HasRoomForMore self.old.finalizers.state registrations shorts longs self.new.walk.room) }
+    {
+        self.check()?;
+        match reserving::reserve(
+            &mut self.finalizers,
+            &mut self.walk,
+            registrations,
+            shorts,
+            longs,
+        ) {
+            Ok(()) => Ok(()),
+            Err(refused) => Err(Refused::Finalizers(refused)),
+        }
+    }
+
+    /// Registers a finalizer of an object, in the place of the one that it has; returns the number of the registration and what was replaced.
+    ///
+    /// Refusals, in their order: `PassOpen`, and those of `Finalizers::register`.
+    pub fn register(
+        &mut self,
+        object: Addr,
+        finalizer: Finalizer,
+    ) -> Result<(u64, Option<Old>), Refused>
+        ensures judged { IsJudgedOrLacks self.old.phase (register_causes (table_of self.old.finalizers.state finalizer.kind) self.old.finalizers.next_number object) result }
+        // Only an object that isn't registered in the table of its kind can want memory, and only where no room is left.
+        ensures fresh { IfErr result (λ r. r ≡ Refused.Finalizers NoMemory → get (table_of self.old.finalizers.state finalizer.kind) object ≡ None) }
+        ensures wanting { IfErr result (λ r. r ≡ Refused.Finalizers NoMemory → (registration_room self.old.finalizers.rooms finalizer.kind ≡ 0) ⊎ (self.old.walk.room ≤ len self.old.finalizers.registrations + len self.old.finalizers.late)) }
+        ensures refused { OnErr result ((self.new.phase ≡ self.old.phase) × (self.new.finalizers.state ≡ self.old.finalizers.state)) }
+        ensures number { IfOk result (λ answer. answer.0 ≡ self.old.finalizers.next_number) }
+        ensures replaced { IfOk result (λ answer. answer.1 ≡ old_in_either self.old.finalizers.registrations self.old.finalizers.late object) }
+        ensures follows { OnOk result (IsIdle self.new × Follows self.old.finalizers.state (Register object finalizer) self.new.finalizers.state) }
+    {
+        self.check()?;
+        match reserving::register(&mut self.finalizers, &mut self.walk, object, finalizer) {
+            Ok(answer) => Ok(answer),
+            Err(refused) => Err(Refused::Finalizers(refused)),
+        }
+    }
+
+    /// Makes the word a link to the target, an object; a link that it is already gets the new target.
+    ///
+    /// Refusals, in their order: `PassOpen`, and those of `Finalizers::link`.
+    pub fn link(&mut self, kind: LinkKind, word: Addr, target: Addr) -> Result<LinkAnswer, Refused>
+        ensures judged { IsJudgedOrLacks self.old.phase (link_causes (links_of self.old.finalizers.state kind) word target) result }
+        // Only a new link can want memory, and only where no room is left.
+        ensures fresh { IfErr result (λ r. r ≡ Refused.Finalizers NoMemory → get (links_of self.old.finalizers.state kind) word ≡ None) }
+        ensures wanting { IfErr result (λ r. r ≡ Refused.Finalizers NoMemory → (room_of self.old.finalizers.rooms kind ≡ 0) ⊎ (self.old.walk.room ≤ len (links_of self.old.finalizers.state kind))) }
+        ensures refused { OnErr result ((self.new.phase ≡ self.old.phase) × (self.new.finalizers.state ≡ self.old.finalizers.state)) }
+        ensures answer { IfOk result (λ answer. answer ≡ (if contains_key (links_of self.old.finalizers.state kind) word then LinkAnswer.Duplicate else LinkAnswer.Success)) }
+        ensures follows { OnOk result (IsIdle self.new × Follows self.old.finalizers.state (Link kind word target) self.new.finalizers.state) }
+    {
+        self.check()?;
+        match reserving::link(&mut self.finalizers, &mut self.walk, kind, word, target) {
+            Ok(answer) => Ok(answer),
+            Err(refused) => Err(Refused::Finalizers(refused)),
+        }
+    }
+
+    /// Removes an object's registration; returns its procedure and client data. Refused `PassOpen`.
+    pub fn unregister(&mut self, object: Addr) -> Result<Option<Old>, Refused>
+        ensures judged { IsJudgedBy self.old.phase [] result }
+        ensures refused { OnErr result (self.new ≡ self.old) }
+        ensures answer { IfOk result (λ old. old ≡ old_in_either self.old.finalizers.registrations self.old.finalizers.late object) }
+        ensures follows { OnOk result (IsIdle self.new × Follows self.old.finalizers.state (Unregister object) self.new.finalizers.state) }
+    {
+        self.check()?;
+        Ok(self.finalizers.unregister(object))
+    }
+
+    /// Removes a link, and returns whether there was one. Refused `PassOpen`.
+    pub fn unlink(&mut self, kind: LinkKind, word: Addr) -> Result<bool, Refused>
+        ensures judged { IsJudgedBy self.old.phase [] result }
+        ensures refused { OnErr result (self.new ≡ self.old) }
+        ensures answer { IfOk result (λ was. was ≡ contains_key (links_of self.old.finalizers.state kind) word) }
+        ensures follows { OnOk result (IsIdle self.new × Follows self.old.finalizers.state (Unlink kind word) self.new.finalizers.state) }
+    {
+        self.check()?;
+        Ok(self.finalizers.unlink(kind, word))
+    }
+
+    /// Moves a link, with its target, from a word to another. Refused `PassOpen`, and `Zero` where the other word is 0.
+    pub fn move_link(&mut self, kind: LinkKind, word: Addr, to: Addr) -> Result<MoveAnswer, Refused>
+        ensures judged { IsJudgedBy self.old.phase (move_causes to) result }
+        ensures refused { OnErr result ((self.new.phase ≡ self.old.phase) × (self.new.finalizers.state ≡ self.old.finalizers.state)) }
+        ensures answer { IfOk result (λ answer. answer ≡ move_answer (links_of self.old.finalizers.state kind) word to) }
+        ensures follows { OnOk result (IsIdle self.new × Follows self.old.finalizers.state (Move kind word to) self.new.finalizers.state) }
+    {
+        self.check()?;
+        match self.finalizers.move_link(kind, word, to) {
+            Ok(answer) => Ok(answer),
+            Err(refused) => Err(Refused::Finalizers(refused)),
+        }
+    }
+
+    /// Queues all that is registered, whatever is marked; returns how many there were: `GC_finalize_all`. Refused `PassOpen`.
+    pub fn queue_all(&mut self) -> Result<u64, Refused>
+        ensures judged { IsJudgedBy self.old.phase [] result }
+        ensures refused { OnErr result (self.new ≡ self.old) }
+        ensures queued { OnOk result (QueuesTables self.old.finalizers.queued self.old.finalizers.registrations self.old.finalizers.late self.old.finalizers.waiting self.new.finalizers.waiting) }
+        ensures follows { OnOk result (IsIdle self.new × Follows self.old.finalizers.state QueueAll self.new.finalizers.state) }
+        ensures count { IfOk result (λ count. self.new.finalizers.queued ≡ self.old.finalizers.queued + count) }
+    {
+        self.check()?;
+        Ok(self.finalizers.queue_all())
+    }
+
+    /// Takes the first entry that waits. It is held, with its object and its client data, until it is finished. Refused `PassOpen`.
+    pub fn take(&mut self) -> Result<Option<Entry>, Refused>
+        ensures judged { IsJudgedBy self.old.phase [] result }
+        ensures refused { OnErr result (self.new ≡ self.old) }
+        ensures takes { IfOk result (λ taken. MatchOption taken ((self.old.finalizers.waiting ≡ []) × (self.new.finalizers.state ≡ self.old.finalizers.state)) (λ entry. Follows self.old.finalizers.state (Take entry) self.new.finalizers.state)) }
+        ensures idle { OnOk result (IsIdle self.new) }
+    {
+        self.check()?;
+        Ok(self.finalizers.take())
+    }
+
+    /// Takes the first entry that waits, as finished: for a finalizer that may never return. Refused `PassOpen`.
+    pub fn take_finished(&mut self) -> Result<Option<Entry>, Refused>
+        ensures judged { IsJudgedBy self.old.phase [] result }
+        ensures refused { OnErr result (self.new ≡ self.old) }
+        ensures takes { IfOk result (λ taken. MatchOption taken ((self.old.finalizers.waiting ≡ []) × (self.new.finalizers.state ≡ self.old.finalizers.state)) (λ entry. Follows self.old.finalizers.state (TakeFinished entry) self.new.finalizers.state)) }
+        ensures idle { OnOk result (IsIdle self.new) }
+    {
+        self.check()?;
+        Ok(self.finalizers.take_finished())
+    }
+
+    /// Ends the holding of an entry. Refused `PassOpen`, and `NotHeld` where no held entry is the same in all its fields.
+    pub fn finish(&mut self, entry: &Entry) -> Result<(), Refused>
+        ensures judged { IsJudgedBy self.old.phase (finish_causes self.old.finalizers.held entry.now) result }
+        ensures refused { OnErr result ((self.new.phase ≡ self.old.phase) × (self.new.finalizers.state ≡ self.old.finalizers.state)) }
+        ensures follows { OnOk result (IsIdle self.new × Follows self.old.finalizers.state (Finish entry.now) self.new.finalizers.state) }
+    {
+        self.check()?;
+        match self.finalizers.finish(entry) {
+            Ok(()) => Ok(()),
+            Err(refused) => Err(Refused::Finalizers(refused)),
+        }
+    }
+}

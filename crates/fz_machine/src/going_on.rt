@@ -1,0 +1,81 @@
+//! From question to question.
+
+ghost use Rattle.std.specs.Prelude.{◌≡◌, ◌≤◌, ◌<◌, ◌∷◌, [], map, take, length, slice_get, is_some, All, Some, IsTrue, IsFalse};
+ghost use Rattle.fz_machine.specs.declared.item.Item.{Item};
+ghost use Rattle.fz_machine.specs.declared.question.TheConstants.{BATCH};
+ghost use Rattle.fz_machine.specs.Phases.{asks, subject};
+ghost use Rattle.fz_machine.specs.Going.{going, HasRoom};
+ghost use Rattle.fz_machine.specs.Steps.{GoesOn, IsQuestion};
+
+use crate::asking::skip;
+use crate::item::Item;
+use crate::listing::begin;
+use crate::phase::Phase;
+use crate::question::{Ask, BATCH, Question};
+use crate::walk::Walk;
+use fz_finalizers::Finalizers;
+use fz_model::Addr;
+
+/// Goes on to the first phase with something to ask, and returns it, or to the end.
+pub(crate) fn go_on(finalizers: &mut Finalizers, walk: &mut Walk, phase: Phase) -> Option<Phase>
+    requires room { HasRoom finalizers.old.state walk.old.room }
+    ensures goes { GoesOn phase (going finalizers.old walk.old) result (going finalizers.new walk.new) }
+    ensures room { HasRoom finalizers.new.state walk.new.room }
+{
+    let mut phase = phase;
+    loop {
+        skip(finalizers, walk, phase);
+        if walk.first().is_some() {
+            return Some(phase);
+        }
+        let Some(next) = phase.next() else {
+            return None;
+        };
+        phase = next;
+        begin(finalizers, walk, phase);
+    }
+}
+
+/// Whether a phase asks this of an item.
+#[tactic(auto, using(crate::proofs::Numbered::same_ask))]
+fn asks_same(phase: Phase, item: &Item, ask: Ask) -> bool
+    ensures same { IsTrue result → asks phase item.now ≡ Some ask }
+    ensures other { IsFalse result → asks phase item.now ≡ Some ask → ⊥ }
+{
+    match phase.asks(item) {
+        Some(asked) => asked.number() == ask.number(),
+        None => false,
+    }
+}
+
+/// The objects or words of the first items, of which a phase asks the same, and how many they are.
+fn gather(phase: Phase, left: &[Item], ask: Ask) -> ([Addr; BATCH], usize)
+    ensures few { (result.1 ≤ BATCH) × (result.1 ≤ length left.now) }
+    ensures alike { All (λ item. asks phase item ≡ Some ask) (take result.1 left.now) }
+    ensures about { take result.1 result.0 ≡ map (subject phase) (take result.1 left.now) }
+    ensures most { result.1 < BATCH → (item : Item) → slice_get left.now result.1 ≡ Some item → asks phase item ≡ Some ask → ⊥ }
+{
+    let mut about = [0; BATCH];
+    let mut count = 0;
+    while count < BATCH {
+        let Some(item) = left.get(count) else {
+            return (about, count);
+        };
+        if !asks_same(phase, item, ask) {
+            return (about, count);
+        }
+        about[count] = phase.subject(item);
+        count += 1;
+    }
+    (about, count)
+}
+
+/// What a phase asks about the first items that are left, of the first of which it asks something.
+pub(crate) fn question(phase: Phase, left: &[Item]) -> Question
+    requires { (item : Item) × (slice_get left.now 0 ≡ Some item) × IsTrue (is_some (asks phase item)) }
+    ensures { IsQuestion phase left.now result }
+{
+    let ask = phase.asks(left.first().unwrap()).unwrap();
+    let (about, count) = gather(phase, left, ask);
+    Question { ask, about, count }
+}

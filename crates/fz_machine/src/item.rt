@@ -1,0 +1,58 @@
+//! What the phases of a pass go over.
+
+ghost use Rattle.std.specs.Prelude.{◌≡◌};
+ghost use Rattle.fz_machine.specs.Items.{of_link, of_other, of_late};
+
+use fz_finalizers::Kind;
+use fz_model::{Addr, Registration};
+
+/// A link or a registration, as a phase goes over it.
+#[derive(Clone, Copy, Debug, PartialEq, Eq)]
+pub struct Item {
+    /// The registered object, or the target of the link.
+    pub object: Addr,
+    /// The word of the link; 0 of a registration.
+    pub word: Addr,
+    /// The kind of the registration; `Normal` of a link.
+    pub kind: Kind,
+    /// Its turn among those that are picked: the rank of the registration, and 256 more for those that come late; 0 of a link.
+    pub turn: u16,
+}
+
+impl Item {
+    /// A link from the word to the target.
+    pub(crate) fn of_link(word: Addr, target: Addr) -> Item
+        ensures { result ≡ of_link (word, target) }
+    {
+        Item {
+            object: target,
+            word,
+            kind: Kind::Normal,
+            turn: 0,
+        }
+    }
+
+    /// An object's registration, which doesn't come late.
+    pub(crate) fn of_other(object: Addr, registration: &Registration) -> Item
+        ensures { result ≡ of_other (object, registration.now) }
+    {
+        Item {
+            object,
+            word: 0,
+            kind: Kind::of_table(registration.kind),
+            turn: u16::from(registration.rank),
+        }
+    }
+
+    /// An object's registration, which comes late.
+    pub(crate) fn of_late(object: Addr, registration: &Registration) -> Item
+        ensures { result ≡ of_late (object, registration.now) }
+    {
+        Item {
+            object,
+            word: 0,
+            kind: Kind::Unreachable,
+            turn: 256 + u16::from(registration.rank),
+        }
+    }
+}

@@ -1,0 +1,23 @@
+//! Finalizers whose pass asks: for a host that answers questions, as one in C.
+#![tactic(auto)]
+
+mod asking;
+mod calls;
+mod going_on;
+mod item;
+mod listing;
+mod machine;
+mod pass;
+mod phase;
+mod question;
+mod refused;
+mod reserving;
+mod walk;
+
+pub use item::Item;
+pub use machine::Machine;
+pub use pass::Next;
+pub use phase::Phase;
+pub use question::{Ask, BATCH, Question};
+pub use refused::Refused;
+pub use walk::Walk;

@@ -1,0 +1,101 @@
+//! The lists that phases go over.
+
+ghost use Rattle.std.specs.Prelude.{◌≡◌, ◌≤◌, ◌<◌, ◌+◌, ◌++◌, ◌∷◌, [], ℕ, List, map, length, vec_len, vec_capacity};
+ghost use Rattle.std.specs.FinMap.{len};
+ghost use Rattle.fz_model.specs.declared.answers.Registration.{Registration};
+ghost use Rattle.fz_finalizers.specs.States.{links_of};
+ghost use Rattle.fz_machine.specs.Items.{AreEntriesOf, AreLinks, AreObjects, of_late, of_other};
+ghost use Rattle.fz_machine.specs.Going.{going, HasRoom};
+ghost use Rattle.fz_machine.specs.Steps.{Begins};
+
+use crate::item::Item;
+use crate::phase::Phase;
+use crate::walk::Walk;
+use fz_finalizers::Finalizers;
+use fz_model::LinkKind;
+
+/// Puts an item on the list, which has room for it.
+fn put(items: &mut Vec<Item>, item: Item)
+    requires room { vec_len items.old < vec_capacity items.old }
+    ensures listed { items.new.items ≡ items.old.items ++ item ∷ [] }
+    ensures capacity { vec_capacity items.old ≤ vec_capacity items.new }
+{
+    let _ = items.push(item);
+}
+
+/// Puts all links of a kind on the list, which has room for them.
+fn list_links(finalizers: &Finalizers, kind: LinkKind, items: &mut Vec<Item>)
+    requires empty { items.old.items ≡ [] }
+    requires room { len (links_of finalizers.now.state kind) ≤ vec_capacity items.old }
+    ensures listed { AreLinks (links_of finalizers.now.state kind) items.new.items }
+    ensures room { vec_capacity items.old ≤ vec_capacity items.new }
+{
+    for (word, target) in finalizers.iter_links(kind) {
+        put(items, Item::of_link(word, target));
+    }
+}
+
+/// Puts all registrations that don't come late on the list, which has room for them.
+fn list_others(finalizers: &Finalizers, items: &mut Vec<Item>)
+    requires empty { items.old.items ≡ [] }
+    requires room { len finalizers.now.registrations ≤ vec_capacity items.old }
+    ensures listed { (es : List (ℕ × Registration)) × AreEntriesOf finalizers.now.registrations es × (items.new.items ≡ map of_other es) }
+    ensures count { vec_len items.new ≡ len finalizers.now.registrations }
+    ensures room { vec_capacity items.old ≤ vec_capacity items.new }
+{
+    for (object, registration) in finalizers.iter_others() {
+        put(items, Item::of_other(object, &registration));
+    }
+}
+
+/// Puts all registrations that come late behind what is on the list, which has room for them.
+fn list_late(finalizers: &Finalizers, items: &mut Vec<Item>)
+    requires room { vec_len items.old + len finalizers.now.late ≤ vec_capacity items.old }
+    ensures listed { (es : List (ℕ × Registration)) × AreEntriesOf finalizers.now.late es × (items.new.items ≡ items.old.items ++ map of_late es) }
+    ensures room { vec_capacity items.old ≤ vec_capacity items.new }
+{
+    for (object, registration) in finalizers.iter_late() {
+        put(items, Item::of_late(object, &registration));
+    }
+}
+
+/// Lists all links of a kind.
+fn walk_links(finalizers: &Finalizers, kind: LinkKind, walk: &mut Walk)
+    requires room { HasRoom finalizers.now.state walk.old.room }
+    ensures kept { walk.new.kept ≡ [] }
+    ensures listed { AreLinks (links_of finalizers.now.state kind) walk.new.left }
+    ensures room { walk.old.room ≤ walk.new.room }
+{
+    let mut items = walk.take_room();
+    list_links(finalizers, kind, &mut items);
+    *walk = Walk::of(items);
+}
+
+/// Lists all registrations.
+fn walk_objects(finalizers: &Finalizers, walk: &mut Walk)
+    requires room { HasRoom finalizers.now.state walk.old.room }
+    ensures kept { walk.new.kept ≡ [] }
+    ensures listed { AreObjects finalizers.now.registrations finalizers.now.late walk.new.left }
+    ensures room { walk.old.room ≤ walk.new.room }
+{
+    let mut items = walk.take_room();
+    list_others(finalizers, &mut items);
+    list_late(finalizers, &mut items);
+    *walk = Walk::of(items);
+}
+
+/// Lists what a phase goes over.
+pub(crate) fn begin(finalizers: &Finalizers, walk: &mut Walk, phase: Phase)
+    requires room { HasRoom finalizers.now.state walk.old.room }
+    ensures begins { Begins phase (going finalizers.now walk.old) (going finalizers.now walk.new) }
+    ensures room { walk.old.room ≤ walk.new.room }
+{
+    match phase {
+        Phase::ShortTargets | Phase::ShortHolders => walk_links(finalizers, LinkKind::Short, walk),
+        Phase::LongTargets | Phase::LongHolders => walk_links(finalizers, LinkKind::Long, walk),
+        Phase::Objects => walk_objects(finalizers, walk),
+        Phase::Picks => walk.again_in_turn(),
+        Phase::ShortWords | Phase::Children | Phase::Again => walk.again(),
+        Phase::LateAgain | Phase::LatePicks | Phase::LongWords => walk.again(),
+    }
+}

@@ -1,0 +1,80 @@
+//! Finalizers whose pass asks, and what they are made of.
+
+ghost use Rattle.std.specs.Prelude.{◌≡◌, ◌≤◌, ◌+◌, None, is_some};
+ghost use Rattle.fz_finalizers.specs.States.{opening};
+
+use crate::phase::Phase;
+use crate::refused::Refused;
+use crate::walk::Walk;
+use fz_finalizers::Finalizers;
+use std::alloc::Global;
+use std::marker::Model;
+
+/// Finalizers whose pass asks, one question after another, for a host that can't be called.
+///
+/// A pass is open from `begin` on until `next` says that it has ended. Until then every other change is refused.
+pub struct Machine {
+    pub(crate) finalizers: Finalizers,
+    pub(crate) walk: Walk,
+    pub(crate) phase: Option<Phase>,
+    /// About how many items the question was that waits for its answers.
+    pub(crate) asked: usize,
+    /// How many entries had come when the pass began.
+    pub(crate) before: u64,
+}
+
+// Written out: who owns a machine then drops it by one call that is proved here, not field by field at each way out of a function.
+impl Drop for Machine {
+    fn drop(self) {
+        let Machine {
+            finalizers: _,
+            walk: _,
+            phase: _,
+            asked: _,
+            before: _,
+        } = self;
+    }
+}
+
+impl Model for Machine {
+    ghost use Rattle.fz_machine.specs.Machines.{Machine, machine_code};
+    ghost use Rattle.fz_machine.specs.Going.{HasRoom};
+
+    ghost Value = { Machine };
+
+    ghost coded = { machine_code };
+
+    ghost view = { λ m. record { finalizers = m.finalizers; walk = m.walk; phase = m.phase; asked = m.asked; before = m.before } };
+
+    ghost invariant = { λ m. HasRoom m.finalizers.state m.walk.room };
+}
+
+impl Machine {
+    /// Nothing is registered, and no pass is open.
+    pub fn new(alloc: Global) -> Machine
+        ensures finalizers { result.finalizers.state ≡ opening }
+        ensures phase { result.phase ≡ None }
+    {
+        Machine {
+            finalizers: Finalizers::new(alloc),
+            walk: Walk::new(alloc),
+            phase: None,
+            asked: 0,
+            before: 0,
+        }
+    }
+
+    /// The finalizers, which may be read while a pass is open.
+    pub fn finalizers(&self) -> &Finalizers
+        ensures { result.now ≡ self.now.finalizers }
+    {
+        &self.finalizers
+    }
+
+    /// Whether a pass is open.
+    pub fn is_open(&self) -> bool
+        ensures { result ≡ is_some self.now.phase }
+    {
+        self.phase.is_some()
+    }
+}

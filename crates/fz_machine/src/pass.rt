@@ -1,0 +1,79 @@
+//! Passes by questions and answers.
+
+ghost use Rattle.std.specs.Prelude.{◌≡◌, ◌+◌, [], take, None, Some, OnOk, OnErr, IfErr, IfOk};
+ghost use Rattle.fz_finalizers.specs.Follows.{next_pass};
+ghost use Rattle.fz_machine.specs.Causes.{IsJudgedBy};
+ghost use Rattle.fz_machine.specs.Machines.{IsBegun, GoesTo};
+ghost use Rattle.fz_machine.specs.declared.refused.Refused.TheVariants.{NoPass};
+
+use crate::asking::hear;
+use crate::going_on::{go_on, question};
+use crate::listing::begin;
+use crate::machine::Machine;
+use crate::phase::Phase;
+use crate::question::Question;
+use crate::refused::Refused;
+use fz_finalizers::Passed;
+
+/// What comes next in a pass.
+#[derive(Clone, Copy, Debug, PartialEq, Eq)]
+pub enum Next {
+    /// A question, whose answers are handed to the next call of `Machine::next`.
+    Asks(Question),
+    /// The pass has ended.
+    Ended(Passed),
+}
+
+impl Machine {
+    /// Opens a pass, once the host's marking is done, and returns its number. The first call of `next` takes no answers.
+    ///
+    /// Refused `PassOpen`.
+    pub fn begin(&mut self) -> Result<u64, Refused>
+        ensures judged { IsJudgedBy self.old.phase [] result }
+        ensures refused { OnErr result (self.new ≡ self.old) }
+        ensures number { IfOk result (λ number. number ≡ next_pass self.old.finalizers.passes) }
+        ensures begun { OnOk result (IsBegun self.old self.new) }
+    {
+        if self.phase.is_some() {
+            return Err(Refused::PassOpen);
+        }
+        let number = self.finalizers.begin_pass();
+        self.before = self.finalizers.queued();
+        begin(&self.finalizers, &mut self.walk, Phase::ShortTargets);
+        self.phase = Some(Phase::ShortTargets);
+        self.asked = 0;
+        Ok(number)
+    }
+
+    /// Takes the answers to the question before, of `IsMarked` and `IsHolderMarked` one for each that it was about, and any of the others; and tells
+    /// what comes next. Where there are fewer answers, the others are asked for again.
+    ///
+    /// It takes no memory. Refused `NoPass` where none is open.
+    pub fn next(&mut self, answers: &[bool]) -> Result<Next, Refused>
+        ensures refused { OnErr result ((self.old.phase ≡ None) × (self.new ≡ self.old)) }
+        ensures cause { IfErr result (λ r. r ≡ NoPass) }
+        ensures goes { IfOk result (GoesTo self.old (take self.old.asked answers.now) self.new) }
+    {
+        let Some(phase) = self.phase else {
+            return Err(Refused::NoPass);
+        };
+        let heard = answers.len().min(self.asked);
+        hear(
+            &mut self.finalizers,
+            &mut self.walk,
+            phase,
+            &answers[..heard],
+        );
+        self.phase = go_on(&mut self.finalizers, &mut self.walk, phase);
+        self.asked = 0;
+        let Some(phase) = self.phase else {
+            return Ok(Next::Ended(Passed {
+                pass: self.finalizers.passes(),
+                picked: self.finalizers.queued().saturating_sub(self.before),
+            }));
+        };
+        let question = question(phase, self.walk.left());
+        self.asked = question.count;
+        Ok(Next::Asks(question))
+    }
+}

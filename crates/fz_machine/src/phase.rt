@@ -1,0 +1,124 @@
+//! The phases of a pass, in the order of bdwgc's finalize.c.
+
+ghost use Rattle.std.specs.Prelude.{◌≡◌};
+ghost use Rattle.fz_machine.specs.Phases.{next_phase, child_ask, pick_ask, asks, subject, keeps};
+
+use crate::item::Item;
+use crate::question::Ask;
+use fz_finalizers::Kind;
+use fz_model::Addr;
+
+/// A phase of a pass. It goes over a list, with one question an item.
+#[derive(Clone, Copy, Debug, PartialEq, Eq)]
+pub enum Phase {
+    /// Which targets of short links are marked.
+    ShortTargets,
+    /// The words of short links to other targets are cleared.
+    ShortWords,
+    /// Which registered objects are marked.
+    Objects,
+    /// The children of the others are marked, by their kinds.
+    Children,
+    /// Which of these objects are marked now.
+    Again,
+    /// The others are picked, by rank, then object, but for those that come late.
+    Picks,
+    /// Which of those that come late are marked now.
+    LateAgain,
+    /// The others are picked.
+    LatePicks,
+    /// Which targets of long links are marked.
+    LongTargets,
+    /// The words of long links to other targets are cleared.
+    LongWords,
+    /// Whether the objects that have the words of short links are marked.
+    ShortHolders,
+    /// The same of long links.
+    LongHolders,
+}
+
+/// What marks the children of an unmarked object.
+fn child_ask(kind: Kind) -> Option<Ask>
+    ensures { result ≡ child_ask kind }
+{
+    match kind {
+        Kind::Normal | Kind::Unreachable => Some(Ask::MarkChildren),
+        Kind::IgnoreSelf => Some(Ask::MarkOthers),
+        Kind::NoOrder => None,
+    }
+}
+
+/// What marks a picked object.
+fn pick_ask(kind: Kind) -> Option<Ask>
+    ensures { result ≡ pick_ask kind }
+{
+    match kind {
+        Kind::Normal | Kind::IgnoreSelf => Some(Ask::MarkAlone),
+        Kind::NoOrder => Some(Ask::Mark),
+        Kind::Unreachable => None,
+    }
+}
+
+impl Phase {
+    /// The phase after it.
+    pub(crate) fn next(self) -> Option<Phase>
+        ensures { result ≡ next_phase self }
+    {
+        match self {
+            Phase::ShortTargets => Some(Phase::ShortWords),
+            Phase::ShortWords => Some(Phase::Objects),
+            Phase::Objects => Some(Phase::Children),
+            Phase::Children => Some(Phase::Again),
+            Phase::Again => Some(Phase::Picks),
+            Phase::Picks => Some(Phase::LateAgain),
+            Phase::LateAgain => Some(Phase::LatePicks),
+            Phase::LatePicks => Some(Phase::LongTargets),
+            Phase::LongTargets => Some(Phase::LongWords),
+            Phase::LongWords => Some(Phase::ShortHolders),
+            Phase::ShortHolders => Some(Phase::LongHolders),
+            Phase::LongHolders => None,
+        }
+    }
+
+    /// What it asks of an item.
+    pub(crate) fn asks(self, item: &Item) -> Option<Ask>
+        ensures { result ≡ asks self item.now }
+    {
+        match self {
+            Phase::ShortTargets | Phase::LongTargets => Some(Ask::IsMarked),
+            Phase::Objects | Phase::Again | Phase::LateAgain => Some(Ask::IsMarked),
+            Phase::ShortWords | Phase::LongWords => Some(Ask::Clear),
+            Phase::Children => child_ask(item.kind),
+            Phase::Picks => pick_ask(item.kind),
+            Phase::LatePicks => Some(Ask::MarkAlone),
+            Phase::ShortHolders | Phase::LongHolders => Some(Ask::IsHolderMarked),
+        }
+    }
+
+    /// The object or the word that it asks about.
+    pub(crate) fn subject(self, item: &Item) -> Addr
+        ensures { result ≡ subject self item.now }
+    {
+        match self {
+            Phase::ShortWords | Phase::LongWords => item.word,
+            Phase::ShortHolders | Phase::LongHolders => item.word,
+            Phase::ShortTargets | Phase::LongTargets => item.object,
+            Phase::Objects | Phase::Children | Phase::Again => item.object,
+            Phase::Picks | Phase::LateAgain | Phase::LatePicks => item.object,
+        }
+    }
+
+    /// Whether the next phase goes over the item too, by the answer.
+    pub(crate) fn keeps(self, item: &Item, yes: bool) -> bool
+        ensures { result ≡ keeps self item.now yes }
+    {
+        match self {
+            Phase::ShortTargets | Phase::LongTargets => !yes,
+            Phase::Objects | Phase::Again | Phase::LateAgain => !yes,
+            Phase::Children => true,
+            Phase::Picks => item.kind == Kind::Unreachable,
+            Phase::ShortWords | Phase::LongWords | Phase::LatePicks => false,
+            Phase::ShortHolders | Phase::LongHolders => false,
+        }
+    }
+}

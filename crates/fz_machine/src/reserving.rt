@@ -1,0 +1,153 @@
+//! The calls that may want memory: the list of a phase has room for all that is registered, and for all links of each kind.
+
+ghost use Rattle.std.specs.Prelude.{◌≡◌, ◌≤◌, ◌<◌, ◌+◌, ◌^◌, ◌⊎◌, None, if◌then◌else◌, IfOk, IfErr, OnOk, OnErr};
+ghost use Rattle.std.specs.FinMap.{get, insert, len, contains_key};
+ghost use Rattle.fz_finalizers.specs.Causes.{IsJudgedOrLacks, link_causes, register_causes};
+ghost use Rattle.fz_finalizers.specs.Follows.{Follows, Register, Link};
+ghost use Rattle.fz_finalizers.specs.Registering.{HasRoomFor, old_in_either};
+ghost use Rattle.fz_finalizers.specs.States.{HasRooms, limited, links_of, registered, room_of, registration_room, table_of};
+ghost use Rattle.fz_machine.specs.Causes.{RefusesOrLacks};
+ghost use Rattle.fz_machine.specs.Going.{HasRoom, HasRoomForMore};
+
+use crate::walk::Walk;
+use fz_finalizers::{Addr, Finalizer, Finalizers, Kind, LinkAnswer, LinkKind, Old, Refused};
+use fz_table::MOST_ENTRIES;
+
+/// Makes room on the list for one more registration, if the object has none.
+fn room_to_register(
+    finalizers: &Finalizers,
+    walk: &mut Walk,
+    object: Addr,
+    kind: Kind,
+) -> Result<(), Refused>
+    requires { HasRoom finalizers.now.state walk.old.room }
+    ensures refused { IfErr result (λ r. RefusesOrLacks (register_causes (table_of finalizers.now.state kind) finalizers.now.next_number object) ((registered finalizers.now.state object ≡ None) × (walk.old.room ≤ len finalizers.now.registrations + len finalizers.now.late)) r) }
+    ensures kept { walk.old.room ≤ walk.new.room }
+    ensures room { OnOk result (HasRoomFor finalizers.now.registrations finalizers.now.late object walk.new.room) }
+    ensures late { OnOk result (HasRoomFor finalizers.now.late finalizers.now.registrations object walk.new.room) }
+{
+    let room = walk.room();
+    let count = finalizers.registrations() as usize;
+    if count < room {
+        return Ok(());
+    }
+    let Err(_) = walk.reserve(count + 1) else {
+        return Ok(());
+    };
+    if finalizers.registration(object).is_some() {
+        return Ok(());
+    }
+    finalizers.check(object, kind)?;
+    Err(Refused::NoMemory)
+}
+
+/// Registers a finalizer of an object, once the list has room for it.
+pub(crate) fn register(
+    finalizers: &mut Finalizers,
+    walk: &mut Walk,
+    object: Addr,
+    finalizer: Finalizer,
+) -> Result<(u64, Option<Old>), Refused>
+    requires { HasRoom finalizers.old.state walk.old.room }
+    ensures judged { IsJudgedOrLacks (register_causes (table_of finalizers.old.state finalizer.kind) finalizers.old.next_number object) result }
+    ensures fresh { IfErr result (λ r. r ≡ Refused.NoMemory → get (table_of finalizers.old.state finalizer.kind) object ≡ None) }
+    ensures wanting { IfErr result (λ r. r ≡ Refused.NoMemory → (registration_room finalizers.old.rooms finalizer.kind ≡ 0) ⊎ (walk.old.room ≤ len finalizers.old.registrations + len finalizers.old.late)) }
+    ensures refused { OnErr result (finalizers.new.state ≡ finalizers.old.state) }
+    ensures number { IfOk result (λ answer. answer.0 ≡ finalizers.old.next_number) }
+    ensures replaced { IfOk result (λ answer. answer.1 ≡ old_in_either finalizers.old.registrations finalizers.old.late object) }
+    ensures follows { OnOk result (Follows finalizers.old.state (Register object finalizer) finalizers.new.state) }
+    ensures kept { walk.old.room ≤ walk.new.room }
+    ensures room { HasRoom finalizers.new.state walk.new.room }
+{
+    room_to_register(finalizers, walk, object, finalizer.kind)?;
+    finalizers.register(object, finalizer)
+}
+
+/// Makes room on the list for one more link of a kind, if the word has none.
+#[tactic(auto, using(crate::proofs::Known::grown, crate::proofs::Known::known))]
+fn room_to_link(
+    finalizers: &Finalizers,
+    walk: &mut Walk,
+    kind: LinkKind,
+    word: Addr,
+    target: Addr,
+) -> Result<(), Refused>
+    requires { HasRoom finalizers.now.state walk.old.room }
+    ensures refused { IfErr result (λ r. RefusesOrLacks (link_causes (links_of finalizers.now.state kind) word target) ((get (links_of finalizers.now.state kind) word ≡ None) × (walk.old.room ≤ len (links_of finalizers.now.state kind))) r) }
+    ensures kept { walk.old.room ≤ walk.new.room }
+    ensures room { OnOk result (len (insert (links_of finalizers.now.state kind) word target) ≤ walk.new.room) }
+{
+    let room = walk.room();
+    let count = finalizers.links(kind) as usize;
+    if count < room {
+        return Ok(());
+    }
+    let Err(_) = walk.reserve(count + 1) else {
+        return Ok(());
+    };
+    if finalizers.target(kind, word).is_some() {
+        return Ok(());
+    }
+    finalizers.check_link(kind, word, target)?;
+    Err(Refused::NoMemory)
+}
+
+/// Makes a link, once the list has room for it.
+pub(crate) fn link(
+    finalizers: &mut Finalizers,
+    walk: &mut Walk,
+    kind: LinkKind,
+    word: Addr,
+    target: Addr,
+) -> Result<LinkAnswer, Refused>
+    requires { HasRoom finalizers.old.state walk.old.room }
+    ensures judged { IsJudgedOrLacks (link_causes (links_of finalizers.old.state kind) word target) result }
+    ensures fresh { IfErr result (λ r. r ≡ Refused.NoMemory → get (links_of finalizers.old.state kind) word ≡ None) }
+    ensures wanting { IfErr result (λ r. r ≡ Refused.NoMemory → (room_of finalizers.old.rooms kind ≡ 0) ⊎ (walk.old.room ≤ len (links_of finalizers.old.state kind))) }
+    ensures refused { OnErr result (finalizers.new.state ≡ finalizers.old.state) }
+    ensures answer { IfOk result (λ answer. answer ≡ (if contains_key (links_of finalizers.old.state kind) word then LinkAnswer.Duplicate else LinkAnswer.Success)) }
+    ensures follows { OnOk result (Follows finalizers.old.state (Link kind word target) finalizers.new.state) }
+    ensures kept { walk.old.room ≤ walk.new.room }
+    ensures room { HasRoom finalizers.new.state walk.new.room }
+{
+    room_to_link(finalizers, walk, kind, word, target)?;
+    finalizers.link(kind, word, target)
+}
+
+/// Makes room on the list for `more` items beside as many as there are, but for no more than a table can have.
+fn grow(walk: &mut Walk, count: u64, more: usize) -> Result<(), Refused>
+    requires { count ≤ walk.old.room }
+    ensures refused { IfErr result (λ r. r ≡ Refused.NoMemory) }
+    ensures wanting { OnErr result (walk.old.room < count + limited more) }
+    ensures kept { walk.old.room ≤ walk.new.room }
+    ensures room { OnOk result (count + limited more ≤ walk.new.room) }
+{
+    let room = walk.room();
+    let most = count as usize + more.min(MOST_ENTRIES as usize);
+    if most <= room {
+        return Ok(());
+    }
+    Ok(walk.reserve(most)?)
+}
+
+/// Makes room for further registrations and links.
+pub(crate) fn reserve(
+    finalizers: &mut Finalizers,
+    walk: &mut Walk,
+    registrations: usize,
+    shorts: usize,
+    longs: usize,
+) -> Result<(), Refused>
+    requires { HasRoom finalizers.old.state walk.old.room }
+    ensures refused { IfErr result (λ r. r ≡ Refused.NoMemory) }
+    ensures wanting { OnErr result (HasRooms finalizers.old.rooms registrations shorts longs → HasRoomForMore finalizers.old.state registrations shorts longs walk.old.room → ⊥) }
+    ensures same { finalizers.new.state ≡ finalizers.old.state }
+    ensures kept { walk.old.room ≤ walk.new.room }
+    ensures rooms { OnOk result (HasRooms finalizers.new.rooms registrations shorts longs) }
+    ensures room { OnOk result (HasRoomForMore finalizers.old.state registrations shorts longs walk.new.room) }
+{
+    finalizers.reserve(registrations, shorts, longs)?;
+    grow(walk, finalizers.registrations(), registrations)?;
+    grow(walk, finalizers.links(LinkKind::Short), shorts)?;
+    grow(walk, finalizers.links(LinkKind::Long), longs)
+}

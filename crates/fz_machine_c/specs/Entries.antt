@@ -1,0 +1,23 @@
+-- Entries, as C has them, and how they are taken.
+use Rattle.std.specs.Prelude.{◌≡◌, ◌⊎◌, ℕ, [], Option, Some, None}
+use Rattle.fz_model.specs.declared.answers.Entry as answers
+use Rattle.fz_finalizers.specs.Follows.{Event, Follows}
+use Rattle.fz_machine.specs.declared.phase.Phase.{Phase}
+use Rattle.fz_machine.specs.declared.refused.Refused.TheVariants.{PassOpen}
+use Rattle.fz_machine.specs.Machines.{Machine}
+use Rattle.fz_machine_c.specs.declared.codes.TheConstants.{OK, EMPTY}
+use Rattle.fz_machine_c.specs.declared.entries.Entry.{Entry}
+use Rattle.fz_machine_c.specs.Codes.{code_of}
+
+abbrev pub entry_of : Entry → answers.Entry
+entry_of e = record { seq = e.seq; pass = e.pass; reg = e.reg; obj = e.obj; birth = 0; proc = e.proc; cd = e.cd }
+
+abbrev pub TellsEntry : answers.Entry → Entry → Type 0
+TellsEntry e told = told ≡ record { seq = e.seq; pass = e.pass; reg = e.reg; obj = e.obj; proc = e.proc; cd = e.cd }
+
+-- the first that waits is taken, as this event says, and told; or none waits, or a pass is open, and the place is as it was
+abbrev pub Takes : (answers.Entry → Event) → Option Phase → Machine → Machine → ℕ → Entry → Entry → Type 0
+Takes event (Some phase) m n code old told = (code ≡ code_of PassOpen) × (n ≡ m) × (told ≡ old)
+Takes event None m n code old told =
+    ((code ≡ EMPTY) × (m.finalizers.waiting ≡ []) × (n.finalizers.state ≡ m.finalizers.state) × (told ≡ old))
+    ⊎ ((code ≡ OK) × ((e : answers.Entry) × Follows m.finalizers.state (event e) n.finalizers.state × TellsEntry e told))

@@ -1,0 +1,6 @@
+pub mod Codes
+pub mod Opens
+pub mod Told
+pub mod Passing
+pub mod Entries
+pub mod Shows

@@ -1,0 +1,32 @@
+-- How a pass goes on behind a handle.
+use Rattle.std.specs.Prelude.{◌≡◌, ℕ, ◌/◌, ◌%◌, nat_eq, Bool, List, [], ◌∷◌, map, take, Option, Some, None}
+use Rattle.fz_machine.specs.declared.pass.Next.{Next}
+use Rattle.fz_machine.specs.declared.pass.Next.TheVariants as next
+use Rattle.fz_machine.specs.declared.phase.Phase.{Phase}
+use Rattle.fz_machine.specs.declared.refused.Refused.TheVariants.{NoPass}
+use Rattle.fz_machine.specs.Asks.{number_of}
+use Rattle.fz_machine.specs.Machines.{Machine, GoesTo}
+use Rattle.fz_machine_c.specs.declared.codes.TheConstants.{OK, EMPTY}
+use Rattle.fz_machine_c.specs.declared.passing.Question.{Question}
+use Rattle.fz_machine_c.specs.declared.passing.Passed.{Passed}
+use Rattle.fz_machine_c.specs.Codes.{code_of}
+
+abbrev pub is_bit : ℕ → ℕ → Bool
+is_bit bits weight = nat_eq ((bits / weight) % 2) 1
+
+-- the answers in a number, from its lowest bit on
+abbrev pub bits_of : ℕ → List Bool
+bits_of bits = map (is_bit bits) (1 ∷ 2 ∷ 4 ∷ 8 ∷ 16 ∷ 32 ∷ 64 ∷ 128 ∷ 256 ∷ 512 ∷ 1024 ∷ 2048 ∷ 4096 ∷ 8192 ∷ 16384 ∷ 32768 ∷ [])
+
+-- C is told the question, or what the pass did, and the other place is as it was
+abbrev pub TellsNext : Next → ℕ → Question → Question → Passed → Passed → Type 0
+TellsNext (next.Asks q) code old_question question old_passed passed = (code ≡ OK) × (question ≡ record { what = q.about; count = q.count; ask = number_of q.ask }) × (passed ≡ old_passed)
+TellsNext (next.Ended p) code old_question question old_passed passed = (code ≡ EMPTY) × (question ≡ old_question) × (passed ≡ record { pass = p.pass; picked = p.picked })
+
+-- the answers are heard, as many as were asked for, and the pass goes on; where none is open it is refused
+abbrev pub AsksNextIn : Option Phase → Machine → List Bool → Machine → ℕ → Question → Question → Passed → Passed → Type 0
+AsksNextIn None m answers n code old_question question old_passed passed = (code ≡ code_of NoPass) × (n ≡ m) × (question ≡ old_question) × (passed ≡ old_passed)
+AsksNextIn (Some phase) m answers n code old_question question old_passed passed = (next : Next) × GoesTo m (take m.asked answers) n next × TellsNext next code old_question question old_passed passed
+
+abbrev pub AsksNext : Machine → List Bool → Machine → ℕ → Question → Question → Passed → Passed → Type 0
+AsksNext m = AsksNextIn m.phase m

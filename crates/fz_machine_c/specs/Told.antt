@@ -1,0 +1,43 @@
+-- How C's structs and numbers tell what a call answers, and what C's numbers mean.
+use Rattle.std.specs.Prelude.{◌≡◌, ℕ, zero, suc, Bool, true, false, Option, Some, None}
+use Rattle.fz_model.specs.declared.answers.Old as answers
+use Rattle.fz_model.specs.declared.answers.MoveAnswer.{MoveAnswer}
+use Rattle.fz_model.specs.declared.answers.MoveAnswer.TheVariants as moved
+use Rattle.fz_model.specs.declared.kinds.LinkKind.{LinkKind}
+use Rattle.fz_model.specs.declared.kinds.LinkKind.TheVariants.{Short, Long}
+use Rattle.fz_finalizers.specs.declared.kinds.Finalizer.{Finalizer}
+use Rattle.fz_finalizers.specs.declared.kinds.Kind.{Kind}
+use Rattle.fz_finalizers.specs.declared.kinds.Kind.TheVariants.{Normal, IgnoreSelf, NoOrder, Unreachable}
+use Rattle.fz_machine_c.specs.declared.old.Old.{Old}
+use Rattle.fz_machine_c.specs.declared.old.Registered.{Registered}
+
+abbrev pub TellsOld : Option answers.Old → Old → Type 0
+TellsOld None told = told ≡ record { proc = 0; cd = 0; was = false }
+TellsOld (Some old) told = told ≡ record { proc = old.proc; cd = old.cd; was = true }
+
+abbrev pub TellsRegistered : ℕ → Option answers.Old → Registered → Type 0
+TellsRegistered number old told = (told.number ≡ number) × TellsOld old told.replaced
+
+-- the kinds of registrations
+abbrev pub kind_of : ℕ → Kind
+kind_of zero = Normal
+kind_of (suc zero) = IgnoreSelf
+kind_of (suc (suc zero)) = NoOrder
+kind_of (suc (suc (suc n))) = Unreachable
+
+abbrev pub finalizer_of : ℕ → ℕ → ℕ → ℕ → Finalizer
+finalizer_of kind proc cd rank = record { kind = kind_of kind; procedure = proc; client_data = cd; rank = rank }
+
+-- the kinds of links, and the answers about them
+abbrev pub link_kind_of : Bool → LinkKind
+link_kind_of true = Long
+link_kind_of false = Short
+
+abbrev pub link_number : Bool → ℕ
+link_number true = 1
+link_number false = 0
+
+abbrev pub move_number : MoveAnswer → ℕ
+move_number moved.Success = 0
+move_number moved.Duplicate = 1
+move_number moved.NotFound = 4

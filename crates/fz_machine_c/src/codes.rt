@@ -1,0 +1,47 @@
+//! The codes that C is answered.
+
+ghost use Rattle.std.specs.Prelude.{◌≡◌};
+ghost use Rattle.fz_machine_c.specs.Codes.{code_of, code_of_refused};
+
+use fz_machine::Refused;
+
+/// What an export answers.
+pub type Code = u8;
+
+/// The call was accepted.
+pub(crate) const OK: Code = 0;
+
+/// The handle has nothing.
+pub(crate) const NOT_OPEN: Code = 8;
+
+/// The handle has something already.
+pub(crate) const IS_OPEN: Code = 9;
+
+/// Nothing is left.
+pub(crate) const EMPTY: Code = 10;
+
+/// An allocation failed.
+pub(crate) const NO_MEMORY: Code = 4;
+
+fn code_of_refused(refused: fz_finalizers::Refused) -> Code
+    ensures { result ≡ code_of_refused refused }
+{
+    match refused {
+        fz_finalizers::Refused::Zero => 1,
+        fz_finalizers::Refused::Exhausted => 2,
+        fz_finalizers::Refused::Full => 3,
+        fz_finalizers::Refused::NoMemory => NO_MEMORY,
+        fz_finalizers::Refused::NotHeld => 5,
+    }
+}
+
+/// The code of a refusal.
+pub(crate) fn code_of(refused: Refused) -> Code
+    ensures { result ≡ code_of refused }
+{
+    match refused {
+        Refused::PassOpen => 6,
+        Refused::NoPass => 7,
+        Refused::Finalizers(refused) => code_of_refused(refused),
+    }
+}

@@ -1,0 +1,113 @@
+//! Entries.
+
+ghost use Rattle.std.specs.Prelude.{◌≡◌};
+ghost use Rattle.fz_finalizers.specs.Causes.{finish_causes};
+ghost use Rattle.fz_finalizers.specs.Follows.{Follows, Take, TakeFinished, Finish};
+ghost use Rattle.fz_machine.specs.Causes.{first_of};
+ghost use Rattle.fz_machine_c.specs.Codes.{Answers, Behind};
+ghost use Rattle.fz_machine_c.specs.Entries.{TellsEntry, Takes, entry_of};
+
+use crate::codes::{Code, EMPTY, NOT_OPEN, OK, code_of};
+use crate::handle::Handle;
+use std::alloc::Global;
+
+/// An entry, as C has it. A host without births has none in it.
+#[repr(C)]
+#[derive(Clone, Copy)]
+pub struct Entry {
+    pub seq: u64,
+    pub pass: u64,
+    pub reg: u64,
+    pub obj: u64,
+    pub proc: u64,
+    pub cd: u64,
+}
+
+impl Entry {
+    fn of(entry: fz_finalizers::Entry) -> Entry
+        ensures { TellsEntry entry result }
+    {
+        Entry {
+            seq: entry.seq,
+            pass: entry.pass,
+            reg: entry.reg,
+            obj: entry.obj,
+            proc: entry.proc,
+            cd: entry.cd,
+        }
+    }
+
+    fn read(&self) -> fz_finalizers::Entry
+        ensures { result ≡ entry_of self.now }
+    {
+        fz_finalizers::Entry {
+            seq: self.seq,
+            pass: self.pass,
+            reg: self.reg,
+            obj: self.obj,
+            birth: 0,
+            proc: self.proc,
+            cd: self.cd,
+        }
+    }
+}
+
+/// `Machine::take`.
+#[unsafe(no_mangle)]
+pub extern "C" fn fz_machine_take(alloc: Global, finalizers: &mut Handle, entry: &mut Entry) -> Code
+    ensures { Behind finalizers.old.value finalizers.new.value result (entry.new ≡ entry.old) (λ m n. Takes Take m.phase m n result entry.old entry.new) }
+{
+    let Some(mut session) = finalizers.take(alloc) else {
+        return NOT_OPEN;
+    };
+    let reply = session.machine.take();
+    finalizers.put(session);
+    match reply {
+        Ok(Some(taken)) => {
+            *entry = Entry::of(taken);
+            OK
+        }
+        Ok(None) => EMPTY,
+        Err(refused) => code_of(refused),
+    }
+}
+
+/// `Machine::take_finished`.
+#[unsafe(no_mangle)]
+pub extern "C" fn fz_machine_take_finished(
+    alloc: Global,
+    finalizers: &mut Handle,
+    entry: &mut Entry,
+) -> Code
+    ensures { Behind finalizers.old.value finalizers.new.value result (entry.new ≡ entry.old) (λ m n. Takes TakeFinished m.phase m n result entry.old entry.new) }
+{
+    let Some(mut session) = finalizers.take(alloc) else {
+        return NOT_OPEN;
+    };
+    let reply = session.machine.take_finished();
+    finalizers.put(session);
+    match reply {
+        Ok(Some(taken)) => {
+            *entry = Entry::of(taken);
+            OK
+        }
+        Ok(None) => EMPTY,
+        Err(refused) => code_of(refused),
+    }
+}
+
+/// `Machine::finish`.
+#[unsafe(no_mangle)]
+pub extern "C" fn fz_machine_finish(alloc: Global, finalizers: &mut Handle, entry: &Entry) -> Code
+    ensures { Behind finalizers.old.value finalizers.new.value result (Unit {0}) (λ m n. Answers (first_of m.phase (finish_causes m.finalizers.held (entry_of entry.now))) result (Follows m.finalizers.state (Finish (entry_of entry.now)) n.finalizers.state) ((n.finalizers.state ≡ m.finalizers.state) × (n.phase ≡ m.phase))) }
+{
+    let Some(mut session) = finalizers.take(alloc) else {
+        return NOT_OPEN;
+    };
+    let reply = session.machine.finish(&entry.read());
+    finalizers.put(session);
+    match reply {
+        Ok(()) => OK,
+        Err(refused) => code_of(refused),
+    }
+}

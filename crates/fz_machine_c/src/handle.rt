@@ -1,0 +1,28 @@
+//! What C holds of finalizers.
+
+ghost use Rattle.std.specs.Prelude.{Option};
+ghost use Rattle.std.specs.Coded.{coded_option};
+ghost use Rattle.fz_handle.specs.Owned.{maybe_owns};
+ghost use Rattle.fz_machine_c.specs.contracts.session.Session as Behind;
+
+mod pointers;
+mod sessions;
+
+use std::alloc::Global;
+use std::marker::Model;
+
+/// A boxed session as its pointer, or null where there is none. C starts it as null, and doesn't copy it.
+#[repr(C)]
+#[derive(Drop)]
+pub struct Handle {
+    at: *mut u8,
+    alloc: Global,
+    pub ghost value: { Option Behind.the_row.Denot } by { coded_option Behind.the_row.coded },
+}
+
+impl Model for Handle {
+    ghost also_owns = { λ h. maybe_owns Behind.the_row h.alloc h.at h.value };
+}
+
+// What a handle owns may go to another thread: `proofs/handle/Handle/TheSendSync/Send.antt`.
+unsafe impl Send for Handle {}

@@ -1,0 +1,28 @@
+//! Sessions come out of handles, and go into them.
+
+ghost use Rattle.std.specs.Prelude.{◌≡◌, Some, None, MatchOption};
+
+use super::Handle;
+use crate::session::Session;
+use fz_handle::Pointer;
+use std::alloc::Global;
+use std::mem::replace;
+
+impl Handle {
+    /// Takes the session out of the handle, if there is one.
+    pub(crate) fn take(&mut self, alloc: Global) -> Option<Box<Session, Global>>
+        ensures empty { self.new.value ≡ None }
+        ensures taken { MatchOption result (self.old.value ≡ None) (λ session. self.old.value ≡ Some session.value) }
+    {
+        replace(self, Handle::of(Pointer::null(alloc)))
+            .into_pointer()
+            .into_box()
+    }
+
+    /// Puts a session into a handle, which is to be empty.
+    pub(crate) fn put(&mut self, session: Box<Session, Global>)
+        ensures { self.new.value ≡ Some session.value }
+    {
+        *self = Handle::of(Pointer::of(session));
+    }
+}

@@ -1,0 +1,30 @@
+//! Finalizers whose pass asks, for C: behind a handle.
+//!
+//! `c/include/derrimas_finalizers.h` declares what C calls, over these exports. Each answers a code. Where it doesn't answer 0, the places that C gave for its
+//! results are as they were.
+#![tactic(auto)]
+
+mod codes;
+mod entries;
+mod handle;
+mod linking;
+mod old;
+mod opening;
+mod passing;
+mod registering;
+mod session;
+mod shown;
+
+pub use codes::Code;
+pub use entries::{Entry, fz_machine_finish, fz_machine_take, fz_machine_take_finished};
+pub use handle::Handle;
+pub use linking::{fz_machine_link, fz_machine_move_link, fz_machine_unlink};
+pub use old::{Old, Registered};
+pub use opening::{fz_machine_destroy, fz_machine_open, fz_machine_reserve};
+pub use passing::{Passed, Question, fz_machine_begin, fz_machine_next, fz_machine_queue_all};
+pub use registering::{fz_machine_register, fz_machine_unregister};
+pub use session::Session;
+pub use shown::{
+    Counts, Linked, Registration, Words, fz_machine_count, fz_machine_next_link,
+    fz_machine_next_registration, fz_machine_roots,
+};

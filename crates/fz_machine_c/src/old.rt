@@ -1,0 +1,40 @@
+//! What a registration was that went away.
+
+ghost use Rattle.std.specs.Prelude.{◌≡◌};
+ghost use Rattle.fz_machine_c.specs.Told.{TellsOld};
+
+/// The procedure and the client data of a registration that went away, and whether there was one.
+#[repr(C)]
+#[derive(Clone, Copy)]
+pub struct Old {
+    pub proc: u64,
+    pub cd: u64,
+    pub was: bool,
+}
+
+impl Old {
+    pub(crate) fn of(old: Option<fz_finalizers::Old>) -> Old
+        ensures { TellsOld old result }
+    {
+        match old {
+            Some(old) => Old {
+                proc: old.proc,
+                cd: old.cd,
+                was: true,
+            },
+            None => Old {
+                proc: 0,
+                cd: 0,
+                was: false,
+            },
+        }
+    }
+}
+
+/// A new registration: its number, and what it replaced.
+#[repr(C)]
+#[derive(Clone, Copy)]
+pub struct Registered {
+    pub number: u64,
+    pub replaced: Old,
+}

@@ -1,0 +1,63 @@
+//! Handles are opened and destroyed.
+
+ghost use Rattle.std.specs.Prelude.{◌≡◌, [], None, MatchResult, OnOk, OnErr};
+ghost use Rattle.fz_finalizers.specs.States.{HasRooms, opening};
+ghost use Rattle.fz_machine.specs.Causes.{first_of};
+ghost use Rattle.fz_machine.specs.Going.{HasRoomForMore};
+ghost use Rattle.fz_machine_c.specs.Codes.{AnswersOrLacks, Behind};
+ghost use Rattle.fz_machine_c.specs.Opens.{Opens};
+
+use crate::codes::{Code, IS_OPEN, NO_MEMORY, NOT_OPEN, OK, code_of};
+use crate::handle::Handle;
+use crate::session::Session;
+use fz_machine::Machine;
+use std::alloc::Global;
+
+/// Opens finalizers in a handle that has none.
+#[unsafe(no_mangle)]
+pub extern "C" fn fz_machine_open(alloc: Global, finalizers: &mut Handle) -> Code
+    ensures { Opens finalizers.old.value finalizers.new.value result }
+{
+    if let Some(session) = finalizers.take(alloc) {
+        finalizers.put(session);
+        return IS_OPEN;
+    }
+    let machine = Machine::new(alloc);
+    let Ok(session) = Box::new(alloc, Session { machine }) else {
+        return NO_MEMORY;
+    };
+    finalizers.put(session);
+    OK
+}
+
+/// Ends what the handle has.
+#[unsafe(no_mangle)]
+pub extern "C" fn fz_machine_destroy(alloc: Global, finalizers: &mut Handle)
+    ensures { finalizers.new.value ≡ None }
+{
+    drop(finalizers.take(alloc));
+}
+
+/// `Machine::reserve`.
+#[unsafe(no_mangle)]
+pub extern "C" fn fz_machine_reserve(
+    alloc: Global,
+    finalizers: &mut Handle,
+    registrations: u64,
+    shorts: u64,
+    longs: u64,
+) -> Code
+    ensures { Behind finalizers.old.value finalizers.new.value result (Unit {0}) (λ m n. AnswersOrLacks (first_of m.phase []) result (HasRooms n.finalizers.rooms registrations shorts longs × HasRoomForMore m.finalizers.state registrations shorts longs n.walk.room × (n.finalizers.state ≡ m.finalizers.state) × (n.phase ≡ m.phase)) ((n.finalizers.state ≡ m.finalizers.state) × (n.phase ≡ m.phase)) (HasRooms m.finalizers.rooms registrations shorts longs → HasRoomForMore m.finalizers.state registrations shorts longs m.walk.room → ⊥)) }
+{
+    let Some(mut session) = finalizers.take(alloc) else {
+        return NOT_OPEN;
+    };
+    let reply = session
+        .machine
+        .reserve(registrations as usize, shorts as usize, longs as usize);
+    finalizers.put(session);
+    match reply {
+        Ok(()) => OK,
+        Err(refused) => code_of(refused),
+    }
+}

@@ -1,0 +1,139 @@
+//! Passes.
+
+ghost use Rattle.std.specs.Prelude.{◌≡◌, ◌<◌, ◌/◌, ◌%◌, ◌+◌, [], nat_eq};
+ghost use Rattle.fz_finalizers.specs.Follows.{Follows, QueueAll};
+ghost use Rattle.fz_finalizers.specs.Ready.{QueuesTables};
+ghost use Rattle.fz_machine.specs.Causes.{first_of};
+ghost use Rattle.fz_machine.specs.Machines.{IsBegun};
+ghost use Rattle.fz_machine_c.specs.Codes.{Answers, Behind};
+ghost use Rattle.fz_machine_c.specs.Passing.{AsksNext, bits_of, is_bit};
+
+use crate::codes::{Code, EMPTY, NOT_OPEN, OK, code_of};
+use crate::handle::Handle;
+use fz_machine::{BATCH, Next};
+use std::alloc::Global;
+
+/// A question, as C has it.
+#[repr(C)]
+#[derive(Clone, Copy)]
+pub struct Question {
+    pub what: [u64; BATCH],
+    pub count: u64,
+    pub ask: u8,
+}
+
+/// What a pass did.
+#[repr(C)]
+#[derive(Clone, Copy)]
+pub struct Passed {
+    pub pass: u64,
+    pub picked: u64,
+}
+
+/// Whether the bit of this weight is set.
+fn is_bit(bits: u64, weight: u64) -> bool
+    requires { 0 < weight }
+    ensures { result ≡ is_bit bits weight }
+{
+    bits / weight % 2 == 1
+}
+
+/// The bits of answers, from the lowest on.
+fn bits_of(bits: u64) -> [bool; BATCH]
+    ensures { result ≡ bits_of bits }
+{
+    [
+        is_bit(bits, 1),
+        is_bit(bits, 2),
+        is_bit(bits, 4),
+        is_bit(bits, 8),
+        is_bit(bits, 16),
+        is_bit(bits, 32),
+        is_bit(bits, 64),
+        is_bit(bits, 128),
+        is_bit(bits, 256),
+        is_bit(bits, 512),
+        is_bit(bits, 1_024),
+        is_bit(bits, 2_048),
+        is_bit(bits, 4_096),
+        is_bit(bits, 8_192),
+        is_bit(bits, 16_384),
+        is_bit(bits, 32_768),
+    ]
+}
+
+/// `Machine::begin`.
+#[unsafe(no_mangle)]
+pub extern "C" fn fz_machine_begin(alloc: Global, finalizers: &mut Handle) -> Code
+    ensures { Behind finalizers.old.value finalizers.new.value result (Unit {0}) (λ m n. Answers (first_of m.phase []) result (IsBegun m n) (n ≡ m)) }
+{
+    let Some(mut session) = finalizers.take(alloc) else {
+        return NOT_OPEN;
+    };
+    let reply = session.machine.begin();
+    finalizers.put(session);
+    match reply {
+        Ok(_) => OK,
+        Err(refused) => code_of(refused),
+    }
+}
+
+/// `Machine::next`.
+#[unsafe(no_mangle)]
+pub extern "C" fn fz_machine_next(
+    alloc: Global,
+    finalizers: &mut Handle,
+    answers: u64,
+    question: &mut Question,
+    passed: &mut Passed,
+) -> Code
+    ensures { Behind finalizers.old.value finalizers.new.value result ((question.new ≡ question.old) × (passed.new ≡ passed.old)) (λ m n. AsksNext m (bits_of answers) n result question.old question.new passed.old passed.new) }
+{
+    let Some(mut session) = finalizers.take(alloc) else {
+        return NOT_OPEN;
+    };
+    let reply = session.machine.next(&bits_of(answers));
+    finalizers.put(session);
+    match reply {
+        Ok(Next::Asks(asked)) => {
+            let what = asked.about;
+            *question = Question {
+                what,
+                count: asked.count as u64,
+                ask: asked.ask.number(),
+            };
+            OK
+        }
+        Ok(Next::Ended(ended)) => {
+            *passed = Passed {
+                pass: ended.pass,
+                picked: ended.picked,
+            };
+            EMPTY
+        }
+        Err(refused) => code_of(refused),
+    }
+}
+
+/// `Machine::queue_all`.
+#[unsafe(no_mangle)]
+pub extern "C" fn fz_machine_queue_all(
+    alloc: Global,
+    finalizers: &mut Handle,
+    queued: &mut u64,
+) -> Code
+    ensures { Behind finalizers.old.value finalizers.new.value result (queued.new ≡ queued.old) (λ m n. Answers (first_of m.phase []) result (Follows m.finalizers.state QueueAll n.finalizers.state × QueuesTables m.finalizers.queued m.finalizers.registrations m.finalizers.late m.finalizers.waiting n.finalizers.waiting × (n.finalizers.queued ≡ m.finalizers.queued + queued.new)) ((n ≡ m) × (queued.new ≡ queued.old))) }
+{
+    let Some(mut session) = finalizers.take(alloc) else {
+        return NOT_OPEN;
+    };
+    let reply = session.machine.queue_all();
+    finalizers.put(session);
+    match reply {
+        Ok(count) => {
+            *queued = count;
+            OK
+        }
+        Err(refused) => code_of(refused),
+    }
+}

@@ -1,0 +1,209 @@
+//! What stands. Nothing changes by it, and a pass may be open.
+
+ghost use Rattle.std.specs.Prelude.{◌≡◌, drop};
+ghost use Rattle.fz_finalizers.specs.Nearest.{IsFirstFrom};
+ghost use Rattle.fz_finalizers.specs.States.{links_of};
+ghost use Rattle.fz_machine_c.specs.Codes.{Behind};
+ghost use Rattle.fz_machine_c.specs.Shows.{IsCounted, ShowsLink, ShowsRegistration, ShowsRoots, kind_number, root_of};
+ghost use Rattle.fz_machine_c.specs.Told.{link_kind_of};
+
+use crate::codes::{Code, EMPTY, NOT_OPEN, OK};
+use crate::handle::Handle;
+use crate::linking::kind_for;
+use fz_finalizers::{Kind, LinkKind, Root, Roots};
+use std::alloc::Global;
+
+/// How many words C is handed at a time.
+const WORDS: usize = 512;
+
+/// Words of a walk over roots, and how many there are.
+#[repr(C)]
+#[derive(Clone, Copy)]
+pub struct Words {
+    pub words: [u64; WORDS],
+    pub count: u64,
+}
+
+/// How much stands.
+#[repr(C)]
+#[derive(Clone, Copy)]
+pub struct Counts {
+    pub registrations: u64,
+    pub short_links: u64,
+    pub long_links: u64,
+    pub waiting: u64,
+    pub held: u64,
+    pub queued: u64,
+    pub passes: u64,
+}
+
+/// A registration that stands.
+#[repr(C)]
+#[derive(Clone, Copy)]
+pub struct Registration {
+    pub object: u64,
+    pub number: u64,
+    pub proc: u64,
+    pub cd: u64,
+    pub kind: u8,
+    pub rank: u8,
+}
+
+/// A link that stands.
+#[repr(C)]
+#[derive(Clone, Copy)]
+pub struct Linked {
+    pub word: u64,
+    pub target: u64,
+}
+
+/// The sort of roots of a number; what is neither of the first two is the last.
+fn root_of(sort: u8) -> Root
+    ensures { result ≡ root_of sort }
+{
+    match sort {
+        0 => Root::HeldObject,
+        1 => Root::HeldData,
+        _ => Root::RegisteredData,
+    }
+}
+
+/// The number of a kind.
+fn kind_number(kind: Option<Kind>) -> u8
+    ensures { result ≡ kind_number kind }
+{
+    match kind {
+        Some(Kind::IgnoreSelf) => 1,
+        Some(Kind::NoOrder) => 2,
+        Some(Kind::Unreachable) => 3,
+        Some(Kind::Normal) | None => 0,
+    }
+}
+
+/// Goes past the first words of a walk.
+fn skip(roots: &mut Roots<'_>, count: u64)
+    ensures { roots.new ≡ drop count roots.old }
+{
+    let mut passed = 0;
+    while passed < count {
+        let Some(_) = roots.next() else {
+            return;
+        };
+        passed += 1;
+    }
+}
+
+/// `Finalizers::roots`: the words of the walk from a place on, as many as there is room for.
+#[unsafe(no_mangle)]
+pub extern "C" fn fz_machine_roots(
+    alloc: Global,
+    finalizers: &mut Handle,
+    sort: u8,
+    from: u64,
+    words: &mut Words,
+) -> Code
+    ensures { Behind finalizers.old.value finalizers.new.value result (words.new ≡ words.old) (λ m n. (n ≡ m) × ShowsRoots (root_of sort) m.finalizers.state from result words.old words.new) }
+{
+    let Some(session) = finalizers.take(alloc) else {
+        return NOT_OPEN;
+    };
+    let mut roots = session.machine.finalizers().roots(root_of(sort));
+    skip(&mut roots, from);
+    let mut found = [0; WORDS];
+    let count = roots.fill(&mut found);
+    finalizers.put(session);
+    if count == 0 {
+        return EMPTY;
+    }
+    *words = Words {
+        words: found,
+        count: count as u64,
+    };
+    OK
+}
+
+/// The counts of `Finalizers`.
+#[unsafe(no_mangle)]
+pub extern "C" fn fz_machine_count(
+    alloc: Global,
+    finalizers: &mut Handle,
+    counts: &mut Counts,
+) -> Code
+    ensures { Behind finalizers.old.value finalizers.new.value result (counts.new ≡ counts.old) (λ m n. (n ≡ m) × (result ≡ OK) × IsCounted m.finalizers.state counts.new) }
+{
+    let Some(session) = finalizers.take(alloc) else {
+        return NOT_OPEN;
+    };
+    let shown = session.machine.finalizers();
+    *counts = Counts {
+        registrations: shown.registrations(),
+        short_links: shown.links(LinkKind::Short),
+        long_links: shown.links(LinkKind::Long),
+        waiting: shown.waiting(),
+        held: shown.held(),
+        queued: shown.queued(),
+        passes: shown.passes(),
+    };
+    finalizers.put(session);
+    OK
+}
+
+/// `Finalizers::next_registration`.
+#[unsafe(no_mangle)]
+pub extern "C" fn fz_machine_next_registration(
+    alloc: Global,
+    finalizers: &mut Handle,
+    from: u64,
+    registration: &mut Registration,
+) -> Code
+    ensures { Behind finalizers.old.value finalizers.new.value result (registration.new ≡ registration.old) (λ m n. (n ≡ m) × ShowsRegistration m.finalizers.state from result registration.old registration.new) }
+{
+    let Some(session) = finalizers.take(alloc) else {
+        return NOT_OPEN;
+    };
+    let shown = session.machine.finalizers();
+    let found = shown.next_registration(from);
+    let kind = match found {
+        Some((object, _)) => shown.kind(object),
+        None => None,
+    };
+    finalizers.put(session);
+    let Some((object, next)) = found else {
+        return EMPTY;
+    };
+    *registration = Registration {
+        object,
+        number: next.number,
+        proc: next.proc,
+        cd: next.cd,
+        kind: kind_number(kind),
+        rank: next.rank,
+    };
+    OK
+}
+
+/// `Finalizers::next_link`.
+#[unsafe(no_mangle)]
+pub extern "C" fn fz_machine_next_link(
+    alloc: Global,
+    finalizers: &mut Handle,
+    is_long: bool,
+    from: u64,
+    link: &mut Linked,
+) -> Code
+    ensures { Behind finalizers.old.value finalizers.new.value result (link.new ≡ link.old) (λ m n. (n ≡ m) × ShowsLink (links_of m.finalizers.state (link_kind_of is_long)) from result link.old link.new) }
+{
+    let Some(session) = finalizers.take(alloc) else {
+        return NOT_OPEN;
+    };
+    let found = session
+        .machine
+        .finalizers()
+        .next_link(kind_for(is_long), from);
+    finalizers.put(session);
+    let Some((word, target)) = found else {
+        return EMPTY;
+    };
+    *link = Linked { word, target };
+    OK
+}
