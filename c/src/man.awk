@@ -1,14 +1,16 @@
-# Writes derrimas.h as a manual page: its comments as text, its declarations as they stand, and a section for each line of `/* ---- TITLE`.
+# Writes NAME.h as a manual page about `what`: its comments as text, its declarations as they stand, and a section for each line of `/* ---- TITLE`.
 function plain(text) { gsub(/\\/, "\\e", text); gsub(/-/, "\\-", text); if (text ~ /^[.']/) text = "\\\\&" text; return text }
 function code(on) { if (on != in_code) print on ? ".PP\n.nf" : ".fi"; in_code = on }
 BEGIN {
-    printf ".TH DERRIMAS 3 \"\" \"derrimas %s\" \"Library calls\"\n", version
-    print ".SH NAME\nderrimas \\- worlds with finalizers, disappearing links and a collector"
-    print ".SH SYNOPSIS\n.nf\n#include <derrimas.h>\n\ncc program.c \\-lderrimas\n.fi\n.SH DESCRIPTION"
+    printf ".TH %s 3 \"\" \"derrimas %s\" \"Library calls\"\n", toupper(name), version
+    printf ".SH NAME\n%s \\- %s\n", name, what
+    printf ".SH SYNOPSIS\n.nf\n#include <%s.h>\n\ncc program.c \\-l%s\n.fi\n.SH DESCRIPTION\n", name, name
     in_code = 0
 }
-/^#ifndef DERRIMAS_H/ { begun = 1 }
-/^#|^extern "C" \{|^}$|^\{$|^    (return|if|while|\(void\)|derrimas_slot slot =|derrimas_slot at =|derrimas_scope scope =|scope->|    )/ && !in_comment { next }
+/^#ifndef DERRIMAS_.*H$/ { begun = 1 }
+/^\{$/ && !in_comment { in_body = 1 }
+in_body { in_body = !/^\}$/; next }
+/^#|^extern "C" \{|^\}$/ && !in_comment { next }
 /^\/\*/ && !in_comment {
     code(0)
     in_comment = 1

@@ -1,17 +1,35 @@
 #!/usr/bin/env python3
-"""Compares c/src/exports.h, and the structs and codes of c/include/derrimas.h, with crates/fz_c and crates/fz_line_c, by reading all.
+"""Compares the headers of c/include and what c/src declares of the exports with the crates behind them, by reading all.
 
-Of each export the name, the types of its parameters in their order, and that of its result have to be the same, and each has to stand on both sides. Of
-each struct the fields, their types and their order. A parameter of type Global is the kit's heap, which has no bytes and isn't C's. How the structs lie in
-memory is for layout.c. The codes are compared with the refusals of crates/fz_model and the constants of the two; those from 70 on are the C side's own.
-And each call that the header declares has to stand in c/src/derrimas.c, and no other."""
+derrimas.h stands with c/src/exports.h over crates/fz_c and crates/fz_line_c, and derrimas_finalizers.h with c/src/finalizers_exports.h over
+crates/fz_machine_c. Of each export the name, the types of its parameters in their order, and that of its result have to be the same, and each has to
+stand on both sides. Of each struct the fields, their types and their order. A parameter of type Global is the kit's heap, which has no bytes and isn't C's.
+How the structs lie in memory is for layout.c and finalizers.c. The codes are compared with the refusals and the constants of the crates; from a number on
+they are the C side's own. And each call that a header declares has to stand in its C side, and no other."""
 import glob, os, re, sys
 
 TOP = os.path.join(os.path.dirname(os.path.abspath(__file__)), '..', '..')
 PLAIN = {'u64': 'uint64_t', 'u32': 'derrimas_kind', 'u8': 'uint8_t', 'bool': 'bool', 'Word': 'uint64_t', 'Addr': 'uint64_t', 'Code': 'uint8_t'}
-HANDLES = {'Handle': 'derrimas_world', 'LineHandle': 'derrimas_line', 'SeatHandle': 'derrimas_seat'}
-OWN = 70  # the first code of the C side
 found = []
+
+
+class Worlds:
+    header, exports, side = 'derrimas.h', 'exports.h', 'derrimas.c'
+    crates, refusals = ['fz_c', 'fz_line_c'], 'crates/fz_model/src/refusal.rt'
+    prefix, own = 'derrimas_', 70  # the first code of the C side
+    refused = range(15)  # the refusals that come to C
+    types = {'Handle': 'derrimas_world', 'LineHandle': 'derrimas_line', 'SeatHandle': 'derrimas_seat'}
+    alone = [*types.values(), 'derrimas_scope']  # structs that no export has, and handles
+
+
+class Finalizers:
+    header, exports, side = 'derrimas_finalizers.h', 'finalizers_exports.h', 'finalizers.c'
+    crates, refusals = ['fz_machine_c'], 'crates/fz_machine_c/src/codes.rt'
+    prefix, own = 'derrimas_finalizers_', 11
+    refused = range(11)
+    types = {'Handle': 'derrimas_finalizers', 'Linked': 'derrimas_finalizers_link_at',
+             **{name: f'fz_machine_{name.lower()}' for name in ('Registered', 'Question', 'Words', 'Registration')}}
+    alone = ['derrimas_finalizers', 'derrimas_finalizers_registration', 'derrimas_question', 'derrimas_host']
 
 
 def differ(what):
@@ -23,24 +41,24 @@ def read(pattern):
     return '\n'.join(open(path).read() for path in sorted(glob.glob(os.path.join(TOP, pattern), recursive=True)))
 
 
-def named(rust):
+def named(rust, of):
     """The name in C of a type of the crate: derrimas_old of Old, derrimas_slot of CSlot."""
-    return PLAIN.get(rust) or HANDLES.get(rust) or 'derrimas_' + re.sub(r'(?<!^)(?=[A-Z])', '_', re.sub(r'^C(?=[A-Z])', '', rust)).lower()
+    return PLAIN.get(rust) or of.types.get(rust) or of.prefix + re.sub(r'(?<!^)(?=[A-Z])', '_', re.sub(r'^C(?=[A-Z])', '', rust)).lower()
 
 
-def of_rust(rust):
+def of_rust(rust, of):
     rust = rust.strip()
     if rust.startswith('&mut '):
-        return named(rust[5:].strip()) + ' *'
-    return 'const ' + named(rust[1:].strip()) + ' *' if rust.startswith('&') else named(rust)
+        return named(rust[5:].strip(), of) + ' *'
+    return 'const ' + named(rust[1:].strip(), of) + ' *' if rust.startswith('&') else named(rust, of)
 
 
-def exports(text):
+def exports(text, of):
     """Of each export: its result, and its parameters' types."""
     calls = {}
     for name, parameters, result in re.findall(r'extern "C" fn (\w+)\((.*?)\)\s*(?:-> (\w+))?', text, re.S):
         types = [p.split(':', 1)[1].strip() for p in re.split(r',(?![^<]*>)', parameters) if p.strip()]
-        calls[name] = ('void' if not result else of_rust(result), [of_rust(t) for t in types if t != 'Global'])
+        calls[name] = ('void' if not result else of_rust(result, of), [of_rust(t, of) for t in types if t != 'Global'])
     return calls
 
 
@@ -52,40 +70,43 @@ def declarations(text):
     return calls
 
 
-def calls_of(text, end):
+def calls_of(text, of, end):
     """Each call that a file of C declares or defines, with its parameters. What the header defines inline isn't in the library."""
     text = re.sub(r'/\*.*?\*/|^#.*?$|static inline .*?^}', '', text, flags=re.S | re.M)
-    rows = re.findall(rf'^(?:DERRIMAS_CHECKED )?(?:derrimas_code|void|uint64_t|const char \*) ?(derrimas_\w+)\(((?:[^()]|\([^()]*\))*)\){end}', text, re.M)
+    results = r'(?:DERRIMAS_\w*CHECKED )?(?:derrimas_\w*code|code|void|bool|uint64_t|const char \*)'
+    rows = re.findall(rf'^{results}\s*({of.prefix}\w+)\(((?:[^()]|\([^()]*\))*)\){end}', text, re.M)
     return {name: re.sub(r'\s+', ' ', parameters) for name, parameters in rows}
 
 
-def structs_of_rust(text):
-    found = {}
+def structs_of_rust(text, of):
+    """The structs of the exports. The length of an array is a constant of the crates."""
+    lengths, structs = dict(re.findall(r'const (\w+): usize = (\d+);', text)), {}
     for name, body in re.findall(r'#\[repr\(C\)\]\s*(?:#\[[^\]]*\]\s*)*pub struct (\w+) \{(.*?)\n\}', text, re.S):
-        fields = re.findall(r'^\s*pub (?!ghost)(\w+): (\w+),', body, re.M)
-        if name not in HANDLES:
-            found[named(name)] = [(field, named(kind)) for field, kind in fields]
-    return found
+        fields = re.findall(r'^\s*pub (?!ghost)(\w+): (?:(\w+)|\[(\w+); (\w+)\]),', body, re.M)
+        if named(name, of) not in of.alone:
+            structs[named(name, of)] = [(f'{field}[{lengths[length]}]' if length else field, named(kind or item, of)) for field, kind, item, length in fields]
+    return structs
 
 
-def structs_of_c(text):
-    found = {}
+def structs_of_c(text, of):
+    lengths, structs = dict(re.findall(r'^#define (\w+) (\d+)', text, re.M)), {}
     for body, name in re.findall(r'typedef struct \w+ \{(.*?)\} (\w+);', text, re.S):
+        body = re.sub(r'\[(\w+)\]', lambda it: f'[{lengths.get(it[1], it[1])}]', body)
         fields = [(field.strip(), kind) for kind, fields in re.findall(r'(\w+) ([^;*]+);', body) for field in fields.split(',')]
-        if name not in (*HANDLES.values(), 'derrimas_scope'):
-            found[name] = fields
-    return found
+        if name not in of.alone:
+            structs[name] = fields
+    return structs
 
 
-def codes_of_c(text):
-    rows = re.search(r'typedef enum derrimas_code \{(.*?)\}', text, re.S)[1]
-    return {name: int(number) for name, number in re.findall(r'\bDERRIMAS_(\w+) = (\d+)', rows) if int(number) < OWN}
+def codes_of_c(text, of):
+    rows = re.search(rf'typedef enum {of.prefix}code \{{(.*?)\}}', text, re.S)[1]
+    return {name: int(number) for name, number in re.findall(rf'\b{of.prefix.upper()}(\w+) = (\d+)', rows) if int(number) < of.own}
 
 
-def codes_of_rust(model, crate):
+def codes_of_rust(refusals, crate, of):
     """The numbers of refusals, and of the border's own codes."""
-    names = re.findall(r'Refusal::(\w+) => (\d+)', model)
-    upper = {re.sub(r'(?<!^)(?=[A-Z])', '_', name).upper(): int(number) for name, number in names if int(number) <= 14}
+    names = re.findall(r'Refus(?:al|ed)::(\w+) => (\d+)', refusals)
+    upper = {re.sub(r'(?<!^)(?=[A-Z])', '_', name).upper(): int(number) for name, number in names if int(number) in of.refused}
     return {**upper, **{name: int(number) for name, number in re.findall(r'const (\w+): Code = (\d+);', crate)}}
 
 
@@ -96,13 +117,22 @@ def compare(what, here, there):
     return len(here)
 
 
+def compared(of):
+    """How many exports, structs, codes and calls were compared."""
+    header, declared, side = (read(f'c/{it}') for it in (f'include/{of.header}', f'src/{of.exports}', f'src/{of.side}'))
+    crate = '\n'.join(read(f'crates/{it}/src/**/*.rt') for it in of.crates)
+    constants = read('crates/fz_machine/src/question.rt')
+    return (compare('export', declarations(declared), exports(crate, of)),
+            compare('struct', structs_of_c(header + declared, of), structs_of_rust(constants + crate, of)),
+            compare('code', codes_of_c(header, of), codes_of_rust(read(of.refusals), crate, of)),
+            compare('call', calls_of(header, of, r'(?:\s*DERRIMAS_NONNULL\([^)]*\))?;'), calls_of(side, of, r'\s*\{')))
+
+
 def main():
-    header, crate = read('c/include/derrimas.h'), read('crates/fz*_c/src/**/*.rt')
-    counts = (compare('export', declarations(read('c/src/exports.h')), exports(crate)), compare('struct', structs_of_c(header), structs_of_rust(crate)),
-              compare('code', codes_of_c(header), codes_of_rust(read('crates/fz_model/src/refusal.rt'), crate)),
-              compare('call', calls_of(header, r'(?:\s*DERRIMAS_NONNULL\([^)]*\))?;'), calls_of(read('c/src/derrimas.c'), r'\s*\{')))
-    print(f'{counts[0]} exports, {counts[1]} structs, {counts[2]} codes, {counts[3]} calls; {len(found)} differ')
-    sys.exit(bool(found) or not all(counts))
+    counts = [compared(of) for of in (Worlds, Finalizers)]
+    exports, structs, codes, calls = map(sum, zip(*counts))
+    print(f'{exports} exports, {structs} structs, {codes} codes, {calls} calls; {len(found)} differ')
+    sys.exit(bool(found) or not all(map(all, counts)))
 
 
 main()

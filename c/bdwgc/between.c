@@ -1,0 +1,123 @@
+/* The library's calls as they are, for wrong libraries: each edit of `wrong` changes a line here or in finalize.c. The linker's --wrap puts these calls
+ * between the two.
+ */
+#include "derrimas_finalizers.h"
+
+typedef derrimas_finalizers handle;
+typedef derrimas_finalizers_code code;
+
+/* ---- the pass: questions that aren't asked, questions that are altered, and answers that are */
+
+static bool is_left_out(const derrimas_question *question)
+{
+    (void)question;
+    return false;
+}
+
+static void alter(derrimas_question *question)
+{
+    (void)question;
+}
+
+static uint64_t altered(derrimas_ask ask, uint64_t count, uint64_t answers)
+{
+    (void)ask;
+    (void)count;
+    return answers;
+}
+
+code __real_derrimas_finalizers_next(handle *finalizers, uint64_t answers, derrimas_question *question, derrimas_finalizers_passed *passed);
+
+code __wrap_derrimas_finalizers_next(handle *finalizers, uint64_t answers, derrimas_question *question, derrimas_finalizers_passed *passed)
+{
+    static derrimas_ask ask;
+    static uint64_t count;
+    code next;
+
+    do {
+        next = __real_derrimas_finalizers_next(finalizers, altered(ask, count, answers), question, passed);
+        ask = question->ask;
+        count = question->count;
+        answers = 0;
+    } while (next == DERRIMAS_FINALIZERS_OK && is_left_out(question));
+    if (next == DERRIMAS_FINALIZERS_OK)
+        alter(question);
+    return next;
+}
+
+/* ---- registrations */
+
+code __real_derrimas_finalizers_register(handle *finalizers, uint64_t object, derrimas_finalizers_kind kind, uint64_t proc, uint64_t cd, uint8_t rank,
+                                         uint64_t *number, derrimas_finalizers_old *old);
+
+code __wrap_derrimas_finalizers_register(handle *finalizers, uint64_t object, derrimas_finalizers_kind kind, uint64_t proc, uint64_t cd, uint8_t rank,
+                                         uint64_t *number, derrimas_finalizers_old *old)
+{
+    return __real_derrimas_finalizers_register(finalizers, object, kind, proc, cd, rank, number, old);
+}
+
+code __real_derrimas_finalizers_unregister(handle *finalizers, uint64_t object, derrimas_finalizers_old *old);
+
+code __wrap_derrimas_finalizers_unregister(handle *finalizers, uint64_t object, derrimas_finalizers_old *old)
+{
+    return __real_derrimas_finalizers_unregister(finalizers, object, old);
+}
+
+/* ---- links */
+
+code __real_derrimas_finalizers_link(handle *finalizers, derrimas_finalizers_links kind, uint64_t word, uint64_t target,
+                                     derrimas_finalizers_linked *answer);
+
+code __wrap_derrimas_finalizers_link(handle *finalizers, derrimas_finalizers_links kind, uint64_t word, uint64_t target,
+                                     derrimas_finalizers_linked *answer)
+{
+    return __real_derrimas_finalizers_link(finalizers, kind, word, target, answer);
+}
+
+code __real_derrimas_finalizers_unlink(handle *finalizers, derrimas_finalizers_links kind, uint64_t word, bool *was);
+
+code __wrap_derrimas_finalizers_unlink(handle *finalizers, derrimas_finalizers_links kind, uint64_t word, bool *was)
+{
+    return __real_derrimas_finalizers_unlink(finalizers, kind, word, was);
+}
+
+code __real_derrimas_finalizers_move_link(handle *finalizers, derrimas_finalizers_links kind, uint64_t word, uint64_t to,
+                                          derrimas_finalizers_linked *answer);
+
+code __wrap_derrimas_finalizers_move_link(handle *finalizers, derrimas_finalizers_links kind, uint64_t word, uint64_t to,
+                                          derrimas_finalizers_linked *answer)
+{
+    return __real_derrimas_finalizers_move_link(finalizers, kind, word, to, answer);
+}
+
+/* ---- entries and roots */
+
+code __real_derrimas_finalizers_take_finished(handle *finalizers, derrimas_finalizers_entry *entry);
+
+code __wrap_derrimas_finalizers_take_finished(handle *finalizers, derrimas_finalizers_entry *entry)
+{
+    return __real_derrimas_finalizers_take_finished(finalizers, entry);
+}
+
+code __real_derrimas_finalizers_queue_all(handle *finalizers, uint64_t *queued);
+
+code __wrap_derrimas_finalizers_queue_all(handle *finalizers, uint64_t *queued)
+{
+    return __real_derrimas_finalizers_queue_all(finalizers, queued);
+}
+
+static bool is_yielded(derrimas_finalizers_root sort, uint64_t from)
+{
+    (void)sort;
+    (void)from;
+    return true;
+}
+
+code __real_derrimas_finalizers_roots(const handle *finalizers, derrimas_finalizers_root sort, uint64_t *from, uint64_t *buffer, size_t room,
+                                      size_t *count);
+
+code __wrap_derrimas_finalizers_roots(const handle *finalizers, derrimas_finalizers_root sort, uint64_t *from, uint64_t *buffer, size_t room,
+                                      size_t *count)
+{
+    return is_yielded(sort, *from) ? __real_derrimas_finalizers_roots(finalizers, sort, from, buffer, room, count) : DERRIMAS_FINALIZERS_EMPTY;
+}

@@ -1,0 +1,78 @@
+/* dangling: links whose holder is lost. Holders with a linked word go, others come to stand where they stood, and then the targets go: no word of a
+ * stranger may be written to.
+ */
+#include "graph.h"
+
+enum { HOLDERS = 4000, WORDS = 8, ROUNDS = 4 };
+
+static uintptr_t *places;  /* of the words of lost links, hidden */
+static void **targets;     /* a root */
+static uintptr_t **others; /* a root: what stands there now */
+
+APART static void make_links(bool is_long)
+{
+    for (unsigned n = 0; n < HOLDERS; n++) {
+        void **holder = GC_MALLOC_ATOMIC(WORDS * sizeof(void *)), **word = &holder[n % WORDS];
+        *word = targets[n] = GC_MALLOC(2 * sizeof(void *));
+        if ((is_long ? GC_register_long_link(word, *word) : GC_general_register_disappearing_link(word, *word)) != GC_SUCCESS)
+            fail("a link");
+        places[n] = ~(uintptr_t)word;
+    }
+}
+
+/* How many words of lost links stand in the new objects, whose words are all 1. */
+APART static unsigned make_others(void)
+{
+    unsigned found = 0;
+
+    for (unsigned n = 0; n < 2 * HOLDERS; n++) {
+        others[n] = GC_MALLOC_ATOMIC(WORDS * sizeof(void *));
+        for (unsigned at = 0; at < WORDS; at++)
+            others[n][at] = 1;
+    }
+    for (unsigned n = 0; n < HOLDERS; n++) {
+        void *base = GC_base((void *)~places[n]);
+        for (unsigned at = 0; at < 2 * HOLDERS && base; at++)
+            if ((void *)others[at] == base) {
+                found++;
+                break;
+            }
+    }
+    return found;
+}
+
+APART static unsigned overwritten(void)
+{
+    unsigned all = 0;
+
+    for (unsigned n = 0; n < 2 * HOLDERS; n++)
+        for (unsigned at = 0; at < WORDS; at++)
+            all += others[n][at] != 1;
+    return all;
+}
+
+static void play(bool is_long)
+{
+    unsigned found;
+
+    make_links(is_long);
+    collect();
+    found = make_others();
+    memset(targets, 0, HOLDERS * sizeof *targets);
+    collect();
+    printf("%s links: %s places taken again, %u words of strangers written to\n", is_long ? "long" : "short", found > HOLDERS / 2 ? "most" : "few",
+           overwritten());
+}
+
+int main(void)
+{
+    GC_INIT();
+    GC_set_warn_proc(GC_ignore_warn_proc);
+    GC_disable();
+    places = malloc(HOLDERS * sizeof *places);
+    targets = GC_MALLOC_UNCOLLECTABLE(HOLDERS * sizeof *targets);
+    others = GC_MALLOC_UNCOLLECTABLE(2 * HOLDERS * sizeof *others);
+    for (unsigned round = 0; round < ROUNDS; round++)
+        play(round % 2);
+    return 0;
+}

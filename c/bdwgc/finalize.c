@@ -1,0 +1,587 @@
+/* finalize.c of bdwgc over derrimas_finalizers.h: it stands in the place of the package's own file, which is compiled with it as finalize_package.c.
+ *
+ * Registrations, disappearing links, the pass and the queue are the library's. This file has gc.h's calls for them, what the pass asks of bdwgc's heap,
+ * and memory. From the package's file come toggle references, the awaited procedure, the rules of the notifier and of nesting, and how an object's words
+ * are marked. Its other functions are compiled under other names, which nothing calls.
+ *
+ * All is used under the lock of bdwgc's allocator. A conservative collector sees the stack, where the library's questions lie, and in some forms all
+ * memory. So the library is given addresses with the highest bit turned, which look like none and keep their order.
+ */
+#include "private/gc_pmark.h"
+
+#ifndef GC_NO_FINALIZATION
+#include "derrimas_finalizers.h"
+#include "javaxfc.h"
+#include <string.h>
+#include <sys/mman.h>
+
+#if CPP_WORDSZ != 64
+#error "addresses are hidden in numbers of 64 bits"
+#endif
+
+/* ---- the package's file, with these of its functions named away */
+
+#define GC_push_finalizer_structures GC_package_push_finalizer_structures
+#define GC_register_disappearing_link GC_package_register_disappearing_link
+#define GC_general_register_disappearing_link GC_package_general_register_disappearing_link
+#define GC_unregister_disappearing_link GC_package_unregister_disappearing_link
+#define GC_move_disappearing_link GC_package_move_disappearing_link
+#define GC_register_long_link GC_package_register_long_link
+#define GC_unregister_long_link GC_package_unregister_long_link
+#define GC_move_long_link GC_package_move_long_link
+#define GC_register_finalizer GC_package_register_finalizer
+#define GC_register_finalizer_ignore_self GC_package_register_finalizer_ignore_self
+#define GC_register_finalizer_no_order GC_package_register_finalizer_no_order
+#define GC_register_finalizer_unreachable GC_package_register_finalizer_unreachable
+#define GC_dump_finalization GC_package_dump_finalization
+#define GC_finalize GC_package_finalize
+#define GC_finalize_all GC_package_finalize_all
+#define GC_print_finalization_stats GC_package_print_finalization_stats
+/* What stays calls these two. With `void` between its brackets the name is a definition's, and another; with nothing it is a call's, and the same. */
+#define GC_should_invoke_finalizers(nothing) GC_##nothing##should_invoke_finalizers(nothing)
+#define GC_invoke_finalizers(nothing) GC_##nothing##invoke_finalizers(nothing)
+
+/* With internal linkage, which their definitions keep, a compiler leaves them out. */
+static void GC_package_push_finalizer_structures(void);
+static int GC_package_register_disappearing_link(void **link);
+static int GC_package_general_register_disappearing_link(void **link, const void *target);
+static int GC_package_unregister_disappearing_link(void **link);
+static int GC_package_move_disappearing_link(void **link, void **to);
+static int GC_package_register_long_link(void **link, const void *target);
+static int GC_package_unregister_long_link(void **link);
+static int GC_package_move_long_link(void **link, void **to);
+static void GC_package_register_finalizer(void *, GC_finalization_proc, void *, GC_finalization_proc *, void **);
+static void GC_package_register_finalizer_ignore_self(void *, GC_finalization_proc, void *, GC_finalization_proc *, void **);
+static void GC_package_register_finalizer_no_order(void *, GC_finalization_proc, void *, GC_finalization_proc *, void **);
+static void GC_package_register_finalizer_unreachable(void *, GC_finalization_proc, void *, GC_finalization_proc *, void **);
+static void GC_package_dump_finalization(void);
+static void GC_package_finalize(void);
+static void GC_package_finalize_all(void);
+static void GC_package_print_finalization_stats(void);
+static int GC_voidshould_invoke_finalizers(void);
+static int GC_voidinvoke_finalizers(void);
+
+#pragma GCC diagnostic push
+#pragma GCC diagnostic ignored "-Wunused-function"
+#pragma GCC diagnostic ignored "-Wattributes"
+#include "finalize_package.c"
+
+#undef GC_push_finalizer_structures
+#undef GC_register_disappearing_link
+#undef GC_general_register_disappearing_link
+#undef GC_unregister_disappearing_link
+#undef GC_move_disappearing_link
+#undef GC_register_long_link
+#undef GC_unregister_long_link
+#undef GC_move_long_link
+#undef GC_register_finalizer
+#undef GC_register_finalizer_ignore_self
+#undef GC_register_finalizer_no_order
+#undef GC_register_finalizer_unreachable
+#undef GC_dump_finalization
+#undef GC_finalize
+#undef GC_finalize_all
+#undef GC_print_finalization_stats
+#undef GC_should_invoke_finalizers
+#undef GC_invoke_finalizers
+
+/* ---- the library's memory: from the system alone, so that it asks for it under the lock, also where malloc is bdwgc's own */
+
+enum { HEAD = 16, SMALL = 2048, CLASSES = 8, CHUNK = 1 << 18 };
+
+/* Before what the library is given stands how much of it there is; or, of a small one that is free, the next free one. */
+union block {
+    size_t size;
+    union block *next;
+};
+
+static union block *free_blocks[CLASSES]; /* of 16 bytes, 32, .. SMALL */
+static char *chunk;
+static size_t chunk_left; /* a number, as an address of its end might be one of the heap's */
+
+static void *pages(size_t size)
+{
+    void *memory = mmap(NULL, size, PROT_READ | PROT_WRITE, MAP_PRIVATE | MAP_ANONYMOUS, -1, 0);
+
+    return memory == MAP_FAILED ? NULL : memory;
+}
+
+static union block *small_block(unsigned at)
+{
+    union block *block = free_blocks[at];
+    size_t size = HEAD + ((size_t)16 << at);
+
+    if (block) {
+        free_blocks[at] = block->next;
+        return block;
+    }
+    if (chunk_left < size) {
+        char *memory = (char *)pages(CHUNK);
+
+        if (!memory)
+            return NULL;
+        chunk = memory;
+        chunk_left = CHUNK;
+    }
+    chunk_left -= size;
+    block = (union block *)(void *)(chunk + chunk_left);
+    return block;
+}
+
+static unsigned class_of(size_t size)
+{
+    unsigned at = 0;
+
+    while (((size_t)16 << at) < size)
+        at++;
+    return at;
+}
+
+void *derrimas_malloc(size_t size)
+{
+    union block *block;
+
+    if (size > SIZE_MAX / 2)
+        return NULL;
+    block = size <= SMALL ? small_block(class_of(size)) : (union block *)pages(HEAD + size);
+    if (!block)
+        return NULL;
+    block->size = size;
+    return (char *)block + HEAD;
+}
+
+void derrimas_free(void *memory)
+{
+    union block *block;
+    size_t size;
+
+    if (!memory)
+        return;
+    block = (union block *)(void *)((char *)memory - HEAD);
+    size = block->size;
+    if (size > SMALL) {
+        (void)munmap(block, HEAD + size);
+        return;
+    }
+    block->next = free_blocks[class_of(size)];
+    free_blocks[class_of(size)] = block;
+}
+
+void *derrimas_realloc(void *memory, size_t size)
+{
+    void *other = derrimas_malloc(size);
+    size_t had = memory ? ((union block *)(void *)((char *)memory - HEAD))->size : 0;
+
+    if (!other)
+        return NULL;
+    if (memory)
+        memcpy(other, memory, had < size ? had : size);
+    derrimas_free(memory);
+    return other;
+}
+
+/* ---- the handle, and addresses that are hidden in it */
+
+#define HIDING ((word)1 << 63)
+#define HIDE(address) ((uint64_t)((word)(address) ^ HIDING))
+#define SHOW(number) ((ptr_t)((word)(number) ^ HIDING))
+
+static derrimas_finalizers finalizers; /* opened by the first registration or link; until then all calls are refused, and nothing stands */
+
+static GC_bool is_open(void)
+{
+    derrimas_finalizers_code code = derrimas_finalizers_open(&finalizers);
+
+    return code == DERRIMAS_FINALIZERS_OK || code == DERRIMAS_FINALIZERS_IS_OPEN;
+}
+
+/* Tells the package's file whether entries wait: its rule of the notifier looks there. */
+static void tell_waiting(void)
+{
+    SET_FINALIZE_NOW(derrimas_finalizers_has_waiting(&finalizers) ? (struct finalizable_object *)(void *)&finalizers : NULL);
+}
+
+static derrimas_finalizers_counts counted(void)
+{
+    derrimas_finalizers_counts counts;
+
+    memset(&counts, 0, sizeof counts);
+    (void)derrimas_finalizers_count(&finalizers, &counts);
+    return counts;
+}
+
+/* After a refusal for want of memory: whether the procedure for that found some, which is given back for the call to be made again. */
+static GC_bool found_memory(size_t size)
+{
+    GC_oom_func find = GC_oom_fn;
+    void *found;
+    DCL_LOCK_STATE;
+
+    UNLOCK();
+    found = (*find)(size);
+    if (found)
+        GC_free(found);
+    LOCK();
+    return found != NULL;
+}
+
+/* ---- registrations */
+
+/* Registers or removes, under the lock. FALSE: there was no memory. */
+static GC_bool change(void *object, GC_finalization_proc proc, void *cd, derrimas_finalizers_kind kind, derrimas_finalizers_old *old)
+{
+    if (proc == 0) {
+        (void)derrimas_finalizers_unregister(&finalizers, HIDE(object), old);
+        GC_fo_entries -= old->was;
+        return TRUE;
+    }
+    if (HDR(object) == 0)
+        return TRUE; /* no object of the heap: it is never collected */
+    if (!is_open()
+        || derrimas_finalizers_register(&finalizers, HIDE(object), kind, (uint64_t)(word)proc, HIDE(cd), 0, NULL, old) != DERRIMAS_FINALIZERS_OK)
+        return FALSE;
+    GC_fo_entries += !old->was;
+    return TRUE;
+}
+
+static void register_kind(void *object, GC_finalization_proc proc, void *cd, GC_finalization_proc *old_proc, void **old_cd, derrimas_finalizers_kind kind)
+{
+    derrimas_finalizers_old old = {0, 0, false};
+    GC_bool done;
+    DCL_LOCK_STATE;
+
+    if (EXPECT(GC_find_leak, FALSE))
+        return;
+    LOCK();
+    done = change(object, proc, cd, kind, &old) || (found_memory(sizeof(derrimas_finalizers_registration)) && change(object, proc, cd, kind, &old));
+    if (done && old_cd)
+        *old_cd = old.was ? (void *)SHOW(old.cd) : NULL;
+    if (done && old_proc)
+        *old_proc = (GC_finalization_proc)(word)old.proc;
+    GC_reachable_here(object); /* until here these are in clear, also where the caller has no further use for them */
+    GC_reachable_here(cd);
+    UNLOCK();
+}
+
+GC_API void GC_CALL GC_register_finalizer(void *object, GC_finalization_proc proc, void *cd, GC_finalization_proc *old_proc, void **old_cd)
+{
+    register_kind(object, proc, cd, old_proc, old_cd, DERRIMAS_FINALIZERS_NORMAL);
+}
+
+GC_API void GC_CALL GC_register_finalizer_ignore_self(void *object, GC_finalization_proc proc, void *cd, GC_finalization_proc *old_proc, void **old_cd)
+{
+    register_kind(object, proc, cd, old_proc, old_cd, DERRIMAS_FINALIZERS_IGNORE_SELF);
+}
+
+GC_API void GC_CALL GC_register_finalizer_no_order(void *object, GC_finalization_proc proc, void *cd, GC_finalization_proc *old_proc, void **old_cd)
+{
+    register_kind(object, proc, cd, old_proc, old_cd, DERRIMAS_FINALIZERS_NO_ORDER);
+}
+
+GC_API void GC_CALL GC_register_finalizer_unreachable(void *object, GC_finalization_proc proc, void *cd, GC_finalization_proc *old_proc, void **old_cd)
+{
+    GC_ASSERT(GC_java_finalization);
+    register_kind(object, proc, cd, old_proc, old_cd, DERRIMAS_FINALIZERS_UNREACHABLE);
+}
+
+/* ---- links */
+
+static GC_bool is_word(void *link) { return ((word)link & (ALIGNMENT - 1)) == 0; }
+
+static int make_link(derrimas_finalizers_links kind, void **link, const void *target)
+{
+    derrimas_finalizers_linked answer = DERRIMAS_FINALIZERS_LINKED;
+    GC_bool done;
+    DCL_LOCK_STATE;
+
+    if (!is_word(link) || !NONNULL_ARG_NOT_NULL(link))
+        ABORT("A disappearing link at no word");
+    if (EXPECT(GC_find_leak, FALSE))
+        return GC_UNIMPLEMENTED;
+    LOCK();
+    GC_ASSERT(target != NULL && GC_base_C(target) == target);
+    done = is_open() && derrimas_finalizers_link(&finalizers, kind, HIDE(link), HIDE(target), &answer) == DERRIMAS_FINALIZERS_OK;
+    if (!done && found_memory(sizeof(derrimas_finalizers_link_at)))
+        done = is_open() && derrimas_finalizers_link(&finalizers, kind, HIDE(link), HIDE(target), &answer) == DERRIMAS_FINALIZERS_OK;
+    GC_reachable_here(link);
+    GC_reachable_here(target);
+    UNLOCK();
+    return done ? (int)answer : GC_NO_MEMORY;
+}
+
+static int remove_link(derrimas_finalizers_links kind, void **link)
+{
+    bool was = false;
+    DCL_LOCK_STATE;
+
+    if (!is_word(link))
+        return 0;
+    LOCK();
+    (void)derrimas_finalizers_unlink(&finalizers, kind, HIDE(link), &was);
+    UNLOCK();
+    return was;
+}
+
+static int move_link(derrimas_finalizers_links kind, void **link, void **to)
+{
+    derrimas_finalizers_linked answer = DERRIMAS_FINALIZERS_NOT_FOUND;
+    DCL_LOCK_STATE;
+
+    if (!is_word(to) || !NONNULL_ARG_NOT_NULL(to))
+        ABORT("A disappearing link moved to no word");
+    if (!is_word(link))
+        return GC_NOT_FOUND;
+    LOCK();
+    (void)derrimas_finalizers_move_link(&finalizers, kind, HIDE(link), HIDE(to), &answer);
+    UNLOCK();
+    return (int)answer;
+}
+
+GC_API int GC_CALL GC_register_disappearing_link(void **link)
+{
+    void *holder = GC_base(link);
+
+    if (!holder)
+        ABORT("A disappearing link in no object");
+    return GC_general_register_disappearing_link(link, holder);
+}
+
+GC_API int GC_CALL GC_general_register_disappearing_link(void **link, const void *target) { return make_link(DERRIMAS_FINALIZERS_SHORT, link, target); }
+GC_API int GC_CALL GC_unregister_disappearing_link(void **link) { return remove_link(DERRIMAS_FINALIZERS_SHORT, link); }
+GC_API int GC_CALL GC_move_disappearing_link(void **link, void **to) { return move_link(DERRIMAS_FINALIZERS_SHORT, link, to); }
+GC_API int GC_CALL GC_register_long_link(void **link, const void *target) { return make_link(DERRIMAS_FINALIZERS_LONG, link, target); }
+GC_API int GC_CALL GC_unregister_long_link(void **link) { return remove_link(DERRIMAS_FINALIZERS_LONG, link); }
+GC_API int GC_CALL GC_move_long_link(void **link, void **to) { return move_link(DERRIMAS_FINALIZERS_LONG, link, to); }
+
+/* ---- roots */
+
+static void push_roots(derrimas_finalizers_root sort)
+{
+    uint64_t from = 0, some[512];
+    size_t count, i;
+
+    while (derrimas_finalizers_roots(&finalizers, sort, &from, some, sizeof some / sizeof *some, &count) == DERRIMAS_FINALIZERS_OK) {
+        for (i = 0; i < count; i++)
+            GC_PUSH_ONE_HEAP((word)SHOW(some[i]), &finalizers, GC_mark_stack_top);
+        /* Of many roots the stack would run over. */
+        if ((size_t)(GC_mark_stack_top - GC_mark_stack) > GC_mark_stack_size / 2)
+            while (!GC_mark_stack_empty())
+                MARK_FROM_MARK_STACK();
+    }
+}
+
+/* It may come in an open pass: where the mark stack ran over, bdwgc marks from all its roots again. */
+GC_API void GC_CALL GC_push_finalizer_structures(void)
+{
+    push_roots(DERRIMAS_FINALIZERS_HELD_OBJECTS);
+    push_roots(DERRIMAS_FINALIZERS_HELD_DATA);
+    push_roots(DERRIMAS_FINALIZERS_REGISTERED_DATA);
+}
+
+/* ---- the answers to a pass */
+
+static bool is_marked(void *data, uint64_t object)
+{
+    (void)data;
+    return GC_is_marked(SHOW(object)) != 0;
+}
+
+static void mark_children(void *data, uint64_t object, bool but_itself)
+{
+    ptr_t it = SHOW(object);
+
+    (void)data;
+    if (GC_is_marked(it))
+        return; /* by the mark of another in this question, with all to which it leads */
+    GC_MARKED_FOR_FINALIZATION(it);
+    if (but_itself)
+        GC_MARK_FO(it, GC_ignore_self_finalize_mark_proc);
+    else
+        GC_MARK_FO(it, GC_normal_finalize_mark_proc);
+    if (GC_is_marked(it))
+        WARN("An object with a finalizer leads to itself: %p\n", it);
+}
+
+static void mark_alone(void *data, uint64_t object)
+{
+    ptr_t it = SHOW(object);
+
+    (void)data;
+    GC_set_mark_bit(it);
+    GC_bytes_finalized += HDR(it)->hb_sz;
+    if (GC_object_finalized_proc)
+        GC_object_finalized_proc(it);
+}
+
+/* Without Java's rule, what an object leads to isn't kept for a finalizer that wants no order. */
+static void mark(void *data, uint64_t object)
+{
+    ptr_t it = SHOW(object);
+
+    if (GC_java_finalization && !GC_is_marked(it))
+        GC_MARK_FO(it, GC_normal_finalize_mark_proc);
+    mark_alone(data, object);
+}
+
+static void clear(void *data, uint64_t link)
+{
+    (void)data;
+    *(ptr_t *)(void *)SHOW(link) = NULL;
+}
+
+static bool holder_is_marked(void *data, uint64_t link)
+{
+    ptr_t holder = (ptr_t)GC_base(SHOW(link));
+
+    (void)data;
+    return holder == NULL || GC_is_marked(holder) != 0;
+}
+
+/* ---- the pass */
+
+static uint64_t links_before[2]; /* how many short and long links stood before the last pass */
+
+GC_INNER void GC_finalize(void)
+{
+    static const derrimas_host host = {is_marked, mark_children, mark, mark_alone, clear, holder_is_marked};
+    derrimas_finalizers_counts counts = counted();
+
+    GC_ASSERT(I_HOLD_LOCK());
+    links_before[0] = counts.short_links;
+    links_before[1] = counts.long_links;
+    GC_bytes_finalized = 0;
+#ifndef GC_TOGGLE_REFS_NOT_NEEDED
+    GC_mark_togglerefs();
+#endif
+    (void)derrimas_finalizers_pass(&finalizers, &host, NULL, NULL);
+#ifndef GC_TOGGLE_REFS_NOT_NEEDED
+    GC_clear_togglerefs();
+#endif
+    GC_fo_entries = (word)counted().registrations;
+    tell_waiting();
+    if (GC_fail_count == 0)
+        return;
+    /* An allocation failed: finalizers that run may run others from now on, however deep. */
+#ifdef THREADS
+    GC_reset_finalizer_nested();
+#else
+    GC_finalizer_nested = 0;
+#endif
+}
+
+/* ---- the entries */
+
+GC_API int GC_CALL GC_should_invoke_finalizers(void) { return derrimas_finalizers_has_waiting(&finalizers); }
+
+/* An entry that was taken, with its addresses shown: from then on the stack alone keeps what it has. */
+struct taken {
+    void *volatile object;
+    void *volatile cd;
+    GC_finalization_proc proc;
+    word freed; /* the bytes that were freed before */
+};
+
+/* Takes an entry as finished, since its procedure may leave by longjmp or end its thread. Its addresses are shown before the lock is given back. */
+static GC_bool take(struct taken *taken)
+{
+    derrimas_finalizers_entry entry;
+    GC_bool was;
+    DCL_LOCK_STATE;
+
+    LOCK();
+    was = derrimas_finalizers_take_finished(&finalizers, &entry) == DERRIMAS_FINALIZERS_OK;
+    if (was) {
+        taken->object = SHOW(entry.obj);
+        taken->cd = SHOW(entry.cd);
+        taken->proc = (GC_finalization_proc)(word)entry.proc;
+        taken->freed = GC_bytes_freed;
+    }
+    tell_waiting();
+    UNLOCK();
+    return was;
+}
+
+GC_API int GC_CALL GC_invoke_finalizers(void)
+{
+    struct taken it;
+    word freed = 0;
+    int count = 0;
+    DCL_LOCK_STATE;
+
+    while (GC_should_invoke_finalizers() && take(&it)) {
+        if (count++ == 0)
+            freed = it.freed;
+        it.proc(it.object, it.cd);
+        it.object = it.cd = NULL;
+    }
+    if (count > 0 && freed != GC_bytes_freed) {
+        LOCK();
+        GC_finalizer_bytes_freed += GC_bytes_freed - freed;
+        UNLOCK();
+    }
+    return count;
+}
+
+GC_API void GC_CALL GC_finalize_all(void)
+{
+    uint64_t queued = 0;
+    DCL_LOCK_STATE;
+
+    LOCK();
+    while (GC_fo_entries > 0) {
+        (void)derrimas_finalizers_queue_all(&finalizers, &queued);
+        GC_bytes_finalized = GRANULES_TO_BYTES((word)queued); /* each is at least that large */
+        GC_fo_entries = 0;
+        tell_waiting();
+        UNLOCK();
+        (void)GC_invoke_finalizers(); /* its procedures may register further objects */
+        LOCK();
+    }
+    UNLOCK();
+}
+
+/* ---- what stands, for people */
+
+#ifndef NO_DEBUGGING
+static void dump_links(derrimas_finalizers_links kind)
+{
+    derrimas_finalizers_link_at link;
+    uint64_t from = 0;
+
+    while (derrimas_finalizers_next_link(&finalizers, kind, from, &link) == DERRIMAS_FINALIZERS_OK) {
+        GC_printf("word %p leads to %p\n", (void *)SHOW(link.word), (void *)SHOW(link.target));
+        from = link.word + 1;
+    }
+}
+
+GC_API void GC_CALL GC_dump_finalization(void)
+{
+    derrimas_finalizers_registration it;
+    uint64_t from = 0;
+
+    GC_printf("short links:\n");
+    dump_links(DERRIMAS_FINALIZERS_SHORT);
+    GC_printf("long links:\n");
+    dump_links(DERRIMAS_FINALIZERS_LONG);
+    GC_printf("objects with finalizers:\n");
+    while (derrimas_finalizers_next_registration(&finalizers, from, &it) == DERRIMAS_FINALIZERS_OK) {
+        GC_printf("%p\n", (void *)SHOW(it.object));
+        from = it.object + 1;
+    }
+}
+#endif
+
+#ifndef SMALL_CONFIG
+GC_INNER void GC_print_finalization_stats(void)
+{
+    derrimas_finalizers_counts counts = counted();
+
+    GC_log_printf("%lu objects with finalizers, %lu short links, %lu long links\n", (unsigned long)counts.registrations,
+                  (unsigned long)counts.short_links, (unsigned long)counts.long_links);
+    GC_log_printf("%lu finalizers are ready; %ld short links and %ld long links went\n", (unsigned long)counts.waiting,
+                  (long)(links_before[0] - counts.short_links), (long)(links_before[1] - counts.long_links));
+}
+#endif
+
+#pragma GCC diagnostic pop
+#endif

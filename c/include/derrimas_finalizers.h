@@ -1,0 +1,328 @@
+/* derrimas_finalizers.h: finalizers and disappearing links for a runtime that has a heap of its own, for C99 and later,
+ * and C++17 and later.
+ *
+ * A derrimas_finalizers holds registrations of objects, short and long disappearing links, and the entries of finalizers
+ * that are ready. Objects, words, procedures and client data are numbers of 64 bits, which are compared and handed back,
+ * and never followed: pointers, or pointers that are hidden by a map that keeps their order. 0 is no object and no word.
+ * A host whose marker takes what looks like an address for one hides them, since questions and entries lie on its stack:
+ * objects, words and targets all by the same map, and client data too.
+ *
+ * The host has the heap. It marks what its roots lead to, and what derrimas_finalizers_roots yields. Then it runs a pass,
+ * in which it is asked questions: is this object marked, mark what it leads to, write zero to this word. What isn't
+ * marked at the pass's end is the host's to reclaim.
+ *
+ * A call that can be refused answers a derrimas_finalizers_code. A refused call changes nothing, and leaves the places
+ * for its results as they were. Where several causes stand, it answers the first in the order of the call's comment.
+ *
+ * What the host owes, since nothing checks C:
+ * - A pointer points to a value of its type, which no other thread uses meanwhile. It may be NULL only where the call's
+ *   comment says so.
+ * - A derrimas_finalizers starts as {0}, changes by these calls alone, and isn't copied.
+ * - One thread at a time uses it, as behind one lock; of a collector, that of its allocator. Calls that take a const
+ *   handle change nothing, and may be made by several threads at once, where no other call is made meanwhile.
+ *   derrimas_finalizers_has_waiting alone may be called at any time.
+ *
+ * Memory is wanted by derrimas_finalizers_open, .._reserve, and by a new registration and a new link alone, through
+ * derrimas_malloc and derrimas_realloc; and it is freed by those and by .._destroy alone. All other calls may be made
+ * while other threads are stopped at any place. By .._reserve memory comes beforehand. A registration is new, too, where
+ * one of kind UNREACHABLE takes the place of one of another kind, or the other way round. */
+#ifndef DERRIMAS_FINALIZERS_H
+#define DERRIMAS_FINALIZERS_H
+
+#include <stdbool.h>
+#include <stddef.h>
+#include <stdint.h>
+
+#ifdef __cplusplus
+extern "C" {
+#endif
+
+#if defined(__GNUC__)
+#define DERRIMAS_FINALIZERS_CHECKED __attribute__((warn_unused_result))
+#else
+#define DERRIMAS_FINALIZERS_CHECKED
+#endif
+
+/* ---- codes and kinds */
+
+/* What a call answers. */
+typedef enum derrimas_finalizers_code {
+    DERRIMAS_FINALIZERS_OK = 0,        /* the call was accepted */
+    DERRIMAS_FINALIZERS_ZERO = 1,      /* the object or the word is 0 */
+    DERRIMAS_FINALIZERS_EXHAUSTED = 2, /* 2^48 registrations have been numbered */
+    DERRIMAS_FINALIZERS_FULL = 3,      /* there are 2^32 of this kind already */
+    DERRIMAS_FINALIZERS_NO_MEMORY = 4, /* derrimas_malloc or derrimas_realloc failed */
+    DERRIMAS_FINALIZERS_NOT_HELD = 5,  /* no entry that is held is the same in all fields */
+    DERRIMAS_FINALIZERS_PASS_OPEN = 6, /* a pass is open: .._begin came, and its last question didn't */
+    DERRIMAS_FINALIZERS_NO_PASS = 7,   /* no pass is open */
+    DERRIMAS_FINALIZERS_NOT_OPEN = 8,  /* the handle isn't open: it never was, or it is destroyed */
+    DERRIMAS_FINALIZERS_IS_OPEN = 9,   /* the handle is open already */
+    DERRIMAS_FINALIZERS_EMPTY = 10,    /* there is none, or no further one, of what was asked for */
+    DERRIMAS_FINALIZERS_BAD_KIND = 11  /* the kind is none of its enum */
+} derrimas_finalizers_code;
+
+/* When the finalizer of an unreachable object is ready: GC_register_finalizer, .._ignore_self, .._no_order, and
+ * .._unreachable. */
+typedef enum derrimas_finalizers_kind {
+    DERRIMAS_FINALIZERS_NORMAL = 0,      /* no other unreachable registered object leads to it, nor it to itself */
+    DERRIMAS_FINALIZERS_IGNORE_SELF = 1, /* the same, but words of the object that point to itself don't count */
+    DERRIMAS_FINALIZERS_NO_ORDER = 2,    /* the object leads nowhere; others that lead to it still come first */
+    DERRIMAS_FINALIZERS_UNREACHABLE = 3  /* no other unreachable registered object leads to it, in whichever kind */
+} derrimas_finalizers_kind;
+
+/* Links whose words are cleared when nothing leads to the target, and when not even a finalizer keeps it any more:
+ * GC_general_register_disappearing_link and GC_register_long_link. */
+typedef enum derrimas_finalizers_links { DERRIMAS_FINALIZERS_SHORT = 0, DERRIMAS_FINALIZERS_LONG = 1 } derrimas_finalizers_links;
+
+/* The answers about links: GC_SUCCESS, GC_DUPLICATE and GC_NOT_FOUND. */
+typedef enum derrimas_finalizers_linked {
+    DERRIMAS_FINALIZERS_LINKED = 0,    /* the link was made, or moved */
+    DERRIMAS_FINALIZERS_DUPLICATE = 1, /* a link of this kind stood at the word */
+    DERRIMAS_FINALIZERS_NOT_FOUND = 4  /* there was no link to move */
+} derrimas_finalizers_linked;
+
+#define DERRIMAS_FINALIZERS_BATCH 16 /* the most objects or words of a question */
+
+/* ---- types */
+
+/* The handle. Start it as {0}. There may be any number of them. `waiting` is how many entries wait, for
+ * derrimas_finalizers_has_waiting alone. */
+typedef struct derrimas_finalizers {
+    void *inside;
+    uint64_t waiting;
+} derrimas_finalizers;
+
+/* The procedure and the client data of a registration that went away, and whether there was one: else both are 0. */
+typedef struct derrimas_finalizers_old {
+    uint64_t proc, cd;
+    bool was;
+} derrimas_finalizers_old;
+
+/* An entry: its place in the queue of all entries ever; the pass that queued it, 0 of .._queue_all; the number of its
+ * registration; the object, the procedure and the client data. */
+typedef struct derrimas_finalizers_entry {
+    uint64_t seq, pass, reg, obj, proc, cd;
+} derrimas_finalizers_entry;
+
+/* A registration that stands: its object, its number, procedure and client data, its kind and rank. */
+typedef struct derrimas_finalizers_registration {
+    uint64_t object, number, proc, cd;
+    derrimas_finalizers_kind kind;
+    uint8_t rank;
+} derrimas_finalizers_registration;
+
+/* A link that stands: its word and its target. */
+typedef struct derrimas_finalizers_link_at {
+    uint64_t word, target;
+} derrimas_finalizers_link_at;
+
+/* How much stands: registrations and links; entries that wait, and those that are held; entries that ever came; passes. */
+typedef struct derrimas_finalizers_counts {
+    uint64_t registrations, short_links, long_links, waiting, held, queued, passes;
+} derrimas_finalizers_counts;
+
+/* What a pass did: its number, from 1 on, and how many entries it queued. */
+typedef struct derrimas_finalizers_passed {
+    uint64_t pass, picked;
+} derrimas_finalizers_passed;
+
+/* What a question asks of each of its objects or words. */
+typedef enum derrimas_ask {
+    DERRIMAS_ASK_IS_MARKED = 1,        /* is the object marked? */
+    DERRIMAS_ASK_MARK_CHILDREN = 2,    /* mark the objects to which its words lead, and all that those lead to */
+    DERRIMAS_ASK_MARK_OTHERS = 3,      /* the same, but not what words lead to that point to the object itself */
+    DERRIMAS_ASK_MARK = 4,             /* mark the object and all that it leads to: it has an entry from now on */
+    DERRIMAS_ASK_MARK_ALONE = 5,       /* mark the object, where all else that it leads to is marked: it has an entry */
+    DERRIMAS_ASK_CLEAR = 6,            /* write zero to the word */
+    DERRIMAS_ASK_HOLDER_IS_MARKED = 7  /* is the object that has the word marked, or has no object the word? */
+} derrimas_ask;
+
+/* A question about `count` objects or words, 1 to DERRIMAS_FINALIZERS_BATCH, to be answered or carried out one after
+ * another; what stands behind them is undefined. Of IS_MARKED and HOLDER_IS_MARKED bit i of the answers, from the lowest
+ * on, is the answer about what[i]; of the others answers don't count. */
+typedef struct derrimas_question {
+    uint64_t what[DERRIMAS_FINALIZERS_BATCH];
+    uint64_t count;
+    derrimas_ask ask;
+} derrimas_question;
+
+/* ---- opening */
+
+/* Opens a handle: nothing is registered. It wants memory.
+ * Refused: IS_OPEN, NO_MEMORY. */
+DERRIMAS_FINALIZERS_CHECKED derrimas_finalizers_code derrimas_finalizers_open(derrimas_finalizers *finalizers);
+
+/* Frees all that the handle has, and leaves it as {0}. Does nothing where it isn't open. */
+void derrimas_finalizers_destroy(derrimas_finalizers *finalizers);
+
+/* Makes room for so many further registrations of the kinds but UNREACHABLE, and for so many further links of each kind:
+ * up to there no call wants memory. It wants memory itself.
+ * Refused: NOT_OPEN, PASS_OPEN, NO_MEMORY. */
+DERRIMAS_FINALIZERS_CHECKED derrimas_finalizers_code derrimas_finalizers_reserve(derrimas_finalizers *finalizers,
+                                                                                 uint64_t registrations, uint64_t shorts,
+                                                                                 uint64_t longs);
+
+/* ---- registrations and links */
+
+/* Registers a finalizer of the object, in the place of the one that it has, of whichever kind. `proc` is any number, and
+ * so is `cd`; both come back in the entry. Of what one pass queues, lower ranks come first, and within a rank lower
+ * objects. *number, which may be NULL, is the number of the registration, which no other has; *old, which may be NULL,
+ * what it replaced.
+ * Refused: BAD_KIND, NOT_OPEN, PASS_OPEN, ZERO, EXHAUSTED, FULL, NO_MEMORY. */
+DERRIMAS_FINALIZERS_CHECKED derrimas_finalizers_code
+derrimas_finalizers_register(derrimas_finalizers *finalizers, uint64_t object, derrimas_finalizers_kind kind, uint64_t proc,
+                             uint64_t cd, uint8_t rank, uint64_t *number, derrimas_finalizers_old *old);
+
+/* Removes the finalizer of the object, if it has one, and tells in *old, which may be NULL, what it was.
+ * Refused: NOT_OPEN, PASS_OPEN. */
+derrimas_finalizers_code derrimas_finalizers_unregister(derrimas_finalizers *finalizers, uint64_t object,
+                                                        derrimas_finalizers_old *old);
+
+/* Makes a link from the word to the target. Where the word has one of this kind, its target is replaced, and *answer is
+ * DUPLICATE, else LINKED; it may be NULL.
+ * Refused: BAD_KIND, NOT_OPEN, PASS_OPEN, ZERO, FULL, NO_MEMORY. */
+DERRIMAS_FINALIZERS_CHECKED derrimas_finalizers_code derrimas_finalizers_link(derrimas_finalizers *finalizers,
+                                                                              derrimas_finalizers_links kind, uint64_t word,
+                                                                              uint64_t target,
+                                                                              derrimas_finalizers_linked *answer);
+
+/* Removes the link of this kind at the word, and tells in *was, which may be NULL, whether there was one.
+ * Refused: BAD_KIND, NOT_OPEN, PASS_OPEN. */
+derrimas_finalizers_code derrimas_finalizers_unlink(derrimas_finalizers *finalizers, derrimas_finalizers_links kind,
+                                                    uint64_t word, bool *was);
+
+/* Moves the link of this kind from the word to the word `to`. *answer, which may be NULL, is LINKED, also where both are
+ * the same; or, and then nothing changed, NOT_FOUND or DUPLICATE. It wants no memory.
+ * Refused: BAD_KIND, NOT_OPEN, PASS_OPEN, ZERO (of `to`). */
+derrimas_finalizers_code derrimas_finalizers_move_link(derrimas_finalizers *finalizers, derrimas_finalizers_links kind,
+                                                       uint64_t word, uint64_t to, derrimas_finalizers_linked *answer);
+
+/* ---- a pass, by questions and answers */
+
+/* Opens a pass, once the host's marking is done. Until its end all changes are refused PASS_OPEN.
+ * Refused: NOT_OPEN, PASS_OPEN. */
+derrimas_finalizers_code derrimas_finalizers_begin(derrimas_finalizers *finalizers);
+
+/* Takes the answers to the question before (at first any), and puts the next question into *question. EMPTY: there is
+ * none, and the pass has ended; what it did is in *passed, which may be NULL.
+ * Refused: NOT_OPEN, NO_PASS; EMPTY. */
+derrimas_finalizers_code derrimas_finalizers_next(derrimas_finalizers *finalizers, uint64_t answers,
+                                                  derrimas_question *question, derrimas_finalizers_passed *passed);
+
+/* ---- the entries of finalizers that are ready */
+
+/* Queues all that is registered, by rank, then object, whatever is marked, those of kind UNREACHABLE after the others:
+ * GC_finalize_all. *queued, which may be NULL, is how many.
+ * Refused: NOT_OPEN, PASS_OPEN. */
+derrimas_finalizers_code derrimas_finalizers_queue_all(derrimas_finalizers *finalizers, uint64_t *queued);
+
+/* Takes the first entry that waits. It is held, with its object and its client data, until .._finish.
+ * Refused: NOT_OPEN, PASS_OPEN, EMPTY. */
+derrimas_finalizers_code derrimas_finalizers_take(derrimas_finalizers *finalizers, derrimas_finalizers_entry *entry);
+
+/* Takes the first entry that waits, as finished: for a procedure that may never return. Nothing here keeps its object and
+ * its client data any more: until the procedure has them, the host does.
+ * Refused: NOT_OPEN, PASS_OPEN, EMPTY. */
+derrimas_finalizers_code derrimas_finalizers_take_finished(derrimas_finalizers *finalizers, derrimas_finalizers_entry *entry);
+
+/* Ends the holding of an entry.
+ * Refused: NOT_OPEN, PASS_OPEN, NOT_HELD. */
+derrimas_finalizers_code derrimas_finalizers_finish(derrimas_finalizers *finalizers, const derrimas_finalizers_entry *entry);
+
+/* Whether entries wait, without the lock: a hint, GC_should_invoke_finalizers. */
+bool derrimas_finalizers_has_waiting(const derrimas_finalizers *finalizers);
+
+/* ---- what stands; nothing changes by it, and a pass may be open */
+
+/* The roots: what a host marks from before a pass, and keeps. */
+typedef enum derrimas_finalizers_root {
+    DERRIMAS_FINALIZERS_HELD_OBJECTS = 0,   /* the objects of entries that wait or are held: roots themselves */
+    DERRIMAS_FINALIZERS_HELD_DATA = 1,      /* their client data */
+    DERRIMAS_FINALIZERS_REGISTERED_DATA = 2 /* the client data of registrations, for hosts that keep it */
+} derrimas_finalizers_root;
+
+/* Copies roots of the sort into the buffer, which has `room` words: those from the place *from on, which is 0 at first,
+ * and goes on to where the next call starts. *count is how many were copied. Nothing may change between the calls.
+ * Refused: BAD_KIND, NOT_OPEN; EMPTY where no root is left. */
+derrimas_finalizers_code derrimas_finalizers_roots(const derrimas_finalizers *finalizers, derrimas_finalizers_root sort,
+                                                   uint64_t *from, uint64_t *buffer, size_t room, size_t *count);
+
+/* Refused: NOT_OPEN. */
+derrimas_finalizers_code derrimas_finalizers_count(const derrimas_finalizers *finalizers, derrimas_finalizers_counts *counts);
+
+/* The registration of the first registered object at `from` or after it; it goes over all of them.
+ * Refused: NOT_OPEN, EMPTY. */
+derrimas_finalizers_code derrimas_finalizers_next_registration(const derrimas_finalizers *finalizers, uint64_t from,
+                                                               derrimas_finalizers_registration *registration);
+
+/* The first link of this kind whose word is at `from` or after it; it goes over all of them.
+ * Refused: BAD_KIND, NOT_OPEN, EMPTY. */
+derrimas_finalizers_code derrimas_finalizers_next_link(const derrimas_finalizers *finalizers, derrimas_finalizers_links kind,
+                                                       uint64_t from, derrimas_finalizers_link_at *link);
+
+/* ---- a host's procedures, and a pass that they drive */
+
+/* A host: what it does for each question. For what is promised of a pass, there have to be a graph and a set of marked
+ * objects such that is_marked tells whether the object is in the set, the three marks add to it what the questions say,
+ * or more, and nothing else changes it in the pass; and the set has all to which its objects lead, at the beginning and
+ * after each mark. */
+typedef struct derrimas_host {
+    bool (*is_marked)(void *data, uint64_t object);
+    void (*mark_children)(void *data, uint64_t object, bool but_itself);
+    void (*mark)(void *data, uint64_t object);
+    void (*mark_alone)(void *data, uint64_t object);
+    void (*clear)(void *data, uint64_t word);
+    bool (*holder_is_marked)(void *data, uint64_t word);
+} derrimas_host;
+
+/* Answers a question by the host's procedures. */
+static inline uint64_t derrimas_host_answers(const derrimas_host *host, void *data, const derrimas_question *question)
+{
+    uint64_t answers = 0;
+    uint64_t i;
+
+    for (i = 0; i < question->count; i++) {
+        uint64_t what = question->what[i];
+
+        switch (question->ask) {
+        case DERRIMAS_ASK_IS_MARKED: answers |= (uint64_t)host->is_marked(data, what) << i; break;
+        case DERRIMAS_ASK_MARK_CHILDREN: host->mark_children(data, what, false); break;
+        case DERRIMAS_ASK_MARK_OTHERS: host->mark_children(data, what, true); break;
+        case DERRIMAS_ASK_MARK: host->mark(data, what); break;
+        case DERRIMAS_ASK_MARK_ALONE: host->mark_alone(data, what); break;
+        case DERRIMAS_ASK_CLEAR: host->clear(data, what); break;
+        case DERRIMAS_ASK_HOLDER_IS_MARKED: answers |= (uint64_t)host->holder_is_marked(data, what) << i; break;
+        }
+    }
+    return answers;
+}
+
+/* A whole pass, driven by the procedures of a host. They may make the calls that take a const handle, and must return.
+ * Refused: NOT_OPEN, PASS_OPEN. */
+static inline derrimas_finalizers_code derrimas_finalizers_pass(derrimas_finalizers *finalizers, const derrimas_host *host,
+                                                                void *data, derrimas_finalizers_passed *passed)
+{
+    derrimas_question question;
+    uint64_t answers = 0;
+    derrimas_finalizers_code code = derrimas_finalizers_begin(finalizers);
+
+    if (code != DERRIMAS_FINALIZERS_OK)
+        return code;
+    while ((code = derrimas_finalizers_next(finalizers, answers, &question, passed)) == DERRIMAS_FINALIZERS_OK)
+        answers = derrimas_host_answers(host, data, &question);
+    return code == DERRIMAS_FINALIZERS_EMPTY ? DERRIMAS_FINALIZERS_OK : code;
+}
+
+/* ---- memory
+ *
+ * The library takes memory through these three alone. libderrimas_finalizers.a has them by malloc, realloc and free, in
+ * a member of its own: a host that defines all three, with external linkage, has its own used. */
+void *derrimas_malloc(size_t size);
+void *derrimas_realloc(void *memory, size_t size);
+void derrimas_free(void *memory);
+
+#ifdef __cplusplus
+}
+#endif
+
+#endif

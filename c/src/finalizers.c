@@ -1,0 +1,226 @@
+/* derrimas_finalizers.h over the proved exports: their C types, places for results that nobody wants, kinds that are checked, roots in the host's buffer,
+ * and how many entries wait, for who asks without the lock. Nothing here is proved; c/tests runs each line of it.
+ */
+#include "finalizers_exports.h"
+
+typedef derrimas_finalizers_code code;
+
+static bool is_kind(derrimas_finalizers_kind kind) { return (unsigned)kind <= DERRIMAS_FINALIZERS_UNREACHABLE; }
+static bool is_links(derrimas_finalizers_links kind) { return (unsigned)kind <= DERRIMAS_FINALIZERS_LONG; }
+static bool is_root(derrimas_finalizers_root sort) { return (unsigned)sort <= DERRIMAS_FINALIZERS_REGISTERED_DATA; }
+
+/* A handle for calls that change nothing. */
+static derrimas_finalizers copied(const derrimas_finalizers *finalizers)
+{
+    derrimas_finalizers copy = {finalizers->inside, 0};
+
+    return copy;
+}
+
+/* Under the lock alone is this changed, and without it read. */
+static void set_waiting(derrimas_finalizers *finalizers, uint64_t waiting) { __atomic_store_n(&finalizers->waiting, waiting, __ATOMIC_RELAXED); }
+
+/* ---- opening */
+
+code derrimas_finalizers_open(derrimas_finalizers *finalizers) { return fz_machine_open(finalizers); }
+
+void derrimas_finalizers_destroy(derrimas_finalizers *finalizers)
+{
+    fz_machine_destroy(finalizers);
+    set_waiting(finalizers, 0);
+}
+
+code derrimas_finalizers_reserve(derrimas_finalizers *finalizers, uint64_t registrations, uint64_t shorts, uint64_t longs)
+{
+    return fz_machine_reserve(finalizers, registrations, shorts, longs);
+}
+
+/* ---- registrations and links */
+
+code derrimas_finalizers_register(derrimas_finalizers *finalizers, uint64_t object, derrimas_finalizers_kind kind, uint64_t proc, uint64_t cd,
+                                  uint8_t rank, uint64_t *number, derrimas_finalizers_old *old)
+{
+    fz_machine_registered registered;
+    code it;
+
+    if (!is_kind(kind))
+        return DERRIMAS_FINALIZERS_BAD_KIND;
+    it = fz_machine_register(finalizers, object, (uint8_t)kind, proc, cd, rank, &registered);
+    if (it == DERRIMAS_FINALIZERS_OK && number)
+        *number = registered.number;
+    if (it == DERRIMAS_FINALIZERS_OK && old)
+        *old = registered.replaced;
+    return it;
+}
+
+code derrimas_finalizers_unregister(derrimas_finalizers *finalizers, uint64_t object, derrimas_finalizers_old *old)
+{
+    derrimas_finalizers_old unwanted;
+
+    return fz_machine_unregister(finalizers, object, old ? old : &unwanted);
+}
+
+/* Tells an answer about links, if the call was accepted and someone wants it. */
+static code answered(code it, uint8_t found, derrimas_finalizers_linked *answer)
+{
+    if (it == DERRIMAS_FINALIZERS_OK && answer)
+        *answer = (derrimas_finalizers_linked)found;
+    return it;
+}
+
+code derrimas_finalizers_link(derrimas_finalizers *finalizers, derrimas_finalizers_links kind, uint64_t word, uint64_t target,
+                              derrimas_finalizers_linked *answer)
+{
+    uint8_t found = 0;
+    code it;
+
+    if (!is_links(kind))
+        return DERRIMAS_FINALIZERS_BAD_KIND;
+    it = fz_machine_link(finalizers, kind == DERRIMAS_FINALIZERS_LONG, word, target, &found);
+    return answered(it, found, answer);
+}
+
+code derrimas_finalizers_unlink(derrimas_finalizers *finalizers, derrimas_finalizers_links kind, uint64_t word, bool *was)
+{
+    bool unwanted;
+
+    if (!is_links(kind))
+        return DERRIMAS_FINALIZERS_BAD_KIND;
+    return fz_machine_unlink(finalizers, kind == DERRIMAS_FINALIZERS_LONG, word, was ? was : &unwanted);
+}
+
+code derrimas_finalizers_move_link(derrimas_finalizers *finalizers, derrimas_finalizers_links kind, uint64_t word, uint64_t to,
+                                   derrimas_finalizers_linked *answer)
+{
+    uint8_t found = 0;
+    code it;
+
+    if (!is_links(kind))
+        return DERRIMAS_FINALIZERS_BAD_KIND;
+    it = fz_machine_move_link(finalizers, kind == DERRIMAS_FINALIZERS_LONG, word, to, &found);
+    return answered(it, found, answer);
+}
+
+/* ---- a pass */
+
+code derrimas_finalizers_begin(derrimas_finalizers *finalizers) { return fz_machine_begin(finalizers); }
+
+/* The pass has ended: what it queued waits. */
+static void ended(derrimas_finalizers *finalizers, const derrimas_finalizers_passed *did, derrimas_finalizers_passed *passed)
+{
+    set_waiting(finalizers, finalizers->waiting + did->picked);
+    if (passed)
+        *passed = *did;
+}
+
+code derrimas_finalizers_next(derrimas_finalizers *finalizers, uint64_t answers, derrimas_question *question, derrimas_finalizers_passed *passed)
+{
+    fz_machine_question asked;
+    derrimas_finalizers_passed did;
+    code it = fz_machine_next(finalizers, answers, &asked, &did);
+
+    if (it == DERRIMAS_FINALIZERS_EMPTY)
+        ended(finalizers, &did, passed);
+    if (it != DERRIMAS_FINALIZERS_OK)
+        return it;
+    for (uint64_t i = 0; i < asked.count; i++)
+        question->what[i] = asked.what[i];
+    question->count = asked.count;
+    question->ask = (derrimas_ask)asked.ask;
+    return it;
+}
+
+/* ---- the entries */
+
+code derrimas_finalizers_queue_all(derrimas_finalizers *finalizers, uint64_t *queued)
+{
+    uint64_t count;
+    code it = fz_machine_queue_all(finalizers, &count);
+
+    if (it != DERRIMAS_FINALIZERS_OK)
+        return it;
+    set_waiting(finalizers, finalizers->waiting + count);
+    if (queued)
+        *queued = count;
+    return it;
+}
+
+/* What a take answers; if it was accepted, one entry fewer waits. */
+static code taken(derrimas_finalizers *finalizers, code it)
+{
+    if (it == DERRIMAS_FINALIZERS_OK)
+        set_waiting(finalizers, finalizers->waiting - 1);
+    return it;
+}
+
+code derrimas_finalizers_take(derrimas_finalizers *finalizers, derrimas_finalizers_entry *entry)
+{
+    return taken(finalizers, fz_machine_take(finalizers, entry));
+}
+
+code derrimas_finalizers_take_finished(derrimas_finalizers *finalizers, derrimas_finalizers_entry *entry)
+{
+    return taken(finalizers, fz_machine_take_finished(finalizers, entry));
+}
+
+code derrimas_finalizers_finish(derrimas_finalizers *finalizers, const derrimas_finalizers_entry *entry)
+{
+    return fz_machine_finish(finalizers, entry);
+}
+
+bool derrimas_finalizers_has_waiting(const derrimas_finalizers *finalizers) { return __atomic_load_n(&finalizers->waiting, __ATOMIC_RELAXED) != 0; }
+
+/* ---- what stands */
+
+code derrimas_finalizers_roots(const derrimas_finalizers *finalizers, derrimas_finalizers_root sort, uint64_t *from, uint64_t *buffer, size_t room,
+                               size_t *count)
+{
+    derrimas_finalizers copy = copied(finalizers);
+    fz_machine_words some;
+    size_t filled = 0;
+    code it;
+
+    if (!is_root(sort))
+        return DERRIMAS_FINALIZERS_BAD_KIND;
+    do {
+        it = fz_machine_roots(&copy, (uint8_t)sort, *from + filled, &some);
+        for (uint64_t i = 0; it == DERRIMAS_FINALIZERS_OK && i < some.count && filled < room; i++)
+            buffer[filled++] = some.words[i];
+    } while (it == DERRIMAS_FINALIZERS_OK && filled < room);
+    if (it != DERRIMAS_FINALIZERS_OK && filled == 0)
+        return it;
+    *from += filled;
+    *count = filled;
+    return DERRIMAS_FINALIZERS_OK;
+}
+
+code derrimas_finalizers_count(const derrimas_finalizers *finalizers, derrimas_finalizers_counts *counts)
+{
+    derrimas_finalizers copy = copied(finalizers);
+
+    return fz_machine_count(&copy, counts);
+}
+
+code derrimas_finalizers_next_registration(const derrimas_finalizers *finalizers, uint64_t from, derrimas_finalizers_registration *registration)
+{
+    derrimas_finalizers copy = copied(finalizers);
+    fz_machine_registration found;
+    code it = fz_machine_next_registration(&copy, from, &found);
+
+    if (it != DERRIMAS_FINALIZERS_OK)
+        return it;
+    registration->object = found.object;
+    registration->number = found.number;
+    registration->proc = found.proc;
+    registration->cd = found.cd;
+    registration->kind = (derrimas_finalizers_kind)found.kind;
+    registration->rank = found.rank;
+    return it;
+}
+
+code derrimas_finalizers_next_link(const derrimas_finalizers *finalizers, derrimas_finalizers_links kind, uint64_t from, derrimas_finalizers_link_at *link)
+{
+    derrimas_finalizers copy = copied(finalizers);
+
+    return is_links(kind) ? (code)fz_machine_next_link(&copy, kind == DERRIMAS_FINALIZERS_LONG, from, link) : DERRIMAS_FINALIZERS_BAD_KIND;
+}

@@ -1,0 +1,51 @@
+/* The exports of crates/fz_machine_c, which are proved. finalizers.c alone calls them, and c/build hides their names. c/tests/header.py compares these
+ * declarations with the crate's own. Of a handle they use `inside` alone. */
+#ifndef DERRIMAS_FINALIZERS_EXPORTS_H
+#define DERRIMAS_FINALIZERS_EXPORTS_H
+
+#include "derrimas_finalizers.h"
+
+#define FZ_MACHINE_WORDS 512 /* the most roots of a call */
+
+typedef struct fz_machine_registered {
+    uint64_t number;
+    derrimas_finalizers_old replaced;
+} fz_machine_registered;
+
+typedef struct fz_machine_question {
+    uint64_t what[DERRIMAS_FINALIZERS_BATCH];
+    uint64_t count;
+    uint8_t ask;
+} fz_machine_question;
+
+typedef struct fz_machine_words {
+    uint64_t words[FZ_MACHINE_WORDS];
+    uint64_t count;
+} fz_machine_words;
+
+typedef struct fz_machine_registration {
+    uint64_t object, number, proc, cd;
+    uint8_t kind, rank;
+} fz_machine_registration;
+
+uint8_t fz_machine_open(derrimas_finalizers *finalizers);
+void fz_machine_destroy(derrimas_finalizers *finalizers);
+uint8_t fz_machine_reserve(derrimas_finalizers *finalizers, uint64_t registrations, uint64_t shorts, uint64_t longs);
+uint8_t fz_machine_register(derrimas_finalizers *finalizers, uint64_t object, uint8_t kind, uint64_t proc, uint64_t cd, uint8_t rank,
+                            fz_machine_registered *registered);
+uint8_t fz_machine_unregister(derrimas_finalizers *finalizers, uint64_t object, derrimas_finalizers_old *old);
+uint8_t fz_machine_link(derrimas_finalizers *finalizers, bool is_long, uint64_t word, uint64_t target, uint8_t *answer);
+uint8_t fz_machine_unlink(derrimas_finalizers *finalizers, bool is_long, uint64_t word, bool *was);
+uint8_t fz_machine_move_link(derrimas_finalizers *finalizers, bool is_long, uint64_t word, uint64_t to, uint8_t *answer);
+uint8_t fz_machine_begin(derrimas_finalizers *finalizers);
+uint8_t fz_machine_next(derrimas_finalizers *finalizers, uint64_t answers, fz_machine_question *question, derrimas_finalizers_passed *passed);
+uint8_t fz_machine_queue_all(derrimas_finalizers *finalizers, uint64_t *queued);
+uint8_t fz_machine_take(derrimas_finalizers *finalizers, derrimas_finalizers_entry *entry);
+uint8_t fz_machine_take_finished(derrimas_finalizers *finalizers, derrimas_finalizers_entry *entry);
+uint8_t fz_machine_finish(derrimas_finalizers *finalizers, const derrimas_finalizers_entry *entry);
+uint8_t fz_machine_roots(derrimas_finalizers *finalizers, uint8_t sort, uint64_t from, fz_machine_words *words);
+uint8_t fz_machine_count(derrimas_finalizers *finalizers, derrimas_finalizers_counts *counts);
+uint8_t fz_machine_next_registration(derrimas_finalizers *finalizers, uint64_t from, fz_machine_registration *registration);
+uint8_t fz_machine_next_link(derrimas_finalizers *finalizers, bool is_long, uint64_t from, derrimas_finalizers_link_at *link);
+
+#endif

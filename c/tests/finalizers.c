@@ -1,0 +1,574 @@
+/* Every call of derrimas_finalizers.h: each answer, each place that may be NULL, and each place that a refusal leaves as it was. */
+#include "finalizers_host.h"
+
+static derrimas_finalizers finalizers;
+static host all;
+static object *const objects = all.objects;
+
+/* ---- shorter names */
+
+static void registers(const object *it, derrimas_finalizers_kind kind, uint64_t proc, uint8_t rank)
+{
+    OK(derrimas_finalizers_register(&finalizers, number_of(it), kind, proc, proc + 1, rank, NULL, NULL));
+}
+
+/* Writes the target into the word of the object, and makes the link. */
+static void links(derrimas_finalizers_links kind, object *it, size_t word, const object *target)
+{
+    it->words[word] = number_of(target);
+    OK(derrimas_finalizers_link(&finalizers, kind, word_of(it, word), number_of(target), NULL));
+}
+
+static void opens(void)
+{
+    memset(&all, 0, sizeof all);
+    OK(derrimas_finalizers_open(&finalizers));
+}
+
+static void closes(void)
+{
+    derrimas_finalizers_destroy(&finalizers);
+    IS(finalizers.inside == NULL && finalizers.waiting == 0, true);
+}
+
+static derrimas_finalizers_counts counted(void)
+{
+    derrimas_finalizers_counts counts;
+
+    memset(&counts, 1, sizeof counts);
+    OK(derrimas_finalizers_count(&finalizers, &counts));
+    return counts;
+}
+
+/* Takes and finishes all entries, whose procedures are these in their order; 0 ends them. */
+static void runs(const uint64_t *procs)
+{
+    derrimas_finalizers_entry entry;
+
+    for (; *procs; procs++) {
+        IS(derrimas_finalizers_has_waiting(&finalizers), true);
+        OK(derrimas_finalizers_take(&finalizers, &entry));
+        IS(entry.proc, *procs);
+        IS(entry.cd, *procs + 1);
+        OK(derrimas_finalizers_finish(&finalizers, &entry));
+    }
+    IS(derrimas_finalizers_has_waiting(&finalizers), false);
+    REFUSED(DERRIMAS_FINALIZERS_EMPTY, entry, derrimas_finalizers_take(&finalizers, &entry));
+    REFUSED(DERRIMAS_FINALIZERS_EMPTY, entry, derrimas_finalizers_take_finished(&finalizers, &entry));
+}
+
+#define RUNS(...) runs((const uint64_t[]){__VA_ARGS__, 0})
+
+/* ---- refusals */
+
+/* All changes but .._open and .._next are refused with this code, and leave their places as they were. */
+static void changes_are_refused(derrimas_finalizers_code code)
+{
+    derrimas_finalizers_old old;
+    derrimas_finalizers_linked answer;
+    derrimas_finalizers_entry entry, none = {0, 0, 0, 0, 0, 0};
+    uint64_t number;
+    bool was;
+
+    IS(derrimas_finalizers_reserve(&finalizers, 1, 1, 1), code);
+    REFUSED(code, number, derrimas_finalizers_register(&finalizers, 0, DERRIMAS_FINALIZERS_NORMAL, 1, 1, 1, &number, NULL));
+    REFUSED(code, old, derrimas_finalizers_register(&finalizers, 16, DERRIMAS_FINALIZERS_NORMAL, 1, 1, 1, NULL, &old));
+    REFUSED(code, old, derrimas_finalizers_unregister(&finalizers, 16, &old));
+    IS(derrimas_finalizers_unregister(&finalizers, 16, NULL), code);
+    for (int kind = DERRIMAS_FINALIZERS_SHORT; kind <= DERRIMAS_FINALIZERS_LONG; kind++) {
+        derrimas_finalizers_links of = (derrimas_finalizers_links)kind;
+        REFUSED(code, answer, derrimas_finalizers_link(&finalizers, of, 0, 0, &answer));
+        IS(derrimas_finalizers_link(&finalizers, of, 16, 16, NULL), code);
+        REFUSED(code, was, derrimas_finalizers_unlink(&finalizers, of, 16, &was));
+        IS(derrimas_finalizers_unlink(&finalizers, of, 16, NULL), code);
+        REFUSED(code, answer, derrimas_finalizers_move_link(&finalizers, of, 16, 0, &answer));
+        IS(derrimas_finalizers_move_link(&finalizers, of, 16, 24, NULL), code);
+    }
+    IS(derrimas_finalizers_begin(&finalizers), code);
+    REFUSED(code, number, derrimas_finalizers_queue_all(&finalizers, &number));
+    IS(derrimas_finalizers_queue_all(&finalizers, NULL), code);
+    REFUSED(code, entry, derrimas_finalizers_take(&finalizers, &entry));
+    REFUSED(code, entry, derrimas_finalizers_take_finished(&finalizers, &entry));
+    IS(derrimas_finalizers_finish(&finalizers, &none), code);
+}
+
+/* A kind that is none comes before all other causes. */
+static void kinds_are_refused(void)
+{
+    derrimas_finalizers_link_at at;
+    derrimas_finalizers_linked answer;
+    uint64_t buffer[2] = {0, 0}, from = 0, number;
+    size_t count;
+    bool was;
+
+    for (int bad = 2; bad < 600; bad += 251) {
+        derrimas_finalizers_links kind = (derrimas_finalizers_links)bad;
+        REFUSED(DERRIMAS_FINALIZERS_BAD_KIND, answer, derrimas_finalizers_link(&finalizers, kind, 0, 0, &answer));
+        REFUSED(DERRIMAS_FINALIZERS_BAD_KIND, was, derrimas_finalizers_unlink(&finalizers, kind, 8, &was));
+        REFUSED(DERRIMAS_FINALIZERS_BAD_KIND, answer, derrimas_finalizers_move_link(&finalizers, kind, 8, 0, &answer));
+        REFUSED(DERRIMAS_FINALIZERS_BAD_KIND, at, derrimas_finalizers_next_link(&finalizers, kind, 0, &at));
+    }
+    for (int bad = 4; bad < 600; bad += 252) {
+        derrimas_finalizers_kind kind = (derrimas_finalizers_kind)bad;
+        REFUSED(DERRIMAS_FINALIZERS_BAD_KIND, number, derrimas_finalizers_register(&finalizers, 0, kind, 1, 1, 1, &number, NULL));
+    }
+    for (int bad = 3; bad < 600; bad += 253)
+        REFUSED(DERRIMAS_FINALIZERS_BAD_KIND, count, derrimas_finalizers_roots(&finalizers, (derrimas_finalizers_root)bad, &from, buffer, 2, &count));
+}
+
+/* Calls on a handle that isn't open. */
+static void closed(void)
+{
+    derrimas_finalizers_registration registration;
+    derrimas_finalizers_counts counts;
+    derrimas_finalizers_link_at at;
+    derrimas_finalizers_passed passed;
+    derrimas_question question;
+    uint64_t buffer[2] = {1, 2}, from = 0;
+    size_t count;
+
+    closes();
+    changes_are_refused(DERRIMAS_FINALIZERS_NOT_OPEN);
+    kinds_are_refused();
+    REFUSED(DERRIMAS_FINALIZERS_NOT_OPEN, question, derrimas_finalizers_next(&finalizers, 0, &question, NULL));
+    REFUSED(DERRIMAS_FINALIZERS_NOT_OPEN, passed, derrimas_finalizers_next(&finalizers, 0, &question, &passed));
+    REFUSED(DERRIMAS_FINALIZERS_NOT_OPEN, passed, derrimas_finalizers_pass(&finalizers, &procedures, &all, &passed));
+    IS(derrimas_finalizers_has_waiting(&finalizers), false);
+    for (int sort = DERRIMAS_FINALIZERS_HELD_OBJECTS; sort <= DERRIMAS_FINALIZERS_REGISTERED_DATA; sort++)
+        REFUSED(DERRIMAS_FINALIZERS_NOT_OPEN, count, derrimas_finalizers_roots(&finalizers, (derrimas_finalizers_root)sort, &from, buffer, 2, &count));
+    IS(from == 0 && buffer[0] == 1 && buffer[1] == 2, true);
+    REFUSED(DERRIMAS_FINALIZERS_NOT_OPEN, counts, derrimas_finalizers_count(&finalizers, &counts));
+    REFUSED(DERRIMAS_FINALIZERS_NOT_OPEN, registration, derrimas_finalizers_next_registration(&finalizers, 0, &registration));
+    REFUSED(DERRIMAS_FINALIZERS_NOT_OPEN, at, derrimas_finalizers_next_link(&finalizers, DERRIMAS_FINALIZERS_SHORT, 0, &at));
+    REFUSED(DERRIMAS_FINALIZERS_NOT_OPEN, at, derrimas_finalizers_next_link(&finalizers, DERRIMAS_FINALIZERS_LONG, 0, &at));
+    closes();
+}
+
+/* ---- registrations and links */
+
+static void opening(void)
+{
+    derrimas_finalizers other = {NULL, 0};
+
+    opens();
+    IS(derrimas_finalizers_open(&finalizers), DERRIMAS_FINALIZERS_IS_OPEN);
+    kinds_are_refused();
+    OK(derrimas_finalizers_reserve(&finalizers, 0, 0, 0));
+    OK(derrimas_finalizers_open(&other));
+    registers(&objects[0], DERRIMAS_FINALIZERS_NORMAL, 1, 0);
+    OK(derrimas_finalizers_register(&other, number_of(&objects[0]), DERRIMAS_FINALIZERS_NORMAL, 2, 3, 0, NULL, NULL));
+    OK(derrimas_finalizers_queue_all(&other, NULL));
+    IS(derrimas_finalizers_has_waiting(&other), true);
+    IS(derrimas_finalizers_has_waiting(&finalizers), false);
+    IS(counted().registrations, 1);
+    derrimas_finalizers_destroy(&other);
+    IS(other.inside == NULL && other.waiting == 0, true);
+    closes();
+    opens();
+    IS(counted().registrations, 0);
+    closes();
+}
+
+static void registering(void)
+{
+    const uint64_t object = number_of(&objects[0]);
+    derrimas_finalizers_old old;
+    uint64_t number, next;
+
+    opens();
+    REFUSED(DERRIMAS_FINALIZERS_ZERO, number, derrimas_finalizers_register(&finalizers, 0, DERRIMAS_FINALIZERS_NORMAL, 1, 1, 1, &number, NULL));
+    REFUSED(DERRIMAS_FINALIZERS_ZERO, old, derrimas_finalizers_register(&finalizers, 0, DERRIMAS_FINALIZERS_UNREACHABLE, 1, 1, 1, NULL, &old));
+    OK(derrimas_finalizers_register(&finalizers, object, DERRIMAS_FINALIZERS_NORMAL, 11, 12, 13, &number, &old));
+    IS(old.was || old.proc || old.cd, false);
+    for (int kind = DERRIMAS_FINALIZERS_UNREACHABLE; kind >= DERRIMAS_FINALIZERS_NORMAL; kind--) {
+        uint64_t proc = 20 + (uint64_t)kind;
+        memset(&old, 1, sizeof old);
+        OK(derrimas_finalizers_register(&finalizers, object, (derrimas_finalizers_kind)kind, proc, proc + 1, 255, &next, &old));
+        IS(next > number, true);
+        IS(old.was && old.proc == (kind == DERRIMAS_FINALIZERS_UNREACHABLE ? 11 : proc + 1) && old.cd == old.proc + 1, true);
+        number = next;
+        IS(counted().registrations, 1);
+    }
+    registers(&objects[1], DERRIMAS_FINALIZERS_UNREACHABLE, 30, 0);
+    IS(counted().registrations, 2);
+    OK(derrimas_finalizers_unregister(&finalizers, object, &old));
+    IS(old.was && old.proc == 20 && old.cd == 21, true);
+    OK(derrimas_finalizers_unregister(&finalizers, object, &old));
+    IS(old.was || old.proc || old.cd, false);
+    OK(derrimas_finalizers_unregister(&finalizers, 0, &old));
+    IS(old.was || old.proc || old.cd, false);
+    OK(derrimas_finalizers_unregister(&finalizers, number_of(&objects[1]), NULL));
+    IS(counted().registrations, 0);
+    closes();
+}
+
+static void linking(derrimas_finalizers_links kind)
+{
+    const bool is_long = kind == DERRIMAS_FINALIZERS_LONG;
+    const derrimas_finalizers_links other = is_long ? DERRIMAS_FINALIZERS_SHORT : DERRIMAS_FINALIZERS_LONG;
+    derrimas_finalizers_linked answer;
+    derrimas_finalizers_link_at at;
+    bool was;
+
+    opens();
+    REFUSED(DERRIMAS_FINALIZERS_ZERO, answer, derrimas_finalizers_link(&finalizers, kind, 0, 16, &answer));
+    REFUSED(DERRIMAS_FINALIZERS_ZERO, answer, derrimas_finalizers_link(&finalizers, kind, 8, 0, &answer));
+    OK(derrimas_finalizers_link(&finalizers, kind, 8, 16, &answer));
+    IS(answer, DERRIMAS_FINALIZERS_LINKED);
+    OK(derrimas_finalizers_link(&finalizers, kind, 8, 32, &answer));
+    IS(answer, DERRIMAS_FINALIZERS_DUPLICATE);
+    OK(derrimas_finalizers_link(&finalizers, other, 8, 48, &answer));
+    IS(answer, DERRIMAS_FINALIZERS_LINKED);
+    IS(counted().short_links == 1 && counted().long_links == 1, true);
+    OK(derrimas_finalizers_next_link(&finalizers, kind, 0, &at));
+    IS(at.word == 8 && at.target == 32, true);
+    OK(derrimas_finalizers_unlink(&finalizers, other, 8, &was));
+    IS(was, true);
+    OK(derrimas_finalizers_unlink(&finalizers, other, 8, &was));
+    IS(was, false);
+    OK(derrimas_finalizers_unlink(&finalizers, other, 0, &was));
+    IS(was, false);
+    IS(counted().short_links == !is_long && counted().long_links == is_long, true);
+    OK(derrimas_finalizers_link(&finalizers, kind, 16, 16, NULL));
+    OK(derrimas_finalizers_unlink(&finalizers, kind, 16, NULL));
+    IS(counted().short_links + counted().long_links, 1);
+    closes();
+}
+
+static void moving(derrimas_finalizers_links kind)
+{
+    derrimas_finalizers_linked answer;
+    derrimas_finalizers_link_at at;
+
+    opens();
+    OK(derrimas_finalizers_link(&finalizers, kind, 8, 16, NULL));
+    OK(derrimas_finalizers_link(&finalizers, kind, 24, 32, NULL));
+    REFUSED(DERRIMAS_FINALIZERS_ZERO, answer, derrimas_finalizers_move_link(&finalizers, kind, 8, 0, &answer));
+    OK(derrimas_finalizers_move_link(&finalizers, kind, 0, 8, &answer));
+    IS(answer, DERRIMAS_FINALIZERS_NOT_FOUND);
+    OK(derrimas_finalizers_move_link(&finalizers, kind, 40, 40, &answer));
+    IS(answer, DERRIMAS_FINALIZERS_NOT_FOUND);
+    OK(derrimas_finalizers_move_link(&finalizers, kind, 8, 8, &answer));
+    IS(answer, DERRIMAS_FINALIZERS_LINKED);
+    OK(derrimas_finalizers_move_link(&finalizers, kind, 8, 24, &answer));
+    IS(answer, DERRIMAS_FINALIZERS_DUPLICATE);
+    OK(derrimas_finalizers_move_link(&finalizers, kind, 8, 48, &answer));
+    IS(answer, DERRIMAS_FINALIZERS_LINKED);
+    OK(derrimas_finalizers_move_link(&finalizers, kind, 24, 8, NULL));
+    OK(derrimas_finalizers_next_link(&finalizers, kind, 0, &at));
+    IS(at.word == 8 && at.target == 32, true);
+    OK(derrimas_finalizers_next_link(&finalizers, kind, 9, &at));
+    IS(at.word == 48 && at.target == 16, true);
+    REFUSED(DERRIMAS_FINALIZERS_EMPTY, at, derrimas_finalizers_next_link(&finalizers, kind, 49, &at));
+    REFUSED(DERRIMAS_FINALIZERS_EMPTY, at, derrimas_finalizers_next_link(&finalizers, kind, UINT64_MAX, &at));
+    closes();
+}
+
+/* ---- passes */
+
+/* By rank, then object, of the kinds but UNREACHABLE; and then those. */
+static void order(void)
+{
+    opens();
+    registers(&objects[5], DERRIMAS_FINALIZERS_NORMAL, 50, 1);
+    registers(&objects[4], DERRIMAS_FINALIZERS_IGNORE_SELF, 40, 1);
+    registers(&objects[3], DERRIMAS_FINALIZERS_NO_ORDER, 30, 255);
+    registers(&objects[6], DERRIMAS_FINALIZERS_NORMAL, 60, 0);
+    registers(&objects[2], DERRIMAS_FINALIZERS_UNREACHABLE, 20, 0);
+    registers(&objects[1], DERRIMAS_FINALIZERS_NORMAL, 10, 0);
+    objects[1].is_root = true;
+    IS(collect(&all, &finalizers).picked, 5);
+    RUNS(60, 40, 50, 30, 20);
+    objects[1].is_root = false;
+    IS(collect(&all, &finalizers).picked, 1);
+    RUNS(10);
+    IS(collect(&all, &finalizers).pass, 3);
+    closes();
+}
+
+/* What an object leads to comes after it, whose own words count for NORMAL alone. */
+static void kinds(void)
+{
+    opens();
+    for (size_t n = 0; n < 4; n++) /* each points to itself */
+        objects[n].words[0] = number_of(&objects[n]);
+    registers(&objects[0], DERRIMAS_FINALIZERS_NORMAL, 1, 0);
+    registers(&objects[1], DERRIMAS_FINALIZERS_IGNORE_SELF, 11, 0);
+    registers(&objects[2], DERRIMAS_FINALIZERS_NO_ORDER, 21, 0);
+    registers(&objects[3], DERRIMAS_FINALIZERS_UNREACHABLE, 31, 0);
+    IS(collect(&all, &finalizers).picked, 2);
+    RUNS(11, 21);
+    objects[0].words[0] = objects[3].words[0] = 0;
+    IS(collect(&all, &finalizers).picked, 2);
+    RUNS(1, 31);
+    registers(&objects[5], DERRIMAS_FINALIZERS_NORMAL, 51, 0);
+    registers(&objects[6], DERRIMAS_FINALIZERS_NORMAL, 61, 0);
+    objects[6].words[1] = number_of(&objects[5]); /* 6 comes before 5 */
+    IS(collect(&all, &finalizers).picked, 1);
+    RUNS(61);
+    IS(collect(&all, &finalizers).picked, 1);
+    RUNS(51);
+    IS(all.asked[DERRIMAS_ASK_MARK] > 0 && all.asked[DERRIMAS_ASK_MARK_ALONE] > 0, true);
+    IS(all.asked[DERRIMAS_ASK_MARK_CHILDREN] > 0 && all.asked[DERRIMAS_ASK_MARK_OTHERS] > 0, true);
+    closes();
+}
+
+/* A short link is cleared once its target is unreachable; a long one once nothing keeps the target; a link in a lost object goes. */
+static void weak(void)
+{
+    opens();
+    objects[0].is_root = objects[9].is_root = true;
+    links(DERRIMAS_FINALIZERS_SHORT, &objects[10], 0, &objects[1]); /* 10 is lost */
+    links(DERRIMAS_FINALIZERS_LONG, &objects[10], 1, &objects[1]);
+    links(DERRIMAS_FINALIZERS_SHORT, &objects[0], 0, &objects[0]); /* to what is reachable */
+    objects[0].words[1] = objects[0].words[2] = 0;
+    OK(derrimas_finalizers_link(&finalizers, DERRIMAS_FINALIZERS_SHORT, word_of(&objects[0], 1), number_of(&objects[1]), NULL));
+    OK(derrimas_finalizers_link(&finalizers, DERRIMAS_FINALIZERS_LONG, word_of(&objects[0], 2), number_of(&objects[1]), NULL));
+    objects[0].words[3] = number_of(&objects[1]);
+    registers(&objects[1], DERRIMAS_FINALIZERS_NORMAL, 1, 0);
+    (void)collect(&all, &finalizers);
+    IS(counted().short_links == 2 && counted().long_links == 1, true); /* of the lost object none is left */
+    objects[0].words[1] = objects[0].words[2] = 5;                      /* numbers that lead nowhere */
+    objects[0].words[3] = 0;
+    IS(collect(&all, &finalizers).picked, 1);
+    IS(objects[0].words[1] == 0 && objects[0].words[2] == 5, true);
+    IS(counted().short_links == 1 && counted().long_links == 1, true);
+    RUNS(1);
+    (void)collect(&all, &finalizers);
+    IS(objects[0].words[2], 0);
+    IS(objects[0].words[0], number_of(&objects[0]));
+    IS(counted().short_links == 1 && counted().long_links == 0, true);
+    IS(all.asked[DERRIMAS_ASK_CLEAR], 2);
+    closes();
+}
+
+/* In an open pass all changes are refused, and what stands may be read. */
+static void open_pass(void)
+{
+    derrimas_finalizers_passed passed;
+    derrimas_question question;
+    uint64_t asked = 0, answers = 0, from = 0, word;
+    size_t count;
+
+    opens();
+    REFUSED(DERRIMAS_FINALIZERS_NO_PASS, question, derrimas_finalizers_next(&finalizers, 0, &question, NULL));
+    for (size_t n = 0; n < 100; n++)
+        registers(&objects[n], (derrimas_finalizers_kind)(n % 4), 8 * n + 8, 0);
+    OK(derrimas_finalizers_begin(&finalizers));
+    for (;;) {
+        changes_are_refused(DERRIMAS_FINALIZERS_PASS_OPEN);
+        IS(derrimas_finalizers_open(&finalizers), DERRIMAS_FINALIZERS_IS_OPEN);
+        OK(derrimas_finalizers_roots(&finalizers, DERRIMAS_FINALIZERS_REGISTERED_DATA, &(uint64_t){0}, &word, 0, &count));
+        IS(counted().waiting + counted().registrations, 100);
+        IS(derrimas_finalizers_has_waiting(&finalizers), false);
+        memset(&passed, 1, sizeof passed);
+        if (derrimas_finalizers_next(&finalizers, answers, &question, &passed) != DERRIMAS_FINALIZERS_OK)
+            break;
+        IS(is_filled(&passed, sizeof passed), true);
+        IS(question.count >= 1 && question.count <= DERRIMAS_FINALIZERS_BATCH, true);
+        asked += question.count;
+        answers = derrimas_host_answers(&procedures, &all, &question);
+    }
+    IS(passed.pass == 1 && passed.picked == 100, true);
+    IS(asked >= 400, true);
+    IS(counted().waiting == 100 && counted().registrations == 0 && counted().passes == 1 && counted().queued == 100, true);
+    IS(derrimas_finalizers_has_waiting(&finalizers), true);
+    REFUSED(DERRIMAS_FINALIZERS_NO_PASS, passed, derrimas_finalizers_next(&finalizers, 0, &question, &passed));
+    OK(derrimas_finalizers_roots(&finalizers, DERRIMAS_FINALIZERS_HELD_OBJECTS, &from, &word, 1, &count));
+    IS(from == 1 && count == 1, true);
+    closes();
+}
+
+/* An open pass may be given up with its handle. What a pass did may go untold. */
+static void endings(void)
+{
+    derrimas_question question;
+
+    opens();
+    registers(&objects[0], DERRIMAS_FINALIZERS_NORMAL, 1, 0);
+    OK(derrimas_finalizers_begin(&finalizers));
+    OK(derrimas_finalizers_next(&finalizers, 0, &question, NULL));
+    IS(question.ask, DERRIMAS_ASK_IS_MARKED);
+    IS(question.count == 1 && question.what[0] == number_of(&objects[0]), true);
+    closes();
+    opens();
+    registers(&objects[0], DERRIMAS_FINALIZERS_NORMAL, 1, 0);
+    OK(derrimas_finalizers_pass(&finalizers, &procedures, &all, NULL));
+    RUNS(1);
+    OK(derrimas_finalizers_begin(&finalizers));
+    IS(derrimas_finalizers_next(&finalizers, UINT64_MAX, &question, NULL), DERRIMAS_FINALIZERS_EMPTY);
+    IS(counted().passes, 2);
+    closes();
+}
+
+/* ---- entries */
+
+static void entries(void)
+{
+    derrimas_finalizers_entry first, second;
+    uint64_t queued;
+
+    opens();
+    OK(derrimas_finalizers_queue_all(&finalizers, &queued));
+    IS(queued, 0);
+    registers(&objects[1], DERRIMAS_FINALIZERS_UNREACHABLE, 10, 0);
+    registers(&objects[2], DERRIMAS_FINALIZERS_NORMAL, 20, 3);
+    registers(&objects[3], DERRIMAS_FINALIZERS_NO_ORDER, 30, 2);
+    objects[1].is_root = objects[2].is_root = objects[3].is_root = true;
+    IS(collect(&all, &finalizers).picked, 0);
+    OK(derrimas_finalizers_queue_all(&finalizers, &queued));
+    IS(queued, 3);
+    OK(derrimas_finalizers_queue_all(&finalizers, NULL));
+    OK(derrimas_finalizers_take(&finalizers, &first));
+    IS(first.seq == 0 && first.pass == 0 && first.obj == number_of(&objects[3]) && first.proc == 30 && first.cd == 31, true);
+    OK(derrimas_finalizers_take_finished(&finalizers, &second));
+    IS(second.seq == 1 && second.obj == number_of(&objects[2]) && second.proc == 20 && second.cd == 21 && second.reg < first.reg, true);
+    IS(derrimas_finalizers_finish(&finalizers, &second), DERRIMAS_FINALIZERS_NOT_HELD);
+    IS(counted().waiting == 1 && counted().held == 1 && counted().queued == 3, true);
+    RUNS(10);
+    IS(counted().waiting == 0 && counted().held == 1, true);
+    OK(derrimas_finalizers_finish(&finalizers, &first));
+    IS(derrimas_finalizers_finish(&finalizers, &first), DERRIMAS_FINALIZERS_NOT_HELD);
+    IS(counted().held, 0);
+    closes();
+}
+
+/* An entry is held that is the same in all fields, and no other. */
+static void held(void)
+{
+    derrimas_finalizers_entry entry;
+
+    opens();
+    registers(&objects[1], DERRIMAS_FINALIZERS_NORMAL, 10, 0);
+    IS(collect(&all, &finalizers).picked, 1);
+    OK(derrimas_finalizers_take(&finalizers, &entry));
+    IS(entry.pass, 1);
+    for (size_t field = 0; field < 6; field++) {
+        derrimas_finalizers_entry other = entry;
+        uint64_t *const fields[] = {&other.seq, &other.pass, &other.reg, &other.obj, &other.proc, &other.cd};
+        ++*fields[field];
+        IS(derrimas_finalizers_finish(&finalizers, &other), DERRIMAS_FINALIZERS_NOT_HELD);
+    }
+    OK(derrimas_finalizers_finish(&finalizers, &entry));
+    closes();
+}
+
+/* ---- what stands */
+
+/* Reads all roots of a sort in parts of so many words, and tells how many there are; their sum goes into *sum. */
+static uint64_t rooted(derrimas_finalizers_root sort, size_t room, uint64_t *sum)
+{
+    static uint64_t buffer[OBJECTS + 1];
+    uint64_t from = 0, before = 0;
+    size_t count;
+
+    *sum = 0;
+    while (derrimas_finalizers_roots(&finalizers, sort, &from, buffer, room, &count) == DERRIMAS_FINALIZERS_OK) {
+        IS(count >= 1 && count <= room, true);
+        IS(from, before + count);
+        before = from;
+        for (size_t n = 0; n < count; n++)
+            *sum += buffer[n];
+    }
+    REFUSED(DERRIMAS_FINALIZERS_EMPTY, count, derrimas_finalizers_roots(&finalizers, sort, &from, buffer, room, &count));
+    IS(from, before);
+    return from;
+}
+
+static void roots(void)
+{
+    static const size_t rooms[] = {1, 7, 511, 512, 513, 1024, OBJECTS + 1};
+    const uint64_t queued = OBJECTS - 40;
+    derrimas_finalizers_entry entry;
+    uint64_t sum, sums[3] = {0, 0, 0};
+
+    opens();
+    for (size_t n = 0; n < queued; n++) {
+        registers(&objects[n], (derrimas_finalizers_kind)(n % 4), n, 0);
+        sums[DERRIMAS_FINALIZERS_HELD_OBJECTS] += number_of(&objects[n]);
+        sums[DERRIMAS_FINALIZERS_HELD_DATA] += n + 1;
+    }
+    OK(derrimas_finalizers_queue_all(&finalizers, NULL));
+    for (size_t n = 0; n < 30; n++)
+        OK(derrimas_finalizers_take(&finalizers, &entry));
+    for (size_t n = queued; n < OBJECTS; n++) {
+        registers(&objects[n], (derrimas_finalizers_kind)(n % 4), n, 0);
+        sums[DERRIMAS_FINALIZERS_REGISTERED_DATA] += n + 1;
+    }
+    for (size_t n = 0; n < sizeof rooms / sizeof *rooms; n++)
+        for (int sort = DERRIMAS_FINALIZERS_HELD_OBJECTS; sort <= DERRIMAS_FINALIZERS_REGISTERED_DATA; sort++) {
+            IS(rooted((derrimas_finalizers_root)sort, rooms[n], &sum), sort == DERRIMAS_FINALIZERS_REGISTERED_DATA ? 40 : queued);
+            IS(sum, sums[sort]);
+        }
+    closes();
+}
+
+/* A buffer without room gets nothing, as long as roots are left. */
+static void no_room(void)
+{
+    uint64_t from = 0, word = 1;
+    size_t count;
+
+    opens();
+    REFUSED(DERRIMAS_FINALIZERS_EMPTY, count, derrimas_finalizers_roots(&finalizers, DERRIMAS_FINALIZERS_REGISTERED_DATA, &from, &word, 0, &count));
+    registers(&objects[0], DERRIMAS_FINALIZERS_NORMAL, 1, 0);
+    OK(derrimas_finalizers_roots(&finalizers, DERRIMAS_FINALIZERS_REGISTERED_DATA, &from, &word, 0, &count));
+    IS(count == 0 && from == 0 && word == 1, true);
+    from = UINT64_MAX;
+    REFUSED(DERRIMAS_FINALIZERS_EMPTY, count, derrimas_finalizers_roots(&finalizers, DERRIMAS_FINALIZERS_REGISTERED_DATA, &from, &word, 1, &count));
+    IS(from, UINT64_MAX);
+    closes();
+}
+
+static void walks(void)
+{
+    derrimas_finalizers_registration it;
+    derrimas_finalizers_link_at at;
+    uint64_t from = 0, number = UINT64_MAX;
+
+    opens();
+    for (size_t n = 20; n-- > 0;) {
+        OK(derrimas_finalizers_register(&finalizers, 8 * n + 8, (derrimas_finalizers_kind)(n % 4), n, 2 * n, (uint8_t)(n + 200), NULL, NULL));
+        OK(derrimas_finalizers_link(&finalizers, DERRIMAS_FINALIZERS_SHORT, 8 * n + 8, n + 1, NULL));
+        OK(derrimas_finalizers_link(&finalizers, DERRIMAS_FINALIZERS_LONG, 8 * n + 8, n + 2, NULL));
+    }
+    for (uint64_t n = 0; n < 20; n++) {
+        OK(derrimas_finalizers_next_registration(&finalizers, from, &it));
+        IS(it.object == 8 * n + 8 && it.proc == n && it.cd == 2 * n && (uint64_t)it.kind == n % 4 && it.rank == n + 200, true);
+        IS(it.number < number, true);
+        number = it.number;
+        OK(derrimas_finalizers_next_link(&finalizers, DERRIMAS_FINALIZERS_SHORT, from, &at));
+        IS(at.word == 8 * n + 8 && at.target == n + 1, true);
+        OK(derrimas_finalizers_next_link(&finalizers, DERRIMAS_FINALIZERS_LONG, from, &at));
+        IS(at.word == 8 * n + 8 && at.target == n + 2, true);
+        from = it.object + 1;
+    }
+    REFUSED(DERRIMAS_FINALIZERS_EMPTY, it, derrimas_finalizers_next_registration(&finalizers, from, &it));
+    REFUSED(DERRIMAS_FINALIZERS_EMPTY, it, derrimas_finalizers_next_registration(&finalizers, UINT64_MAX, &it));
+    REFUSED(DERRIMAS_FINALIZERS_EMPTY, at, derrimas_finalizers_next_link(&finalizers, DERRIMAS_FINALIZERS_SHORT, from, &at));
+    REFUSED(DERRIMAS_FINALIZERS_EMPTY, at, derrimas_finalizers_next_link(&finalizers, DERRIMAS_FINALIZERS_LONG, from, &at));
+    closes();
+}
+
+int main(void)
+{
+    closed();
+    opening();
+    registering();
+    linking(DERRIMAS_FINALIZERS_SHORT);
+    linking(DERRIMAS_FINALIZERS_LONG);
+    moving(DERRIMAS_FINALIZERS_SHORT);
+    moving(DERRIMAS_FINALIZERS_LONG);
+    order();
+    kinds();
+    weak();
+    open_pass();
+    endings();
+    entries();
+    held();
+    roots();
+    no_room();
+    walks();
+    closed();
+    return told();
+}

@@ -1,0 +1,238 @@
+/* What stands between derrimas_finalizers.h and the exports, over exports that only note what they are given: each code comes through from each of them, also
+ * those for which a test had to register 2^32 objects; each argument gets to its place; and a place is written only where a call is accepted.
+ */
+#include "../src/finalizers.c"
+#include "check.h"
+
+static uint8_t answer;       /* what each export answers */
+static uint64_t given[8];    /* what the last one was given */
+static unsigned calls;       /* how many were called */
+static derrimas_finalizers finalizers;
+
+/* Notes what an export was given, and fills its place, which counts only where it answers OK. */
+static uint8_t noted(void *place, size_t size, uint64_t a, uint64_t b, uint64_t c, uint64_t d, uint64_t e)
+{
+    const uint64_t now[] = {a, b, c, d, e};
+
+    memcpy(given, now, sizeof now);
+    calls++;
+    if (place && answer == DERRIMAS_FINALIZERS_OK)
+        memset(place, 0, size);
+    return answer;
+}
+
+uint8_t fz_machine_open(derrimas_finalizers *f) { return noted(NULL, 0, f == &finalizers, 0, 0, 0, 0); }
+void fz_machine_destroy(derrimas_finalizers *f) { (void)noted(NULL, 0, f == &finalizers, 0, 0, 0, 0); }
+uint8_t fz_machine_reserve(derrimas_finalizers *f, uint64_t a, uint64_t b, uint64_t c) { return noted(NULL, 0, f == &finalizers, a, b, c, 0); }
+
+uint8_t fz_machine_register(derrimas_finalizers *f, uint64_t object, uint8_t kind, uint64_t proc, uint64_t cd, uint8_t rank, fz_machine_registered *place)
+{
+    uint8_t code = noted(place, sizeof *place, object, kind, proc, cd, rank);
+
+    if (code == DERRIMAS_FINALIZERS_OK)
+        *place = (fz_machine_registered){21, {22, 23, f == &finalizers}};
+    return code;
+}
+
+uint8_t fz_machine_unregister(derrimas_finalizers *f, uint64_t object, derrimas_finalizers_old *old)
+{
+    return noted(old, sizeof *old, f == &finalizers, object, 0, 0, 0);
+}
+
+uint8_t fz_machine_link(derrimas_finalizers *f, bool is_long, uint64_t word, uint64_t target, uint8_t *place)
+{
+    return noted(place, sizeof *place, f == &finalizers, is_long, word, target, 0);
+}
+
+uint8_t fz_machine_unlink(derrimas_finalizers *f, bool is_long, uint64_t word, bool *was)
+{
+    return noted(was, sizeof *was, f == &finalizers, is_long, word, 0, 0);
+}
+
+uint8_t fz_machine_move_link(derrimas_finalizers *f, bool is_long, uint64_t word, uint64_t to, uint8_t *place)
+{
+    return noted(place, sizeof *place, f == &finalizers, is_long, word, to, 0);
+}
+
+uint8_t fz_machine_begin(derrimas_finalizers *f) { return noted(NULL, 0, f == &finalizers, 0, 0, 0, 0); }
+
+uint8_t fz_machine_next(derrimas_finalizers *f, uint64_t answers, fz_machine_question *question, derrimas_finalizers_passed *passed)
+{
+    uint8_t code = noted(question, sizeof *question, f == &finalizers, answers, 0, 0, 0);
+
+    if (code == DERRIMAS_FINALIZERS_OK) {
+        question->what[0] = 31;
+        question->what[1] = 32;
+        question->count = 2;
+        question->ask = DERRIMAS_ASK_CLEAR;
+    } else if (code == DERRIMAS_FINALIZERS_EMPTY)
+        *passed = (derrimas_finalizers_passed){33, 34};
+    return code;
+}
+
+uint8_t fz_machine_queue_all(derrimas_finalizers *f, uint64_t *queued)
+{
+    uint8_t code = noted(queued, sizeof *queued, f == &finalizers, 0, 0, 0, 0);
+
+    if (code == DERRIMAS_FINALIZERS_OK)
+        *queued = 5;
+    return code;
+}
+
+uint8_t fz_machine_take(derrimas_finalizers *f, derrimas_finalizers_entry *entry) { return noted(entry, sizeof *entry, f == &finalizers, 1, 0, 0, 0); }
+uint8_t fz_machine_take_finished(derrimas_finalizers *f, derrimas_finalizers_entry *entry) { return noted(entry, sizeof *entry, f == &finalizers, 2, 0, 0, 0); }
+uint8_t fz_machine_finish(derrimas_finalizers *f, const derrimas_finalizers_entry *entry) { return noted(NULL, 0, f == &finalizers, entry->reg, 0, 0, 0); }
+
+/* Of a handle that isn't changed the exports get a copy. */
+static bool is_copy(const derrimas_finalizers *f) { return f != &finalizers && f->inside == finalizers.inside; }
+
+uint8_t fz_machine_roots(derrimas_finalizers *f, uint8_t sort, uint64_t from, fz_machine_words *words)
+{
+    uint8_t code = from < 1000 ? noted(words, sizeof *words, is_copy(f), sort, from, 0, 0) : DERRIMAS_FINALIZERS_EMPTY;
+
+    if (code == DERRIMAS_FINALIZERS_OK) {
+        words->count = from < 1000 - FZ_MACHINE_WORDS ? FZ_MACHINE_WORDS : 1000 - from;
+        for (uint64_t n = 0; n < words->count; n++)
+            words->words[n] = from + n;
+    }
+    return code;
+}
+
+uint8_t fz_machine_count(derrimas_finalizers *f, derrimas_finalizers_counts *counts) { return noted(counts, sizeof *counts, is_copy(f), 0, 0, 0, 0); }
+
+uint8_t fz_machine_next_registration(derrimas_finalizers *f, uint64_t from, fz_machine_registration *place)
+{
+    uint8_t code = noted(place, sizeof *place, is_copy(f), from, 0, 0, 0);
+
+    if (code == DERRIMAS_FINALIZERS_OK)
+        *place = (fz_machine_registration){41, 42, 43, 44, DERRIMAS_FINALIZERS_UNREACHABLE, 45};
+    return code;
+}
+
+uint8_t fz_machine_next_link(derrimas_finalizers *f, bool is_long, uint64_t from, derrimas_finalizers_link_at *place)
+{
+    return noted(place, sizeof *place, is_copy(f), is_long, from, 0, 0);
+}
+
+/* ---- checks */
+
+/* The call answers what its export answers, which was given these; its place is written where that is OK, and else as it was. */
+#define THROUGH(place, call, ...)                                                                                      \
+    do {                                                                                                               \
+        const uint64_t wanted[] = {__VA_ARGS__};                                                                       \
+        memset(&(place), 1, sizeof(place));                                                                            \
+        calls = 0;                                                                                                     \
+        IS(call, answer);                                                                                              \
+        IS(calls, 1);                                                                                                  \
+        IS(memcmp(given, wanted, sizeof wanted), 0);                                                                   \
+        IS(is_filled(&(place), sizeof(place)), answer != DERRIMAS_FINALIZERS_OK);                                      \
+    } while (0)
+
+static derrimas_finalizers_old old;
+static derrimas_finalizers_linked linked;
+static uint64_t number;
+static bool was;
+
+static void changes(void)
+{
+    THROUGH(number, derrimas_finalizers_register(&finalizers, 3, DERRIMAS_FINALIZERS_UNREACHABLE, 4, 5, 6, &number, NULL), 3, 3, 4, 5, 6);
+    THROUGH(old, derrimas_finalizers_register(&finalizers, 3, DERRIMAS_FINALIZERS_IGNORE_SELF, 4, 5, 6, NULL, &old), 3, 1, 4, 5, 6);
+    if (answer == DERRIMAS_FINALIZERS_OK)
+        IS(number == 21 && old.proc == 22 && old.cd == 23 && old.was, true);
+    THROUGH(old, derrimas_finalizers_unregister(&finalizers, 7, &old), 1, 7);
+    THROUGH(linked, derrimas_finalizers_link(&finalizers, DERRIMAS_FINALIZERS_LONG, 8, 9, &linked), 1, 1, 8, 9);
+    THROUGH(linked, derrimas_finalizers_move_link(&finalizers, DERRIMAS_FINALIZERS_SHORT, 8, 9, &linked), 1, 0, 8, 9);
+    THROUGH(was, derrimas_finalizers_unlink(&finalizers, DERRIMAS_FINALIZERS_LONG, 8, &was), 1, 1, 8);
+    IS(derrimas_finalizers_unregister(&finalizers, 7, NULL), answer);
+    IS(derrimas_finalizers_link(&finalizers, DERRIMAS_FINALIZERS_SHORT, 8, 9, NULL), answer);
+    IS(derrimas_finalizers_move_link(&finalizers, DERRIMAS_FINALIZERS_LONG, 8, 9, NULL), answer);
+    IS(derrimas_finalizers_unlink(&finalizers, DERRIMAS_FINALIZERS_SHORT, 8, NULL), answer);
+    IS(derrimas_finalizers_register(&finalizers, 3, DERRIMAS_FINALIZERS_NORMAL, 4, 5, 6, NULL, NULL), answer);
+    IS(derrimas_finalizers_open(&finalizers), answer);
+    IS(derrimas_finalizers_reserve(&finalizers, 11, 12, 13), answer);
+    IS(given[1] == 11 && given[2] == 12 && given[3] == 13, true);
+    IS(derrimas_finalizers_begin(&finalizers), answer);
+}
+
+/* How many entries wait follows what the exports say: 34 more at a pass's end, 5 of .._queue_all, one fewer by a take. */
+static void waiting(void)
+{
+    const bool is_ok = answer == DERRIMAS_FINALIZERS_OK, has_ended = answer == DERRIMAS_FINALIZERS_EMPTY;
+    derrimas_finalizers_entry entry;
+    derrimas_finalizers_passed passed;
+    derrimas_question question;
+
+    finalizers.waiting = 0;
+    THROUGH(question, derrimas_finalizers_next(&finalizers, 14, &question, NULL), 1, 14);
+    if (is_ok)
+        IS(question.what[0] == 31 && question.what[1] == 32 && question.count == 2 && question.ask == DERRIMAS_ASK_CLEAR, true);
+    IS(derrimas_finalizers_has_waiting(&finalizers), has_ended);
+    memset(&passed, 1, sizeof passed);
+    IS(derrimas_finalizers_next(&finalizers, 14, &question, &passed), answer);
+    IS(is_filled(&passed, sizeof passed), !has_ended);
+    IS(!has_ended || (passed.pass == 33 && passed.picked == 34), true);
+    IS(finalizers.waiting, has_ended ? 68 : 0);
+    THROUGH(number, derrimas_finalizers_queue_all(&finalizers, &number), 1);
+    IS(!is_ok || number == 5, true);
+    IS(derrimas_finalizers_queue_all(&finalizers, NULL), answer);
+    THROUGH(entry, derrimas_finalizers_take(&finalizers, &entry), 1, 1);
+    THROUGH(entry, derrimas_finalizers_take_finished(&finalizers, &entry), 1, 2);
+    IS(finalizers.waiting, is_ok ? 8 : has_ended ? 68 : 0);
+    entry.reg = 15;
+    IS(derrimas_finalizers_finish(&finalizers, &entry), answer);
+    IS(given[1], 15);
+}
+
+static void shown(void)
+{
+    derrimas_finalizers_registration registration;
+    derrimas_finalizers_counts counts;
+    derrimas_finalizers_link_at at;
+    uint64_t buffer[1100], from = 100;
+    size_t count;
+
+    THROUGH(counts, derrimas_finalizers_count(&finalizers, &counts), 1);
+    THROUGH(registration, derrimas_finalizers_next_registration(&finalizers, 16, &registration), 1, 16);
+    IS(answer != DERRIMAS_FINALIZERS_OK || (registration.object == 41 && registration.number == 42 && registration.proc == 43 && registration.cd == 44), true);
+    IS(answer != DERRIMAS_FINALIZERS_OK || (registration.kind == DERRIMAS_FINALIZERS_UNREACHABLE && registration.rank == 45), true);
+    THROUGH(at, derrimas_finalizers_next_link(&finalizers, DERRIMAS_FINALIZERS_LONG, 17, &at), 1, 1, 17);
+    THROUGH(at, derrimas_finalizers_next_link(&finalizers, DERRIMAS_FINALIZERS_SHORT, 17, &at), 1, 0, 17);
+    THROUGH(count, derrimas_finalizers_roots(&finalizers, DERRIMAS_FINALIZERS_HELD_DATA, &from, buffer, 10, &count), 1, 1, 100);
+    IS(from, answer == DERRIMAS_FINALIZERS_OK ? 110 : 100);
+    IS(derrimas_finalizers_roots(&finalizers, DERRIMAS_FINALIZERS_REGISTERED_DATA, &from, buffer, 1100, &count), answer);
+    IS(from, answer == DERRIMAS_FINALIZERS_OK ? 1000 : 100);
+    for (uint64_t n = 0; answer == DERRIMAS_FINALIZERS_OK && n < 890; n++)
+        IS(buffer[n], n + 110);
+}
+
+/* A kind that is none goes to no export. */
+static void bad_kinds(void)
+{
+    const derrimas_finalizers_links kind = (derrimas_finalizers_links)257;
+    derrimas_finalizers_link_at at;
+    uint64_t from = 0;
+    size_t count;
+
+    calls = 0;
+    IS(derrimas_finalizers_register(&finalizers, 3, (derrimas_finalizers_kind)256, 4, 5, 6, NULL, NULL), DERRIMAS_FINALIZERS_BAD_KIND);
+    IS(derrimas_finalizers_link(&finalizers, kind, 8, 9, NULL), DERRIMAS_FINALIZERS_BAD_KIND);
+    IS(derrimas_finalizers_unlink(&finalizers, kind, 8, NULL), DERRIMAS_FINALIZERS_BAD_KIND);
+    IS(derrimas_finalizers_move_link(&finalizers, kind, 8, 9, NULL), DERRIMAS_FINALIZERS_BAD_KIND);
+    IS(derrimas_finalizers_next_link(&finalizers, kind, 8, &at), DERRIMAS_FINALIZERS_BAD_KIND);
+    IS(derrimas_finalizers_roots(&finalizers, (derrimas_finalizers_root)258, &from, NULL, 0, &count), DERRIMAS_FINALIZERS_BAD_KIND);
+    IS(calls, 0);
+}
+
+int main(void)
+{
+    finalizers.inside = &finalizers;
+    for (answer = DERRIMAS_FINALIZERS_OK; answer <= DERRIMAS_FINALIZERS_BAD_KIND; answer++) {
+        changes();
+        waiting();
+        shown();
+        bad_kinds();
+    }
+    derrimas_finalizers_destroy(&finalizers);
+    IS(finalizers.waiting == 0 && given[0], true);
+    return told();
+}

@@ -1,0 +1,290 @@
+/* Memory of a host's own. Each allocation is refused once, after which nothing has changed; no call but those that derrimas_finalizers.h names asks for memory
+ * or gives any back; and calls that take a const handle write to none of it, which is then read-only.
+ */
+#define _DEFAULT_SOURCE /* for MAP_ANONYMOUS */
+#include "finalizers_host.h"
+#include <sys/mman.h>
+
+enum { HEAD = 16, ROOM = 1 << 26 };
+
+static unsigned char *memory;    /* all of it: what is given back isn't given again */
+static size_t used;              /* of it */
+static long granted = -1;        /* how many allocations are granted yet; none is refused where it is negative */
+static unsigned asked, standing; /* how often the three were called; how much isn't given back */
+
+static derrimas_finalizers finalizers;
+static host all;
+static object *const objects = all.objects;
+
+void *derrimas_malloc(size_t size)
+{
+    asked++;
+    if (granted == 0 || size == 0 || size > ROOM - HEAD - used)
+        return NULL;
+    granted -= granted > 0;
+    memcpy(memory + used, &size, sizeof size);
+    used += HEAD + (size + 15) / 16 * 16;
+    standing++;
+    return memory + used - (size + 15) / 16 * 16;
+}
+
+void derrimas_free(void *at)
+{
+    asked++;
+    if (!at)
+        return;
+    standing--;
+    memset((unsigned char *)at - HEAD, 0xee, HEAD);
+}
+
+void *derrimas_realloc(void *at, size_t size)
+{
+    void *other = derrimas_malloc(size);
+    size_t had;
+
+    if (!other || !at)
+        return other;
+    memcpy(&had, (unsigned char *)at - HEAD, sizeof had);
+    memcpy(other, at, had < size ? had : size);
+    derrimas_free(at);
+    return other;
+}
+
+static derrimas_finalizers_counts counted(void)
+{
+    derrimas_finalizers_counts counts;
+
+    OK(derrimas_finalizers_count(&finalizers, &counts));
+    return counts;
+}
+
+static void closes(void)
+{
+    derrimas_finalizers_destroy(&finalizers);
+    IS(standing, 0);
+    used = 0;
+}
+
+/* Makes a call with none, one, two, .. allocations granted, up to where it is accepted: else it is refused, and nothing has changed. Adds to *refusals. */
+#define WITHIN(refusals, place, call)                                                                                  \
+    do {                                                                                                               \
+        derrimas_finalizers_counts before = counted(), after;                                                          \
+        derrimas_finalizers_code code;                                                                                 \
+        for (long few = 0;; few++) {                                                                                   \
+            granted = few;                                                                                             \
+            memset(&(place), 1, sizeof(place));                                                                        \
+            code = call;                                                                                               \
+            granted = -1;                                                                                              \
+            if (code == DERRIMAS_FINALIZERS_OK)                                                                        \
+                break;                                                                                                 \
+            after = counted();                                                                                         \
+            (refusals)++;                                                                                              \
+            IS(code, DERRIMAS_FINALIZERS_NO_MEMORY);                                                                   \
+            IS(is_filled(&(place), sizeof(place)), true);                                                              \
+            IS(memcmp(&before, &after, sizeof before), 0);                                                             \
+        }                                                                                                              \
+    } while (0)
+
+static void opening(void)
+{
+    long few = 0;
+
+    for (;; few++) {
+        derrimas_finalizers_code code;
+        granted = few;
+        code = derrimas_finalizers_open(&finalizers);
+        granted = -1;
+        if (code == DERRIMAS_FINALIZERS_OK)
+            break;
+        IS(code, DERRIMAS_FINALIZERS_NO_MEMORY);
+        IS(finalizers.inside == NULL && standing == 0, true);
+    }
+    IS(few > 0, true);
+    closes();
+}
+
+/* All is registered and linked with too little memory at first; then each object is registered again, in another kind. */
+static void refusals(void)
+{
+    unsigned registering = 0, linking = 0;
+    derrimas_finalizers_linked answer;
+    derrimas_finalizers_old old;
+    uint64_t number;
+
+    OK(derrimas_finalizers_open(&finalizers));
+    for (size_t n = 0; n < 300; n++) {
+        const uint64_t object = number_of(&objects[n]), word = word_of(&objects[n], 0);
+        WITHIN(registering, number, derrimas_finalizers_register(&finalizers, object, (derrimas_finalizers_kind)(n % 4), n, n, 0, &number, NULL));
+        WITHIN(linking, answer, derrimas_finalizers_link(&finalizers, DERRIMAS_FINALIZERS_SHORT, word, object, &answer));
+        WITHIN(linking, answer, derrimas_finalizers_link(&finalizers, DERRIMAS_FINALIZERS_LONG, word, object, &answer));
+    }
+    IS(registering > 0 && linking > 0, true);
+    for (size_t n = 0; n < 300; n++) {
+        const derrimas_finalizers_kind kind = (derrimas_finalizers_kind)((n + 1) % 4);
+        WITHIN(registering, old, derrimas_finalizers_register(&finalizers, number_of(&objects[n]), kind, n, n, 0, NULL, &old));
+        IS(old.was && old.proc == n, true);
+    }
+    IS(counted().registrations == 300 && counted().short_links == 300 && counted().long_links == 300, true);
+    closes();
+}
+
+/* In the place of one of another kind: where that is refused, the old one stands. */
+static void replacing(derrimas_finalizers_kind kind, derrimas_finalizers_kind other)
+{
+    derrimas_finalizers_registration before, after;
+    derrimas_finalizers_old old = {0, 0, false};
+    derrimas_finalizers_code code;
+    long few = 0;
+
+    OK(derrimas_finalizers_open(&finalizers));
+    OK(derrimas_finalizers_register(&finalizers, 8, kind, 1, 2, 3, NULL, NULL));
+    OK(derrimas_finalizers_next_registration(&finalizers, 0, &before));
+    do {
+        granted = few++;
+        code = derrimas_finalizers_register(&finalizers, 8, other, 4, 5, 6, NULL, &old);
+        granted = -1;
+        OK(derrimas_finalizers_next_registration(&finalizers, 0, &after));
+        IS(code == DERRIMAS_FINALIZERS_OK || code == DERRIMAS_FINALIZERS_NO_MEMORY, true);
+        IS(after.kind, code == DERRIMAS_FINALIZERS_OK ? other : kind);
+        IS(after.number == before.number && after.proc == 1 && after.cd == 2 && after.rank == 3, code != DERRIMAS_FINALIZERS_OK);
+    } while (code != DERRIMAS_FINALIZERS_OK);
+    IS(few == 1 || kind == DERRIMAS_FINALIZERS_UNREACHABLE || other == DERRIMAS_FINALIZERS_UNREACHABLE, true);
+    IS(old.was && old.proc == 1 && old.cd == 2, true);
+    IS(counted().registrations, 1);
+    closes();
+}
+
+/* Where too much is asked for, nothing has changed either. */
+static void too_much(void)
+{
+    OK(derrimas_finalizers_open(&finalizers));
+    OK(derrimas_finalizers_register(&finalizers, 8, DERRIMAS_FINALIZERS_NORMAL, 1, 2, 0, NULL, NULL));
+    IS(derrimas_finalizers_reserve(&finalizers, UINT64_MAX, 0, 0), DERRIMAS_FINALIZERS_NO_MEMORY);
+    IS(derrimas_finalizers_reserve(&finalizers, 0, UINT64_MAX, 0), DERRIMAS_FINALIZERS_NO_MEMORY);
+    IS(derrimas_finalizers_reserve(&finalizers, 0, 0, UINT64_MAX), DERRIMAS_FINALIZERS_NO_MEMORY);
+    IS(derrimas_finalizers_reserve(&finalizers, (uint64_t)1 << 63, (uint64_t)1 << 61, (uint64_t)1 << 60), DERRIMAS_FINALIZERS_NO_MEMORY);
+    IS(counted().registrations, 1);
+    closes();
+}
+
+/* Up to what is reserved, no memory is asked for. */
+static void reserved(void)
+{
+    unsigned refused = 0, before;
+    uint64_t unused;
+
+    OK(derrimas_finalizers_open(&finalizers));
+    WITHIN(refused, unused, derrimas_finalizers_reserve(&finalizers, 1000, 900, 1100));
+    IS(refused > 0, true);
+    before = asked;
+    granted = 0;
+    for (size_t n = 0; n < 1000; n++)
+        OK(derrimas_finalizers_register(&finalizers, number_of(&objects[n]), (derrimas_finalizers_kind)(n % 3), n, n, 0, NULL, NULL));
+    for (size_t n = 0; n < 900; n++)
+        OK(derrimas_finalizers_link(&finalizers, DERRIMAS_FINALIZERS_SHORT, word_of(&objects[n], 1), number_of(&objects[n + 1]), NULL));
+    for (size_t n = 0; n < 1100; n++)
+        OK(derrimas_finalizers_link(&finalizers, DERRIMAS_FINALIZERS_LONG, word_of(&objects[n], 2), number_of(&objects[n + 1]), NULL));
+    IS(asked, before);
+    granted = -1;
+    closes();
+}
+
+static void fill(void)
+{
+    memset(&all, 0, sizeof all);
+    for (size_t n = 0; n < OBJECTS; n++) {
+        objects[n].is_root = n % 3 == 0;
+        objects[n].words[0] = n % 5 == 0 ? number_of(&objects[(n + 700) % OBJECTS]) : 0;
+        OK(derrimas_finalizers_register(&finalizers, number_of(&objects[n]), (derrimas_finalizers_kind)(n % 4), n, n + 1, (uint8_t)(n % 7), NULL, NULL));
+        OK(derrimas_finalizers_link(&finalizers, DERRIMAS_FINALIZERS_SHORT, word_of(&objects[n], 1), number_of(&objects[(n + 1) % OBJECTS]), NULL));
+        OK(derrimas_finalizers_link(&finalizers, DERRIMAS_FINALIZERS_LONG, word_of(&objects[n], 2), number_of(&objects[(n + 2) % OBJECTS]), NULL));
+    }
+}
+
+/* All other calls ask for none, and give none back. */
+static void others(void)
+{
+    derrimas_finalizers_entry entry;
+    unsigned before;
+
+    OK(derrimas_finalizers_open(&finalizers));
+    fill();
+    before = asked;
+    granted = 0;
+    IS(collect(&all, &finalizers).picked > 100, true);
+    for (size_t n = 0; n < OBJECTS; n += 2) {
+        OK(derrimas_finalizers_move_link(&finalizers, DERRIMAS_FINALIZERS_SHORT, word_of(&objects[n], 1), word_of(&objects[n], 3), NULL));
+        OK(derrimas_finalizers_unlink(&finalizers, DERRIMAS_FINALIZERS_LONG, word_of(&objects[n], 2), NULL));
+        OK(derrimas_finalizers_unregister(&finalizers, number_of(&objects[n]), NULL));
+    }
+    OK(derrimas_finalizers_queue_all(&finalizers, NULL));
+    for (size_t n = 0; derrimas_finalizers_has_waiting(&finalizers); n++) {
+        OK(n % 2 ? derrimas_finalizers_take(&finalizers, &entry) : derrimas_finalizers_take_finished(&finalizers, &entry));
+        IS(derrimas_finalizers_finish(&finalizers, &entry), n % 2 ? DERRIMAS_FINALIZERS_OK : DERRIMAS_FINALIZERS_NOT_HELD);
+    }
+    IS(collect(&all, &finalizers).picked, 0);
+    IS(asked, before);
+    granted = -1;
+    closes();
+}
+
+/* Calls that change nothing, while the memory can't be written to. */
+static void reads(void)
+{
+    derrimas_finalizers_registration registration = {0, 0, 0, 0, DERRIMAS_FINALIZERS_NORMAL, 0};
+    derrimas_finalizers_link_at at = {0, 0};
+    derrimas_finalizers_counts counts;
+    uint64_t buffer[100], from;
+    size_t count, seen = 0;
+
+    IS(mprotect(memory, ROOM, PROT_READ), 0);
+    OK(derrimas_finalizers_count(&finalizers, &counts));
+    while (derrimas_finalizers_next_registration(&finalizers, registration.object + 1, &registration) == DERRIMAS_FINALIZERS_OK)
+        seen++;
+    for (int kind = DERRIMAS_FINALIZERS_SHORT; kind <= DERRIMAS_FINALIZERS_LONG; kind++, at.word = 0)
+        while (derrimas_finalizers_next_link(&finalizers, (derrimas_finalizers_links)kind, at.word + 1, &at) == DERRIMAS_FINALIZERS_OK)
+            seen++;
+    for (int sort = DERRIMAS_FINALIZERS_HELD_OBJECTS; sort <= DERRIMAS_FINALIZERS_REGISTERED_DATA; sort++)
+        for (from = 0; derrimas_finalizers_roots(&finalizers, (derrimas_finalizers_root)sort, &from, buffer, 100, &count) == DERRIMAS_FINALIZERS_OK;)
+            seen += count;
+    IS(seen, 2 * counts.registrations + counts.short_links + counts.long_links + 2 * (counts.waiting + counts.held));
+    IS(mprotect(memory, ROOM, PROT_READ | PROT_WRITE), 0);
+}
+
+/* Such calls before a pass, in it and after it, and with entries that are held. */
+static void constant(void)
+{
+    derrimas_finalizers_entry entry;
+    derrimas_question question;
+    uint64_t answers = 0, asks = 0;
+
+    OK(derrimas_finalizers_open(&finalizers));
+    fill();
+    reads();
+    mark_all(&all, &finalizers);
+    for (OK(derrimas_finalizers_begin(&finalizers)); derrimas_finalizers_next(&finalizers, answers, &question, NULL) == DERRIMAS_FINALIZERS_OK; asks++) {
+        if (asks % 97 == 0)
+            reads();
+        answers = derrimas_host_answers(&procedures, &all, &question);
+    }
+    for (size_t n = 0; n < 50; n++)
+        OK(derrimas_finalizers_take(&finalizers, &entry));
+    reads();
+    closes();
+}
+
+int main(void)
+{
+    memory = mmap(NULL, ROOM, PROT_READ | PROT_WRITE, MAP_PRIVATE | MAP_ANONYMOUS, -1, 0);
+    if (memory == MAP_FAILED)
+        return 2;
+    opening();
+    refusals();
+    for (int kind = 0; kind < 16; kind++)
+        replacing((derrimas_finalizers_kind)(kind / 4), (derrimas_finalizers_kind)(kind % 4));
+    too_much();
+    reserved();
+    others();
+    constant();
+    return told();
+}
