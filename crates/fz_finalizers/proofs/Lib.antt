@@ -8,3 +8,4 @@ pub mod Queueing
 pub mod OneQueued
 pub mod Promised
 pub mod Walked
+pub mod Placed

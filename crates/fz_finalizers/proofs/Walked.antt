@@ -24,7 +24,7 @@ module _ {X Y : Type 0} (f : X → Y) where
 -- an entry that waits or is held is among the entries of a walk
 among : (s : State) (entries : List Entry) → AreEntries s entries → (e : Entry) → Contains s.waiting e ⊎ (get s.held e.seq ≡ Some e) → Contains entries e
 among s entries are e here =
-    subst (λ es. Contains es e) (sym are.2)
+    subst (λ es. Contains es e) (sym are.3)
     (⊎_elim (λ (w : Contains s.waiting e). Contains-append_left s.waiting (values_of are.0) e w)
     (λ (h : get s.held e.seq ≡ Some e).
     Contains-append_right s.waiting (values_of are.0) e (contains_mapped (λ (p : ℕ × Entry). p.1) are.0 (e.seq, e) (listed are.0 e.seq e (ap (λ (m : Map Entry). get m e.seq) are.1 ∙ h))))

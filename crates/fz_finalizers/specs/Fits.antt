@@ -7,7 +7,7 @@ use Rattle.fz_table.specs.Tabled.{Tabled}
 use Rattle.fz_links.specs.Linked.{Linked}
 use Rattle.fz_pass.specs.Late.{AreApart, AreNormal}
 use Rattle.fz_finalizers.specs.Ready.{Ready}
-use Rattle.fz_finalizers.specs.States.{State, Rooms}
+use Rattle.fz_finalizers.specs.States.{State, Rooms, Order}
 
 -- how many are registered
 abbrev pub count_of : Registered → Registered → ℕ
@@ -47,3 +47,6 @@ rooms_of table late short long ready moves = record {
   short = min short.room (moves - len short.links);
   long = min long.room (moves - len long.links);
 }
+
+abbrev pub order_of : Tabled → Tabled → Ready → Order
+order_of table late ready = record { registrations = table.order; late = late.order; held = ready.order }

@@ -1,5 +1,5 @@
 -- What contracts see of the entries with their room: those that wait, in the queue's order, those that are held, by their numbers, how many ever came,
--- and for how many that are still to come there is room.
+-- for how many that are still to come there is room, and the order in which walks go over the held ones.
 use Rattle.std.specs.Prelude.{◌≡◌, ℕ, ◌+◌, ◌-◌, ◌≤◌, List, [], ◌∷◌, length, Option, Some, None, refl, Bool}
 use Rattle.std.specs.Coded.{Coded, code_by, coded×, coded_ℕ, coded_list}
 use Rattle.std.specs.FinMap as map
@@ -17,11 +17,13 @@ pub record Ready : Type 0 where
   pub held : Map Entry
   pub queued : ℕ
   pub room : ℕ
+  pub order : List (ℕ × Entry)
 
 abbrev pub ready_code : Coded Ready
 ready_code =
-    code_by (List Entry × (Map Entry × (ℕ × ℕ))) (coded× (coded_list entry_code) (coded× (map.code coded_ℕ entry_code) (coded× coded_ℕ coded_ℕ))) (λ r. (r.waiting, (r.held, (r.queued, r.room))))
-    (λ p. record { waiting = p.0; held = p.1.0; queued = p.1.1.0; room = p.1.1.1 }) (λ _. refl)
+    code_by (List Entry × (Map Entry × (ℕ × (ℕ × List (ℕ × Entry)))))
+    (coded× (coded_list entry_code) (coded× (map.code coded_ℕ entry_code) (coded× coded_ℕ (coded× coded_ℕ (coded_list (coded× coded_ℕ entry_code))))))
+    (λ r. (r.waiting, (r.held, (r.queued, (r.room, r.order))))) (λ p. record { waiting = p.0; held = p.1.0; queued = p.1.1.0; room = p.1.1.1.0; order = p.1.1.1.1 }) (λ _. refl)
 
 -- each entry that waits has room to be held, and they are no more than ever came
 pub record IsReady (waiting : Waiting) (held : Held) (queued : ℕ) : Type 0 where

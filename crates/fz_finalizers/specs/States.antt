@@ -1,4 +1,4 @@
--- What contracts see of finalizers: what is registered, the links, the entries, and for how much more there is room.
+-- What contracts see of finalizers: what is registered, the links, the entries, for how much more there is room, and the order in which walks go.
 use Rattle.std.specs.Prelude.{ℕ, ◌≤◌, min, if◌then◌else◌, List, [], Option, option_map, refl}
 use Rattle.std.specs.Coded.{Coded, code_by, coded×, coded_ℕ, coded_list}
 use Rattle.std.specs.Option.{option_or}
@@ -33,10 +33,17 @@ pub record Rooms : Type 0 where
   pub short : ℕ
   pub long : ℕ
 
+-- the order in which walks go over what has none
+pub record Order : Type 0 where
+  pub registrations : List (ℕ × Registration)
+  pub late : List (ℕ × Registration)
+  pub held : List (ℕ × Entry)
+
 pub record View : Type 0 where
   pub state : State
   pub open state use *
   pub rooms : Rooms
+  pub order : Order
 
 abbrev state_code : Coded State
 state_code =
@@ -61,8 +68,16 @@ rooms_code =
     code_by (ℕ × (ℕ × (ℕ × ℕ))) (coded× coded_ℕ (coded× coded_ℕ (coded× coded_ℕ coded_ℕ))) (λ r. (r.registrations, (r.late, (r.short, r.long))))
     (λ p. record { registrations = p.0; late = p.1.0; short = p.1.1.0; long = p.1.1.1 }) (λ _. refl)
 
+abbrev order_code : Coded Order
+order_code =
+    code_by (List (ℕ × Registration) × (List (ℕ × Registration) × List (ℕ × Entry)))
+    (coded× (coded_list (coded× coded_ℕ registration_code)) (coded× (coded_list (coded× coded_ℕ registration_code)) (coded_list (coded× coded_ℕ entry_code))))
+    (λ o. (o.registrations, (o.late, o.held))) (λ p. record { registrations = p.0; late = p.1.0; held = p.1.1 }) (λ _. refl)
+
 abbrev pub view_code : Coded View
-view_code = code_by (State × Rooms) (coded× state_code rooms_code) (λ v. (v.state, v.rooms)) (λ p. record { state = p.0; rooms = p.1 }) (λ _. refl)
+view_code =
+    code_by (State × (Rooms × Order)) (coded× state_code (coded× rooms_code order_code)) (λ v. (v.state, (v.rooms, v.order))) (λ p. record { state = p.0; rooms = p.1.0; order = p.1.1 })
+    (λ _. refl)
 
 -- nothing is registered, and nothing is queued
 abbrev pub opening : State

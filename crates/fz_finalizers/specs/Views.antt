@@ -1,4 +1,4 @@
--- What contracts see of the entries: those that wait, those that are held, and their room.
+-- What contracts see of the entries: those that wait, those that are held, their room, and the order in which walks go over the held ones.
 use Rattle.std.specs.Prelude.{ℕ, Bool, false, List, refl}
 use Rattle.std.specs.Option.{option_map_or}
 use Rattle.std.specs.Coded.{Coded, code_by, coded×, coded_ℕ, coded_list}
@@ -20,10 +20,12 @@ waiting_code =
 pub record Held : Type 0 where
   pub entries : Map Entry
   pub room : ℕ
+  pub order : List (ℕ × Entry)
 
 abbrev pub held_code : Coded Held
 held_code =
-    code_by (Map Entry × ℕ) (coded× (map.code coded_ℕ entry_code) coded_ℕ) (λ h. (h.entries, h.room)) (λ p. record { entries = p.0; room = p.1 }) (λ _. refl)
+    code_by (Map Entry × (ℕ × List (ℕ × Entry))) (coded× (map.code coded_ℕ entry_code) (coded× coded_ℕ (coded_list (coded× coded_ℕ entry_code))))
+    (λ h. (h.entries, (h.room, h.order))) (λ p. record { entries = p.0; room = p.1.0; order = p.1.1 }) (λ _. refl)
 
 -- this very entry is held
 abbrev pub is_held : Map Entry → Entry → Bool

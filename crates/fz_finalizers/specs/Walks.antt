@@ -1,12 +1,14 @@
 -- What walks yield.
-use Rattle.std.specs.Prelude.{◌≡◌, ℕ, ◌≤◌, ◌<◌, List, ◌++◌, map, Option, Some, None}
+use Rattle.std.specs.Prelude.{◌≡◌, ℕ, ◌≤◌, ◌<◌, nat_eq, List, ◌++◌, map, Option, Some, None}
 use Rattle.std.specs.Ordering.{nat_cmp}
 use Rattle.std.specs.FinMap.{get, from_entries}
+use Rattle.std.specs.List.{IsDistinct}
+use Rattle.std.specs.Map.{keys_of}
 use Rattle.fz_model.specs.declared.answers.Entry.{Entry}
 use Rattle.fz_model.specs.declared.answers.Registration.{Registration}
 use Rattle.fz_finalizers.specs.declared.roots.Root.{Root}
 use Rattle.fz_finalizers.specs.declared.roots.Root.TheVariants.{HeldObject, HeldData, RegisteredData}
-use Rattle.fz_finalizers.specs.States.{State, registered}
+use Rattle.fz_finalizers.specs.States.{State, View, registered}
 
 -- the values of pairs
 abbrev pub values_of : {X : Type 0} → List (ℕ × X) → List X
@@ -18,17 +20,27 @@ words_left HeldObject entries registrations = map (λ (e : Entry). e.obj) entrie
 words_left HeldData entries registrations = map (λ (e : Entry). e.cd) entries
 words_left RegisteredData entries registrations = map (λ (e : ℕ × Registration). e.1.cd) registrations
 
--- these are the entries that wait or are held
+-- these are the entries that wait or are held, each once
 abbrev pub AreEntries : State → List Entry → Type 0
-AreEntries s entries = (held : List (ℕ × Entry)) × (from_entries held ≡ s.held) × (entries ≡ s.waiting ++ values_of held)
+AreEntries s entries = (held : List (ℕ × Entry)) × (from_entries held ≡ s.held) × IsDistinct nat_eq (keys_of held) × (entries ≡ s.waiting ++ values_of held)
 
--- these are the registrations
+-- these are the registrations, each once
 abbrev pub AreRegistrations : State → List (ℕ × Registration) → Type 0
-AreRegistrations s registrations = (object : ℕ) → get (from_entries {R = nat_cmp} registrations) object ≡ registered s object
+AreRegistrations s registrations = ((object : ℕ) → get (from_entries {R = nat_cmp} registrations) object ≡ registered s object) × IsDistinct nat_eq (keys_of registrations)
 
 -- what the walk over a sort of roots yields
 abbrev pub YieldsRoots : Root → State → List ℕ → Type 0
 YieldsRoots root s words = (entries : List Entry) × (registrations : List (ℕ × Registration)) × AreEntries s entries × AreRegistrations s registrations × (words ≡ words_left root entries registrations)
+
+-- the order of a walk over entries, over registrations, and over the roots of a sort: one and the same as long as nothing changes
+abbrev pub entries_in_order : View → List Entry
+entries_in_order v = v.waiting ++ values_of v.order.held
+
+abbrev pub registrations_in_order : View → List (ℕ × Registration)
+registrations_in_order v = v.order.registrations ++ v.order.late
+
+abbrev pub roots_of : Root → View → List ℕ
+roots_of root v = words_left root (entries_in_order v) (registrations_in_order v)
 
 -- no object is registered as far as that, or it is the first that is
 abbrev pub IsFirstRegistered : State → ℕ → Option (ℕ × Registration) → Type 0

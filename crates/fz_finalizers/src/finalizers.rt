@@ -15,9 +15,9 @@ use std::marker::Model;
 ///
 /// Objects, words, procedures and client data are numbers, which are compared and handed back, and never followed. Zero is no object and no word.
 ///
-/// A contract sees a state, and for how much more there is room. A refused call returns the first of its refusals that stands, and leaves the state
-/// as it was. Memory is wanted by `reserve`, by a new registration and by a new link alone: what is registered keeps room for its entry, so that a
-/// pass, a take and a move of a link can't fail for want of it. Entries that are finished are forgotten.
+/// A contract sees a state, for how much more there is room, and the order of walks. A refused call returns the first of its refusals that stands, and
+/// leaves the state as it was. Memory is wanted by `reserve`, by a new registration and by a new link alone: what is registered keeps room for its
+/// entry, so that a pass, a take and a move of a link can't fail for want of it. Entries that are finished are forgotten.
 pub struct Finalizers {
     pub(crate) table: Table,
     /// The unreachable ones, which stand there as normal ones.
@@ -48,13 +48,17 @@ impl Drop for Finalizers {
 impl Model for Finalizers {
     ghost use Rattle.std.specs.Prelude.{vec_capacity};
     ghost use Rattle.fz_finalizers.specs.States.{View, view_code};
-    ghost use Rattle.fz_finalizers.specs.Fits.{Fits, HasMoves, state_of, rooms_of};
+    ghost use Rattle.fz_finalizers.specs.Fits.{Fits, HasMoves, state_of, rooms_of, order_of};
 
     ghost Value = { View };
 
     ghost coded = { view_code };
 
-    ghost view = { λ f. record { state = state_of f.table f.late f.short f.long f.ready f.passes; rooms = rooms_of f.table f.late f.short f.long f.ready (vec_capacity f.moves) } };
+    ghost view = { λ f. record {
+      state = state_of f.table f.late f.short f.long f.ready f.passes;
+      rooms = rooms_of f.table f.late f.short f.long f.ready (vec_capacity f.moves);
+      order = order_of f.table f.late f.ready;
+    } };
 
     ghost invariant = { λ f. Fits f.table.registered f.late.registered f.ready × HasMoves f.short f.long f.moves.items (vec_capacity f.moves) };
 }

@@ -2,6 +2,8 @@
 
 ghost use Rattle.std.specs.Prelude.{◌≡◌, ◌≤◌, ◌<◌, ◌+◌, nat_eq, if◌then◌else◌, length, OnOk, OnErr};
 ghost use Rattle.std.specs.FinMap.{get, insert, remove, len, empty, from_entries};
+ghost use Rattle.std.specs.List.{IsDistinct};
+ghost use Rattle.std.specs.Map.{keys_of};
 ghost use Rattle.fz_finalizers.specs.Views.{is_held};
 
 use fz_model::Entry;
@@ -25,7 +27,7 @@ impl Model for Held {
 
     ghost coded = { held_code };
 
-    ghost view = { λ h. record { entries = from_entries h.entries.entries; room = spare h.entries } };
+    ghost view = { λ h. record { entries = from_entries h.entries.entries; room = spare h.entries; order = h.entries.entries } };
 }
 
 impl Held {
@@ -82,9 +84,11 @@ impl Held {
         self.entries.swap_remove(&number);
     }
 
-    /// Those that are held, in no order that callers may count on.
+    /// Those that are held, in an order that stays while they do.
     pub(crate) fn iter(&self) -> Pairs<'_, u64, Entry>
         ensures all { from_entries result ≡ self.now.entries }
+        ensures order { result ≡ self.now.order }
+        ensures once { IsDistinct nat_eq (keys_of result) }
         ensures count { length result ≡ len self.now.entries }
     {
         Pairs::of(self.entries.iter())

@@ -1,7 +1,9 @@
 //! The entries, and the room that is kept for those that are still to come.
 
-ghost use Rattle.std.specs.Prelude.{◌≡◌, ◌≤◌, ◌<◌, ◌+◌, ◌^◌, [], ◌∷◌, ◌++◌, ℕ, None, length, IfErr, OnOk, OnErr, IsTrue};
+ghost use Rattle.std.specs.Prelude.{◌≡◌, ◌≤◌, ◌<◌, ◌+◌, ◌^◌, [], ◌∷◌, ◌++◌, ℕ, nat_eq, None, length, IfErr, OnOk, OnErr, IsTrue};
 ghost use Rattle.std.specs.FinMap.{get, remove, len, empty, from_entries};
+ghost use Rattle.std.specs.List.{IsDistinct};
+ghost use Rattle.std.specs.Map.{keys_of};
 ghost use Rattle.fz_model.specs.Memory.{points};
 ghost use Rattle.fz_model.specs.Pass.{entry_of};
 ghost use Rattle.fz_pass.specs.All.{unknown};
@@ -44,6 +46,7 @@ impl Model for Ready {
       held = r.held.entries;
       queued = r.queued;
       room = min r.list.room (min (r.waiting.capacity - length r.waiting.entries) (r.held.room - length r.waiting.entries));
+      order = r.held.order;
     } };
 
     ghost invariant = { λ r. IsReady r.waiting r.held r.queued };
@@ -85,9 +88,11 @@ impl Ready {
         self.held.len()
     }
 
-    /// Those that are held, by their numbers, in no order that callers may count on.
+    /// Those that are held, by their numbers, in an order that stays while they do.
     pub(crate) fn held_entries(&self) -> Pairs<'_, u64, Entry>
         ensures all { from_entries result ≡ self.now.held }
+        ensures order { result ≡ self.now.order }
+        ensures once { IsDistinct nat_eq (keys_of result) }
         ensures count { length result ≡ len self.now.held }
     {
         self.held.iter()

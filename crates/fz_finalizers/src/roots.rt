@@ -5,7 +5,7 @@ ghost use Rattle.std.specs.FinMap.{get, from_entries};
 ghost use Rattle.std.specs.Iterator.{YieldsFirst, UpTo, at_most, item_count};
 ghost use Rattle.fz_model.specs.declared.answers.Entry.{Entry};
 ghost use Rattle.fz_model.specs.declared.answers.Registration.{Registration};
-ghost use Rattle.fz_finalizers.specs.Walks.{values_of, YieldsRoots};
+ghost use Rattle.fz_finalizers.specs.Walks.{values_of, roots_of, YieldsRoots};
 
 use crate::finalizers::Finalizers;
 use crate::walks::{Entries, Registrations};
@@ -56,6 +56,17 @@ impl<'a> Iterator for Roots<'a> {
 }
 
 impl<'a> Roots<'a> {
+    /// Those from a place on, in constant time.
+    pub fn from_place(self, place: usize) -> Roots<'a>
+        ensures { result ≡ drop place self.entry }
+    {
+        Roots {
+            root: self.root,
+            entries: self.entries.from_place(place),
+            registrations: self.registrations.from_place(place),
+        }
+    }
+
     /// Writes the next words into the buffer, as many as it holds or are left; returns how many.
     pub fn fill(&mut self, buffer: &mut [u64]) -> usize
         ensures count { result ≡ min (length buffer.old) (length self.old) }
@@ -76,9 +87,10 @@ impl<'a> Roots<'a> {
 
 impl Finalizers {
     /// The roots of a sort. A host marks from the held objects and their data before each pass; so what a finalizer is called with is there until it
-    /// is finished.
+    /// is finished. Their order stays as long as nothing changes: so a walk may go on later, from a place.
     pub fn roots(&self, root: Root) -> Roots<'_>
-        ensures { YieldsRoots root self.now.state result }
+        ensures sort { YieldsRoots root self.now.state result }
+        ensures order { result ≡ roots_of root self.now }
     {
         Roots {
             root,

@@ -10,7 +10,7 @@ ghost use Rattle.std.specs.Map.{keys_of};
 ghost use Rattle.fz_finalizers.specs.States.{links_of, registered};
 ghost use Rattle.fz_model.specs.declared.answers.Entry.{Entry};
 ghost use Rattle.fz_finalizers.specs.Nearest.{IsFirstFrom};
-ghost use Rattle.fz_finalizers.specs.Walks.{IsFirstRegistered, AreEntries, AreRegistrations};
+ghost use Rattle.fz_finalizers.specs.Walks.{IsFirstRegistered, AreEntries, AreRegistrations, entries_in_order, registrations_in_order};
 
 use crate::finalizers::Finalizers;
 use crate::nearest::{first_from, nearer};
@@ -83,12 +83,39 @@ impl<'a> Iterator for Entries<'a> {
     }
 }
 
+impl<'a> Registrations<'a> {
+    /// Those from a place on, in constant time.
+    pub fn from_place(self, place: usize) -> Registrations<'a>
+        ensures { result ≡ drop place self.entry }
+    {
+        let first = self.first.len();
+        Registrations {
+            first: self.first.from_place(place),
+            late: self.late.from_place(place.saturating_sub(first)),
+        }
+    }
+}
+
+impl<'a> Entries<'a> {
+    /// Those from a place on, in constant time.
+    pub fn from_place(self, place: usize) -> Entries<'a>
+        ensures { result ≡ drop place self.entry }
+    {
+        let passed = place.min(self.waiting.len());
+        let (_, waiting) = self.waiting.split_at(passed);
+        Entries {
+            waiting,
+            held: self.held.from_place(place - passed),
+        }
+    }
+}
+
 impl Finalizers {
-    /// All registrations with their objects, each once, in no order that callers may count on.
+    /// All registrations with their objects, each once, in an order that stays as long as nothing changes.
     pub fn iter(&self) -> Registrations<'_>
         ensures all { AreRegistrations self.now.state result }
-        // So each stands there once.
         ensures count { length result ≡ len self.now.registrations + len self.now.late }
+        ensures order { result ≡ registrations_in_order self.now }
     {
         Registrations {
             first: self.table.iter(),
@@ -147,11 +174,11 @@ impl Finalizers {
         }
     }
 
-    /// The entries that wait, in the queue's order, and then those that are held, in no order that callers may count on.
+    /// The entries that wait, in the queue's order, and then those that are held, in an order that stays as long as nothing changes.
     pub fn entries(&self) -> Entries<'_>
         ensures all { AreEntries self.now.state result }
-        // So each stands there once.
         ensures count { length result ≡ length self.now.waiting + len self.now.held }
+        ensures order { result ≡ entries_in_order self.now }
     {
         Entries {
             waiting: self.ready.waiting(),

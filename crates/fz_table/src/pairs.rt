@@ -1,6 +1,6 @@
 //! The iterator over the entries of an ordered map, as pairs of values.
 
-ghost use Rattle.std.specs.Prelude.{◌≡◌, length, Some, IfSome};
+ghost use Rattle.std.specs.Prelude.{◌≡◌, drop, length, Some, IfSome};
 ghost use Rattle.std.specs.Iterator.{YieldsFirst, UpTo, at_most, item_count};
 ghost use Rattle.std.specs.Iterator.SizeHint.{IsWithinCount};
 
@@ -27,6 +27,18 @@ impl<'a, K, V> Pairs<'a, K, V> {
         ensures { result ≡ entries.entry }
     {
         Pairs { entries }
+    }
+
+    /// Those from a place on, in constant time.
+    pub fn from_place(self, place: usize) -> Pairs<'a, K, V>
+        ensures { result ≡ drop place self.entry }
+    {
+        let entries = self.entries.as_slice();
+        let passed = place.min(entries.len());
+        let (_, left) = entries.split_at(passed);
+        Pairs {
+            entries: left.iter(),
+        }
     }
 }
 

@@ -47,7 +47,7 @@ impl Model for Table {
 
     ghost coded = { tabled_code };
 
-    ghost view = { λ t. record { registered = record { registrations = from_entries t.entries.entries; next_number = t.next_number }; room = spare t.entries } };
+    ghost view = { λ t. record { registered = record { registrations = from_entries t.entries.entries; next_number = t.next_number }; room = spare t.entries; order = t.entries.entries } };
 
     ghost invariant = { λ t. len (from_entries {R = nat_cmp} t.entries.entries) ≤ MOST_ENTRIES };
 }
@@ -174,12 +174,13 @@ impl Table {
         self.entries.is_empty()
     }
 
-    /// All registrations with their objects, each once, in no order that callers may count on.
+    /// All registrations with their objects, each once, in an order that stays while the table does.
     pub fn iter(&self) -> Pairs<'_, Addr, Registration>
         ensures all { from_entries result ≡ self.now.registrations }
         ensures once { IsDistinct nat_eq (keys_of result) }
         ensures count { length result ≡ len self.now.registrations }
         ensures limit { length result ≤ MOST_ENTRIES }
+        ensures order { result ≡ self.now.order }
     {
         Pairs::of(self.entries.iter())
     }
