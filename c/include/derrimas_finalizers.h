@@ -242,7 +242,8 @@ typedef enum derrimas_finalizers_root {
 } derrimas_finalizers_root;
 
 /* Copies roots of the sort into the buffer, which has `room` words: those from the place *from on, which is 0 at first,
- * and goes on to where the next call starts. *count is how many were copied. Nothing may change between the calls.
+ * and goes on to where the next call starts. *count is how many were copied. As long as only calls that take a const
+ * handle come between, the parts are one walk, which has each root once. A part costs the same wherever it starts.
  * Refused: BAD_KIND, NOT_OPEN; EMPTY where no root is left. */
 derrimas_finalizers_code derrimas_finalizers_roots(const derrimas_finalizers *finalizers, derrimas_finalizers_root sort,
                                                    uint64_t *from, uint64_t *buffer, size_t room, size_t *count);

@@ -1,5 +1,6 @@
 /* Every call of derrimas_finalizers.h: each answer, each place that may be NULL, and each place that a refusal leaves as it was. */
 #include "finalizers_host.h"
+#include <stdlib.h>
 
 static derrimas_finalizers finalizers;
 static host all;
@@ -58,6 +59,49 @@ static void runs(const uint64_t *procs)
 }
 
 #define RUNS(...) runs((const uint64_t[]){__VA_ARGS__, 0})
+
+/* Reads all roots of a sort in parts of so many words, and tells how many there are. */
+static uint64_t rooted(derrimas_finalizers_root sort, size_t room, uint64_t *words)
+{
+    uint64_t from = 0, before = 0;
+    size_t count;
+
+    while (derrimas_finalizers_roots(&finalizers, sort, &from, words + before, room, &count) == DERRIMAS_FINALIZERS_OK) {
+        IS(count >= 1 && count <= room, true);
+        IS(from, before + count);
+        before = from;
+    }
+    REFUSED(DERRIMAS_FINALIZERS_EMPTY, count, derrimas_finalizers_roots(&finalizers, sort, &from, words + before, room, &count));
+    IS(from, before);
+    return from;
+}
+
+static int by_number(const void *a, const void *b)
+{
+    const uint64_t *x = a, *y = b;
+
+    return (*x > *y) - (*x < *y);
+}
+
+/* There are so many roots of a sort, no two of them the same, and parts of whatever size are one walk. Tells their sum. */
+static uint64_t walked(derrimas_finalizers_root sort, uint64_t wanted)
+{
+    static const size_t rooms[] = {1, 7, 511, 512, 513, 1024};
+    static uint64_t whole[2 * OBJECTS], parts[2 * OBJECTS];
+    uint64_t sum = 0;
+
+    IS(rooted(sort, OBJECTS, whole), wanted);
+    for (size_t n = 0; n < sizeof rooms / sizeof *rooms; n++) {
+        IS(rooted(sort, rooms[n], parts), wanted);
+        IS(memcmp(whole, parts, wanted * sizeof *whole), 0);
+    }
+    qsort(whole, wanted, sizeof *whole, by_number);
+    for (uint64_t n = 0; n < wanted; n++) {
+        IS(n > 0 && whole[n] == whole[n - 1], false);
+        sum += whole[n];
+    }
+    return sum;
+}
 
 /* ---- refusals */
 
@@ -360,6 +404,9 @@ static void open_pass(void)
         IS(derrimas_finalizers_open(&finalizers), DERRIMAS_FINALIZERS_IS_OPEN);
         OK(derrimas_finalizers_roots(&finalizers, DERRIMAS_FINALIZERS_REGISTERED_DATA, &(uint64_t){0}, &word, 0, &count));
         IS(counted().waiting + counted().registrations, 100);
+        walked(DERRIMAS_FINALIZERS_HELD_OBJECTS, counted().waiting);
+        walked(DERRIMAS_FINALIZERS_HELD_DATA, counted().waiting);
+        walked(DERRIMAS_FINALIZERS_REGISTERED_DATA, counted().registrations);
         IS(derrimas_finalizers_has_waiting(&finalizers), false);
         memset(&passed, 1, sizeof passed);
         if (derrimas_finalizers_next(&finalizers, answers, &question, &passed) != DERRIMAS_FINALIZERS_OK)
@@ -455,32 +502,11 @@ static void held(void)
 
 /* ---- what stands */
 
-/* Reads all roots of a sort in parts of so many words, and tells how many there are; their sum goes into *sum. */
-static uint64_t rooted(derrimas_finalizers_root sort, size_t room, uint64_t *sum)
-{
-    static uint64_t buffer[OBJECTS + 1];
-    uint64_t from = 0, before = 0;
-    size_t count;
-
-    *sum = 0;
-    while (derrimas_finalizers_roots(&finalizers, sort, &from, buffer, room, &count) == DERRIMAS_FINALIZERS_OK) {
-        IS(count >= 1 && count <= room, true);
-        IS(from, before + count);
-        before = from;
-        for (size_t n = 0; n < count; n++)
-            *sum += buffer[n];
-    }
-    REFUSED(DERRIMAS_FINALIZERS_EMPTY, count, derrimas_finalizers_roots(&finalizers, sort, &from, buffer, room, &count));
-    IS(from, before);
-    return from;
-}
-
 static void roots(void)
 {
-    static const size_t rooms[] = {1, 7, 511, 512, 513, 1024, OBJECTS + 1};
     const uint64_t queued = OBJECTS - 40;
     derrimas_finalizers_entry entry;
-    uint64_t sum, sums[3] = {0, 0, 0};
+    uint64_t sums[3] = {0, 0, 0};
 
     opens();
     for (size_t n = 0; n < queued; n++) {
@@ -495,11 +521,8 @@ static void roots(void)
         registers(&objects[n], (derrimas_finalizers_kind)(n % 4), n, 0);
         sums[DERRIMAS_FINALIZERS_REGISTERED_DATA] += n + 1;
     }
-    for (size_t n = 0; n < sizeof rooms / sizeof *rooms; n++)
-        for (int sort = DERRIMAS_FINALIZERS_HELD_OBJECTS; sort <= DERRIMAS_FINALIZERS_REGISTERED_DATA; sort++) {
-            IS(rooted((derrimas_finalizers_root)sort, rooms[n], &sum), sort == DERRIMAS_FINALIZERS_REGISTERED_DATA ? 40 : queued);
-            IS(sum, sums[sort]);
-        }
+    for (int sort = DERRIMAS_FINALIZERS_HELD_OBJECTS; sort <= DERRIMAS_FINALIZERS_REGISTERED_DATA; sort++)
+        IS(walked((derrimas_finalizers_root)sort, sort == DERRIMAS_FINALIZERS_REGISTERED_DATA ? 40 : queued), sums[sort]);
     closes();
 }
 

@@ -1,39 +1,30 @@
 -- A walk over roots from a place on.
-use Rattle.std.proofs.Common.{◌≡◌, ◌≢◌, ◌≤◌, ◌<◌, ◌+◌, ℕ, zero, suc, min, List, [], ◌∷◌, drop, take, length, Option, Some, refl, sym, ap, subst, ◌∙◌, inl, inr, arith}
+use Rattle.std.proofs.Common.{◌≡◌, ◌≢◌, ◌<◌, ℕ, zero, suc, min, List, drop, take, length, Option, Some, refl, sym, subst, ◌∙◌, inl, inr, arith}
 use Rattle.std.proofs.lemmas.List.{length-drop}
 use Rattle.fz_finalizers.specs.declared.roots.Root.{Root}
-use Rattle.fz_finalizers.specs.States.{State}
-use Rattle.fz_finalizers.specs.Walks.{YieldsRoots}
+use Rattle.fz_finalizers.specs.States.{View}
+use Rattle.fz_finalizers.specs.Walks.{YieldsRoots, roots_of}
 use Rattle.fz_machine.specs.Machines.{Machine}
-use Rattle.fz_machine.proofs.Kept.{passed}
 use Rattle.fz_machine_c.specs.declared.codes.TheConstants.{OK, EMPTY}
 use Rattle.fz_machine_c.specs.declared.shown.Words.{Words}
 use Rattle.fz_machine_c.specs.Codes.{Behind}
 use Rattle.fz_machine_c.specs.Shows.{ShowsRoots}
 
-module _ (words rest : List ℕ) (n : ℕ) (so_far : rest ≡ drop n words) where
-  pub one_on : (x : ℕ) (next : List ℕ) → rest ≡ x ∷ next → next ≡ drop (n + 1) words
-  one_on x next is = ap (drop 1) (sym is ∙ so_far) ∙ sym (passed n words)
+-- what a walk of the finalizers behind the handle yields is their list
+pub rooted : (r root : Root) (w v : View) (words : List ℕ) → r ≡ root → w ≡ v → YieldsRoots r w.state words → words ≡ roots_of r w → YieldsRoots root v.state (roots_of root v) × (words ≡ roots_of root v)
+rooted r root w v words is same yields listed =
+    let all = listed ∙ (λ i. roots_of (is i) (same i)) in
+    (subst (λ ws. YieldsRoots root v.state ws) all (subst (λ (u : View). YieldsRoots root u.state words) same (subst (λ (q : Root). YieldsRoots q w.state words) is yields)), all)
 
-  pub at_end : (count : ℕ) → n ≤ count → rest ≡ [] → rest ≡ drop count words
-  at_end count le none =
-      let short = ap length (sym none ∙ so_far) ∙ length-drop n words in
-      let left = length-drop count words in
-      none ∙ sym (empty (drop count words) (omega (arith, short, left, le)))
-    where
-      empty : (xs : List ℕ) → length xs ≡ 0 → xs ≡ []
-      empty [] h = refl
-      empty (x ∷ xs) h = absurd (omega (arith, h))
+module _ (root : Root) (v : View) (from count : ℕ) (yields : YieldsRoots root v.state (roots_of root v)) (counted : count ≡ min 512 (length (drop from (roots_of root v)))) where
+  pub none_shown : (old : Words) → count ≡ 0 → ShowsRoots root v from EMPTY old old
+  none_shown old none = let left = length-drop from (roots_of root v) in (yields, inl (refl, omega (arith, left, counted, none), refl))
 
-module _ (root : Root) (s : State) (from count : ℕ) (words : List ℕ) (yields : YieldsRoots root s words) (counted : count ≡ min 512 (length (drop from words))) where
-  pub none_shown : (old : Words) → count ≡ 0 → ShowsRoots root s from EMPTY old old
-  none_shown old none = let left = length-drop from words in (words, yields, inl (refl, omega (arith, left, counted, none), refl))
-
-  pub some_shown : (old told : Words) → count ≢ 0 → told.count ≡ count → take count told.words ≡ take count (drop from words) → ShowsRoots root s from OK old told
+  pub some_shown : (old told : Words) → count ≢ 0 → told.count ≡ count → take count told.words ≡ take count (drop from (roots_of root v)) → ShowsRoots root v from OK old told
   some_shown old told some is filled =
-      let left = length-drop from words in
+      let left = length-drop from (roots_of root v) in
       let more : 0 < count = positive count some in
-      (words, yields, inr (refl, omega (arith, left, counted, more), is ∙ counted, subst (λ k. take k told.words ≡ take k (drop from words)) (sym is) filled))
+      (yields, inr (refl, omega (arith, left, counted, more), is ∙ counted, subst (λ k. take k told.words ≡ take k (drop from (roots_of root v))) (sym is) filled))
     where
       positive : (n : ℕ) → n ≢ 0 → 0 < n
       positive zero ne = absurd (ne refl)

@@ -8,8 +8,8 @@ use Rattle.fz_finalizers.specs.declared.kinds.Kind.TheVariants.{Normal, IgnoreSe
 use Rattle.fz_finalizers.specs.declared.roots.Root.{Root}
 use Rattle.fz_finalizers.specs.declared.roots.Root.TheVariants.{HeldObject, HeldData, RegisteredData}
 use Rattle.fz_finalizers.specs.Nearest.{IsFirstFrom}
-use Rattle.fz_finalizers.specs.States.{State, kind_at}
-use Rattle.fz_finalizers.specs.Walks.{IsFirstRegistered, YieldsRoots}
+use Rattle.fz_finalizers.specs.States.{State, View, kind_at}
+use Rattle.fz_finalizers.specs.Walks.{IsFirstRegistered, YieldsRoots, roots_of}
 use Rattle.fz_machine_c.specs.declared.codes.TheConstants.{OK, EMPTY}
 use Rattle.fz_machine_c.specs.declared.shown.TheConstants.{WORDS}
 use Rattle.fz_machine_c.specs.declared.shown.Counts.{Counts}
@@ -33,12 +33,14 @@ abbrev pub IsCounted : State → Counts → Type 0
 IsCounted s told =
     told ≡ record { registrations = len s.registrations + len s.late; short_links = len s.short; long_links = len s.long; waiting = length s.waiting; held = len s.held; queued = s.queued; passes = s.passes }
 
--- the words of a walk over roots from a place on, as many as there is room for; or none is left, and the place for them is as it was
-abbrev pub ShowsRoots : Root → State → ℕ → ℕ → Words → Words → Type 0
-ShowsRoots root s from code old told =
-    (words : List ℕ) × YieldsRoots root s words
-    × (((code ≡ EMPTY) × (length words ≤ from) × (told ≡ old))
-    ⊎ ((code ≡ OK) × (from < length words) × (told.count ≡ min WORDS (length (drop from words))) × (take told.count told.words ≡ take told.count (drop from words))))
+-- of the one list of the roots of a sort the words from a place on, as many as there is room for; or none is left, and the place for them is as it was
+abbrev ShowsFrom : List ℕ → ℕ → ℕ → Words → Words → Type 0
+ShowsFrom words from code old told =
+    ((code ≡ EMPTY) × (length words ≤ from) × (told ≡ old))
+    ⊎ ((code ≡ OK) × (from < length words) × (told.count ≡ min WORDS (length (drop from words))) × (take told.count told.words ≡ take told.count (drop from words)))
+
+abbrev pub ShowsRoots : Root → View → ℕ → ℕ → Words → Words → Type 0
+ShowsRoots root v from code old told = YieldsRoots root v.state (roots_of root v) × ShowsFrom (roots_of root v) from code old told
 
 -- the first registration from an object on, or none
 abbrev pub ShowsRegistration : State → ℕ → ℕ → Registration → Registration → Type 0

@@ -1,6 +1,6 @@
 //! What stands. Nothing changes by it, and a pass may be open.
 
-ghost use Rattle.std.specs.Prelude.{◌≡◌, drop};
+ghost use Rattle.std.specs.Prelude.{◌≡◌};
 ghost use Rattle.fz_finalizers.specs.Nearest.{IsFirstFrom};
 ghost use Rattle.fz_finalizers.specs.States.{links_of};
 ghost use Rattle.fz_machine_c.specs.Codes.{Behind};
@@ -10,7 +10,7 @@ ghost use Rattle.fz_machine_c.specs.Told.{link_kind_of};
 use crate::codes::{Code, EMPTY, NOT_OPEN, OK};
 use crate::handle::Handle;
 use crate::linking::kind_for;
-use fz_finalizers::{Kind, LinkKind, Root, Roots};
+use fz_finalizers::{Kind, LinkKind, Root};
 use std::alloc::Global;
 
 /// How many words C is handed at a time.
@@ -80,20 +80,7 @@ fn kind_number(kind: Option<Kind>) -> u8
     }
 }
 
-/// Goes past the first words of a walk.
-fn skip(roots: &mut Roots<'_>, count: u64)
-    ensures { roots.new ≡ drop count roots.old }
-{
-    let mut passed = 0;
-    while passed < count {
-        let Some(_) = roots.next() else {
-            return;
-        };
-        passed += 1;
-    }
-}
-
-/// `Finalizers::roots`: the words of the walk from a place on, as many as there is room for.
+/// `Finalizers::roots`: the words of the walk from a place on, as many as there is room for. A call takes the same time at each place.
 #[unsafe(no_mangle)]
 pub extern "C" fn fz_machine_roots(
     alloc: Global,
@@ -102,15 +89,15 @@ pub extern "C" fn fz_machine_roots(
     from: u64,
     words: &mut Words,
 ) -> Code
-    ensures { Behind finalizers.old.value finalizers.new.value result (words.new ≡ words.old) (λ m n. (n ≡ m) × ShowsRoots (root_of sort) m.finalizers.state from result words.old words.new) }
+    ensures { Behind finalizers.old.value finalizers.new.value result (words.new ≡ words.old) (λ m n. (n ≡ m) × ShowsRoots (root_of sort) m.finalizers from result words.old words.new) }
 {
     let Some(session) = finalizers.take(alloc) else {
         return NOT_OPEN;
     };
-    let mut roots = session.machine.finalizers().roots(root_of(sort));
-    skip(&mut roots, from);
+    let roots = session.machine.finalizers().roots(root_of(sort));
+    let mut left = roots.from_place(from as usize);
     let mut found = [0; WORDS];
-    let count = roots.fill(&mut found);
+    let count = left.fill(&mut found);
     finalizers.put(session);
     if count == 0 {
         return EMPTY;
