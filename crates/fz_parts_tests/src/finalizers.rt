@@ -150,6 +150,51 @@ fn queues_all_and_walks_over_roots(rt: HostRuntime) {
     must_be(&rt, registered, None, "no data of registrations");
 }
 
+/// Walks over roots a part after another, each from the place where the one before ended. They have to be one walk.
+fn walks_by_parts(rt: &impl Abort, finalizers: &Finalizers, root: Root, buffer: &mut [u64]) {
+    let mut whole = finalizers.roots(root);
+    let mut place: usize = 0;
+    for _ in 0..21 {
+        let mut part = finalizers.roots(root).from_place(place);
+        let count = part.fill(buffer);
+        for word in buffer.iter().take(count) {
+            must_be(rt, whole.next(), Some(*word), "the next word");
+        }
+        place = place.saturating_add(count);
+    }
+    must_be(rt, whole.next(), None, "all words came");
+}
+
+#[test]
+fn walks_from_places(rt: HostRuntime) {
+    let mut finalizers = with_four_queued(&rt, rt.alloc());
+    let _ = finalizers.take();
+    for object in 1..=20u64 {
+        let kind = if object < 8 {
+            Kind::Unreachable
+        } else {
+            Kind::Normal
+        };
+        let _ = finalizers.register(object, finalizer(kind, object, 0));
+    }
+    let (mut one, mut seven, mut all) = ([0; 1], [0; 7], [0; 512]);
+    for root in [Root::HeldObject, Root::HeldData, Root::RegisteredData] {
+        walks_by_parts(&rt, &finalizers, root, &mut one);
+        walks_by_parts(&rt, &finalizers, root, &mut seven);
+        walks_by_parts(&rt, &finalizers, root, &mut all);
+    }
+    let held = finalizers
+        .entries()
+        .from_place(3)
+        .next()
+        .map(|entry| entry.obj);
+    must_be(&rt, held, Some(48), "what is held comes last");
+    let late = finalizers.iter().from_place(13).next().map(|late| late.0);
+    must_be(&rt, late, Some(1), "the late ones come after the others");
+    let none = finalizers.iter().from_place(20).next().map(|late| late.0);
+    must_be(&rt, none, None, "all were passed");
+}
+
 #[test]
 fn finishes_what_is_held(rt: HostRuntime) {
     let mut finalizers = with_four_queued(&rt, rt.alloc());

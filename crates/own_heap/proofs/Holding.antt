@@ -53,10 +53,10 @@ module _ (slots : List (Option Record)) (s : State) (sound : IsSound (objects_of
   pub waiting_found : (e : Entry) → Contains s.waiting e → IsTrue (new e.obj)
   waiting_found e within =
       let are = kept.yielded.2 in
-      entry_found e (subst (λ es. Contains es e) (sym are.2) (Contains-append_left s.waiting (values_of are.0) e within)) (sound.waiting e within)
+      entry_found e (subst (λ es. Contains es e) (sym are.3) (Contains-append_left s.waiting (values_of are.0) e within)) (sound.waiting e within)
 
   pub held_found : (number : ℕ) (e : Entry) → get s.held number ≡ Some e → IsTrue (new e.obj)
   held_found number e is =
       let are = kept.yielded.2 in
       let found = sym (get-from_entries nat_cmp_total are.0 number) ∙ ap (λ (m : Map Entry). get m number) are.1 ∙ is in
-      entry_found e (subst (λ es. Contains es e) (sym are.2) (Contains-append_right s.waiting (values_of are.0) e (value_within are.0 number e found))) (sound.held number e is)
+      entry_found e (subst (λ es. Contains es e) (sym are.3) (Contains-append_right s.waiting (values_of are.0) e (value_within are.0 number e found))) (sound.held number e is)

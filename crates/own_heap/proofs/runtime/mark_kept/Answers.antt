@@ -36,4 +36,4 @@ returns-clause-marked c =
     let objects = objects_of c.args.heap.now.records.slots.items in
     let words = c.roots-word-items.result in
     let all : c.loop-word.yielded ≡ words = all_of c.loop-word.yielded _ words (c.loop-word.invariant.rest ∙ c.into_iter-word-iterator.ensures.into_iter_gives) c.in-None.ensures.steps.0 in
-    record { words = words; yielded = c.roots-word-items.ensures; marked = subst (λ ws. Marks (Unit {0}) objects (is_marked c.args.heap.now.marks) (is_marked c.loop-word.heap.marks) (IsLedByAny objects ws)) all c.loop-word.invariant.marked }
+    record { words = words; yielded = c.roots-word-items.ensures.sort; marked = subst (λ ws. Marks (Unit {0}) objects (is_marked c.args.heap.now.marks) (is_marked c.loop-word.heap.marks) (IsLedByAny objects ws)) all c.loop-word.invariant.marked }
