@@ -6,3 +6,17 @@ pub mod Stepping
 pub mod Rooms
 pub mod Ending
 pub mod Known
+pub mod Among
+pub mod Sifting
+pub mod DeadWords
+pub mod Entered
+pub mod Led
+pub mod Chosen
+pub mod Stated
+pub mod Phasing
+pub mod Choosing
+pub mod Phased
+pub mod Begun
+pub mod Keeping
+pub mod Turning
+pub mod Ran

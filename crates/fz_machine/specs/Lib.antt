@@ -6,3 +6,5 @@ pub mod Steps
 pub mod Going
 pub mod Machines
 pub mod Causes
+pub mod Graph
+pub mod Runs

@@ -5,6 +5,7 @@ mod asking;
 mod calls;
 mod going_on;
 mod item;
+mod law;
 mod listing;
 mod machine;
 mod pass;
@@ -15,6 +16,7 @@ mod reserving;
 mod walk;
 
 pub use item::Item;
+pub use law::runs_make_the_pass;
 pub use machine::Machine;
 pub use pass::Next;
 pub use phase::Phase;

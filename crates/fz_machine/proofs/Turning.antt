@@ -1,0 +1,178 @@
+-- From phase to phase, and to the end.
+use Rattle.std.proofs.Common.{◌≡◌, ◌⊎◌, ◌++◌, ◌∙◌, [], ℕ, Bool, false, List, Option, Some, None, refl, sym, ap, subst, inl, inr, ⊎_elim, is_some, append-nil, IsTrue}
+use Rattle.std.specs.FinMap.{get, contains_key, retain_keys}
+use Rattle.fz_model.specs.declared.answers.Entry.{Entry}
+use Rattle.fz_model.specs.declared.answers.Registration.{Registration}
+use Rattle.fz_model.specs.State.{Map, Object}
+use Rattle.fz_model.specs.Memory.{points}
+use Rattle.fz_model.specs.Pass.{is_dead, links_within}
+use Rattle.fz_model.proofs.SeenKept.{points-filled}
+use Rattle.fz_pass.specs.Late.{Parts, DecidesLate}
+use Rattle.fz_pass.specs.Marks.{IsClosed}
+use Rattle.fz_pass.proofs.Passed.{closed_still, decided, dropped_twice, pointed}
+use Rattle.fz_finalizers.specs.Passed.{DecidesFor, parts_in, parts_left_in}
+use Rattle.fz_finalizers.specs.States.{State}
+use Rattle.fz_machine.specs.declared.item.Item.{Item}
+use Rattle.fz_machine.specs.declared.phase.Phase.{Phase}
+use Rattle.fz_machine.specs.declared.phase.Phase.TheVariants.{ShortTargets, ShortWords, Objects, Children, Again, Picks, LateAgain, LatePicks, LongTargets, LongWords, ShortHolders, LongHolders}
+use Rattle.fz_machine.specs.Graph.{Graph, MayBegin}
+use Rattle.fz_machine.specs.Items.{AreInTurn, AreLinks, AreObjects, place_of}
+use Rattle.fz_machine.specs.Phases.{next_phase}
+use Rattle.fz_machine.proofs.Among.{AreInOrder, Each, OneOf, each_as, each_permuted, one_as, one_permuted, order_from}
+use Rattle.fz_machine.proofs.Begun.{closed, late_registered, long_targets, not_before, registered}
+use Rattle.fz_machine.proofs.Chosen.{choosing_begins, chosen_all, tabled}
+use Rattle.fz_machine.proofs.DeadWords.{IsLink, IsLinkAt}
+use Rattle.fz_machine.proofs.Entered.{IsEitherAt, IsLate, IsLateAt, IsOfEither, links_all, links_each, objects_all, objects_each}
+use Rattle.fz_machine.proofs.Led.{leading_begins, led_all}
+use Rattle.fz_machine.proofs.Phased.{IsAfter, IsAtEnd, IsIn, IsUnfound, Leading, LeadsOn, Picked, PickedBoth, PicksLate, PicksOn, after_picks, clear, last, long_held, long_left, short_held, short_left}
+use Rattle.fz_machine.proofs.Phasing.{Sifts, Clears, clears_all, clears_begin, holds_all, holds_begin, sifts_begin}
+use Rattle.fz_machine.proofs.Sifting.{IsAt, sifted}
+use Rattle.fz_machine.proofs.Stated.{state_with}
+
+module _ (E : Type 0) (b : State) (before : Graph) (begin : MayBegin b before) where
+  abbrev Either : Item → Type 0
+  Either = IsOfEither b.registrations b.late
+
+  abbrev EitherAt : ℕ → ℕ → Type 0
+  EitherAt = IsEitherAt b.registrations b.late
+
+  abbrev Late : Item → Type 0
+  Late = IsLate b.registrations b.late
+
+  abbrev LateAt : ℕ → ℕ → Type 0
+  LateAt = IsLateAt b.registrations b.late
+
+  abbrev clearly : Map Object
+  clearly = clear E b before
+
+  abbrev shorts : Map ℕ
+  shorts = short_left E b before
+
+  to_objects : (s : State) (h : Graph) → Clears E (λ links. state_with b links b.long b.registrations b.late []) before.objects b.short before.marked s [] h
+      → (items : List Item) → AreObjects s.registrations s.late items → IsIn E b before Objects s [] items h
+  to_objects s h p items are =
+      let all = clears_all E (λ links. state_with b links b.long b.registrations b.late []) before.objects b.short before.marked begin.short s h p in
+      let listed : AreObjects b.registrations b.late items = subst (λ (t : State). AreObjects t.registrations t.late items) p.state are in
+      sifts_begin E _ clearly before.marked Either EitherAt s items h all.0 all.1 all.2 (objects_each b.registrations b.late items listed) (λ object word at off. objects_all b.registrations b.late items listed object word at)
+
+  to_children : (s : State) (kept : List Item) (h : Graph) → Sifts E (state_with b shorts b.long b.registrations b.late []) clearly before.marked Either EitherAt s kept [] h
+      → (items : List Item) → items ≡ kept → LeadsOn E b before s [] items h
+  to_children s kept h p items is =
+      let all = λ (object word : ℕ) (at : EitherAt object word) (off : before.marked object ≡ false). subst (OneOf (IsAt object word)) (sym is) (sifted before.marked Either EitherAt kept p.sifted object word at off) in
+      record {
+        state = p.state;
+        are = leading_begins E clearly b.registrations b.late before.marked items h p.objects_are p.marks_are (closed E b before begin)
+            (λ object either off. one_as (IsAt object 0) (λ (i : Item). i.object ≡ object) (λ i at. at.0) items (all object 0 (⊎_elim (λ on. inl (on, refl)) (λ on. inr (on, refl)) either) off));
+        kept_are = tt;
+        left_are = subst (Each (IsUnfound E b before)) (sym is) p.sifted.kept_are;
+        rest = λ object word at off. inr (all object word at off);
+      }
+
+  to_again : (s : State) (kept : List Item) (h : Graph) → LeadsOn E b before s kept [] h → (items : List Item) → items ≡ kept → IsIn E b before Again s [] items h
+  to_again s kept h p items is =
+      let leading : Leading E b before = record { led = h.marked; marks = led_all E clearly b.registrations b.late before.marked (registered E b before begin) (late_registered E b before begin) begin.apart begin.normal h p.are } in
+      (leading, sifts_begin E _ clearly h.marked Either EitherAt s items h p.state p.are.objects refl
+      (subst (Each Either) (sym is) (each_as (IsUnfound E b before) Either (λ i x. x.0) kept p.kept_are))
+      (λ object word at off. subst (OneOf (IsAt object word)) (sym is) (⊎_elim (λ k. k) (λ k. absurd k) (p.rest object word at (not_before E b before begin before.marked h.marked p.are.least object off)))))
+
+  to_picks : (s : State) (kept : List Item) (h : Graph) (l : Leading E b before) → Sifts E (state_with b shorts b.long b.registrations b.late []) clearly l.led Either EitherAt s kept [] h
+      → (items : List Item) → AreInTurn kept items → PicksOn E b before s [] items h
+  to_picks s kept h l p items turned =
+      let all = λ (object word : ℕ) (at : EitherAt object word) (off : l.led object ≡ false). one_permuted (IsAt object word) kept items turned.0 (sifted l.led Either EitherAt kept p.sifted object word at off) in
+      record {
+        leading = l;
+        now = b.registrations;
+        picks = [];
+        state = p.state;
+        are = choosing_begins E clearly b.registrations l.led 0 items h p.objects_are p.marks_are l.marks.closed
+            (λ a r here off. one_as (IsAt a 0) (λ (i : Item). i.object ≡ a) (λ i at. at.0) items (all a 0 (inl (ap is_some here, refl)) off));
+        kept_are = tt;
+        left_are = each_permuted (λ i. Either i × (l.led i.object ≡ false)) kept items turned.0 p.sifted.kept_are;
+        rest = λ object word at off. inr (all object word (inr at) off);
+        ordered = order_from place_of items turned.1;
+      }
+
+  to_late_again : (s : State) (kept : List Item) (h : Graph) → PicksOn E b before s kept [] h → (items : List Item) → items ≡ kept → IsIn E b before LateAgain s [] items h
+  to_late_again s kept h p items is =
+      let all = chosen_all E clearly b.registrations p.leading.led 0 p.now p.picks h p.are in
+      let c : Picked E b before = record { leading = p.leading; table = p.now; picks = p.picks; mid = h.marked; are = all.0; marks = all.1 } in
+      (c, sifts_begin E _ clearly h.marked Late LateAt s items h p.state p.are.objects refl
+      (subst (Each Late) (sym is) (each_as (λ i. Late i × (p.leading.led i.object ≡ false)) Late (λ i x. x.0) kept p.kept_are))
+      (λ object word at off. subst (OneOf (IsAt object word)) (sym is) (⊎_elim (λ k. k) (λ k. absurd k) (p.rest object word at (not_before E b before begin p.leading.led h.marked p.are.least object off)))),
+      subst (AreInOrder place_of) (append-nil kept ∙ sym is) p.ordered)
+
+  to_late_picks : (s : State) (kept : List Item) (h : Graph) (c : Picked E b before) → Sifts E (state_with b shorts b.long c.table b.late c.picks) clearly c.mid Late LateAt s kept [] h → AreInOrder place_of (kept ++ [])
+      → (items : List Item) → items ≡ kept → PicksLate E b before s items h
+  to_late_picks s kept h c p ordered items is = record {
+    first = c;
+    now = b.late;
+    late_picks = [];
+    state = p.state ∙ ap (λ ps. state_with b shorts b.long c.table b.late ps) (sym (append-nil c.picks));
+    are = choosing_begins E clearly b.late c.mid 256 items h p.objects_are p.marks_are c.marks.closed
+        (λ a r here off. one_as (IsAt a 0) (λ (i : Item). i.object ≡ a) (λ i at. at.0) items (subst (OneOf (IsAt a 0)) (sym is) (sifted c.mid Late LateAt kept p.sifted a 0 (ap is_some here, refl) off)));
+    left_are = subst (Each (λ i. Late i × (c.mid i.object ≡ false))) (sym is) p.sifted.kept_are;
+    ordered = subst (AreInOrder place_of) (append-nil kept ∙ sym is) ordered;
+  }
+
+  to_long_targets : (s : State) (h : Graph) → PicksLate E b before s [] h → (items : List Item) → AreLinks s.long items → IsIn E b before LongTargets s [] items h
+  to_long_targets s h p items are =
+      let all = chosen_all E clearly b.late p.first.mid 256 p.now p.late_picks h p.are in
+      let c : PickedBoth E b before = record { first = p.first; late = p.now; late_picks = p.late_picks; kept = h.marked; are = all.0; marks = all.1 } in
+      let listed : AreLinks b.long items = subst (λ (t : State). AreLinks t.long items) p.state are in
+      (c, sifts_begin E _ clearly h.marked (IsLink clearly b.long h.marked) (IsLinkAt clearly b.long h.marked) s items h p.state p.are.objects refl (links_each b.long items listed)
+      (λ object word here off. links_all b.long items listed object word here))
+
+  pub turn : (phase : Phase) (s : State) (kept : List Item) (h : Graph) → IsIn E b before phase s kept [] h → IsAfter E b before (next_phase phase) s kept h
+  turn ShortTargets s kept h p = λ items is. clears_begin E (λ links. state_with b links b.long b.registrations b.late []) before.objects b.short before.marked begin.short s kept items h p is
+  turn ShortWords s kept h p = λ items are. to_objects s h p items are
+  turn Objects s kept h p = λ items is. to_children s kept h p items is
+  turn Children s kept h p = λ items is. to_again s kept h p items is
+  turn Again s kept h (l, p) = λ items turned. to_picks s kept h l p items turned
+  turn Picks s kept h p = λ items is. to_late_again s kept h p items is
+  turn LateAgain s kept h (c, p, ordered) = λ items is. to_late_picks s kept h c p ordered items is
+  turn LatePicks s kept h p = λ items are. to_long_targets s h p items are
+  turn LongTargets s kept h (c, p) = λ items is. (c, clears_begin E (after_picks E b before c shorts) clearly b.long c.kept (long_targets E b before begin) s kept items h p is)
+  turn LongWords s kept h (c, p) = λ items are.
+      let all = clears_all E (after_picks E b before c shorts) clearly b.long c.kept (long_targets E b before begin) s h p in
+      (c, holds_begin E (λ links. after_picks E b before c links (long_left E b before c)) (last E b before c) shorts c.kept s items h all.0 all.1 all.2 (subst (λ (t : State). AreLinks t.short items) all.0 are))
+  turn ShortHolders s kept h (c, p) = λ items are.
+      let all = holds_all E (λ links. after_picks E b before c links (long_left E b before c)) (last E b before c) shorts c.kept s h p in
+      (c, holds_begin E (λ links. after_picks E b before c (short_held E b before c) links) (last E b before c) (long_left E b before c) c.kept s items h all.0 all.1 all.2 (subst (λ (t : State). AreLinks t.long items) all.0 are))
+  turn LongHolders s kept h (c, p) =
+      let all = holds_all E (λ links. after_picks E b before c (short_held E b before c) links) (last E b before c) (long_left E b before c) c.kept s h p in
+      record { chosen = c; state = all.0; objects_are = all.1; marks_are = all.2 }
+
+  -- ---- what is left at the end
+
+  module _ (s : State) (h : Graph) (p : IsAtEnd E b before s h) where
+    abbrev c : PickedBoth E b before
+    c = p.chosen
+
+    lies : (w : ℕ) → points (last E b before c) w ≡ points before.objects w
+    lies w = pointed before.objects b.short before.marked E (tabled b.registrations) (tabled c.first.table) (tabled b.late) (tabled c.late) b.long c.first.leading.led c.first.mid c.kept c.first.picks c.late_picks w
+
+    short_is : short_held E b before c ≡ links_within before.objects b.short before.marked c.kept
+    short_is = dropped_twice (last E b before c) before.objects b.short before.marked c.kept lies
+
+    long_is : long_held E b before c ≡ links_within before.objects b.long c.kept c.kept
+    long_is = dropped_twice (last E b before c) before.objects b.long c.kept c.kept lies
+
+    abbrev end : State
+    end = after_picks E b before c (short_held E b before c) (long_held E b before c)
+
+    pub decides : DecidesFor E b.passes b before.objects before.marked s h.objects h.marked
+    decides =
+        let objects_are : retain_keys (last E b before c) c.kept ≡ retain_keys h.objects h.marked = λ i. retain_keys (sym p.objects_are i) (sym p.marks_are i) in
+        subst (λ (t : State). DecidesFor E b.passes b before.objects before.marked t h.objects h.marked) (sym p.state)
+        (subst (λ (new : Parts). DecidesLate E b.passes b.queued (parts_in before.objects b) before.marked new b.waiting end.waiting)
+        (λ i. record { objects = objects_are i; registrations = c.first.table; late = c.late; short = sym short_is i; long = sym long_is i })
+        (decided before.objects b.short before.marked E (tabled b.registrations) (tabled c.first.table) (tabled b.late) (tabled c.late) b.long c.first.leading.led c.first.mid c.kept c.first.picks c.late_picks
+        (registered E b before begin) (late_registered E b before begin) begin.apart begin.normal c.first.leading.marks c.first.marks c.marks c.first.are c.are b.passes b.queued b.waiting end.waiting refl))
+
+    pub still_marked : (a : ℕ) → IsTrue (before.marked a) → IsTrue (h.marked a)
+    still_marked a on = subst (λ (m : ℕ → Bool). IsTrue (m a)) (sym p.marks_are) (c.marks.least a (inl (c.first.marks.least a (inl (c.first.leading.marks.least a (inl on))))))
+
+    pub closed_after : IsClosed h.objects h.marked
+    closed_after =
+        let nowhere = points-filled (is_dead before.objects b.short before.marked) 0 before.objects 0 ∙ begin.zero in
+        subst (λ (m : Map Object). IsClosed m h.marked) (sym p.objects_are) (subst (IsClosed (last E b before c)) (sym p.marks_are) (closed_still clearly b.long c.kept nowhere c.marks.closed))

@@ -1,0 +1,65 @@
+-- A host's graph, and what an honest host does that is asked one thing about it: what the trait `Host` of fz_pass asks of hosts that can be called.
+use Rattle.std.specs.Prelude.{◌≡◌, ◌<◌, ◌^◌, ℕ, Bool, true, false, Option, Some, None, IsTrue}
+use Rattle.std.specs.FinMap.{get, contains_key}
+use Rattle.std.specs.Option.{option_map_or}
+use Rattle.fz_model.specs.Memory.{points, written}
+use Rattle.fz_model.specs.Reachability.{Leads}
+use Rattle.fz_model.specs.State.{Map, Object}
+use Rattle.fz_pass.specs.Late.{AreApart, AreNormal}
+use Rattle.fz_pass.specs.Marks.{IsClosed, Marks, IsLeadingBut, IsLastToMark, AreRegistered, AreTargets}
+use Rattle.fz_finalizers.specs.States.{State}
+use Rattle.fz_machine.specs.declared.question.Ask.{Ask}
+use Rattle.fz_machine.specs.declared.question.Ask.TheVariants.{IsMarked, MarkChildren, MarkOthers, Mark, MarkAlone, Clear, IsHolderMarked}
+
+pub record Graph : Type 0 where
+  pub objects : Map Object  -- by their starts
+  pub marked : ℕ → Bool
+
+-- what a host need do only where its marks are closed, for an object of the graph
+abbrev pub CanMark : Graph → ℕ → Type 0
+CanMark g object = IsTrue (contains_key g.objects object) × IsClosed g.objects g.marked
+
+abbrev pub MayAsk : Ask → ℕ → Graph → Type 0
+MayAsk IsMarked object g = Unit {0}
+MayAsk MarkChildren object g = CanMark g object
+MayAsk MarkOthers object g = CanMark g object
+MayAsk Mark object g = CanMark g object
+MayAsk MarkAlone object g = CanMark g object × IsLastToMark g.objects g.marked object
+MayAsk Clear word g = Unit {0}
+MayAsk IsHolderMarked word g = Unit {0}
+
+-- these came to the marks, and no others where the marking is exact
+abbrev pub Gains : Type 0 → Graph → Graph → (ℕ → Type 0) → Type 0
+Gains Exact old new gained = (new.objects ≡ old.objects) × Marks Exact old.objects old.marked new.marked gained
+
+-- whether the object that has the word is marked
+abbrev pub is_holder_marked : Map Object → (ℕ → Bool) → ℕ → Bool
+is_holder_marked objects marked word = option_map_or marked (points objects word) false
+
+-- the answer, which no one hears where something is to be done, and the graph after it
+abbrev pub Answers : Type 0 → Ask → ℕ → Graph → Bool → Graph → Type 0
+Answers Exact IsMarked object old answer new = (answer ≡ old.marked object) × (new ≡ old)
+Answers Exact MarkChildren object old answer new = Gains Exact old new (IsLeadingBut old.objects false object)
+Answers Exact MarkOthers object old answer new = Gains Exact old new (IsLeadingBut old.objects true object)
+Answers Exact Mark object old answer new = Gains Exact old new (Leads old.objects object)
+Answers Exact MarkAlone object old answer new = Gains Exact old new (λ a. a ≡ object)
+Answers Exact Clear word old answer new = new ≡ record old { objects = written word 0 old.objects }
+Answers Exact IsHolderMarked word old answer new = (answer ≡ is_holder_marked old.objects old.marked word) × (new ≡ old)
+
+-- a host owes an answer only where it may be asked; where nothing is asked, nothing changes
+abbrev pub IsHonest : Type 0 → Option Ask → ℕ → Graph → Bool → Graph → Type 0
+IsHonest Exact (Some ask) subject old answer new = MayAsk ask subject old → Answers Exact ask subject old answer new
+IsHonest Exact None subject old answer new = new ≡ old
+
+-- what a host sees to before a pass begins: its marking is done, and what is registered and linked to are objects of the graph
+pub record MayBegin (s : State) (g : Graph) : Type 0 where
+  pub registered : AreRegistered g.objects s.registrations
+  pub late : AreRegistered g.objects s.late
+  pub apart : AreApart s.registrations s.late
+  pub normal : AreNormal s.late
+  pub short : AreTargets g.objects s.short
+  pub long : AreTargets g.objects s.long
+  pub zero : points g.objects 0 ≡ None  -- a word that was cleared points to nothing
+  pub closed : IsClosed g.objects g.marked
+  pub births : (a : ℕ) (o : Object) → get g.objects a ≡ Some o → o.birth ≡ 0  -- the entries have none
+  pub starts : (a : ℕ) → IsTrue (contains_key g.objects a) → a < 2 ^ 64

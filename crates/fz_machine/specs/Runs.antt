@@ -1,0 +1,37 @@
+-- Runs of a pass over a graph, and what they make.
+use Rattle.std.specs.Prelude.{◌≡◌, ℕ, Bool, List, [], ◌∷◌, None, IsTrue}
+use Rattle.fz_pass.specs.Marks.{IsClosed}
+use Rattle.fz_finalizers.specs.Follows.{next_pass}
+use Rattle.fz_finalizers.specs.Passed.{DecidesFor}
+use Rattle.fz_finalizers.specs.States.{State}
+use Rattle.fz_machine.specs.declared.item.Item.{Item}
+use Rattle.fz_machine.specs.declared.pass.Next.{Next}
+use Rattle.fz_machine.specs.declared.phase.Phase.{Phase}
+use Rattle.fz_machine.specs.Graph.{Graph, IsHonest, MayBegin}
+use Rattle.fz_machine.specs.Machines.{Machine, IsBegun, GoesTo}
+use Rattle.fz_machine.specs.Phases.{asks, subject}
+
+-- honest answers about the first items, one after another, while the graph changes
+abbrev pub AreHonest : Type 0 → Phase → List Bool → List Item → Graph → Graph → Type 0
+AreHonest Exact phase [] items old new = new ≡ old
+AreHonest Exact phase (answer ∷ answers) [] old new = ⊥
+AreHonest Exact phase (answer ∷ answers) (item ∷ items) old new =
+    (between : Graph) × IsHonest Exact (asks phase item) (subject phase item) old answer between × AreHonest Exact phase answers items between new
+
+-- from where a pass has begun, by questions that an honest host has answered
+pub data Runs (Exact : Type 0) (begun : Machine) (before : Graph) : Machine → Graph → Type 0 where
+  Begun : Runs Exact begun before begun before
+  Goes : {m new : Machine} {g after : Graph} {next : Next} (answers : List Bool) (goes : GoesTo m answers new next)
+      → Runs Exact begun before m g → AreHonest Exact goes.phase answers m.walk.left g after → Runs Exact begun before new after
+
+-- what a pass of `Finalizers` makes of them: marked objects stay marked, and what they lead to is marked
+pub record MakesPass (Exact : Type 0) (old : State) (before : Graph) (new : State) (after : Graph) : Type 0 where
+  pub decided : DecidesFor Exact (next_pass old.passes) old before.objects before.marked new after.objects after.marked
+  pub marks : (a : ℕ) → IsTrue (before.marked a) → IsTrue (after.marked a)
+  pub closed : IsClosed after.objects after.marked
+
+-- a run whose answers are a graph's makes the pass
+abbrev pub RunsPass : Type 0 → Type 0
+RunsPass Exact = (old begun new : Machine) (before after : Graph)
+    → IsBegun old begun → MayBegin old.finalizers.state before → Runs Exact begun before new after → new.phase ≡ None
+    → MakesPass Exact old.finalizers.state before new.finalizers.state after

@@ -1,0 +1,12 @@
+//! What a run of questions and answers makes.
+
+ghost use Rattle.fz_machine.specs.Runs.{RunsPass};
+
+/// A run whose answers are a graph's makes the model's pass, just as `Finalizers::pass` does, and asks nothing that it may not.
+///
+/// Where the host marks what it is asked to and nothing else, this is just what the model queues and keeps. Where it marks more, no more is queued than
+/// the model queues, and no less kept.
+pub fn runs_make_the_pass()
+    ensures exact { RunsPass (Unit {0}) }
+    ensures more { RunsPass ⊥ }
+{}
