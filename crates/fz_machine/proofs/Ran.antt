@@ -1,6 +1,10 @@
 -- A run keeps what holds in its phases, and ends with the model's pass.
-use Rattle.std.proofs.Common.{◌≡◌, ◌∷◌, ◌∙◌, [], ℕ, Bool, true, false, cond, List, Option, Some, None, refl, sym, ap, subst, is_some, IsTrue}
-use Rattle.fz_finalizers.specs.Follows.{next_pass}
+use Rattle.std.proofs.Common.{◌≡◌, ◌+◌, ◌++◌, ◌∷◌, ◌∙◌, [], ℕ, Bool, false, cond, List, length, Option, Some, None, refl, sym, ap, subst, is_some, length-append, arith}
+use Rattle.std.specs.FinMap.{retain_keys}
+use Rattle.fz_model.specs.Pass.{entries_of}
+use Rattle.fz_model.proofs.Sound.{length-entries_of}
+use Rattle.fz_finalizers.specs.Follows.{Follows, Pass, next_pass}
+use Rattle.fz_finalizers.proofs.Following.{decided_queues}
 use Rattle.fz_finalizers.specs.States.{State}
 use Rattle.fz_machine.specs.declared.item.Item.{Item}
 use Rattle.fz_machine.specs.declared.phase.Phase.{Phase}
@@ -104,9 +108,25 @@ module _ (E : Type 0) (old begun new : Machine) (before after_it : Graph) (is : 
       subst (λ o. IsWhere E b before o new.finalizers.state new.walk.kept new.walk.left after_it) ends
       (ran E b before may_begin begun new after_it (subst (λ o. IsWhere E b before o begun.finalizers.state begun.walk.kept begun.walk.left before) (sym is.phase) starts) runs)
 
+  -- what comes and goes in the finalizers
+  as_pass : Follows old.finalizers.state Pass new.finalizers.state
+  as_pass =
+      let picks = at_end.chosen.first.picks ++ at_end.chosen.late_picks in
+      let come = entries_of b.passes b.queued picks in
+      let long = ap length (ap (λ (s : State). s.waiting) at_end.state) ∙ length-append b.waiting come in
+      let entries = length-entries_of b.passes b.queued picks in
+      let queued = ap (λ (s : State). s.queued) at_end.state in
+      let count : length old.finalizers.waiting + new.finalizers.queued ≡ length new.finalizers.waiting + old.finalizers.queued = omega (arith, long, entries, queued) in
+      (
+        decided_queues E b.passes before.objects (retain_keys after_it.objects after_it.marked) before.marked old.finalizers.state new.finalizers.state may.apart
+        (decides E b before may_begin new.finalizers.state after_it at_end) count (ap (λ (s : State). s.held) at_end.state) (ap (λ (s : State). s.next_number) at_end.state),
+        ap (λ (s : State). s.passes) at_end.state,
+      )
+
   pub makes_pass : MakesPass E old.finalizers.state before new.finalizers.state after_it
   makes_pass = record {
     decided = decides E b before may_begin new.finalizers.state after_it at_end;
+    follows = as_pass;
     marks = still_marked E b before may_begin new.finalizers.state after_it at_end;
     closed = closed_after E b before may_begin new.finalizers.state after_it at_end;
   }

@@ -1,7 +1,7 @@
 -- Runs of a pass over a graph, and what they make.
 use Rattle.std.specs.Prelude.{◌≡◌, ℕ, Bool, List, [], ◌∷◌, None, IsTrue}
 use Rattle.fz_pass.specs.Marks.{IsClosed}
-use Rattle.fz_finalizers.specs.Follows.{next_pass}
+use Rattle.fz_finalizers.specs.Follows.{Follows, Pass, next_pass}
 use Rattle.fz_finalizers.specs.Passed.{DecidesFor}
 use Rattle.fz_finalizers.specs.States.{State}
 use Rattle.fz_machine.specs.declared.item.Item.{Item}
@@ -24,9 +24,10 @@ pub data Runs (Exact : Type 0) (begun : Machine) (before : Graph) : Machine → 
   Goes : {m new : Machine} {g after : Graph} {next : Next} (answers : List Bool) (goes : GoesTo m answers new next)
       → Runs Exact begun before m g → AreHonest Exact goes.phase answers m.walk.left g after → Runs Exact begun before new after
 
--- what a pass of `Finalizers` makes of them: marked objects stay marked, and what they lead to is marked
+-- what `Finalizers::pass` makes of finalizers and a host's heap: what the model decides, in the finalizers alone, and no marks are lost
 pub record MakesPass (Exact : Type 0) (old : State) (before : Graph) (new : State) (after : Graph) : Type 0 where
   pub decided : DecidesFor Exact (next_pass old.passes) old before.objects before.marked new after.objects after.marked
+  pub follows : Follows old Pass new
   pub marks : (a : ℕ) → IsTrue (before.marked a) → IsTrue (after.marked a)
   pub closed : IsClosed after.objects after.marked
 
