@@ -20,3 +20,4 @@ pub mod Begun
 pub mod Keeping
 pub mod Turning
 pub mod Ran
+pub mod Fewer

@@ -8,3 +8,4 @@ pub mod Machines
 pub mod Causes
 pub mod Graph
 pub mod Runs
+pub mod Heard

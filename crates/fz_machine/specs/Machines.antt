@@ -81,7 +81,7 @@ pub record IsBegun (old new : Machine) : Type 0 where
   pub before : new.before ≡ old.finalizers.queued
 
 -- what a pass tells: the question of the phase that it is in, or what it did
-abbrev Tells : Machine → Next → Type 0
+abbrev pub Tells : Machine → Next → Type 0
 Tells m (Asks question) = (phase : Phase) × (m.phase ≡ Some phase) × IsQuestion phase m.walk.left question × (m.asked ≡ question.count)
 Tells m (Ended passed) = (m.phase ≡ None) × (passed.pass ≡ m.finalizers.passes) × (passed.picked ≡ m.finalizers.queued - m.before)
 

@@ -1,5 +1,6 @@
 //! What a run of questions and answers makes.
 
+ghost use Rattle.fz_machine.specs.Heard.{PassesEnd};
 ghost use Rattle.fz_machine.specs.Runs.{RunsPass};
 
 /// A run whose answers are a graph's makes the model's pass, just as `Finalizers::pass` does, and asks nothing that it may not.
@@ -9,4 +10,10 @@ ghost use Rattle.fz_machine.specs.Runs.{RunsPass};
 pub fn runs_make_the_pass()
     ensures exact { RunsPass (Unit {0}) }
     ensures more { RunsPass ⊥ }
+{}
+
+/// Whatever the host answers, a pass hears at most six answers a registration and three a link. Each question is about one item at least: a host that
+/// goes on to answer comes to the end.
+pub fn passes_end()
+    ensures { PassesEnd }
 {}

@@ -1,0 +1,220 @@
+-- Each answer that is heard leaves fewer to come.
+use Rattle.std.proofs.Common.{◌≡◌, ◌≤◌, ◌+◌, ◌*◌, ◌++◌, ◌∷◌, ◌∙◌, [], ℕ, suc, Bool, true, false, cond, List, length, map, Option, Some, None, refl, sym, ap, subst, is_some, length-append, arith}
+use Rattle.std.proofs.lemmas.List.{length-map}
+use Rattle.std.proofs.lemmas.Option.{none-some, same_Some}
+use Rattle.std.proofs.lemmas.List.Sorted.{length_permutation}
+use Rattle.std.specs.FinMap.{len, remove}
+use Rattle.std.specs.Option.{option_map_or}
+use Rattle.fz_model.specs.declared.answers.Registration.{Registration}
+use Rattle.fz_model.specs.State.{Map}
+use Rattle.fz_model.proofs.KeyedEntries.{len_made}
+use Rattle.fz_finalizers.specs.Follows.{queued_object, queued_one}
+use Rattle.fz_finalizers.specs.Kinds.{is_late}
+use Rattle.fz_finalizers.specs.States.{State, registered}
+use Rattle.fz_finalizers.proofs.Counting.{len_less}
+use Rattle.fz_machine.specs.declared.item.Item.{Item}
+use Rattle.fz_machine.specs.declared.pass.Next.{Next}
+use Rattle.fz_machine.specs.declared.pass.Next.TheVariants as told
+use Rattle.fz_machine.specs.declared.phase.Phase.{Phase}
+use Rattle.fz_machine.specs.declared.phase.Phase.TheVariants.{ShortTargets, ShortWords, Objects, Children, Again, Picks, LateAgain, LatePicks, LongTargets, LongWords, ShortHolders, LongHolders}
+use Rattle.fz_machine.specs.Going.{going}
+use Rattle.fz_machine.specs.Heard.{Begun, Goes, Hears, PassesEnd, most_answers}
+use Rattle.fz_machine.specs.Items.{AreEntriesOf, AreLinks, AreObjects, of_link, of_late, of_other}
+use Rattle.fz_machine.specs.Machines.{GoesTo, IsBegun, Machine, Tells}
+use Rattle.fz_machine.specs.Phases.{Lists, after, asks, keeps, next_phase}
+use Rattle.fz_machine.specs.Steps.{Asks, Begins, Ends, Going, GoesOn, Turns, skip, skipped, steps}
+use Rattle.fz_machine.proofs.Phasing.{kept_on}
+
+-- no more registrations and links than these
+pub record IsWithin (r s g : ℕ) (t : State) : Type 0 where
+  pub registered : len t.registrations + len t.late ≤ r
+  pub short : len t.short ≤ s
+  pub long : len t.long ≤ g
+
+abbrev at : State → List Item → List Item → Going
+at s kept left = record { finalizers = s; kept = kept; left = left }
+
+module _ (r s g : ℕ) where
+  -- how often a phase and those behind it may go over an item, by how many are kept and left
+  abbrev to_come : Option Phase → ℕ → ℕ → ℕ
+  to_come None kept left = 0
+  to_come (Some ShortTargets) kept left = 2 * left + kept + (6 * r + 3 * g + s)
+  to_come (Some ShortWords) kept left = left + (6 * r + 3 * g + s)
+  to_come (Some Objects) kept left = 6 * left + 5 * kept + (3 * g + s)
+  to_come (Some Children) kept left = 5 * left + 4 * kept + (3 * g + s)
+  to_come (Some Again) kept left = 4 * left + 3 * kept + (3 * g + s)
+  to_come (Some Picks) kept left = 3 * left + 2 * kept + (3 * g + s)
+  to_come (Some LateAgain) kept left = 2 * left + kept + (3 * g + s)
+  to_come (Some LatePicks) kept left = left + (3 * g + s)
+  to_come (Some LongTargets) kept left = 2 * left + kept + (g + s)
+  to_come (Some LongWords) kept left = left + (g + s)
+  to_come (Some ShortHolders) kept left = left + g
+  to_come (Some LongHolders) kept left = left
+
+  abbrev to_come_in : Option Phase → Going → ℕ
+  to_come_in phase k = to_come phase (length k.kept) (length k.left)
+
+  fewer : (phase : Phase) (kept new left : ℕ) → new ≤ kept + 1 → to_come (Some phase) new left + 1 ≤ to_come (Some phase) kept (suc left)
+  fewer ShortTargets kept new left le = omega (arith, le)
+  fewer ShortWords kept new left le = omega (arith, le)
+  fewer Objects kept new left le = omega (arith, le)
+  fewer Children kept new left le = omega (arith, le)
+  fewer Again kept new left le = omega (arith, le)
+  fewer Picks kept new left le = omega (arith, le)
+  fewer LateAgain kept new left le = omega (arith, le)
+  fewer LatePicks kept new left le = omega (arith, le)
+  fewer LongTargets kept new left le = omega (arith, le)
+  fewer LongWords kept new left le = omega (arith, le)
+  fewer ShortHolders kept new left le = omega (arith, le)
+  fewer LongHolders kept new left le = omega (arith, le)
+
+  one_kept : (keeps : Bool) (kept : List Item) (item : Item) → length (kept_on keeps kept item) ≤ length kept + 1
+  one_kept true kept item = let long = length-append kept (item ∷ []) in omega (arith, long)
+  one_kept false kept item = omega arith
+
+  -- ---- the tables don't grow
+
+  module _ (t : State) (h : IsWithin r s g t) where
+    without_short : (word : ℕ) → IsWithin r s g (record t { short = remove t.short word })
+    without_short word = let less = len_less t.short word in let few = h.short in record { registered = h.registered; short = omega (arith, less, few); long = h.long }
+
+    without_long : (word : ℕ) → IsWithin r s g (record t { long = remove t.long word })
+    without_long word = let less = len_less t.long word in let few = h.long in record { registered = h.registered; short = h.short; long = omega (arith, less, few) }
+
+    queued : (object : ℕ) → IsWithin r s g (queued_object t object)
+    queued object = by (registered t object)
+      where
+        by : (o : Option Registration) → IsWithin r s g (option_map_or (queued_one t object) o t)
+        by None = h
+        by (Some q) = let less = len_less t.registrations object in let less_late = len_less t.late object in let few = h.registered in record { registered = omega (arith, less, less_late, few); short = h.short; long = h.long }
+
+    cases : (b : Bool) (u v : State) → IsWithin r s g u → IsWithin r s g v → IsWithin r s g (cond b u v)
+    cases true u v x y = x
+    cases false u v x y = y
+
+    still : (phase : Phase) (item : Item) (answer : Bool) → IsWithin r s g (after phase item answer t)
+    still ShortTargets item answer = h
+    still ShortWords item answer = without_short item.word
+    still Objects item answer = h
+    still Children item answer = h
+    still Again item answer = h
+    still Picks item answer = cases (is_late item.kind) t (queued_object t item.object) h (queued item.object)
+    still LateAgain item answer = h
+    still LatePicks item answer = queued item.object
+    still LongTargets item answer = h
+    still LongWords item answer = without_long item.word
+    still ShortHolders item answer = cases answer t (record t { short = remove t.short item.word }) h (without_short item.word)
+    still LongHolders item answer = cases answer t (record t { long = remove t.long item.word }) h (without_long item.word)
+
+  -- ---- answers
+
+  module _ (phase : Phase) where
+    steps_fewer : (answers : List Bool) (t : State) (kept left : List Item) → IsWithin r s g t → length answers ≤ length left
+        → IsWithin r s g (steps phase answers (at t kept left)).finalizers × (length answers + to_come_in (Some phase) (steps phase answers (at t kept left)) ≤ to_come (Some phase) (length kept) (length left))
+    steps_fewer [] t kept left h few = (h, omega arith)
+    steps_fewer (answer ∷ answers) t kept [] h few = absurd (omega (arith, few))
+    steps_fewer (answer ∷ answers) t kept (item ∷ left) h few =
+        let rest = steps_fewer answers (after phase item answer t) (kept_on (keeps phase item answer) kept item) left (still t h phase item answer) (omega (arith, few)) in
+        let one = fewer phase (length kept) (length (kept_on (keeps phase item answer) kept item)) (length left) (one_kept (keeps phase item answer) kept item) in
+        let all = rest.1 in
+        (rest.0, omega (arith, all, one))
+
+    skips_fewer : (left : List Item) (t : State) (kept : List Item) → IsWithin r s g t
+        → IsWithin r s g (skipped phase left (at t kept left)).finalizers × (to_come_in (Some phase) (skipped phase left (at t kept left)) ≤ to_come (Some phase) (length kept) (length left))
+    skips_fewer [] t kept h = (h, omega arith)
+    skips_fewer (item ∷ left) t kept h = by (is_some (asks phase item)) (skips_fewer left (after phase item false t) (kept_on (keeps phase item false) kept item) (still t h phase item false))
+      where
+        by : (b : Bool) → IsWithin r s g (skipped phase left (at (after phase item false t) (kept_on (keeps phase item false) kept item) left)).finalizers
+              × (to_come_in (Some phase) (skipped phase left (at (after phase item false t) (kept_on (keeps phase item false) kept item) left)) ≤ to_come (Some phase) (length (kept_on (keeps phase item false) kept item)) (length left))
+            → IsWithin r s g (cond b (at t kept (item ∷ left)) (skipped phase left (at (after phase item false t) (kept_on (keeps phase item false) kept item) left))).finalizers
+              × (to_come_in (Some phase) (cond b (at t kept (item ∷ left)) (skipped phase left (at (after phase item false t) (kept_on (keeps phase item false) kept item) left))) ≤ to_come (Some phase) (length kept) (suc (length left)))
+        by true rest = (h, omega arith)
+        by false rest =
+            let one = fewer phase (length kept) (length (kept_on (keeps phase item false) kept item)) (length left) (one_kept (keeps phase item false) kept item) in
+            let all = rest.1 in
+            (rest.0, omega (arith, all, one))
+
+  -- ---- the next phase
+
+  entries : {X : Type 0} (m : Map X) (es : List (ℕ × X)) → AreEntriesOf m es → length es ≡ len m
+  entries m es are = sym (len_made es are.1) ∙ ap len are.0
+
+  links_few : (links : Map ℕ) (items : List Item) → AreLinks links items → length items ≡ len links
+  links_few links items are = ap length are.2 ∙ length-map are.0 of_link ∙ entries links are.0 are.1
+
+  objects_few : (registrations late : Map Registration) (items : List Item) → AreObjects registrations late items → length items ≡ len registrations + len late
+  objects_few registrations late items are =
+      let long = ap length are.4 ∙ length-append (map of_other are.0) (map of_late are.1) in
+      let others = length-map are.0 of_other ∙ entries registrations are.0 are.2 in
+      let lates = length-map are.1 of_late ∙ entries late are.1 are.3 in
+      omega (arith, long, others, lates)
+
+  module _ (t : State) (h : IsWithin r s g t) (kept : List Item) where
+    abbrev IsFewer : Phase → Option Phase → Type 0
+    IsFewer phase None = Unit {0}
+    IsFewer phase (Some next) = (items : List Item) → Lists next t kept items → to_come (Some next) 0 (length items) ≤ to_come (Some phase) (length kept) 0
+
+    turns_fewer : (phase : Phase) → IsFewer phase (next_phase phase)
+    turns_fewer ShortTargets = λ items is. let same = ap length is in omega (arith, same)
+    turns_fewer ShortWords = λ items are. let many = objects_few t.registrations t.late items are in let few = h.registered in omega (arith, many, few)
+    turns_fewer Objects = λ items is. let same = ap length is in omega (arith, same)
+    turns_fewer Children = λ items is. let same = ap length is in omega (arith, same)
+    turns_fewer Again = λ items turned. let same = length_permutation kept items turned.0 in omega (arith, same)
+    turns_fewer Picks = λ items is. let same = ap length is in omega (arith, same)
+    turns_fewer LateAgain = λ items is. let same = ap length is in omega (arith, same)
+    turns_fewer LatePicks = λ items are. let many = links_few t.long items are in let few = h.long in omega (arith, many, few)
+    turns_fewer LongTargets = λ items is. let same = ap length is in omega (arith, same)
+    turns_fewer LongWords = λ items are. let many = links_few t.short items are in let few = h.short in omega (arith, many, few)
+    turns_fewer ShortHolders = λ items are. let many = links_few t.long items are in let few = h.long in omega (arith, many, few)
+    turns_fewer LongHolders = tt
+
+  goes_fewer : (phase : Phase) (k : Going) (last : Option Phase) (m : Going) → GoesOn phase k last m → IsWithin r s g k.finalizers → IsWithin r s g m.finalizers × (to_come_in last m ≤ to_come_in (Some phase) k)
+  goes_fewer phase k last m (Asks item left some) h = skips_fewer phase k.left k.finalizers k.kept h
+  goes_fewer phase k last m (Turns {next = next} {h = n} none turns begins rest) h =
+      let past = skips_fewer phase k.left k.finalizers k.kept h in
+      let on = goes_fewer next n last m rest (subst (IsWithin r s g) (sym begins.same) past.0) in
+      let turn : to_come (Some next) 0 (length n.left) ≤ to_come (Some phase) (length (skip phase k).kept) 0 =
+      subst (IsFewer (skip phase k).finalizers past.0 (skip phase k).kept phase) turns (turns_fewer (skip phase k).finalizers past.0 (skip phase k).kept phase) n.left begins.lists in
+      let here : to_come_in (Some next) n ≤ to_come (Some phase) (length (skip phase k).kept) 0 = subst (λ (xs : List Item). to_come (Some next) (length xs) (length n.left) ≤ to_come (Some phase) (length (skip phase k).kept) 0) (sym begins.none) turn in
+      let there : to_come (Some phase) (length (skip phase k).kept) 0 ≤ to_come_in (Some phase) k = subst (λ (xs : List Item). to_come (Some phase) (length (skip phase k).kept) (length xs) ≤ to_come_in (Some phase) k) none past.1 in
+      let all = on.1 in
+      (on.0, omega (arith, all, here, there))
+  goes_fewer phase k last m (Ends none turns) h = let past = skips_fewer phase k.left k.finalizers k.kept h in (past.0, omega arith)
+
+  -- ---- a run
+
+  record IsHearing (n : ℕ) (m : Machine) : Type 0 where
+    within : IsWithin r s g m.finalizers.state
+    few : n + to_come m.phase (length m.walk.kept) (length m.walk.left) ≤ 6 * r + 3 * (s + g)
+    asked : (p : Phase) → m.phase ≡ Some p → m.asked ≤ length m.walk.left
+
+  asked_for : (m : Machine) (next : Next) → Tells m next → (p : Phase) → m.phase ≡ Some p → m.asked ≤ length m.walk.left
+  asked_for m (told.Asks question) (phase, was, is, count) p at = let within = is.within in omega (arith, within, count)
+  asked_for m (told.Ended passed) (none, same, picked) p at = absurd (none-some p (sym none ∙ at))
+
+  heard : (begun m : Machine) (n : ℕ) → IsHearing 0 begun → Hears begun m n → IsHearing n m
+  heard begun m n h Begun = h
+  heard begun m n h (Goes {m = old} {next = next} {n = before} answers few goes hears) =
+      let was = heard begun old before h hears in
+      let asked = was.asked goes.phase goes.was in
+      let stepped = steps_fewer goes.phase answers old.finalizers.state old.walk.kept old.walk.left was.within (omega (arith, few, asked)) in
+      let on = goes_fewer goes.phase (steps goes.phase answers (going old.finalizers old.walk)) m.phase (going m.finalizers m.walk) goes.goes stepped.0 in
+      let so_far = subst (λ o. before + to_come o (length old.walk.kept) (length old.walk.left) ≤ 6 * r + 3 * (s + g)) goes.was was.few in
+      let here = stepped.1 in
+      let there = on.1 in
+      record { within = on.0; few = omega (arith, so_far, here, there); asked = asked_for m next goes.tells }
+
+pub passes_end : PassesEnd
+passes_end old begun m n is hears =
+    let t = old.finalizers.state in
+    let r = len t.registrations + len t.late in
+    let same = is.finalizers in
+    let many : length begun.walk.left ≡ len t.short = links_few r (len t.short) (len t.long) t.short begun.walk.left (subst (λ (u : State). AreLinks u.short begun.walk.left) same is.begins.lists) in
+    let kept = ap length is.begins.none in
+    let start : IsHearing r (len t.short) (len t.long) 0 begun = record {
+      within = subst (IsWithin r (len t.short) (len t.long)) (sym same) (record { registered = omega arith; short = omega arith; long = omega arith });
+      few = subst (λ o. 0 + to_come r (len t.short) (len t.long) o (length begun.walk.kept) (length begun.walk.left) ≤ 6 * r + 3 * (len t.short + len t.long)) (sym is.phase) (omega (arith, many, kept));
+      asked = λ p at. let none = is.asked in omega (arith, none);
+    } in
+    let end = (heard r (len t.short) (len t.long) begun m n start hears).few in
+    omega (arith, end)

@@ -1,0 +1,18 @@
+-- How long a pass goes on, whatever the host answers.
+use Rattle.std.specs.Prelude.{ℕ, ◌+◌, ◌*◌, ◌≤◌, Bool, List, length}
+use Rattle.std.specs.FinMap.{len}
+use Rattle.fz_finalizers.specs.States.{State}
+use Rattle.fz_machine.specs.declared.pass.Next.{Next}
+use Rattle.fz_machine.specs.Machines.{Machine, IsBegun, GoesTo}
+
+-- so many answers were heard since a pass began, no more to a question than it asked for
+pub data Hears (begun : Machine) : Machine → ℕ → Type 0 where
+  Begun : Hears begun begun 0
+  Goes : {m new : Machine} {next : Next} {n : ℕ} (answers : List Bool) → length answers ≤ m.asked → GoesTo m answers new next → Hears begun m n → Hears begun new (n + length answers)
+
+-- six phases go over registrations, and three over the links of each kind
+abbrev pub most_answers : State → ℕ
+most_answers s = 6 * (len s.registrations + len s.late) + 3 * (len s.short + len s.long)
+
+abbrev pub PassesEnd : Type 0
+PassesEnd = (old begun m : Machine) (n : ℕ) → IsBegun old begun → Hears begun m n → n ≤ most_answers old.finalizers.state
