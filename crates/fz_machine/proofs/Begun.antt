@@ -1,9 +1,9 @@
 -- What a host sees to before a pass, with the words of dead short links cleared.
-use Rattle.std.proofs.Common.{◌≡◌, ◌<◌, ◌^◌, ◌∙◌, ℕ, Bool, true, false, not, Option, Some, None, refl, sym, ap, subst, inl, is_some, IsTrue}
-use Rattle.std.proofs.lemmas.Bool.{both_ways, not-true}
-use Rattle.std.specs.FinMap.{get, contains_key}
+use Rattle.std.proofs.Common.{◌≡◌, ◌<◌, ◌^◌, ◌∙◌, ℕ, Bool, true, false, Option, Some, None, refl, ap, inl, is_some, IsTrue}
+use Rattle.std.proofs.lemmas.Bool.{both_ways}
+use Rattle.std.specs.FinMap.{get}
 use Rattle.fz_model.specs.declared.answers.Registration.{Registration}
-use Rattle.fz_model.specs.State.{Map, Object}
+use Rattle.fz_model.specs.State.{Object}
 use Rattle.fz_model.specs.Pass.{is_dead}
 use Rattle.fz_model.proofs.Maps.{filled_back}
 use Rattle.fz_pass.specs.Leading.{LedAreMarked}
@@ -14,7 +14,7 @@ use Rattle.fz_pass.proofs.Picked.{was_registered}
 use Rattle.fz_finalizers.specs.States.{State}
 use Rattle.fz_machine.specs.Graph.{Graph, MayBegin}
 use Rattle.fz_machine.proofs.Chosen.{tabled}
-use Rattle.fz_machine.proofs.Phased.{found, clear, all, Leading, Picked, PickedBoth}
+use Rattle.fz_machine.proofs.Phased.{clear, all, Leading, Picked}
 
 module _ (E : Type 0) (b : State) (before : Graph) (begin : MayBegin b before) where
   pub registered : AreRegistered (clear E b before) b.registrations

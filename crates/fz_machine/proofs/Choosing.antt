@@ -9,8 +9,8 @@ use Rattle.fz_pass.specs.Leading.{IsLeading}
 use Rattle.fz_pass.specs.Marks.{IsClosed, Marks, IsLastToMark}
 use Rattle.fz_pass.proofs.Marking.{last_to_mark, marks_last}
 use Rattle.fz_finalizers.specs.Kinds.{of_table}
-use Rattle.fz_machine.specs.declared.question.Ask.TheVariants.{Mark, MarkAlone}
-use Rattle.fz_machine.specs.Graph.{Graph, CanMark, Gains, IsHonest}
+use Rattle.fz_machine.specs.declared.question.Ask.TheVariants.{MarkAlone}
+use Rattle.fz_machine.specs.Graph.{Graph, CanMark, IsHonest}
 use Rattle.fz_machine.specs.Phases.{pick_ask}
 
 module _ (E : Type 0) (clear : Map Object) (o : ℕ) (h new : Graph) (objects : h.objects ≡ clear) (closed : IsClosed clear h.marked) (there : IsTrue (contains_key clear o)) where

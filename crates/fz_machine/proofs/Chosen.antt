@@ -1,20 +1,19 @@
 -- The objects of a table that aren't marked are picked, one after another.
-use Rattle.std.proofs.Common.{◌≡◌, ◌≢◌, ◌≤◌, ◌<◌, ◌+◌, ◌*◌, ◌^◌, ◌⊎◌, ◌&&◌, ◌||◌, ◌++◌, ◌∷◌, ◌∙◌, [], ℕ, Bool, true, false, not, List, map, get_or, Option, Some, None, All, Contains, refl, sym, ap, subst, inl, inr, ⊎_elim, is_some, IsTrue, nat_eq, arith}
+use Rattle.std.proofs.Common.{◌≡◌, ◌≢◌, ◌≤◌, ◌<◌, ◌+◌, ◌*◌, ◌^◌, ◌⊎◌, ◌&&◌, ◌++◌, ◌∷◌, ◌∙◌, [], ℕ, Bool, true, false, not, List, map, Option, Some, None, refl, sym, ap, subst, inl, inr, ⊎_elim, is_some, IsTrue, nat_eq, arith}
 use Rattle.std.proofs.lemmas.Bool.{and_parts, and_from, not-true, both_ways, true≢false, eq-eqb, eqb-true, cases_lt}
-use Rattle.std.proofs.lemmas.Option.{same_Some, none-some}
+use Rattle.std.proofs.lemmas.Option.{same_Some}
 use Rattle.std.specs.FinMap.{get, contains_key, remove}
 use Rattle.fz_model.specs.declared.answers.Pick.{Pick}
 use Rattle.fz_model.specs.declared.answers.Registration.{Registration}
 use Rattle.fz_model.specs.State.{Map, Object}
 use Rattle.fz_model.specs.Reachability.{Leads}
-use Rattle.fz_model.specs.Pass.{without_picks}
 use Rattle.fz_model.proofs.Lists.{place_of, map_at}
 use Rattle.fz_model.proofs.Sound.{is_some_of, left_other}
 use Rattle.fz_table.specs.Registered.{Registered}
 use Rattle.fz_pass.specs.All.{unknown}
 use Rattle.fz_pass.specs.Marks.{IsClosed, Marks, AreReached}
 use Rattle.fz_pass.specs.Picking.{pick_of, IsReady, Picks, Takes}
-use Rattle.fz_pass.proofs.Picked.{StandsBefore, all_map, map_or_true, picks_as, picks_more, picks_none, same_test, was_registered, without_other}
+use Rattle.fz_pass.proofs.Picked.{StandsBefore, all_map, picks_as, picks_more, picks_none, same_test, without_other}
 use Rattle.fz_machine.specs.declared.item.Item.{Item}
 use Rattle.fz_machine.specs.Graph.{Graph}
 use Rattle.fz_machine.specs.Items as items

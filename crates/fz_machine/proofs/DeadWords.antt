@@ -1,11 +1,11 @@
 -- Links that go: with the words of the dead ones, and where the word's holder isn't marked.
-use Rattle.std.proofs.Common.{◌≡◌, ◌≢◌, ◌⊎◌, ◌||◌, ◌&&◌, ◌++◌, ◌∷◌, ◌∙◌, [], ℕ, Bool, true, false, not, cond, List, Option, Some, None, refl, sym, ap, subst, inl, inr, ⊎_elim, nat_eq, is_some, IsTrue}
+use Rattle.std.proofs.Common.{◌≡◌, ◌≢◌, ◌⊎◌, ◌||◌, ◌&&◌, ◌∷◌, ◌∙◌, [], ℕ, Bool, true, false, not, cond, List, Option, Some, None, refl, sym, ap, subst, inl, inr, ⊎_elim, nat_eq}
 use Rattle.std.proofs.lemmas.Bool.{and_parts, and_from, not-true, both_ways, true≢false, cases_eq, eq-eqb, ne_eqb, eqb-true}
 use Rattle.std.specs.Cmp.{nat_cmp_total}
 use Rattle.std.specs.Option.{option_map_or}
 use Rattle.std.specs.FinMap.{get, contains_key, remove, retain_keys, same_map, nat_cmp-IsAntisymmetric}
 use Rattle.fz_model.specs.State.{Map, Object}
-use Rattle.fz_model.specs.Memory.{points, filled, written}
+use Rattle.fz_model.specs.Memory.{filled, written}
 use Rattle.fz_model.specs.Pass.{is_outside, is_dead, cleared}
 use Rattle.fz_model.proofs.Maps.{get-retain, get-remove_same, get-remove_other}
 use Rattle.fz_pass.specs.Marks.{AreTargets, with_targets, with_containers}

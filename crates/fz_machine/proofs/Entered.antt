@@ -1,14 +1,14 @@
 -- What the lists of phases have of links and registrations.
-use Rattle.std.proofs.Common.{◌≡◌, ◌⊎◌, ◌++◌, ◌∙◌, ℕ, List, Some, All, Contains, map, refl, sym, ap, subst, inl, inr, ⊎_elim, is_some, not, nat_cmp, IsTrue}
+use Rattle.std.proofs.Common.{◌≡◌, ◌⊎◌, ◌++◌, ◌∙◌, ℕ, List, Some, Contains, map, refl, sym, ap, subst, inl, inr, ⊎_elim, not, IsTrue}
 use Rattle.std.proofs.lemmas.List.Elements.{All-contains_itself, All-weaker}
-use Rattle.std.specs.FinMap.{get, contains_key, from_entries}
+use Rattle.std.specs.FinMap.{get, contains_key}
 use Rattle.fz_model.specs.declared.answers.Registration.{Registration}
 use Rattle.fz_model.specs.State.{Map}
 use Rattle.fz_model.proofs.KeyedEntries.{got, listed}
 use Rattle.fz_model.proofs.Sound.{is_some_of}
 use Rattle.fz_machine.specs.declared.item.Item.{Item}
 use Rattle.fz_machine.specs.Items.{AreEntriesOf, AreLinks, AreObjects, of_link, of_late, of_other}
-use Rattle.fz_machine.proofs.Among.{Each, OneOf, each_from, each_append, each_mapped, one_from, one_left, one_right, one_mapped}
+use Rattle.fz_machine.proofs.Among.{Each, OneOf, each_as, each_from, each_append, each_mapped, one_from, one_left, one_right, one_mapped}
 use Rattle.fz_machine.proofs.Sifting.{IsAt}
 
 module _ {X : Type 0} (m : Map X) (es : List (ℕ × X)) (are : AreEntriesOf m es) where
@@ -54,11 +54,8 @@ module _ (registrations late : Map Registration) where
     pub objects_each : Each IsOfEither items
     objects_each = subst (Each IsOfEither) (sym are.4)
         (each_append IsOfEither (map of_other are.0) (map of_late are.1)
-        (each_mapped of_other IsOfEither are.0 (each_from (λ e. IsOfEither (of_other e)) are.0 (λ i d lt. inl (_, (stands_all registrations are.0 are.2 i d lt), refl))))
-        (each_mapped of_late IsOfEither are.1 (each_from (λ e. IsOfEither (of_late e)) are.1 (λ i d lt. inr (_, (stands_all late are.1 are.3 i d lt), refl)))))
-      where
-        stands_all : (m : Map Registration) (es : List (ℕ × Registration)) → AreEntriesOf m es → All (λ e. get m e.0 ≡ Some e.1) es
-        stands_all m es are = All-weaker (Contains es) (λ e. get m e.0 ≡ Some e.1) (λ e is_in. ap (λ (n : Map Registration). get n e.0) (sym are.0) ∙ got es e.0 e.1 are.1 is_in) es (All-contains_itself es)
+        (each_mapped of_other IsOfEither are.0 (each_as (λ e. get registrations e.0 ≡ Some e.1) (λ e. IsOfEither (of_other e)) (λ e here. inl (e.1, here, refl)) are.0 (stands registrations are.0 are.2)))
+        (each_mapped of_late IsOfEither are.1 (each_as (λ e. get late e.0 ≡ Some e.1) (λ e. IsOfEither (of_late e)) (λ e here. inr (e.1, here, refl)) are.1 (stands late are.1 are.3))))
 
     pub objects_all : (object word : ℕ) → IsEitherAt object word → OneOf (IsAt object word) items
     objects_all object word either = subst (OneOf (IsAt object word)) (sym are.4) (⊎_elim other of_second either)

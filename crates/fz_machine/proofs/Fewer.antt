@@ -1,35 +1,26 @@
 -- Each answer that is heard leaves fewer to come.
-use Rattle.std.proofs.Common.{◌≡◌, ◌≤◌, ◌+◌, ◌*◌, ◌++◌, ◌∷◌, ◌∙◌, [], ℕ, suc, Bool, true, false, cond, List, length, map, Option, Some, None, refl, sym, ap, subst, is_some, length-append, arith}
+use Rattle.std.proofs.Common.{◌≡◌, ◌≤◌, ◌+◌, ◌*◌, ◌∷◌, ◌∙◌, [], ℕ, suc, Bool, true, false, cond, List, length, map, Option, Some, None, sym, ap, subst, is_some, length-append, arith}
 use Rattle.std.proofs.lemmas.List.{length-map}
-use Rattle.std.proofs.lemmas.Option.{none-some, same_Some}
+use Rattle.std.proofs.lemmas.Option.{none-some}
 use Rattle.std.proofs.lemmas.List.Sorted.{length_permutation}
-use Rattle.std.specs.FinMap.{len, remove}
-use Rattle.std.specs.Option.{option_map_or}
+use Rattle.std.specs.FinMap.{len}
 use Rattle.fz_model.specs.declared.answers.Registration.{Registration}
 use Rattle.fz_model.specs.State.{Map}
 use Rattle.fz_model.proofs.KeyedEntries.{len_made}
-use Rattle.fz_finalizers.specs.Follows.{queued_object, queued_one}
-use Rattle.fz_finalizers.specs.Kinds.{is_late}
-use Rattle.fz_finalizers.specs.States.{State, registered}
-use Rattle.fz_finalizers.proofs.Counting.{len_less}
+use Rattle.fz_finalizers.specs.States.{State}
 use Rattle.fz_machine.specs.declared.item.Item.{Item}
 use Rattle.fz_machine.specs.declared.pass.Next.{Next}
 use Rattle.fz_machine.specs.declared.pass.Next.TheVariants as told
 use Rattle.fz_machine.specs.declared.phase.Phase.{Phase}
 use Rattle.fz_machine.specs.declared.phase.Phase.TheVariants.{ShortTargets, ShortWords, Objects, Children, Again, Picks, LateAgain, LatePicks, LongTargets, LongWords, ShortHolders, LongHolders}
 use Rattle.fz_machine.specs.Going.{going}
-use Rattle.fz_machine.specs.Heard.{Begun, Goes, Hears, PassesEnd, most_answers}
+use Rattle.fz_machine.specs.Heard.{Begun, Goes, Hears, PassesEnd}
 use Rattle.fz_machine.specs.Items.{AreEntriesOf, AreLinks, AreObjects, of_link, of_late, of_other}
-use Rattle.fz_machine.specs.Machines.{GoesTo, IsBegun, Machine, Tells}
+use Rattle.fz_machine.specs.Machines.{Machine, Tells}
 use Rattle.fz_machine.specs.Phases.{Lists, after, asks, keeps, next_phase}
-use Rattle.fz_machine.specs.Steps.{Asks, Begins, Ends, Going, GoesOn, Turns, skip, skipped, steps}
+use Rattle.fz_machine.specs.Steps.{Asks, Ends, Going, GoesOn, Turns, skip, skipped, steps}
 use Rattle.fz_machine.proofs.Phasing.{kept_on}
-
--- no more registrations and links than these
-pub record IsWithin (r s g : ℕ) (t : State) : Type 0 where
-  pub registered : len t.registrations + len t.late ≤ r
-  pub short : len t.short ≤ s
-  pub long : len t.long ≤ g
+use Rattle.fz_machine.proofs.Within.{IsWithin, still}
 
 abbrev at : State → List Item → List Item → Going
 at s kept left = record { finalizers = s; kept = kept; left = left }
@@ -72,40 +63,6 @@ module _ (r s g : ℕ) where
   one_kept true kept item = let long = length-append kept (item ∷ []) in omega (arith, long)
   one_kept false kept item = omega arith
 
-  -- ---- the tables don't grow
-
-  module _ (t : State) (h : IsWithin r s g t) where
-    without_short : (word : ℕ) → IsWithin r s g (record t { short = remove t.short word })
-    without_short word = let less = len_less t.short word in let few = h.short in record { registered = h.registered; short = omega (arith, less, few); long = h.long }
-
-    without_long : (word : ℕ) → IsWithin r s g (record t { long = remove t.long word })
-    without_long word = let less = len_less t.long word in let few = h.long in record { registered = h.registered; short = h.short; long = omega (arith, less, few) }
-
-    queued : (object : ℕ) → IsWithin r s g (queued_object t object)
-    queued object = by (registered t object)
-      where
-        by : (o : Option Registration) → IsWithin r s g (option_map_or (queued_one t object) o t)
-        by None = h
-        by (Some q) = let less = len_less t.registrations object in let less_late = len_less t.late object in let few = h.registered in record { registered = omega (arith, less, less_late, few); short = h.short; long = h.long }
-
-    cases : (b : Bool) (u v : State) → IsWithin r s g u → IsWithin r s g v → IsWithin r s g (cond b u v)
-    cases true u v x y = x
-    cases false u v x y = y
-
-    still : (phase : Phase) (item : Item) (answer : Bool) → IsWithin r s g (after phase item answer t)
-    still ShortTargets item answer = h
-    still ShortWords item answer = without_short item.word
-    still Objects item answer = h
-    still Children item answer = h
-    still Again item answer = h
-    still Picks item answer = cases (is_late item.kind) t (queued_object t item.object) h (queued item.object)
-    still LateAgain item answer = h
-    still LatePicks item answer = queued item.object
-    still LongTargets item answer = h
-    still LongWords item answer = without_long item.word
-    still ShortHolders item answer = cases answer t (record t { short = remove t.short item.word }) h (without_short item.word)
-    still LongHolders item answer = cases answer t (record t { long = remove t.long item.word }) h (without_long item.word)
-
   -- ---- answers
 
   module _ (phase : Phase) where
@@ -114,7 +71,7 @@ module _ (r s g : ℕ) where
     steps_fewer [] t kept left h few = (h, omega arith)
     steps_fewer (answer ∷ answers) t kept [] h few = absurd (omega (arith, few))
     steps_fewer (answer ∷ answers) t kept (item ∷ left) h few =
-        let rest = steps_fewer answers (after phase item answer t) (kept_on (keeps phase item answer) kept item) left (still t h phase item answer) (omega (arith, few)) in
+        let rest = steps_fewer answers (after phase item answer t) (kept_on (keeps phase item answer) kept item) left (still r s g t h phase item answer) (omega (arith, few)) in
         let one = fewer phase (length kept) (length (kept_on (keeps phase item answer) kept item)) (length left) (one_kept (keeps phase item answer) kept item) in
         let all = rest.1 in
         (rest.0, omega (arith, all, one))
@@ -122,7 +79,7 @@ module _ (r s g : ℕ) where
     skips_fewer : (left : List Item) (t : State) (kept : List Item) → IsWithin r s g t
         → IsWithin r s g (skipped phase left (at t kept left)).finalizers × (to_come_in (Some phase) (skipped phase left (at t kept left)) ≤ to_come (Some phase) (length kept) (length left))
     skips_fewer [] t kept h = (h, omega arith)
-    skips_fewer (item ∷ left) t kept h = by (is_some (asks phase item)) (skips_fewer left (after phase item false t) (kept_on (keeps phase item false) kept item) (still t h phase item false))
+    skips_fewer (item ∷ left) t kept h = by (is_some (asks phase item)) (skips_fewer left (after phase item false t) (kept_on (keeps phase item false) kept item) (still r s g t h phase item false))
       where
         by : (b : Bool) → IsWithin r s g (skipped phase left (at (after phase item false t) (kept_on (keeps phase item false) kept item) left)).finalizers
               × (to_come_in (Some phase) (skipped phase left (at (after phase item false t) (kept_on (keeps phase item false) kept item) left)) ≤ to_come (Some phase) (length (kept_on (keeps phase item false) kept item)) (length left))

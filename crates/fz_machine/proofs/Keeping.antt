@@ -1,5 +1,5 @@
 -- Each answer keeps what holds in its phase.
-use Rattle.std.proofs.Common.{◌≡◌, ◌≤◌, ◌+◌, ◌*◌, ◌^◌, ◌⊎◌, ◌++◌, ◌∷◌, ◌∙◌, [], ℕ, Bool, true, false, not, cond, List, Option, Some, None, refl, sym, ap, subst, inl, inr, ⊎_elim, is_some, append_assoc, IsTrue, arith}
+use Rattle.std.proofs.Common.{◌≡◌, ◌+◌, ◌*◌, ◌^◌, ◌⊎◌, ◌++◌, ◌∷◌, ◌∙◌, [], ℕ, Bool, true, false, not, cond, List, Some, refl, sym, ap, subst, inl, inr, ⊎_elim, is_some, append_assoc, arith}
 use Rattle.std.specs.FinMap.{get, contains_key, remove}
 use Rattle.fz_model.specs.declared.answers.Registration.{Registration}
 use Rattle.fz_model.specs.declared.kinds.RegKind.{RegKind}
@@ -11,7 +11,6 @@ use Rattle.fz_pass.specs.All.{unknown}
 use Rattle.fz_pass.specs.Marks.{Marks}
 use Rattle.fz_pass.specs.Picking.{pick_of}
 use Rattle.fz_finalizers.specs.declared.kinds.Kind.{Kind}
-use Rattle.fz_finalizers.specs.declared.kinds.Kind.TheVariants.{Unreachable}
 use Rattle.fz_finalizers.specs.Follows.{queued_object}
 use Rattle.fz_finalizers.specs.Kinds.{is_late, of_table}
 use Rattle.fz_finalizers.specs.States.{State}
@@ -20,15 +19,15 @@ use Rattle.fz_machine.specs.declared.phase.Phase.{Phase}
 use Rattle.fz_machine.specs.declared.phase.Phase.TheVariants.{ShortTargets, ShortWords, Objects, Children, Again, Picks, LateAgain, LatePicks, LongTargets, LongWords, ShortHolders, LongHolders}
 use Rattle.fz_machine.specs.declared.question.Ask.TheVariants.{MarkAlone}
 use Rattle.fz_machine.specs.Graph.{Graph, IsHonest, MayBegin}
-use Rattle.fz_machine.specs.Items.{of_late, of_other, place_of}
+use Rattle.fz_machine.specs.Items.{of_other, place_of}
 use Rattle.fz_machine.specs.Phases.{after, asks, child_ask, keeps, pick_ask, subject}
 use Rattle.fz_machine.proofs.Among.{AreInOrder, OneOf, each_push, one_last, one_left, order_after, order_without}
 use Rattle.fz_machine.proofs.Begun.{births, late_led, late_registered, late_starts, left_none, not_late, not_other, others_led, registered, starts}
 use Rattle.fz_machine.proofs.Choosing.{marked_alone, marked_by_kind}
-use Rattle.fz_machine.proofs.Chosen.{AreChosen, chosen_again, chosen_more, chosen_on, no_more, place_in, still}
+use Rattle.fz_machine.proofs.Chosen.{chosen_again, chosen_more, chosen_on, no_more, place_in, still}
 use Rattle.fz_machine.proofs.Entered.{IsLate, IsLateAt, IsOfEither}
 use Rattle.fz_machine.proofs.Led.{lead_more}
-use Rattle.fz_machine.proofs.Phased.{IsIn, IsUnfound, LeadsOn, Picked, PicksLate, PicksOn, clear, found, short_left}
+use Rattle.fz_machine.proofs.Phased.{IsIn, IsUnfound, LeadsOn, PicksLate, PicksOn, clear, short_left}
 use Rattle.fz_machine.proofs.Phasing.{clears_on, holds_on, kept_on, sifts_on}
 use Rattle.fz_machine.proofs.Sifting.{IsAt}
 use Rattle.fz_machine.proofs.Stated.{queued_first, queued_late, queued_none, state_with}

@@ -1,5 +1,5 @@
 -- The children of unmarked objects are marked, one object after another.
-use Rattle.std.proofs.Common.{◌≡◌, ◌⊎◌, ◌&&◌, ◌∷◌, ◌∙◌, [], ℕ, Bool, true, false, not, List, Option, Some, None, refl, sym, ap, subst, inl, inr, ⊎_elim, is_some, IsTrue}
+use Rattle.std.proofs.Common.{◌≡◌, ◌⊎◌, ◌∷◌, ◌∙◌, [], ℕ, Bool, true, false, not, List, Some, refl, sym, ap, subst, inl, inr, ⊎_elim, is_some, IsTrue}
 use Rattle.std.proofs.lemmas.Bool.{and_parts, and_from, not-true}
 use Rattle.std.proofs.lemmas.Option.{same_Some}
 use Rattle.std.specs.FinMap.{get, contains_key}
@@ -15,13 +15,12 @@ use Rattle.fz_pass.specs.Queued.{MarksLed}
 use Rattle.fz_pass.proofs.Both.{in_first, in_second, in_either}
 use Rattle.fz_pass.proofs.Marking.{marks_as, marks_none, by_normal, by_ignoring, by_none}
 use Rattle.fz_finalizers.specs.declared.kinds.Kind.{Kind}
-use Rattle.fz_finalizers.specs.declared.kinds.Kind.TheVariants.{Normal, IgnoreSelf, NoOrder, Unreachable}
 use Rattle.fz_finalizers.specs.Kinds.{of_table}
 use Rattle.fz_machine.specs.declared.item.Item.{Item}
 use Rattle.fz_machine.specs.Graph.{Graph, CanMark, Gains, IsHonest}
 use Rattle.fz_machine.specs.Phases.{child_ask}
 use Rattle.fz_machine.proofs.Among.{OneOf}
-use Rattle.fz_machine.proofs.Entered.{IsOther, IsLate, IsOfEither, IsEitherAt}
+use Rattle.fz_machine.proofs.Entered.{IsOfEither}
 
 module _ (E : Type 0) (clear : Map Object) (registrations late : Map Registration) (found : ℕ → Bool) where
   abbrev all : Map Registration

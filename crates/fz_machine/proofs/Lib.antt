@@ -21,3 +21,4 @@ pub mod Keeping
 pub mod Turning
 pub mod Ran
 pub mod Fewer
+pub mod Within

@@ -1,5 +1,5 @@
 -- What holds in each phase of a pass over a graph.
-use Rattle.std.proofs.Common.{◌≡◌, ◌⊎◌, ◌&&◌, ◌++◌, [], ℕ, Bool, false, not, List, Option, Some, None, IsTrue}
+use Rattle.std.proofs.Common.{◌≡◌, ◌⊎◌, ◌&&◌, ◌++◌, [], ℕ, Bool, false, not, List, Option, Some, None}
 use Rattle.std.specs.FinMap.{contains_key}
 use Rattle.fz_model.specs.declared.answers.Pick.{Pick}
 use Rattle.fz_model.specs.declared.answers.Registration.{Registration}

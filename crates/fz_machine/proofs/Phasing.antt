@@ -1,8 +1,7 @@
 -- Phases that ask and clear, over whichever links and registrations.
-use Rattle.std.proofs.Common.{◌≡◌, ◌++◌, ◌∷◌, ◌∙◌, [], ℕ, Bool, true, false, not, cond, List, Some, refl, sym, ap, subst}
-use Rattle.std.specs.FinMap.{get, remove}
+use Rattle.std.proofs.Common.{◌≡◌, ◌++◌, ◌∷◌, ◌∙◌, [], ℕ, Bool, true, false, not, cond, List, Some, sym, ap, subst}
+use Rattle.std.specs.FinMap.{remove}
 use Rattle.fz_model.specs.State.{Map, Object}
-use Rattle.fz_model.specs.Memory.{written}
 use Rattle.fz_model.specs.Pass.{cleared}
 use Rattle.fz_pass.specs.Marks.{AreTargets, with_targets, with_containers}
 use Rattle.fz_finalizers.specs.States.{State}
@@ -12,7 +11,7 @@ use Rattle.fz_machine.specs.Graph.{Graph, IsHonest, is_holder_marked}
 use Rattle.fz_machine.specs.Items.{AreLinks}
 use Rattle.fz_machine.proofs.Among.{Each, OneOf}
 use Rattle.fz_machine.proofs.DeadWords.{AreCleared, AreHeld, IsLink, IsLinkAt, clearing_begins, clear_more, cleared_all, hold_more, holding_begins, held_all}
-use Rattle.fz_machine.proofs.Entered.{links_each, links_all}
+use Rattle.fz_machine.proofs.Entered.{links_all}
 use Rattle.fz_machine.proofs.Sifting.{Sifted, IsAt, sift, sift_begins}
 
 -- whether an item is kept, as a phase goes on

@@ -1,5 +1,5 @@
 -- A run keeps what holds in its phases, and ends with the model's pass.
-use Rattle.std.proofs.Common.{◌≡◌, ◌+◌, ◌++◌, ◌∷◌, ◌∙◌, [], ℕ, Bool, false, cond, List, length, Option, Some, None, refl, sym, ap, subst, is_some, length-append, arith}
+use Rattle.std.proofs.Common.{◌≡◌, ◌+◌, ◌++◌, ◌∷◌, ◌∙◌, [], Bool, false, cond, List, length, Option, Some, None, refl, sym, ap, subst, is_some, length-append, arith}
 use Rattle.std.specs.FinMap.{retain_keys}
 use Rattle.fz_model.specs.Pass.{entries_of}
 use Rattle.fz_model.proofs.Sound.{length-entries_of}
@@ -13,10 +13,10 @@ use Rattle.fz_machine.specs.declared.question.Ask.{Ask}
 use Rattle.fz_machine.specs.Going.{going}
 use Rattle.fz_machine.specs.Graph.{Graph, IsHonest, MayBegin}
 use Rattle.fz_machine.specs.Items.{AreLinks}
-use Rattle.fz_machine.specs.Machines.{GoesTo, IsBegun, Machine}
+use Rattle.fz_machine.specs.Machines.{IsBegun, Machine}
 use Rattle.fz_machine.specs.Phases.{after, asks, keeps, next_phase, subject}
 use Rattle.fz_machine.specs.Runs.{AreHonest, Begun, Goes, MakesPass, Runs, RunsPass}
-use Rattle.fz_machine.specs.Steps.{Asks, Begins, Ends, Going, GoesOn, Turns, skip, skipped, step, steps}
+use Rattle.fz_machine.specs.Steps.{Asks, Begins, Ends, Going, GoesOn, Turns, skip, skipped, steps}
 use Rattle.fz_machine.proofs.DeadWords.{IsLink, IsLinkAt}
 use Rattle.fz_machine.proofs.Entered.{links_all, links_each}
 use Rattle.fz_machine.proofs.Keeping.{keep}

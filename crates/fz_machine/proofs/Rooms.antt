@@ -1,22 +1,19 @@
 -- The list of a phase has room for all that may come onto it.
-use Rattle.std.proofs.Common.{◌≡◌, ◌≤◌, ℕ, Bool, true, false, cond, List, [], ◌∷◌, is_some, Option, Some, None, Result, Ok, Err, OnOk, OnErr, nat_cmp, sym, ap, subst, arith}
+use Rattle.std.proofs.Common.{◌≡◌, ◌≤◌, ℕ, Bool, true, false, cond, List, [], ◌∷◌, is_some, Result, Ok, Err, OnOk, OnErr, nat_cmp, sym, ap, subst, arith}
 use Rattle.std.specs.FinMap.{get, len, remove, empty, len-empty}
-use Rattle.std.specs.Option.{option_map_or}
 use Rattle.fz_model.specs.declared.answers.Registration.{Registration}
 use Rattle.fz_model.specs.declared.kinds.LinkKind.{LinkKind}
 use Rattle.fz_model.specs.declared.kinds.LinkKind.TheVariants.{Short, Long}
 use Rattle.fz_model.specs.Steps.{moved_to}
 use Rattle.fz_finalizers.specs.declared.refused.Refused.{Refused}
-use Rattle.fz_finalizers.specs.Follows.{queued_one, queued_object}
-use Rattle.fz_finalizers.specs.Kinds.{is_late}
-use Rattle.fz_finalizers.specs.States.{State, opening, registered, links_of, with_links}
+use Rattle.fz_finalizers.specs.States.{State, opening, links_of, with_links}
 use Rattle.fz_finalizers.proofs.Counting.{len_less, len_moved_to}
 use Rattle.fz_machine.specs.declared.item.Item.{Item}
 use Rattle.fz_machine.specs.declared.phase.Phase.{Phase}
-use Rattle.fz_machine.specs.declared.phase.Phase.TheVariants.{ShortTargets, ShortWords, Objects, Children, Again, Picks, LateAgain, LatePicks, LongTargets, LongWords, ShortHolders, LongHolders}
 use Rattle.fz_machine.specs.Going.{HasRoom}
 use Rattle.fz_machine.specs.Phases.{after, asks}
 use Rattle.fz_machine.specs.Steps.{Going, step, stepped, steps, skip, skipped}
+use Rattle.fz_machine.proofs.Within.{still}
 
 pub opened : (room : ℕ) → HasRoom opening room
 opened room = let none = len-empty nat_cmp Registration in let no_links = len-empty nat_cmp ℕ in record { registrations = omega (arith, none); short = omega (arith, no_links); long = omega (arith, no_links) }
@@ -55,35 +52,15 @@ module _ (s : State) (room : ℕ) (h : HasRoom s room) where
   unlinked Short word = let less = len_less s.short word in let a = h.short in record { registrations = h.registrations; short = omega (arith, less, a); long = h.long }
   unlinked Long word = let less = len_less s.long word in let a = h.long in record { registrations = h.registrations; short = h.short; long = omega (arith, less, a) }
 
-  pub queued : (object : ℕ) → HasRoom (queued_object s object) room
-  queued object = by (registered s object)
-    where
-      by : (o : Option Registration) → HasRoom (option_map_or (queued_one s object) o s) room
-      by None = h
-      by (Some r) = let less = removed object in record { registrations = less.registrations; short = less.short; long = less.long }
-
   pub moved_or_not : {A : Type 0} (kind : LinkKind) (word to : ℕ) (new : State) (result : Result A Refused) → OnErr result (new ≡ s)
       → OnOk result (new ≡ with_links s kind (moved_to (links_of s kind) word to (get (links_of s kind) word))) → HasRoom new room
   moved_or_not kind word to new (Ok x) same is = subst (λ (t : State). HasRoom t room) (sym is) (moved kind word to)
   moved_or_not kind word to new (Err r) same is = subst (λ (t : State). HasRoom t room) (sym same) h
 
-  cases : (b : Bool) (t u : State) → HasRoom t room → HasRoom u room → HasRoom (cond b t u) room
-  cases true t u x y = x
-  cases false t u x y = y
-
-  pub still : (phase : Phase) (item : Item) (answer : Bool) → HasRoom (after phase item answer s) room
-  still ShortTargets item answer = h
-  still ShortWords item answer = unlinked Short item.word
-  still Objects item answer = h
-  still Children item answer = h
-  still Again item answer = h
-  still Picks item answer = cases (is_late item.kind) s (queued_object s item.object) h (queued item.object)
-  still LateAgain item answer = h
-  still LatePicks item answer = queued item.object
-  still LongTargets item answer = h
-  still LongWords item answer = unlinked Long item.word
-  still ShortHolders item answer = cases answer s (with_links s Short (remove s.short item.word)) h (unlinked Short item.word)
-  still LongHolders item answer = cases answer s (with_links s Long (remove s.long item.word)) h (unlinked Long item.word)
+  still_room : (phase : Phase) (item : Item) (answer : Bool) → HasRoom (after phase item answer s) room
+  still_room phase item answer =
+      let t = still room room room s (record { registered = h.registrations; short = h.short; long = h.long }) phase item answer in
+      record { registrations = t.registered; short = t.short; long = t.long }
 
 module _ (phase : Phase) (room : ℕ) where
   pub step_room : (answer : Bool) (g : Going) → HasRoom g.finalizers room → HasRoom (step phase answer g).finalizers room
@@ -91,7 +68,7 @@ module _ (phase : Phase) (room : ℕ) where
     where
       by : (xs : List Item) → HasRoom (stepped phase answer g xs).finalizers room
       by [] = h
-      by (item ∷ left) = still g.finalizers room h phase item answer
+      by (item ∷ left) = still_room g.finalizers room h phase item answer
 
   pub steps_room : (xs : List Bool) (g : Going) → HasRoom g.finalizers room → HasRoom (steps phase xs g).finalizers room
   steps_room [] g h = h

@@ -1,8 +1,8 @@
 -- A phase that keeps the items whose objects aren't marked.
-use Rattle.std.proofs.Common.{◌≡◌, ◌⊎◌, ◌++◌, ◌∷◌, ◌∙◌, [], ℕ, Bool, true, false, not, cond, List, refl, sym, ap, subst, inl, inr, ⊎_elim}
+use Rattle.std.proofs.Common.{◌≡◌, ◌⊎◌, ◌++◌, ◌∷◌, ◌∙◌, [], ℕ, Bool, true, false, not, cond, List, sym, ap, inl, inr, ⊎_elim}
 use Rattle.std.proofs.lemmas.Bool.{both_ways}
 use Rattle.fz_machine.specs.declared.item.Item.{Item}
-use Rattle.fz_machine.proofs.Among.{Each, OneOf, each_push, one_left, one_last, one_as}
+use Rattle.fz_machine.proofs.Among.{Each, OneOf, each_push, one_left, one_last}
 
 -- the item is of this object and this word
 abbrev pub IsAt : ℕ → ℕ → Item → Type 0

@@ -1,8 +1,6 @@
 -- From phase to phase, and to the end.
-use Rattle.std.proofs.Common.{◌≡◌, ◌⊎◌, ◌++◌, ◌∙◌, [], ℕ, Bool, false, List, Option, Some, None, refl, sym, ap, subst, inl, inr, ⊎_elim, is_some, append-nil, IsTrue}
-use Rattle.std.specs.FinMap.{get, contains_key, retain_keys}
-use Rattle.fz_model.specs.declared.answers.Entry.{Entry}
-use Rattle.fz_model.specs.declared.answers.Registration.{Registration}
+use Rattle.std.proofs.Common.{◌≡◌, ◌++◌, ◌∙◌, [], ℕ, Bool, false, List, refl, sym, ap, subst, inl, inr, ⊎_elim, is_some, append-nil, IsTrue}
+use Rattle.std.specs.FinMap.{retain_keys}
 use Rattle.fz_model.specs.State.{Map, Object}
 use Rattle.fz_model.specs.Memory.{points}
 use Rattle.fz_model.specs.Pass.{is_dead, links_within}
@@ -10,7 +8,7 @@ use Rattle.fz_model.proofs.SeenKept.{points-filled}
 use Rattle.fz_pass.specs.Late.{Parts, DecidesLate}
 use Rattle.fz_pass.specs.Marks.{IsClosed}
 use Rattle.fz_pass.proofs.Passed.{closed_still, decided, dropped_twice, pointed}
-use Rattle.fz_finalizers.specs.Passed.{DecidesFor, parts_in, parts_left_in}
+use Rattle.fz_finalizers.specs.Passed.{DecidesFor, parts_in}
 use Rattle.fz_finalizers.specs.States.{State}
 use Rattle.fz_machine.specs.declared.item.Item.{Item}
 use Rattle.fz_machine.specs.declared.phase.Phase.{Phase}

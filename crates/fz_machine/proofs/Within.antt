@@ -1,0 +1,51 @@
+-- Tables and links that don't grow in a pass.
+use Rattle.std.proofs.Common.{◌≤◌, ◌+◌, ℕ, Bool, true, false, cond, Option, Some, None, arith}
+use Rattle.std.specs.FinMap.{len, remove}
+use Rattle.std.specs.Option.{option_map_or}
+use Rattle.fz_model.specs.declared.answers.Registration.{Registration}
+use Rattle.fz_finalizers.specs.Follows.{queued_object, queued_one}
+use Rattle.fz_finalizers.specs.Kinds.{is_late}
+use Rattle.fz_finalizers.specs.States.{State, registered}
+use Rattle.fz_finalizers.proofs.Counting.{len_less}
+use Rattle.fz_machine.specs.declared.item.Item.{Item}
+use Rattle.fz_machine.specs.declared.phase.Phase.{Phase}
+use Rattle.fz_machine.specs.declared.phase.Phase.TheVariants.{ShortTargets, ShortWords, Objects, Children, Again, Picks, LateAgain, LatePicks, LongTargets, LongWords, ShortHolders, LongHolders}
+use Rattle.fz_machine.specs.Phases.{after}
+
+-- no more registrations and links than these
+pub record IsWithin (r s g : ℕ) (t : State) : Type 0 where
+  pub registered : len t.registrations + len t.late ≤ r
+  pub short : len t.short ≤ s
+  pub long : len t.long ≤ g
+
+module _ (r s g : ℕ) (t : State) (h : IsWithin r s g t) where
+  without_short : (word : ℕ) → IsWithin r s g (record t { short = remove t.short word })
+  without_short word = let less = len_less t.short word in let few = h.short in record { registered = h.registered; short = omega (arith, less, few); long = h.long }
+
+  without_long : (word : ℕ) → IsWithin r s g (record t { long = remove t.long word })
+  without_long word = let less = len_less t.long word in let few = h.long in record { registered = h.registered; short = h.short; long = omega (arith, less, few) }
+
+  queued : (object : ℕ) → IsWithin r s g (queued_object t object)
+  queued object = by (registered t object)
+    where
+      by : (o : Option Registration) → IsWithin r s g (option_map_or (queued_one t object) o t)
+      by None = h
+      by (Some q) = let less = len_less t.registrations object in let less_late = len_less t.late object in let few = h.registered in record { registered = omega (arith, less, less_late, few); short = h.short; long = h.long }
+
+  cases : (b : Bool) (u v : State) → IsWithin r s g u → IsWithin r s g v → IsWithin r s g (cond b u v)
+  cases true u v x y = x
+  cases false u v x y = y
+
+  pub still : (phase : Phase) (item : Item) (answer : Bool) → IsWithin r s g (after phase item answer t)
+  still ShortTargets item answer = h
+  still ShortWords item answer = without_short item.word
+  still Objects item answer = h
+  still Children item answer = h
+  still Again item answer = h
+  still Picks item answer = cases (is_late item.kind) t (queued_object t item.object) h (queued item.object)
+  still LateAgain item answer = h
+  still LatePicks item answer = queued item.object
+  still LongTargets item answer = h
+  still LongWords item answer = without_long item.word
+  still ShortHolders item answer = cases answer t (record t { short = remove t.short item.word }) h (without_short item.word)
+  still LongHolders item answer = cases answer t (record t { long = remove t.long item.word }) h (without_long item.word)
