@@ -114,7 +114,7 @@ module _ (objects : Map Object) (links : Map ℕ) (marked : ℕ → Bool) where
     cleared_all now now_links c = (
       c.objects_are ∙ filled_same c.gone (is_dead objects links marked) 0 objects is,
       gone_all c.gone (λ a. option_map_or marked (get links a) false) links now_links c.links_are
-      (λ a t here. is a ∙ ap (λ o. option_map_or (is_outside objects marked) o false) here ∙ there t (targets a t here) ∙ ap (λ o. not (option_map_or marked o false)) (sym here)),
+          (λ a t here. is a ∙ ap (λ o. option_map_or (is_outside objects marked) o false) here ∙ there t (targets a t here) ∙ ap (λ o. not (option_map_or marked o false)) (sym here)),
     )
       where
         is : (a : ℕ) → c.gone a ≡ is_dead objects links marked a

@@ -82,9 +82,9 @@ module _ (r s g : ℕ) where
     skips_fewer (item ∷ left) t kept h = by (is_some (asks phase item)) (skips_fewer left (after phase item false t) (kept_on (keeps phase item false) kept item) (still r s g t h phase item false))
       where
         by : (b : Bool) → IsWithin r s g (skipped phase left (at (after phase item false t) (kept_on (keeps phase item false) kept item) left)).finalizers
-              × (to_come_in (Some phase) (skipped phase left (at (after phase item false t) (kept_on (keeps phase item false) kept item) left)) ≤ to_come (Some phase) (length (kept_on (keeps phase item false) kept item)) (length left))
+            × (to_come_in (Some phase) (skipped phase left (at (after phase item false t) (kept_on (keeps phase item false) kept item) left)) ≤ to_come (Some phase) (length (kept_on (keeps phase item false) kept item)) (length left))
             → IsWithin r s g (cond b (at t kept (item ∷ left)) (skipped phase left (at (after phase item false t) (kept_on (keeps phase item false) kept item) left))).finalizers
-              × (to_come_in (Some phase) (cond b (at t kept (item ∷ left)) (skipped phase left (at (after phase item false t) (kept_on (keeps phase item false) kept item) left))) ≤ to_come (Some phase) (length kept) (suc (length left)))
+            × (to_come_in (Some phase) (cond b (at t kept (item ∷ left)) (skipped phase left (at (after phase item false t) (kept_on (keeps phase item false) kept item) left))) ≤ to_come (Some phase) (length kept) (suc (length left)))
         by true rest = (h, omega arith)
         by false rest =
             let one = fewer phase (length kept) (length (kept_on (keeps phase item false) kept item)) (length left) (one_kept (keeps phase item false) kept item) in

@@ -116,10 +116,9 @@ module _ (E : Type 0) (old begun new : Machine) (before after_it : Graph) (is : 
       let long = ap length (ap (λ (s : State). s.waiting) at_end.state) ∙ length-append b.waiting come in
       let entries = length-entries_of b.passes b.queued picks in
       let queued = ap (λ (s : State). s.queued) at_end.state in
-      let count : length old.finalizers.waiting + new.finalizers.queued ≡ length new.finalizers.waiting + old.finalizers.queued = omega (arith, long, entries, queued) in
-      (
+      let count : length old.finalizers.waiting + new.finalizers.queued ≡ length new.finalizers.waiting + old.finalizers.queued = omega (arith, long, entries, queued) in (
         decided_queues E b.passes before.objects (retain_keys after_it.objects after_it.marked) before.marked old.finalizers.state new.finalizers.state may.apart
-        (decides E b before may_begin new.finalizers.state after_it at_end) count (ap (λ (s : State). s.held) at_end.state) (ap (λ (s : State). s.next_number) at_end.state),
+            (decides E b before may_begin new.finalizers.state after_it at_end) count (ap (λ (s : State). s.held) at_end.state) (ap (λ (s : State). s.next_number) at_end.state),
         ap (λ (s : State). s.passes) at_end.state,
       )
 

@@ -68,10 +68,12 @@ module _ (E : Type 0) (b : State) (before : Graph) (begin : MayBegin b before) w
 
   to_again : (s : State) (kept : List Item) (h : Graph) → LeadsOn E b before s kept [] h → (items : List Item) → items ≡ kept → IsIn E b before Again s [] items h
   to_again s kept h p items is =
-      let leading : Leading E b before = record { led = h.marked; marks = led_all E clearly b.registrations b.late before.marked (registered E b before begin) (late_registered E b before begin) begin.apart begin.normal h p.are } in
-      (leading, sifts_begin E _ clearly h.marked Either EitherAt s items h p.state p.are.objects refl
-      (subst (Each Either) (sym is) (each_as (IsUnfound E b before) Either (λ i x. x.0) kept p.kept_are))
-      (λ object word at off. subst (OneOf (IsAt object word)) (sym is) (⊎_elim (λ k. k) (λ k. absurd k) (p.rest object word at (not_before E b before begin before.marked h.marked p.are.least object off)))))
+      let leading : Leading E b before = record { led = h.marked; marks = led_all E clearly b.registrations b.late before.marked (registered E b before begin) (late_registered E b before begin) begin.apart begin.normal h p.are } in (
+        leading,
+        sifts_begin E _ clearly h.marked Either EitherAt s items h p.state p.are.objects refl
+            (subst (Each Either) (sym is) (each_as (IsUnfound E b before) Either (λ i x. x.0) kept p.kept_are))
+            (λ object word at off. subst (OneOf (IsAt object word)) (sym is) (⊎_elim (λ k. k) (λ k. absurd k) (p.rest object word at (not_before E b before begin before.marked h.marked p.are.least object off)))),
+      )
 
   to_picks : (s : State) (kept : List Item) (h : Graph) (l : Leading E b before) → Sifts E (state_with b shorts b.long b.registrations b.late []) clearly l.led Either EitherAt s kept [] h
       → (items : List Item) → AreInTurn kept items → PicksOn E b before s [] items h
@@ -93,11 +95,13 @@ module _ (E : Type 0) (b : State) (before : Graph) (begin : MayBegin b before) w
   to_late_again : (s : State) (kept : List Item) (h : Graph) → PicksOn E b before s kept [] h → (items : List Item) → items ≡ kept → IsIn E b before LateAgain s [] items h
   to_late_again s kept h p items is =
       let all = chosen_all E clearly b.registrations p.leading.led 0 p.now p.picks h p.are in
-      let c : Picked E b before = record { leading = p.leading; table = p.now; picks = p.picks; mid = h.marked; are = all.0; marks = all.1 } in
-      (c, sifts_begin E _ clearly h.marked Late LateAt s items h p.state p.are.objects refl
-      (subst (Each Late) (sym is) (each_as (λ i. Late i × (p.leading.led i.object ≡ false)) Late (λ i x. x.0) kept p.kept_are))
-      (λ object word at off. subst (OneOf (IsAt object word)) (sym is) (⊎_elim (λ k. k) (λ k. absurd k) (p.rest object word at (not_before E b before begin p.leading.led h.marked p.are.least object off)))),
-      subst (AreInOrder place_of) (append-nil kept ∙ sym is) p.ordered)
+      let c : Picked E b before = record { leading = p.leading; table = p.now; picks = p.picks; mid = h.marked; are = all.0; marks = all.1 } in (
+        c,
+        sifts_begin E _ clearly h.marked Late LateAt s items h p.state p.are.objects refl
+            (subst (Each Late) (sym is) (each_as (λ i. Late i × (p.leading.led i.object ≡ false)) Late (λ i x. x.0) kept p.kept_are))
+            (λ object word at off. subst (OneOf (IsAt object word)) (sym is) (⊎_elim (λ k. k) (λ k. absurd k) (p.rest object word at (not_before E b before begin p.leading.led h.marked p.are.least object off)))),
+        subst (AreInOrder place_of) (append-nil kept ∙ sym is) p.ordered,
+      )
 
   to_late_picks : (s : State) (kept : List Item) (h : Graph) (c : Picked E b before) → Sifts E (state_with b shorts b.long c.table b.late c.picks) clearly c.mid Late LateAt s kept [] h → AreInOrder place_of (kept ++ [])
       → (items : List Item) → items ≡ kept → PicksLate E b before s items h
@@ -116,9 +120,11 @@ module _ (E : Type 0) (b : State) (before : Graph) (begin : MayBegin b before) w
   to_long_targets s h p items are =
       let all = chosen_all E clearly b.late p.first.mid 256 p.now p.late_picks h p.are in
       let c : PickedBoth E b before = record { first = p.first; late = p.now; late_picks = p.late_picks; kept = h.marked; are = all.0; marks = all.1 } in
-      let listed : AreLinks b.long items = subst (λ (t : State). AreLinks t.long items) p.state are in
-      (c, sifts_begin E _ clearly h.marked (IsLink clearly b.long h.marked) (IsLinkAt clearly b.long h.marked) s items h p.state p.are.objects refl (links_each b.long items listed)
-      (λ object word here off. links_all b.long items listed object word here))
+      let listed : AreLinks b.long items = subst (λ (t : State). AreLinks t.long items) p.state are in (
+        c,
+        sifts_begin E _ clearly h.marked (IsLink clearly b.long h.marked) (IsLinkAt clearly b.long h.marked) s items h p.state p.are.objects refl (links_each b.long items listed)
+            (λ object word here off. links_all b.long items listed object word here),
+      )
 
   pub turn : (phase : Phase) (s : State) (kept : List Item) (h : Graph) → IsIn E b before phase s kept [] h → IsAfter E b before (next_phase phase) s kept h
   turn ShortTargets s kept h p = λ items is. clears_begin E (λ links. state_with b links b.long b.registrations b.late []) before.objects b.short before.marked begin.short s kept items h p is

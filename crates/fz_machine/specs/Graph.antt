@@ -15,7 +15,7 @@ pub record Graph : Type 0 where
   pub objects : Map Object  -- by their starts
   pub marked : ℕ → Bool
 
--- what a host need do only where its marks are closed, for an object of the graph
+-- marking is asked for only of the graph's objects, and while all that marked objects lead to is marked
 abbrev pub CanMark : Graph → ℕ → Type 0
 CanMark g object = IsTrue (contains_key g.objects object) × IsClosed g.objects g.marked
 
@@ -36,7 +36,7 @@ Gains Exact old new gained = (new.objects ≡ old.objects) × Marks Exact old.ob
 abbrev pub is_holder_marked : Map Object → (ℕ → Bool) → ℕ → Bool
 is_holder_marked objects marked word = option_map_or marked (points objects word) false
 
--- the answer, which no one hears where something is to be done, and the graph after it
+-- what an honest host answers, and the graph after it. Where something is to be done, any answer will do
 abbrev pub Answers : Type 0 → Ask → ℕ → Graph → Bool → Graph → Type 0
 Answers Exact IsMarked object old answer new = (answer ≡ old.marked object) × (new ≡ old)
 Answers Exact MarkChildren object old answer new = Gains Exact old new (IsLeadingBut old.objects false object)
@@ -51,7 +51,7 @@ abbrev pub IsHonest : Type 0 → Option Ask → ℕ → Graph → Bool → Graph
 IsHonest Exact (Some ask) subject old answer new = MayAsk ask subject old → Answers Exact ask subject old answer new
 IsHonest Exact None subject old answer new = new ≡ old
 
--- what a host sees to before a pass begins: its marking is done, and what is registered and linked to are objects of the graph
+-- where a pass may begin: marking is done, what is registered and linked to are objects of the graph, and the second table has late ones alone
 pub record MayBegin (s : State) (g : Graph) : Type 0 where
   pub registered : AreRegistered g.objects s.registrations
   pub late : AreRegistered g.objects s.late
@@ -61,5 +61,5 @@ pub record MayBegin (s : State) (g : Graph) : Type 0 where
   pub long : AreTargets g.objects s.long
   pub zero : points g.objects 0 ≡ None  -- a word that was cleared points to nothing
   pub closed : IsClosed g.objects g.marked
-  pub births : (a : ℕ) (o : Object) → get g.objects a ≡ Some o → o.birth ≡ 0  -- the entries have none
-  pub starts : (a : ℕ) → IsTrue (contains_key g.objects a) → a < 2 ^ 64
+  pub births : (a : ℕ) (o : Object) → get g.objects a ≡ Some o → o.birth ≡ 0  -- no host is asked for them
+  pub starts : (a : ℕ) → IsTrue (contains_key g.objects a) → a < 2 ^ 64  -- they are addresses
