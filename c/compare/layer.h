@@ -1,4 +1,4 @@
-/* One program over two collectors: with BDWGC over bdwgc, else over derrimas.h.
+/* One program over three collectors: with BDWGC over bdwgc, with OWN_HEAP over the heap of examples/own_heap, else over derrimas.h.
  *
  * Objects stand in numbered roots. A root leads to its object; a link is a word of an object. Sizes and offsets are in words. Over bdwgc the
  * stack and the registers of the processor are roots too, so the layer overwrites what calls left there before it collects.
@@ -147,6 +147,95 @@ APART static void collect(void)
 }
 
 static inline uint64_t invoke(void) { return (uint64_t)GC_invoke_finalizers(); }
+
+#elif defined OWN_HEAP
+#include "../examples/own_heap/own_heap.h"
+
+static own_heap heap;
+static uint64_t roots[ROOTS];
+static uint64_t current;
+
+#define MUST(call) do { if ((call) != DERRIMAS_FINALIZERS_OK) fail(#call); } while (0)
+
+static inline void layer_open(void)
+{
+    for (int at = 0; at < ROOTS; at++)
+        roots[at] = 0;
+    if (!own_heap_open(&heap, 65536, roots, ROOTS))
+        fail("open");
+}
+
+static inline void layer_close(void) { own_heap_close(&heap); }
+
+/* Calls the procedure where nothing of earlier calls is left. */
+static inline void layer_apart(void (*procedure)(void))
+{
+    layer_close();
+    layer_open();
+    procedure();
+}
+
+static uint64_t *words_in(int at) { return (uint64_t *)(uintptr_t)roots[at]; }
+
+static inline void new_object(int at, uint64_t size, bool is_atomic)
+{
+    roots[at] = own_heap_number(own_heap_alloc(&heap, size, !is_atomic));
+    if (!roots[at])
+        fail("new");
+}
+
+static inline void forget(int at) { roots[at] = 0; }
+static inline void copy(int at, int to) { roots[to] = roots[at]; }
+static inline void store(int at, uint64_t offset, int from) { words_in(at)[offset] = roots[from]; }
+static inline bool load(int at, uint64_t offset, int to) { return (roots[to] = words_in(at)[offset]) != 0; }
+
+static inline void finalize(int at, int kind, finalizer f, uint64_t cd)
+{
+    static const derrimas_finalizers_kind kinds[] = {DERRIMAS_FINALIZERS_NORMAL, DERRIMAS_FINALIZERS_IGNORE_SELF, DERRIMAS_FINALIZERS_NO_ORDER};
+
+    MUST(derrimas_finalizers_register(&heap.finalizers, roots[at], kinds[kind], (uint64_t)(uintptr_t)f, cd, 0, NULL, NULL));
+}
+
+static inline void unfinalize(int at) { MUST(derrimas_finalizers_unregister(&heap.finalizers, roots[at], NULL)); }
+static inline void hold(int at) { roots[at] = current; }
+
+static derrimas_finalizers_links kind_of(bool is_long) { return is_long ? DERRIMAS_FINALIZERS_LONG : DERRIMAS_FINALIZERS_SHORT; }
+
+static inline int make_link(bool is_long, int at, uint64_t offset, int target)
+{
+    derrimas_finalizers_linked answer;
+
+    MUST(derrimas_finalizers_link(&heap.finalizers, kind_of(is_long), own_heap_word(words_in(at), offset), roots[target], &answer));
+    return (int)answer;
+}
+
+static inline int remove_link(bool is_long, int at, uint64_t offset)
+{
+    bool was;
+
+    MUST(derrimas_finalizers_unlink(&heap.finalizers, kind_of(is_long), own_heap_word(words_in(at), offset), &was));
+    return was;
+}
+
+static inline int move_link(bool is_long, int at, uint64_t offset, uint64_t to)
+{
+    derrimas_finalizers_linked answer;
+    uint64_t word = own_heap_word(words_in(at), offset), other = own_heap_word(words_in(at), to);
+
+    MUST(derrimas_finalizers_move_link(&heap.finalizers, kind_of(is_long), word, other, &answer));
+    return (int)answer;
+}
+
+static void collect(void) { (void)own_heap_collect(&heap); }
+
+static void run(const derrimas_finalizers_entry *entry)
+{
+    current = entry->obj;
+    ((finalizer)(uintptr_t)entry->proc)(entry->cd);
+    current = 0;
+}
+
+static inline uint64_t invoke(void) { return own_heap_run(&heap, run); }
 
 #else
 #include "derrimas.h"

@@ -130,7 +130,7 @@ static value call_on_collect(value list)
 {
     if (!is_object(car(list)) || type_of(car(list)) == PORT)
         fail("on-collect wants an object that is no port", "");
-    on_collect(car(list), CALL_LISP, second(list));
+    on_collect(car(list), CALL_LISP, make(FINALIZER, 3, (value[]){second(list), NOTHING, NIL}));
     return VOID;
 }
 

@@ -1,16 +1,17 @@
-/* The evaluator: a machine without recursion. Its registers are slots, so that a collection finds all that it
+/* The evaluator: a machine without recursion. Its registers are the heap's, so that a collection finds all that it
  * works with. What it has to come back to stands on the stack, which is in the heap, so that Lisp recurs as
  * deep as the heap has room; a call in the last place takes no stack. */
-#include "lisp.h"
+#include "heap.h"
 #include <setjmp.h>
 #include <stdlib.h>
+#include <string.h>
 
 /* What the machine does next: evaluate EXPR in ENV, where ARGS is NIL; give VAL to what waits for it; apply
  * the last of ARGS to those before; read the next expression. */
 static enum { EVALUATE, GIVE, APPLY, READ } state = READ;
 
 /* What is done with a value when it is there. No value of Lisp is the same. */
-enum { THEN_READ = DERRIMAS_HEAP_START / 2, THEN_IF, THEN_SEQUENCE, THEN_ASSIGN,
+enum { THEN_READ = FIRST_ADDRESS / 2, THEN_IF, THEN_SEQUENCE, THEN_ASSIGN,
        THEN_ARGUMENT, THEN_TRIED, THEN_HANDLE, THEN_FINALIZED };
 
 static jmp_buf on_error;
@@ -164,13 +165,12 @@ static const struct { const char *name; void (*carry_out)(value rest); } forms[F
 /* Stops what is evaluated, if an object is gone, for the procedure of its finalizer: one at a time. */
 static void evaluate_step(void)
 {
-    const derrimas_entry *entry = finalizing ? NULL : next_finalizer();
-    value expr = get(EXPR);
+    value expr = get(EXPR), ready = finalizing ? NIL : get(READY);
 
-    if (entry) {
+    if (ready != NIL) {
         wait(THEN_FINALIZED, expr);
         finalizing = true;
-        call(entry->cd, entry->obj);
+        call(field(ready, FINALIZER, 1), field(ready, FINALIZER, 2));
     } else if (is_symbol(expr))
         give(value_of(expr));
     else if (!is_pair(expr))
@@ -288,17 +288,32 @@ static void run(void)
         steps[state]();
 }
 
-/* lisp FILE [BLOCKS [stress]]: evaluates the expressions of a file, in a heap of so many blocks of 64 words.
- * Under stress it collects before it makes an object, so that a value that nothing keeps is missed. */
+static const struct heap *heap_named(const char *name)
+{
+    static const struct heap *const heaps[] = {&over_world, &over_own};
+
+    for (size_t n = 0; n < sizeof heaps / sizeof *heaps; n++)
+        if (!strcmp(heaps[n]->name, name))
+            return heaps[n];
+    fail("there is no heap ", name);
+}
+
+/* lisp [--heap world|own] FILE [BLOCKS [stress]]: evaluates the expressions of a file, in a heap of so many blocks of
+ * 64 words, which is a world where none is named. Under stress it collects before it makes an object, so that a value
+ * that nothing keeps is missed. */
 int main(int count, char **words)
 {
+    bool is_named = count > 2 && !strcmp(words[1], "--heap");
+
     if (setjmp(on_error)) {
         fprintf(stderr, "lisp: %s\n", message);
         return 2;
     }
-    if (count < 2 || !freopen(words[1], "r", stdin))
+    const struct heap *heap = heap_named(is_named ? words[2] : "world");
+    char **rest = words + (is_named ? 3 : 1);
+    if (!rest[0] || !freopen(rest[0], "r", stdin))
         fail("want a file", "");
-    open_heap(count > 2 ? strtoull(words[2], NULL, 10) : DERRIMAS_MAX_BLOCKS, count > 3);
+    open_heap(heap, rest[1] ? strtoull(rest[1], NULL, 10) : heap->blocks, rest[1] && rest[2]);
     for (int n = 0; n < FORMS; n++)
         intern(forms[n].name);
     name_builtins();

@@ -1,23 +1,28 @@
-/* A small Lisp whose data lives in a world of derrimas.h, as a runtime's author would write it.
+/* A small Lisp over a heap with finalizers, as a runtime's author would write it.
  *
- *   heap.c      objects, the stack, collections and finalizers: all calls of the library stand there
+ *   world.c     the heap: a world of derrimas.h
+ *   own.c       another: that of ../own_heap, whose finalizers are those of derrimas_finalizers.h
+ *   heap.c      objects, the stack, collections and finalizers, over either: heap.h is what they have in common
  *   text.c      text becomes values, and values become text
- *   eval.c      the evaluator: a machine without recursion, whose registers are slots
+ *   eval.c      the evaluator: a machine without recursion, whose registers are the heap's
  *   builtins.c  the procedures that C has for Lisp, and the table of open files
  *
- * A collection looks at the slots alone, and not at the stack of C. So a value that C works with is kept by a
+ * A collection looks at the registers alone, and not at the stack of C. So a value that C works with is kept by a
  * register, or by the stack of Lisp, while an object is made. What a program lets go of goes at the next
  * collection.
  */
 #ifndef LISP_H
 #define LISP_H
 
-#include "derrimas.h"
+#include <stdbool.h>
+#include <stdint.h>
 #include <stdio.h>
 
-/* A value is a word. With the highest bit set it is an integer of 63 bits. From DERRIMAS_HEAP_START on it is the
- * address of an object, whose first word is its type. Below that it is a constant, a symbol or a builtin. */
+/* A value is a word. With the highest bit set it is an integer of 63 bits. From FIRST_ADDRESS on it is the address
+ * of an object, whose first word is its type. Below that it is a constant, a symbol or a builtin. */
 typedef uint64_t value;
+
+enum { FIRST_ADDRESS = 65536 };
 
 /* The constants, and the types of objects with the fields that follow. */
 enum type {
@@ -32,7 +37,8 @@ enum type {
     PORT,     /* place in the table of files, or FALSE since it was closed */
     WEAK_BOX, /* the value, or NOTHING since that is gone */
     PART,     /* the part of the stack below it, or NIL; values */
-    GLOBAL    /* for each symbol a pair, whose first is the value where the environment has none */
+    GLOBAL,   /* for each symbol a pair, whose first is the value where the environment has none */
+    FINALIZER /* the procedure, the object since it is gone, the next one that waits */
 };
 
 /* Those before PART stand in a table of names, and then the symbols: the forms' first, then the builtins'. A
@@ -40,8 +46,9 @@ enum type {
 enum { FIRST_SYMBOL = PART, FORMS = 8, MOST_SYMBOLS = 1000, MOST_TEXT = 1024 };
 enum { FIRST_BUILTIN = FIRST_SYMBOL + FORMS + MOST_SYMBOLS };
 
-/* The registers are slots of the world's one frame. Those from NEW on are heap.c's own. */
-enum reg { EXPR, VAL, ARGS, ENV, STACK, GLOBALS, NEW, HOLDER, WORD, FIELDS, REGISTERS = FIELDS + 2 };
+/* The registers. READY is the first finalizer that Lisp is to call, and LAST the last, or NIL. Those from NEW on are
+ * heap.c's own. */
+enum reg { EXPR, VAL, ARGS, ENV, STACK, GLOBALS, READY, LAST, NEW, FIELDS, REGISTERS = FIELDS + 2 };
 
 /* The procedures of finalizers: a file's, by its place in the table, and Lisp's. */
 enum { CLOSE_FILE, CALL_LISP };
@@ -69,10 +76,10 @@ value pop(void);
 uint64_t collect(void); /* returns how many objects it freed */
 void on_collect(value object, uint64_t procedure, value data);
 void never_mind(value object);
-const derrimas_entry *next_finalizer(void); /* NULL if there is none */
-void finish_finalizer(void);
+void finish_finalizer(void); /* the first that is ready */
 
-void open_heap(uint64_t blocks, bool stress);
+struct heap;
+void open_heap(const struct heap *chosen, uint64_t blocks, bool stress);
 void close_heap(void);
 
 /* ---- text.c */
@@ -101,9 +108,9 @@ static inline value truth(bool is) { return is ? TRUE : FALSE; }
 static inline value integer(uint64_t n) { return n | UINT64_C(1) << 63; }
 static inline int64_t number(value v) { return (int64_t)(v << 1) / 2; }
 static inline bool is_integer(value v) { return v >> 63; }
-static inline bool is_object(value v) { return v >= DERRIMAS_HEAP_START && !is_integer(v); }
+static inline bool is_object(value v) { return v >= FIRST_ADDRESS && !is_integer(v); }
 static inline bool is_symbol(value v) { return v >= FIRST_SYMBOL && v < MOST_SYMBOLS; }
-static inline bool is_builtin(value v) { return v >= FIRST_BUILTIN && v < DERRIMAS_HEAP_START; }
+static inline bool is_builtin(value v) { return v >= FIRST_BUILTIN && v < FIRST_ADDRESS; }
 static inline bool is_pair(value v) { return type_of(v) == PAIR; }
 
 static inline value cons(value first, value rest) { return make(PAIR, 2, (value[]){first, rest}); }

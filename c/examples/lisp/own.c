@@ -1,0 +1,55 @@
+/* The heap of Lisp by that of ../own_heap: objects of malloc, and the finalizers of derrimas_finalizers.h. */
+#include "../own_heap/own_heap.h"
+#include "heap.h"
+
+enum { BLOCK = 64, BLOCKS = 16384 }; /* 8 MB of words */
+
+static own_heap heap;
+static value registers[REGISTERS];
+
+static uint64_t *words_of(value object) { return (uint64_t *)(uintptr_t)object; }
+
+static value get_register(enum reg reg) { return registers[reg]; }
+static void set_register(enum reg reg, value v) { registers[reg] = v; }
+static value read_word(value object, uint64_t offset) { return words_of(object)[offset]; }
+static void write_word(value object, uint64_t offset, value v) { words_of(object)[offset] = v; }
+static value alloc(uint64_t words, bool is_scanned) { return registers[NEW] = own_heap_number(own_heap_alloc(&heap, words, is_scanned)); }
+
+static bool link_word(value object, uint64_t offset, value target)
+{
+    uint64_t word = own_heap_word(words_of(object), offset);
+
+    return derrimas_finalizers_link(&heap.finalizers, DERRIMAS_FINALIZERS_SHORT, word, target, NULL) == DERRIMAS_FINALIZERS_OK;
+}
+
+static bool on_collect_object(value object, uint64_t procedure, value data)
+{
+    derrimas_finalizers_kind kind = DERRIMAS_FINALIZERS_NO_ORDER;
+
+    return derrimas_finalizers_register(&heap.finalizers, object, kind, procedure, data, 0, NULL, NULL) == DERRIMAS_FINALIZERS_OK;
+}
+
+static void never_mind_object(value object) { (void)derrimas_finalizers_unregister(&heap.finalizers, object, NULL); }
+static void run(const derrimas_finalizers_entry *entry) { finalize(entry->proc, entry->obj, entry->cd); }
+
+static uint64_t collect_own(void)
+{
+    uint64_t freed = own_heap_collect(&heap);
+
+    (void)own_heap_run(&heap, run);
+    return freed;
+}
+
+static bool open_own(uint64_t blocks) { return blocks <= SIZE_MAX / BLOCK && own_heap_open(&heap, blocks * BLOCK, registers, REGISTERS); }
+
+static void close_own(void)
+{
+    (void)derrimas_finalizers_queue_all(&heap.finalizers, NULL);
+    (void)own_heap_run(&heap, run);
+    own_heap_close(&heap);
+}
+
+const struct heap over_own = {
+    "own", BLOCKS, open_own, close_own, get_register, set_register, read_word, write_word, alloc,
+    link_word, on_collect_object, never_mind_object, collect_own,
+};

@@ -1,0 +1,108 @@
+/* The heap of Lisp by a world of derrimas.h, whose slots are the registers. */
+#include "derrimas.h"
+#include "heap.h"
+#include <stdlib.h>
+
+/* The slots behind the registers: for calls that take words by slots. */
+enum { HOLDER = REGISTERS, WORD };
+
+_Static_assert(FIRST_ADDRESS == DERRIMAS_HEAP_START && WORD < DERRIMAS_SLOTS, "values and registers are such as a world has");
+
+static derrimas_world world;
+
+static derrimas_slot at(int slot) { return derrimas_at(0, (uint64_t)slot); }
+
+/* For calls to which this program gives no cause of refusal. */
+static void must(derrimas_code code)
+{
+    if (code == DERRIMAS_OK)
+        return;
+    fprintf(stderr, "lisp: %s\n", derrimas_name(code));
+    exit(2);
+}
+
+static void set_slot(int slot, value v) { must(derrimas_set(&world, at(slot), v)); }
+static void set_register(enum reg reg, value v) { set_slot((int)reg, v); }
+
+static value get_register(enum reg reg)
+{
+    value v;
+
+    must(derrimas_get(&world, at((int)reg), &v));
+    return v;
+}
+
+static value read_word(value object, uint64_t offset)
+{
+    value v;
+
+    must(derrimas_read(&world, object, offset, &v));
+    return v;
+}
+
+static void write_word(value object, uint64_t offset, value v)
+{
+    set_slot(HOLDER, object);
+    set_slot(WORD, v);
+    must(derrimas_store(&world, at(HOLDER), offset, at(WORD)));
+}
+
+static value alloc(uint64_t words, bool is_scanned)
+{
+    derrimas_made made;
+
+    return derrimas_alloc(&world, at(NEW), words, is_scanned ? DERRIMAS_SCANNED : DERRIMAS_ATOMIC, &made) == DERRIMAS_OK ? made.address : 0;
+}
+
+static bool link_word(value object, uint64_t offset, value target)
+{
+    set_slot(HOLDER, object);
+    set_slot(WORD, target);
+    return derrimas_link(&world, DERRIMAS_SHORT, at(HOLDER), offset, at(WORD), NULL) == DERRIMAS_OK;
+}
+
+static bool on_collect_object(value object, uint64_t procedure, value data)
+{
+    set_slot(HOLDER, object);
+    return derrimas_register_no_order(&world, at(HOLDER), procedure, data) == DERRIMAS_OK;
+}
+
+static void never_mind_object(value object)
+{
+    set_slot(HOLDER, object);
+    must(derrimas_unregister(&world, at(HOLDER), NULL));
+}
+
+static void run(derrimas_world *of, const derrimas_entry *entry, void *data)
+{
+    (void)of;
+    (void)data;
+    finalize(entry->proc, entry->obj, entry->cd);
+}
+
+static uint64_t collect_world(void)
+{
+    static const derrimas_proc procs[] = {[CLOSE_FILE] = run, [CALL_LISP] = run};
+    derrimas_passed passed;
+
+    set_slot(HOLDER, 0);
+    set_slot(WORD, 0);
+    must(derrimas_collect(&world, &passed));
+    derrimas_invoke_finalizers(&world, procs, sizeof procs / sizeof *procs, NULL);
+    return passed.reclaimed;
+}
+
+static bool open_world(uint64_t blocks) { return derrimas_open(&world, blocks, 1) == DERRIMAS_OK; }
+
+static void close_world(void)
+{
+    static const derrimas_proc procs[] = {[CLOSE_FILE] = run};
+
+    must(derrimas_finalize_all(&world, at(HOLDER), procs, sizeof procs / sizeof *procs, NULL, NULL));
+    derrimas_destroy(&world);
+}
+
+const struct heap over_world = {
+    "world", DERRIMAS_MAX_BLOCKS, open_world, close_world, get_register, set_register, read_word, write_word, alloc,
+    link_word, on_collect_object, never_mind_object, collect_world,
+};

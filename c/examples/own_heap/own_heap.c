@@ -1,0 +1,176 @@
+/* A mark-and-sweep heap as a host of derrimas_finalizers.h: objects, marks, the answers to a pass, and a collection. */
+#include "own_heap.h"
+#include <stdlib.h>
+
+typedef struct own_heap_object {
+    struct own_heap_object *next, *next_to_scan;
+    size_t count;
+    bool is_scanned, is_marked;
+    uint64_t words[];
+} object;
+
+static bool is_address(uint64_t word) { return word >= 65536 && !(word >> 63); }
+static object *object_at(uint64_t address) { return (object *)(void *)((char *)(uintptr_t)address - sizeof(object)); }
+
+static object *holder_of(uint64_t word) { return object_at(word & ((UINT64_C(1) << 48) - 1)); }
+
+/* ---- objects */
+
+bool own_heap_open(own_heap *heap, size_t most, const uint64_t *roots, size_t root_count)
+{
+    *heap = (own_heap){.roots = roots, .root_count = root_count, .most = most};
+    return derrimas_finalizers_open(&heap->finalizers) == DERRIMAS_FINALIZERS_OK;
+}
+
+uint64_t *own_heap_alloc(own_heap *heap, size_t words, bool is_scanned)
+{
+    object *it;
+
+    if (words > heap->most - heap->used)
+        return NULL;
+    it = calloc(1, sizeof(object) + words * sizeof(uint64_t));
+    if (!it)
+        return NULL;
+    *it = (object){.next = heap->all, .count = words, .is_scanned = is_scanned};
+    heap->all = it;
+    heap->used += words;
+    return it->words;
+}
+
+/* Frees the objects that aren't marked, and takes the marks from the others. */
+static size_t sweep(own_heap *heap)
+{
+    size_t freed = 0;
+
+    for (object **at = &heap->all, *it = *at; it; it = *at)
+        if (it->is_marked) {
+            it->is_marked = false;
+            at = &it->next;
+        } else {
+            *at = it->next;
+            heap->used -= it->count;
+            free(it);
+            freed++;
+        }
+    return freed;
+}
+
+void own_heap_close(own_heap *heap)
+{
+    derrimas_finalizers_destroy(&heap->finalizers);
+    (void)sweep(heap);
+}
+
+/* ---- marks: what is marked for the first time stands in a list until its words were followed, so that no chain is too long */
+
+static void mark_word(own_heap *heap, uint64_t word)
+{
+    object *it;
+
+    if (!is_address(word))
+        return;
+    it = object_at(word);
+    if (it->is_marked)
+        return;
+    it->is_marked = true;
+    it->next_to_scan = heap->to_scan;
+    heap->to_scan = it;
+}
+
+/* Marks what the words of an object lead to, but for this one. */
+static void mark_words(own_heap *heap, const object *it, const object *other)
+{
+    for (size_t n = 0; it->is_scanned && n < it->count; n++)
+        if (!other || it->words[n] != own_heap_number(other->words))
+            mark_word(heap, it->words[n]);
+}
+
+static void mark_on(own_heap *heap)
+{
+    object *it;
+
+    while ((it = heap->to_scan)) {
+        heap->to_scan = it->next_to_scan;
+        mark_words(heap, it, NULL);
+    }
+}
+
+/* ---- the answers to a pass */
+
+static bool is_marked(void *data, uint64_t what)
+{
+    (void)data;
+    return object_at(what)->is_marked;
+}
+
+static void mark_children(void *data, uint64_t what, bool but_itself)
+{
+    object *it = object_at(what);
+
+    mark_words(data, it, but_itself ? it : NULL);
+    mark_on(data);
+}
+
+static void mark(void *data, uint64_t what)
+{
+    mark_word(data, what);
+    mark_on(data);
+}
+
+static void mark_alone(void *data, uint64_t what)
+{
+    (void)data;
+    object_at(what)->is_marked = true;
+}
+
+static void clear(void *data, uint64_t word)
+{
+    (void)data;
+    holder_of(word)->words[word >> 48] = 0;
+}
+
+static bool holder_is_marked(void *data, uint64_t word)
+{
+    (void)data;
+    return holder_of(word)->is_marked;
+}
+
+/* ---- collections and entries */
+
+/* The finalizers' own roots come in pieces of a buffer. */
+static void mark_roots_of_finalizers(own_heap *heap, derrimas_finalizers_root sort)
+{
+    uint64_t some[512], from = 0;
+    size_t count;
+
+    while (derrimas_finalizers_roots(&heap->finalizers, sort, &from, some, sizeof some / sizeof *some, &count) == DERRIMAS_FINALIZERS_OK)
+        for (size_t n = 0; n < count; n++)
+            mark_word(heap, some[n]);
+}
+
+size_t own_heap_collect(own_heap *heap)
+{
+    static const derrimas_host host = {is_marked, mark_children, mark, mark_alone, clear, holder_is_marked};
+
+    for (size_t n = 0; n < heap->root_count; n++)
+        mark_word(heap, heap->roots[n]);
+    mark_roots_of_finalizers(heap, DERRIMAS_FINALIZERS_HELD_OBJECTS);
+    mark_roots_of_finalizers(heap, DERRIMAS_FINALIZERS_HELD_DATA);
+    mark_roots_of_finalizers(heap, DERRIMAS_FINALIZERS_REGISTERED_DATA);
+    mark_on(heap);
+    (void)derrimas_finalizers_pass(&heap->finalizers, &host, heap, NULL); /* refused to no host that makes no call in it */
+    return sweep(heap);
+}
+
+size_t own_heap_run(own_heap *heap, void (*run)(const derrimas_finalizers_entry *entry))
+{
+    derrimas_finalizers_entry entry;
+    size_t count = 0;
+
+    while (derrimas_finalizers_take(&heap->finalizers, &entry) == DERRIMAS_FINALIZERS_OK) {
+        run(&entry);
+        (void)derrimas_finalizers_finish(&heap->finalizers, &entry);
+        count++;
+    }
+    return count;
+}

@@ -1,0 +1,44 @@
+/* own_heap.h: a small mark-and-sweep heap over malloc, whose finalizers and links are those of derrimas_finalizers.h.
+ *
+ * An object is known by the address of its first word. A root, and a word of a scanned object, is such an address, or a
+ * number that no object has: one below 65,536, or with its highest bit set. So the heap follows each address that it
+ * meets, and asks nobody whether it is one. Nothing is collected but by own_heap_collect.
+ *
+ * Registrations and links are made by the library's calls on `finalizers`, with numbers by own_heap_number and
+ * own_heap_word. Entries are taken by its calls too, or by own_heap_run. */
+#ifndef OWN_HEAP_H
+#define OWN_HEAP_H
+
+#include "derrimas_finalizers.h"
+
+/* The heap. Start it as {0}. */
+typedef struct own_heap {
+    derrimas_finalizers finalizers;
+    const uint64_t *roots;
+    size_t root_count;
+    size_t most, used;               /* how many words all objects may have, and have */
+    struct own_heap_object *all;     /* the objects, each with the next one */
+    struct own_heap_object *to_scan; /* those that are marked, and whose words aren't yet followed */
+} own_heap;
+
+/* Opens a heap of so many words, whose roots stand in an array of the caller's. False: there is no memory. */
+bool own_heap_open(own_heap *heap, size_t most, const uint64_t *roots, size_t root_count);
+
+/* Frees all. No finalizer runs. */
+void own_heap_close(own_heap *heap);
+
+/* Makes an object, whose words are 0. Those of one that isn't scanned keep nothing. NULL: there is no room, or no memory. */
+uint64_t *own_heap_alloc(own_heap *heap, size_t words, bool is_scanned);
+
+/* Marks what the roots lead to, has the finalizers pass, and frees what isn't marked. Returns how many objects that is. */
+size_t own_heap_collect(own_heap *heap);
+
+/* Takes each entry that waits, calls the procedure for it, and finishes it: until then it keeps its object. Returns how many. */
+size_t own_heap_run(own_heap *heap, void (*run)(const derrimas_finalizers_entry *entry));
+
+/* The numbers by which the library knows an object, and a word of it, one of the first 65,536: its object's address and its place, so
+ * that the heap needs no search for the object. An address has 48 bits. */
+static inline uint64_t own_heap_number(const uint64_t *object) { return (uint64_t)(uintptr_t)object; }
+static inline uint64_t own_heap_word(const uint64_t *object, uint64_t place) { return own_heap_number(object) | place << 48; }
+
+#endif
