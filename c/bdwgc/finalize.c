@@ -7,6 +7,9 @@
  * All is used under the lock of bdwgc's allocator. A conservative collector sees the stack, where the library's questions lie, and in some forms all
  * memory. So the library is given addresses with the highest bit turned, which look like none and keep their order.
  */
+#ifndef _GNU_SOURCE
+#define _GNU_SOURCE 1 /* mremap */
+#endif
 #include "private/gc_pmark.h"
 
 #ifndef GC_NO_FINALIZATION
@@ -167,11 +170,29 @@ void derrimas_free(void *memory)
     free_blocks[class_of(size)] = block;
 }
 
+#ifdef MREMAP_MAYMOVE
+/* Pages as they are: most of them would be copied to fresh ones. */
+static void *moved_pages(void *memory, size_t had, size_t size)
+{
+    union block *block = (union block *)mremap((char *)memory - HEAD, HEAD + had, HEAD + size, MREMAP_MAYMOVE);
+
+    if ((void *)block == MAP_FAILED)
+        return NULL;
+    block->size = size;
+    return (char *)block + HEAD;
+}
+#endif
+
 void *derrimas_realloc(void *memory, size_t size)
 {
-    void *other = derrimas_malloc(size);
     size_t had = memory ? ((union block *)(void *)((char *)memory - HEAD))->size : 0;
+    void *other;
 
+#ifdef MREMAP_MAYMOVE
+    if (had > SMALL && size > SMALL && size <= SIZE_MAX / 2)
+        return moved_pages(memory, had, size);
+#endif
+    other = derrimas_malloc(size);
     if (!other)
         return NULL;
     if (memory)
