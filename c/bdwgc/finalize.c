@@ -211,9 +211,11 @@ static derrimas_finalizers finalizers; /* opened by the first registration or li
 
 static GC_bool is_open(void)
 {
-    derrimas_finalizers_code code = derrimas_finalizers_open(&finalizers);
+    static GC_bool opened;
 
-    return code == DERRIMAS_FINALIZERS_OK || code == DERRIMAS_FINALIZERS_IS_OPEN;
+    if (!opened)
+        opened = derrimas_finalizers_open(&finalizers) == DERRIMAS_FINALIZERS_OK;
+    return opened;
 }
 
 /* Tells the package's file whether entries wait: its rule of the notifier looks there. */
