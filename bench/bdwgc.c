@@ -1,6 +1,6 @@
 /* bdwgc.c - times bdwgc's calls that stand nearest to the world's.
  *   bdwgc ROW N      the nanoseconds of a row of rows.h for each of N objects, or "-" where N is too large for it
- * bench/run builds it, and runs it beside world.c.
+ * bench/run builds it, and runs it beside world.c. It also builds it over two libraries of bdwgc, with its own finalize.c and with that of c/bdwgc.
  */
 #define GC_THREADS 1
 #include <gc/gc.h>
@@ -52,12 +52,12 @@ static void NOINLINE make_words(size_t n) {
 static double NOINLINE enter(size_t n, Kind kind) {
     size_t linked = 0;
     double t = now();
-    if (kind == NORMAL || kind == RANKED) for (size_t i = 0; i < n; i++) GC_register_finalizer(OBJECT(i), finalizer, 0, 0, 0);
+    if (kind == NORMAL || kind == RANKED || kind == BOTH) for (size_t i = 0; i < n; i++) GC_register_finalizer(OBJECT(i), finalizer, 0, 0, 0);
     if (kind == BUSY) for (size_t i = 0; i < n; i++) GC_register_finalizer(OBJECT(i), busy_finalizer, 0, 0, 0);
     if (kind == NO_ORDER) for (size_t i = 0; i < n; i++) GC_register_finalizer_no_order(OBJECT(i), finalizer, 0, 0, 0);
-    if (kind == LINKED) for (size_t i = 0; i < n; i++) linked += GC_general_register_disappearing_link(&words[i], OBJECT(i)) == GC_SUCCESS;
+    if (kind == LINKED || kind == BOTH) for (size_t i = 0; i < n; i++) linked += GC_general_register_disappearing_link(&words[i], OBJECT(i)) == GC_SUCCESS;
     t = now() - t;
-    if (linked != (kind == LINKED ? n : 0)) fail("another number of links");
+    if (linked != (kind == LINKED || kind == BOTH ? n : 0)) fail("another number of links");
     return t;
 }
 
@@ -79,6 +79,16 @@ static double NOINLINE unlink_all(size_t n) {
     return t;
 }
 
+static double NOINLINE unregister_all(size_t n) {
+    size_t removed = 0;
+    GC_finalization_proc old;
+    double t = now();
+    for (size_t i = 0; i < n; i++) { GC_register_finalizer(OBJECT(i), 0, 0, &old, 0); removed += old == finalizer; }
+    t = now() - t;
+    if (removed != n) fail("another number of removed registrations");
+    return t;
+}
+
 static double collect(void) {
     clear_stack();
     GC_enable();
@@ -90,10 +100,10 @@ static double collect(void) {
 }
 
 /* A few words on the stack may keep a few objects, or the chain's first: here, and in the next function. */
-static void check_cleared(size_t n) {
+static void check_cleared(size_t n, size_t expected) {
     size_t cleared = 0;
     for (size_t i = 0; i < n; i++) cleared += !words[i];
-    if (cleared + 16 < n) fail("another number of cleared links");
+    if (cleared > expected || cleared + 16 < expected) fail("another number of cleared links");
 }
 
 /* Calls all procedures that are queued. */
@@ -113,14 +123,15 @@ static double run(const Row *row, const Objects *objects, bool with_call) {
     collect();
     double t = make(objects, row->live);
     if (row->call == MAKE) return t;
-    if (row->kind == LINKED) make_words(objects->count);
+    if (is_linked(row)) make_words(objects->count);
     t = enter(objects->count, row->kind);
     if (row->call == ENTER) return t;
     if (row->call == MOVE) return move_links(objects->count);
     if (row->call == UNLINK) return unlink_all(objects->count);
+    if (row->call == UNREGISTER) return unregister_all(objects->count);
     if (row->call != COLLECT && row->call != FINISH) fail("it has no such call");
     t = collect();
-    if (row->kind == LINKED) check_cleared(objects->count);
+    if (is_linked(row)) check_cleared(objects->count, row->live ? 0 : objects->count);
     if (row->live) {
         t = 0;
         for (int i = 0; i < COLLECTIONS; i++) t += collect();

@@ -9,7 +9,12 @@
 #include <time.h>
 #include <unistd.h>
 
-enum { TOO_LARGE = -1, MOST_WORDS = 262144, MOST_IN_TABLE = 65536, LARGE = 8, MOST_LARGE = MOST_WORDS / LARGE, COLLECTIONS = 9 };
+#ifdef UNLIMITED /* bdwgc alone, without a world's limits */
+enum { MOST_WORDS = 1 << 30, MOST_IN_TABLE = 1 << 30 };
+#else
+enum { MOST_WORDS = 262144, MOST_IN_TABLE = 65536 };
+#endif
+enum { TOO_LARGE = -1, LARGE = 8, MOST_LARGE = MOST_WORDS / LARGE, COLLECTIONS = 9 };
 
 static void fail(const char *what) { fprintf(stderr, "bench: %s\n", what); exit(1); }
 static void *memory(size_t bytes) { void *p = malloc(bytes); if (!p) fail("no memory"); return p; }
@@ -23,15 +28,16 @@ static size_t below(size_t n) { seed ^= seed << 13; seed ^= seed >> 7; seed ^= s
 /* A row: its objects, what table each of them is entered in, whether a root leads to them, and the call that is timed. MAKE makes them, ENTER enters them;
    COLLECT is one collection, or of live objects COLLECTIONS of them after the first. RANKED ones are normal too, with ranks 0 to 255 in turn. So are BUSY
    ones, whose procedure works for about 2 microseconds, which only bdwgc.c calls. LINKED ones are the targets of short links, which stand in words of other
-   objects, which are live and atomic: one more than links, so that each link can MOVE one further. LARGE objects have so many words, and there is one for
-   so many calls: these STORE into each word. */
+   objects, which are live and atomic: one more than links, so that each link can MOVE one further. BOTH are normal and such targets; of them, and of what is
+   removed by UNREGISTER, only bdwgc.c has rows. LARGE objects have so many words, and there is one for so many calls: these STORE into each word. */
 typedef enum { LOOSE, LOOSE_LARGE, CHAIN, MIXED_CHAIN, GRAPH } Shape;
-typedef enum { UNREGISTERED, NORMAL, RANKED, BUSY, NO_ORDER, LINKED } Kind;
-typedef enum { MAKE, ENTER, COLLECT, FINISH, MOVE, UNLINK, STORE, STORE_IN_CYCLE } Call;
+typedef enum { UNREGISTERED, NORMAL, RANKED, BUSY, NO_ORDER, LINKED, BOTH } Kind;
+typedef enum { MAKE, ENTER, COLLECT, FINISH, MOVE, UNLINK, UNREGISTER, STORE, STORE_IN_CYCLE } Call;
 typedef struct { const char *name; Shape shape; Kind kind; bool live; Call call; } Row;
 static const Row rows[] = {
     { "alloc", LOOSE, UNREGISTERED, false, MAKE },
     { "register", LOOSE, NORMAL, false, ENTER },
+    { "unregister", LOOSE, NORMAL, false, UNREGISTER },
     { "link", LOOSE, LINKED, false, ENTER },
     { "move_link", LOOSE, LINKED, false, MOVE },
     { "unlink", LOOSE, LINKED, false, UNLINK },
@@ -40,18 +46,21 @@ static const Row rows[] = {
     { "dead", LOOSE, UNREGISTERED, false, COLLECT },
     { "dead_linked", LOOSE, LINKED, false, COLLECT },
     { "dead_queued", LOOSE, NORMAL, false, COLLECT },
+    { "dead_queued_linked", LOOSE, BOTH, false, COLLECT },
     { "dead_ranked", LOOSE, RANKED, false, COLLECT },
     { "dead_no_order", LOOSE, NO_ORDER, false, COLLECT },
     { "dead_chain", CHAIN, NORMAL, false, COLLECT },
     { "live_chain", CHAIN, UNREGISTERED, true, COLLECT },
     { "live_mixed", MIXED_CHAIN, UNREGISTERED, true, COLLECT },
     { "live_registered", CHAIN, NORMAL, true, COLLECT },
+    { "live_registered_linked", CHAIN, BOTH, true, COLLECT },
     { "live_graph", GRAPH, UNREGISTERED, true, COLLECT },
     { "finish", LOOSE, NORMAL, false, FINISH },
     { "finish_busy", LOOSE, BUSY, false, FINISH },
 };
 
-static inline bool is_registered(const Row *row) { return row->kind == NORMAL || row->kind == RANKED || row->kind == BUSY || row->kind == NO_ORDER; }
+static inline bool is_registered(const Row *row) { return row->kind != UNREGISTERED && row->kind != LINKED; }
+static inline bool is_linked(const Row *row) { return row->kind == LINKED || row->kind == BOTH; }
 static inline bool is_large(const Row *row) { return row->shape == LOOSE_LARGE || row->shape == GRAPH; }
 
 /* how many times the call is timed for each object in one run */

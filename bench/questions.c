@@ -1,0 +1,115 @@
+/* questions.c - times what a pass asks, and the walk over roots, by derrimas_finalizers.h alone.
+ *   questions TEST N     the nanoseconds for each of N registered objects: the least of some turns, each with a handle of its own
+ * bench/run builds it with the library of c/build.
+ *
+ * A question takes what lies between two answers of the host: the step to the next one, and here a host that looks at nothing. */
+#include "derrimas_finalizers.h"
+#include <math.h>
+#include <stdio.h>
+#include <stdlib.h>
+#include <string.h>
+#include <time.h>
+
+enum { TURNS = 9 };
+
+static derrimas_finalizers finalizers;
+
+static void fail(const char *what) { fprintf(stderr, "questions: %s\n", what); exit(1); }
+static void must(derrimas_finalizers_code code) { if (code != DERRIMAS_FINALIZERS_OK) fail("a call was refused"); }
+static double now(void) { struct timespec t; clock_gettime(CLOCK_PROCESS_CPUTIME_ID, &t); return t.tv_sec * 1e9 + t.tv_nsec; }
+
+/* kinds that alternate are asked about one by one, of one kind in batches */
+static void register_all(uint64_t n, bool alternate)
+{
+    for (uint64_t i = 0; i < n; i++) {
+        derrimas_finalizers_kind kind = alternate && i % 2 ? DERRIMAS_FINALIZERS_IGNORE_SELF : DERRIMAS_FINALIZERS_NORMAL;
+        must(derrimas_finalizers_register(&finalizers, 16 * (i + 1), kind, 1, i, 0, NULL, NULL));
+    }
+}
+
+static bool is_of_children(const derrimas_question *question) { return question->ask == DERRIMAS_ASK_MARK_CHILDREN || question->ask == DERRIMAS_ASK_MARK_OTHERS; }
+
+/* From the first question that has children marked to the one after the last. Nothing was marked before, and then all is. */
+static double children(uint64_t n, bool alternate)
+{
+    derrimas_question question;
+    derrimas_finalizers_passed passed;
+    uint64_t answers = 0, asked = 0, questions = 0;
+    double first = 0, t = 0;
+
+    register_all(n, alternate);
+    must(derrimas_finalizers_begin(&finalizers));
+    while (derrimas_finalizers_next(&finalizers, answers, &question, &passed) == DERRIMAS_FINALIZERS_OK) {
+        bool is_asked = is_of_children(&question);
+        if (is_asked && !asked)
+            first = now();
+        if (!is_asked && asked && t == 0)
+            t = now() - first;
+        asked += is_asked ? question.count : 0;
+        questions += is_asked;
+        answers = asked ? UINT64_MAX : 0;
+    }
+    if (asked != n || questions != (alternate ? n : (n + DERRIMAS_FINALIZERS_BATCH - 1) / DERRIMAS_FINALIZERS_BATCH) || passed.picked)
+        fail("other questions");
+    return t;
+}
+
+static double one_by_one(uint64_t n) { return children(n, true); }
+static double in_batches(uint64_t n) { return children(n, false); }
+
+/* A whole pass, all of whose objects are marked. */
+static double live(uint64_t n)
+{
+    derrimas_question question;
+    uint64_t asked = 0;
+
+    register_all(n, false);
+    double t = now();
+    must(derrimas_finalizers_begin(&finalizers));
+    while (derrimas_finalizers_next(&finalizers, UINT64_MAX, &question, NULL) == DERRIMAS_FINALIZERS_OK)
+        asked += question.count;
+    t = now() - t;
+    if (asked != n)
+        fail("other questions");
+    return t;
+}
+
+/* The client data of all registrations, as a host marks from it once a collection. */
+static double roots(uint64_t n)
+{
+    uint64_t from = 0, some[512], sum = 0;
+    size_t count;
+
+    register_all(n, false);
+    double t = now();
+    while (derrimas_finalizers_roots(&finalizers, DERRIMAS_FINALIZERS_REGISTERED_DATA, &from, some, sizeof some / sizeof *some, &count) == DERRIMAS_FINALIZERS_OK)
+        for (size_t i = 0; i < count; i++)
+            sum += some[i];
+    t = now() - t;
+    if (sum != n * (n - 1) / 2)
+        fail("other roots");
+    return t;
+}
+
+static const struct { const char *name; double (*turn)(uint64_t n); } tests[] = {
+    {"one_by_one", one_by_one}, {"in_batches", in_batches}, {"live", live}, {"roots", roots},
+};
+
+int main(int count, char **words)
+{
+    uint64_t n = count == 3 ? strtoull(words[2], NULL, 10) : 0;
+
+    for (size_t i = 0; n && i < sizeof tests / sizeof *tests; i++)
+        if (!strcmp(tests[i].name, words[1])) {
+            double least = INFINITY;
+            for (int turn = 0; turn < TURNS; turn++) {
+                must(derrimas_finalizers_open(&finalizers));
+                least = fmin(least, tests[i].turn(n));
+                derrimas_finalizers_destroy(&finalizers);
+            }
+            printf("%.3f\n", least / (double)n);
+            return 0;
+        }
+    fprintf(stderr, "usage: questions TEST N\n");
+    return 2;
+}
