@@ -48,8 +48,11 @@ code derrimas_finalizers_register(derrimas_finalizers *finalizers, uint64_t obje
     it = fz_machine_register(finalizers, object, (uint8_t)kind, proc, cd, rank, &registered);
     if (it == DERRIMAS_FINALIZERS_OK && number)
         *number = registered.number;
-    if (it == DERRIMAS_FINALIZERS_OK && old)
-        *old = registered.replaced;
+    if (it == DERRIMAS_FINALIZERS_OK && old) { /* word by word, as the export wrote them: a processor waits where two are read as one */
+        old->proc = registered.replaced.proc;
+        old->cd = registered.replaced.cd;
+        old->was = registered.replaced.was;
+    }
     return it;
 }
 
