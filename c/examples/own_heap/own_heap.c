@@ -11,7 +11,6 @@ typedef struct own_heap_object {
 
 static bool is_address(uint64_t word) { return word >= 65536 && !(word >> 63); }
 static object *object_at(uint64_t address) { return (object *)(void *)((char *)(uintptr_t)address - sizeof(object)); }
-
 static object *holder_of(uint64_t word) { return object_at(word & ((UINT64_C(1) << 48) - 1)); }
 
 /* ---- objects */
@@ -26,7 +25,7 @@ uint64_t *own_heap_alloc(own_heap *heap, size_t words, bool is_scanned)
 {
     object *it;
 
-    if (words > heap->most - heap->used)
+    if (words > heap->most - heap->used || words > SIZE_MAX / 2 / sizeof(uint64_t))
         return NULL;
     it = calloc(1, sizeof(object) + words * sizeof(uint64_t));
     if (!it)

@@ -11,7 +11,7 @@
 
 #include "derrimas_finalizers.h"
 
-/* The heap. Start it as {0}. */
+/* The heap, which changes by these calls alone. */
 typedef struct own_heap {
     derrimas_finalizers finalizers;
     const uint64_t *roots;
