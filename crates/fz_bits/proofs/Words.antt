@@ -1,9 +1,9 @@
 -- Sets of numbers by the bits of words.
-use Rattle.std.proofs.Common.{◌≡◌, ◌≢◌, ℕ, zero, suc, ◌+◌, ◌-◌, ◌*◌, ◌/◌, ◌%◌, ◌^◌, ◌<◌, ◌≤◌, Bool, true, false, cond, not, ◌&&◌, ◌||◌, List, length, set, slice_index, replicate, nat_eq, nat_le, nat_cmp, refl, sym, ap, ◌∙◌, ⊎_elim, arith, w64, bit_and, bit_or, get_or, add-zero}
-use Rattle.std.proofs.Math.Nat.{mod-eq_of_lt, div-mul-le_self}
+use Rattle.std.proofs.Common.{◌≡◌, ◌≢◌, ℕ, zero, suc, ◌+◌, ◌-◌, ◌*◌, ◌/◌, ◌%◌, ◌^◌, ◌<◌, ◌≤◌, Bool, true, false, cond, not, ◌&&◌, ◌||◌, List, length, take, set, slice_index, replicate, nat_eq, nat_le, nat_cmp, refl, sym, ap, ◌∙◌, ⊎_elim, arith, w64, bit_and, bit_or, get_or, add-zero}
+use Rattle.std.proofs.Math.Nat.{mod-eq_of_lt, div-mul-le_self, min-le_left}
 use Rattle.std.proofs.Math.Pow.{pow-lt}
-use Rattle.std.proofs.lemmas.Bool.{cond-false, cases_eq, cases_lt, eq-eqb, ne_eqb, eqb-false, and_parts, le-leb, lt-leb, leb-true, both_ways}
-use Rattle.std.proofs.lemmas.List.{get_or_past, get_or_read, get_or-set_same, get_or-set_other, get_or-replicate, length-replicate}
+use Rattle.std.proofs.lemmas.Bool.{cond-false, cases_eq, cases_lt, eq-eqb, ne_eqb, eqb-false, and_parts, le-leb, lt-leb, leb-true, both_ways, false_from_ne_true}
+use Rattle.std.proofs.lemmas.List.{get_or_past, get_or_read, get_or-set_same, get_or-set_other, get_or-replicate, get_or-take, length-replicate, length-take}
 use Rattle.std.proofs.lemmas.Nat.{shr-shr, pow_pos}
 use Rattle.std.proofs.lemmas.Nat.Bits.{bit_at-lt, bit_at-trailing_zeros, bit_at_cat_low, bit_at_cat_high, and_pow, shr_and_one, bit_at_set_same, bit_at_set_other, bit_at_clear_same, bit_at_clear_other}
 use Rattle.std.specs.Cmp.{nat_cmp_total, ranked}
@@ -338,3 +338,23 @@ pub found_room : (first : ℕ) (f : Flagged) (from index rest zeros : ℕ) → H
 found_room first f from index rest zeros room are some fits zeros_are =
     let found = rest_found first f.members from index rest zeros are some fits zeros_are in
     ((room.each (first + 64 * index + zeros) found.0.member).1, room.fits)
+
+-- ---- words past a limit go
+
+pub words_cut : (first : ℕ) (words : List ℕ) (count : ℕ) → ((n : ℕ) → contains (flagged first words) n ≡ true → n < first + 64 * count) → flagged first (take count words) ≡ flagged first words
+words_cut first words count low = same_members _ _ (λ q. contains-flagged first (take count words) q ∙ same q ∙ sym (contains-flagged first words q))
+  where
+    within : (q : ℕ) → first ≤ q → (q - first) / 64 < count → has_flag (take count words) (q - first) ≡ has_flag words (q - first)
+    within q above lt = ap (λ w. has_bit w ((q - first) % 64)) (get_or-take count words ((q - first) / 64) 0 lt)
+
+    past : (q : ℕ) → first ≤ q → count ≤ (q - first) / 64 → has_flag (take count words) (q - first) ≡ has_flag words (q - first)
+    past q above ge =
+        past_words (take count words) (q - first) (let few = length-take count words in omega (arith, ge, few, min-le_left count (length words)))
+        ∙ sym (false_from_ne_true (has_flag words (q - first)) (λ is. let lt = low q (contains_from first words q above ∙ is) in omega (arith, lt, ge, above)))
+
+    same : (q : ℕ) → (nat_le first q && has_flag (take count words) (q - first)) ≡ (nat_le first q && has_flag words (q - first))
+    same q =
+        ⊎_elim
+        (λ (below : q < first). ap (λ t. t && has_flag (take count words) (q - first)) (lt-leb first q below) ∙ ap (λ t. t && has_flag words (q - first)) (sym (lt-leb first q below)))
+        (λ (above : first ≤ q). ap (λ t. nat_le first q && t) (⊎_elim (within q above) (past q above) (cases_lt ((q - first) / 64) count)))
+        (cases_lt q first)

@@ -1,6 +1,6 @@
 //! A set of numbers, a bit for each.
 
-ghost use Rattle.std.specs.Prelude.{◌≡◌, ◌≤◌, ◌<◌, ◌+◌, ◌*◌, ◌==◌, ◌&&◌, ◌^◌, not, max, slice_index, filter, ℕ, IsFalse, IfOk, IfErr, OnOk, OnErr, IfSome, MatchOption};
+ghost use Rattle.std.specs.Prelude.{◌≡◌, ◌≤◌, ◌<◌, ◌+◌, ◌*◌, ◌==◌, ◌&&◌, ◌^◌, not, max, min, slice_index, filter, ℕ, IsTrue, IsFalse, IfOk, IfErr, OnOk, OnErr, IfSome, MatchOption};
 ghost use Rattle.std.specs.List.{range_with_len};
 ghost use Rattle.std.specs.FinSet.{contains, insert, remove, empty, len};
 ghost use Rattle.fz_bits.specs.Flags.{IsNext, IsRest, HasRoom, word_of};
@@ -61,6 +61,16 @@ impl<const FIRST: u64> Flags<FIRST> {
             self.words.resize(words as usize, 0)?;
         }
         Ok(())
+    }
+
+    /// Gives up the room for numbers past 64 a word, none of which may be a member.
+    pub fn shrink_to(&mut self, words: u64)
+        requires { (n : ℕ) → IsTrue (contains self.old.members n) → n < FIRST + 64 * words }
+        ensures members { self.new.members ≡ self.old.members }
+        ensures size { self.new.size ≡ min self.old.size (64 * words) }
+    {
+        self.words.truncate(words as usize);
+        self.words.shrink_to_fit();
     }
 
     /// Whether the number is in the set.

@@ -1,6 +1,6 @@
 //! A set of numbers of which few, far apart, are members.
 
-ghost use Rattle.std.specs.Prelude.{◌≡◌, ◌≤◌, ◌<◌, ◌+◌, ◌*◌, ◌^◌, not, ℕ, IsFalse, IfOk, IfErr, OnOk, OnErr, IfSome, MatchOption};
+ghost use Rattle.std.specs.Prelude.{◌≡◌, ◌≤◌, ◌<◌, ◌+◌, ◌*◌, ◌^◌, not, min, ℕ, IsTrue, IsFalse, IfOk, IfErr, OnOk, OnErr, IfSome, MatchOption};
 ghost use Rattle.std.specs.FinSet.{contains, insert, remove, empty};
 ghost use Rattle.fz_bits.specs.Flags.{IsNext};
 
@@ -58,6 +58,16 @@ impl SparseFlags {
     {
         self.words.extend_to(words.div_ceil(BITS))?;
         self.flags.extend_to(words)
+    }
+
+    /// Gives up the room for numbers past 64 a word, none of which may be a member.
+    pub fn shrink_to(&mut self, words: u64)
+        requires { (n : ℕ) → IsTrue (contains self.old.members n) → n < 64 * words }
+        ensures members { self.new.members ≡ self.old.members }
+        ensures size { self.new.size ≡ min self.old.size (64 * words) }
+    {
+        self.words.shrink_to(words.div_ceil(BITS));
+        self.flags.shrink_to(words);
     }
 
     /// Whether the number is in the set.

@@ -1,6 +1,6 @@
 //! A pass over the modelled heap, by the pass over any heap.
 
-ghost use Rattle.std.specs.Prelude.{◌≡◌, ◌≤◌, ◌+◌, ◌||◌, ◌&&◌, not, [], ℕ, vec_len, vec_capacity};
+ghost use Rattle.std.specs.Prelude.{◌≡◌, ◌≤◌, ◌<◌, ◌+◌, ◌^◌, ◌||◌, ◌&&◌, not, [], ℕ, vec_len, vec_capacity};
 ghost use Rattle.std.specs.FinSet.{contains};
 ghost use Rattle.std.specs.FinSet as sets;
 ghost use Rattle.std.specs.FinMap.{len, contains_key};
@@ -18,7 +18,7 @@ use fz_table::Table;
 
 /// Carries out a pass in which the marked objects are those that were found, and returns the number of objects that it reclaims.
 ///
-/// It does what `fz_pass::decide` does, with entries that are numbered by their places in the queue, and condemns the objects that aren't kept.
+/// It does what `fz_pass::decide` does, with entries that are numbered on from `first`, and condemns the objects that aren't kept.
 pub fn decide(
     marked: &mut Marked,
     table: &mut Table,
@@ -27,6 +27,7 @@ pub fn decide(
     ready: &mut ReadyList,
     queue: &mut Vec<Entry>,
     pass: u64,
+    first: u64,
 ) -> u64
     requires closed { IsClosed marked.old.heap.objects marked.old.marker.marked }
     requires registered { AreRegistered marked.old.heap.objects table.old.registrations }
@@ -34,7 +35,8 @@ pub fn decide(
     requires long { AreTargets marked.old.heap.objects long.old.links }
     requires list { len table.old.registrations ≤ ready.old.room }
     requires room { vec_len queue.old + len table.old.registrations ≤ vec_capacity queue.old }
-    ensures decided { DecidesInto pass (parts_of marked.old.heap.objects table.old short.old long.old) (contains marked.old.marker.marked) (parts_of marked.new.heap.objects table.new short.new long.new) queue.old.items queue.new.items }
+    requires numbers { first + len table.old.registrations < 2 ^ 64 }
+    ensures decided { DecidesInto pass first (parts_of marked.old.heap.objects table.old short.old long.old) (contains marked.old.marker.marked) (parts_of marked.new.heap.objects table.new short.new long.new) queue.old.items queue.new.items }
     // The objects that it reclaims are condemned, and no other.
     ensures condemned { (a : ℕ) → contains marked.new.heap.condemned a ≡ (contains_key marked.old.heap.objects a && not (contains_key marked.new.heap.objects a) || contains marked.old.heap.condemned a) }
     ensures count { sets.len marked.new.heap.condemned ≡ sets.len marked.old.heap.condemned + result }
@@ -47,7 +49,6 @@ pub fn decide(
     ensures marker { marked.new.marker ≡ record marked.old.marker { traced = marked.new.marker.traced } }
     ensures table { table.new.registered ≡ record table.old.registered { registrations = table.new.registrations } }
 {
-    let first = queue.len() as u64;
     let before = marked.heap.condemned();
     marked.marker.trace_found();
     fz_pass::decide(marked, table, short, long, ready, queue, pass, first);

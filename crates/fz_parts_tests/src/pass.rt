@@ -128,6 +128,7 @@ fn pass_onto(
     ready.reserve(parts.table.len())?;
     queue.reserve(parts.table.len())?;
     find(alloc, &mut parts.marked, root)?;
+    let first = queue.len() as u64;
     let marked = &parts.marked;
     check_registered(&marked.heap, &parts.table)?;
     check_targets(&marked.heap, &parts.short)?;
@@ -140,6 +141,7 @@ fn pass_onto(
         &mut ready,
         queue,
         PASS,
+        first,
     ))
 }
 

@@ -36,8 +36,18 @@ use Rattle.fz_world.specs.Registering.{RegistersFinalizer}
 -- a refused call leaves the world as it was
 pub does_refused : (old new : WorldView) (e : Event) (r : Refusal) → IsRefusedAs old.core e r → new ≡ old → Does old e (Err r) new
 unfolding Does
-does_refused old new e r h same s stands =
-    (s, (subst (λ c. IsRefusedAs c e r) stands.core h, refl), record { core = ap (λ (w : WorldView). w.core) same ∙ stands.core; seen = stands.seen; marks = subst (λ (w : WorldView). AreSeen s w.marked) (sym same) stands.marks })
+does_refused old new e r h same = (
+  ap (λ (w : WorldView). w.forgotten) same,
+  λ s stands. (s, (subst (λ c. IsRefusedAs c e r) stands.core h, refl), record { core = ap (λ (w : WorldView). w.core) same ∙ stands.core; seen = stands.seen; marks = subst (λ (w : WorldView). AreSeen s w.marked) (sym same) stands.marks }),
+)
+
+-- what is forgotten is in no state
+pub forgets_nothing : (old new : WorldView) (s : State) → new ≡ record old { forgotten = new.forgotten; remembered = new.remembered } → StandsFor old s → StandsFor new s
+forgets_nothing old new s same stands = record {
+  core = ap (λ (w : WorldView). w.core) same ∙ stands.core;
+  seen = stands.seen;
+  marks = subst (λ (m : Set). AreSeen s m) (sym (ap (λ (w : WorldView). w.marked) same)) stands.marks;
+}
 
 -- the same of a reply that only hands a refusal on
 pub hands_on : (old : WorldView) (e : Event) (reply : Result (Answer e) Refusal) (r : Refusal) → first_cause (causes old.core e) ≡ Some r → IsErrAnd reply (λ x. x ≡ r) → Does old e reply old
@@ -58,36 +68,39 @@ at_once : (s : State) (new : Core) → IsTrue new.cycle → (a : ℕ) → IsReac
 at_once s new on a reached = subst (λ ms. Any (λ c. IsReachable c a) ms) (sym (cond-true new.cycle (new ∷ s.moments) [] on)) (now_seen new s.moments a reached)
 
 -- an accepted call but for a pause, where each new mark is of what was seen before or is reachable now
-module _ (old new : WorldView) (e : Event) (answer : Answer e) (other : IsFalse (is_pause e)) (shown : IsShown old.core e answer new.core) (none : first_cause (causes old.core e) ≡ None) (accepts : Accepts (record { core = old.core; moments = [] }) e answer new.core) where
+module _ (old new : WorldView) (e : Event) (answer : Answer e) (other : IsFalse (is_pause e)) (shown : IsShown old.core e answer new.core) (none : first_cause (causes old.core e) ≡ None) (accepts : Accepts (record { core = old.core; moments = [] }) e answer new.core) (kept : new.forgotten ≡ old.forgotten) where
   pub does_marking : ((s : State) → StandsFor old s → IsTrue new.core.cycle → (a : ℕ) → IsTrue (contains new.marked a) → WasSeen s a ⊎ IsReachable new.core a) → Does old e (Ok answer) new
   unfolding Does
-  does_marking marks s stands =
-      let Here = λ (c : Core). IsShown c e answer new.core × (first_cause (causes c e) ≡ None) × Accepts (record { core = c; moments = s.moments }) e answer new.core in
-      let here : Here s.core = subst Here stands.core (shown, none, whatever_seen old.core [] s.moments e answer new.core other accepts) in
-      let after : State = record { core = new.core; moments = moments_after s new.core } in (
-        after,
-        (here.1, here.2, refl),
-        record {
-          core = refl;
-          seen = accepted_seen s after stands.seen refl e answer here.0 here.1 here.2;
-          marks = λ on a t. ⊎_elim (λ was. later s new.core on a was) (λ now. at_once s new.core on a now) (marks s stands on a t);
-        },
-      )
+  does_marking marks = (
+    kept,
+    λ s stands.
+        let Here = λ (c : Core). IsShown c e answer new.core × (first_cause (causes c e) ≡ None) × Accepts (record { core = c; moments = s.moments }) e answer new.core in
+        let here : Here s.core = subst Here stands.core (shown, none, whatever_seen old.core [] s.moments e answer new.core other accepts) in
+        let after : State = record { core = new.core; moments = moments_after s new.core } in (
+          after,
+          (here.1, here.2, refl),
+          record {
+            core = refl;
+            seen = accepted_seen s after stands.seen refl e answer here.0 here.1 here.2;
+            marks = λ on a t. ⊎_elim (λ was. later s new.core on a was) (λ now. at_once s new.core on a now) (marks s stands on a t);
+          },
+        ),
+  )
 
 -- one that leaves the marks as they were, and opens no cycle
-pub does_accepted : (old new : WorldView) (e : Event) (answer : Answer e) → IsFalse (is_pause e) → IsShown old.core e answer new.core → first_cause (causes old.core e) ≡ None → Accepts (record { core = old.core; moments = [] }) e answer new.core → new.marked ≡ old.marked → new.core.cycle ≡ old.core.cycle → Does old e (Ok answer) new
-does_accepted old new e answer other shown none accepts marked cycle =
-    does_marking old new e answer other shown none accepts (λ s stands on a t. inl (stands.marks (sym (ap (λ (c : Core). c.cycle) (stands.core)) ∙ sym cycle ∙ on) a (ap (λ (m : Set). contains m a) (sym marked) ∙ t)))
+pub does_accepted : (old new : WorldView) (e : Event) (answer : Answer e) → IsFalse (is_pause e) → IsShown old.core e answer new.core → first_cause (causes old.core e) ≡ None → Accepts (record { core = old.core; moments = [] }) e answer new.core → new.marked ≡ old.marked → new.core.cycle ≡ old.core.cycle → new.forgotten ≡ old.forgotten → Does old e (Ok answer) new
+does_accepted old new e answer other shown none accepts marked cycle kept =
+    does_marking old new e answer other shown none accepts kept (λ s stands on a t. inl (stands.marks (sym (ap (λ (c : Core). c.cycle) (stands.core)) ∙ sym cycle ∙ on) a (ap (λ (m : Set). contains m a) (sym marked) ∙ t)))
 
 -- one that ends the cycle, or goes on without one
-pub does_ended : (old new : WorldView) (e : Event) (answer : Answer e) → IsFalse (is_pause e) → IsShown old.core e answer new.core → first_cause (causes old.core e) ≡ None → Accepts (record { core = old.core; moments = [] }) e answer new.core → new.core.cycle ≡ false → Does old e (Ok answer) new
-does_ended old new e answer other shown none accepts off =
-    does_marking old new e answer other shown none accepts (λ s stands on a t. absurd (both_ways new.core.cycle off on))
+pub does_ended : (old new : WorldView) (e : Event) (answer : Answer e) → IsFalse (is_pause e) → IsShown old.core e answer new.core → first_cause (causes old.core e) ≡ None → Accepts (record { core = old.core; moments = [] }) e answer new.core → new.core.cycle ≡ false → new.forgotten ≡ old.forgotten → Does old e (Ok answer) new
+does_ended old new e answer other shown none accepts off kept =
+    does_marking old new e answer other shown none accepts kept (λ s stands on a t. absurd (both_ways new.core.cycle off on))
 
 -- the marks of a cycle that begins are the roots
-pub does_begin : (old new : WorldView) → first_cause (causes old.core (Make Begin)) ≡ None → new.core ≡ record old.core { cycle = true } → ((a : ℕ) → IsTrue (contains new.marked a) → IsRoot old.core a) → Does old (Make Begin) (Ok tt) new
-does_begin old new none is marks =
-    does_marking old new (Make Begin) tt refl tt none is (λ s stands on a t. inr (subst (λ c. IsReachable c a) (sym is) (record { root = a; is_root = same_root a (marks a t); leads = Itself })))
+pub does_begin : (old new : WorldView) → first_cause (causes old.core (Make Begin)) ≡ None → new.core ≡ record old.core { cycle = true } → ((a : ℕ) → IsTrue (contains new.marked a) → IsRoot old.core a) → new.forgotten ≡ old.forgotten → Does old (Make Begin) (Ok tt) new
+does_begin old new none is marks kept =
+    does_marking old new (Make Begin) tt refl tt none is kept (λ s stands on a t. inr (subst (λ c. IsReachable c a) (sym is) (record { root = a; is_root = same_root a (marks a t); leads = Itself })))
   where
     same_root : (a : ℕ) → IsRoot old.core a → IsRoot (record old.core { cycle = true }) a
     same_root a (Slot frame word in_frames in_frame points) = Slot frame word in_frames in_frame points
@@ -97,8 +110,8 @@ does_begin old new none is marks =
     same_root a (Registered r closed here) = Registered r closed here
 
 -- marks that come are led to from marks
-pub does_mark : (old new : WorldView) (budget : ℕ) (answer : Progress) → first_cause (causes old.core (Make (Mark budget))) ≡ None → Accepts (record { core = old.core; moments = [] }) (Make (Mark budget)) answer new.core → ((a : ℕ) → IsTrue (contains new.marked a) → IsLedFrom old.core.objects old.marked a) → Does old (Make (Mark budget)) (Ok answer) new
-does_mark old new budget answer none accepts led = does_marking old new (Make (Mark budget)) answer refl tt none accepts (λ s stands on a t. inl (was s stands on a t))
+pub does_mark : (old new : WorldView) (budget : ℕ) (answer : Progress) → first_cause (causes old.core (Make (Mark budget))) ≡ None → Accepts (record { core = old.core; moments = [] }) (Make (Mark budget)) answer new.core → ((a : ℕ) → IsTrue (contains new.marked a) → IsLedFrom old.core.objects old.marked a) → new.forgotten ≡ old.forgotten → Does old (Make (Mark budget)) (Ok answer) new
+does_mark old new budget answer none accepts led kept = does_marking old new (Make (Mark budget)) answer refl tt none accepts kept (λ s stands on a t. inl (was s stands on a t))
   where
     was : (s : State) → StandsFor old s → IsTrue new.core.cycle → (a : ℕ) → IsTrue (contains new.marked a) → WasSeen s a
     was s stands on a t = let from = led a t in follow from.0 a (stands.marks open_ from.0 from.1) (subst (λ (c : Core). Leads c.objects from.0 a) stands.core from.2)
@@ -111,9 +124,9 @@ does_mark old new budget answer none accepts led = does_marking old new (Make (M
         follow from a h (OneMore {b = b} leads child) = stands.seen.closed open_ b a (follow from b h leads) child
 
 -- in an open cycle a new object is marked
-pub does_alloc : (old new : WorldView) (slot : places.Slot) (size : ℕ) (kind : ObjKind) (answer : ℕ × ℕ) → FramesWhole old.core → points new.core.objects answer.0 ≡ Some answer.0 → first_cause (causes old.core (Make (Alloc slot size kind))) ≡ None → Accepts (record { core = old.core; moments = [] }) (Make (Alloc slot size kind)) answer new.core → new.marked ≡ with_in_cycle old.core.cycle old.marked answer.0 → Does old (Make (Alloc slot size kind)) (Ok answer) new
-does_alloc old new slot size kind answer whole start none accepts marked =
-    does_marking old new (Make (Alloc slot size kind)) answer refl (whole, start) none accepts (λ s stands on a t.
+pub does_alloc : (old new : WorldView) (slot : places.Slot) (size : ℕ) (kind : ObjKind) (answer : ℕ × ℕ) → FramesWhole old.core → points new.core.objects answer.0 ≡ Some answer.0 → first_cause (causes old.core (Make (Alloc slot size kind))) ≡ None → Accepts (record { core = old.core; moments = [] }) (Make (Alloc slot size kind)) answer new.core → new.marked ≡ with_in_cycle old.core.cycle old.marked answer.0 → new.forgotten ≡ old.forgotten → Does old (Make (Alloc slot size kind)) (Ok answer) new
+does_alloc old new slot size kind answer whole start none accepts marked kept =
+    does_marking old new (Make (Alloc slot size kind)) answer refl (whole, start) none accepts kept (λ s stands on a t.
     ⊎_elim
     (λ same. inr (subst (λ n. IsReachable new.core n) (sym same) reached))
     (λ other. inl (stands.marks (sym (ap (λ (c : Core). c.cycle) accepts.3 ∙ ap (λ (c : Core). c.cycle) stands.core) ∙ on) a (was a other t)))
@@ -136,20 +149,23 @@ does_alloc old new slot size kind answer whole start none accepts marked =
         from false h = h
 
 -- closed marks that have all roots are a finding
-pub does_pause : (old new : WorldView) (marked : Set) (passed : Passed) → first_cause (causes old.core (Make Pause)) ≡ None → IsTrue old.core.cycle → ((a : ℕ) → IsRoot old.core a → IsTrue (contains marked a)) → IsClosed old.core.objects marked → ((a : ℕ) → IsTrue (contains marked a) → (from : ℕ) × (IsTrue (contains old.marked from) ⊎ IsRoot old.core from) × Leads old.core.objects from a) → Passes old.core (contains marked) passed new.core → new.core.cycle ≡ false → Does old (Make Pause) (Ok passed) new
+pub does_pause : (old new : WorldView) (marked : Set) (passed : Passed) → first_cause (causes old.core (Make Pause)) ≡ None → IsTrue old.core.cycle → ((a : ℕ) → IsRoot old.core a → IsTrue (contains marked a)) → IsClosed old.core.objects marked → ((a : ℕ) → IsTrue (contains marked a) → (from : ℕ) × (IsTrue (contains old.marked from) ⊎ IsRoot old.core from) × Leads old.core.objects from a) → Passes old.core (contains marked) passed new.core → new.core.cycle ≡ false → new.forgotten ≡ old.forgotten → Does old (Make Pause) (Ok passed) new
 unfolding Does
-does_pause old new marked passed none on roots closed led passes off s stands =
-    let Here = λ (c : Core). (first_cause (causes c (Make Pause)) ≡ None) × IsTrue c.cycle × ((a : ℕ) → IsRoot c a → IsTrue (contains marked a)) × IsClosed c.objects marked × ((a : ℕ) → IsTrue (contains marked a) → (from : ℕ) × (IsTrue (contains old.marked from) ⊎ IsRoot c from) × Leads c.objects from a) × Passes c (contains marked) passed new.core in
-    let here : Here s.core = subst Here stands.core (none, on, roots, closed, led, passes) in
-    let after : State = record { core = new.core; moments = moments_after s new.core } in (
-      after,
-      (here.0, (contains marked, finding s stands here.1 here.2 here.3 here.4, here.5), refl),
-      record {
-        core = refl;
-        seen = accepted_seen s after stands.seen refl (Make Pause) passed tt here.0 (contains marked, finding s stands here.1 here.2 here.3 here.4, here.5);
-        marks = λ open_. absurd (both_ways new.core.cycle off open_);
-      },
-    )
+does_pause old new marked passed none on roots closed led passes off kept = (
+  kept,
+  λ s stands.
+      let Here = λ (c : Core). (first_cause (causes c (Make Pause)) ≡ None) × IsTrue c.cycle × ((a : ℕ) → IsRoot c a → IsTrue (contains marked a)) × IsClosed c.objects marked × ((a : ℕ) → IsTrue (contains marked a) → (from : ℕ) × (IsTrue (contains old.marked from) ⊎ IsRoot c from) × Leads c.objects from a) × Passes c (contains marked) passed new.core in
+      let here : Here s.core = subst Here stands.core (none, on, roots, closed, led, passes) in
+      let after : State = record { core = new.core; moments = moments_after s new.core } in (
+        after,
+        (here.0, (contains marked, finding s stands here.1 here.2 here.3 here.4, here.5), refl),
+        record {
+          core = refl;
+          seen = accepted_seen s after stands.seen refl (Make Pause) passed tt here.0 (contains marked, finding s stands here.1 here.2 here.3 here.4, here.5);
+          marks = λ open_. absurd (both_ways new.core.cycle off open_);
+        },
+      ),
+)
   where
     finding : (s : State) → StandsFor old s → IsTrue s.cycle → ((a : ℕ) → IsRoot s.core a → IsTrue (contains marked a)) → IsClosed s.objects marked → ((a : ℕ) → IsTrue (contains marked a) → (from : ℕ) × (IsTrue (contains old.marked from) ⊎ IsRoot s.core from) × Leads s.objects from a) → IsFinding s (contains marked)
     finding s stands on roots closed led = record {
@@ -222,5 +238,5 @@ registers_nothing old new slot finalizer r (Err x) is refused same inside growth
       refused = same;
       inside = λ e. inside (sym is ∙ e);
       growth = λ e. growth (sym is ∙ e);
-      marks = subst (λ (w : WorldView). w ≡ record old { core = w.core }) (sym same) refl;
+      marks = subst (λ (w : WorldView). w ≡ record old { core = w.core; remembered = w.remembered }) (sym same) refl;
     }

@@ -1,3 +1,4 @@
+pub mod Placed
 pub mod Queues
 pub mod Marking
 pub mod Rooted
@@ -10,3 +11,4 @@ pub mod Scans
 pub mod Passing
 pub mod Replying
 pub mod Room
+pub mod Telling

@@ -1,7 +1,8 @@
 -- A pass of a world, by what it does to its parts.
-use Rattle.std.proofs.Common.{◌≡◌, ℕ, ◌+◌, ◌≤◌, false, List, length, refl, sym, ap, subst, IsTrue, IsFalse}
+use Rattle.std.proofs.Common.{◌≡◌, ◌∙◌, ℕ, ◌+◌, ◌≤◌, false, List, length, length-append, refl, sym, ap, subst, arith, IsTrue, IsFalse}
 use Rattle.std.specs.FinSet.{contains}
 use Rattle.std.specs.FinMap.{len}
+use Rattle.fz_model.proofs.Sound.{length-entries_of}
 use Rattle.fz_model.specs.declared.answers.Passed.{Passed}
 use Rattle.fz_model.specs.declared.answers.Pick.{Pick}
 use Rattle.fz_model.specs.State.{Core}
@@ -19,7 +20,7 @@ use Rattle.fz_world.specs.World.{core_of, IsWorld}
 use Rattle.fz_world.specs.declared.world.World.TheInside.{Inside}
 use Rattle.fz_world.proofs.Inside.{core_inside}
 use Rattle.fz_world.proofs.Rooted.{has_reachable}
-use Rattle.fz_world.proofs.Whole.{world_passed}
+use Rattle.fz_world.proofs.Whole.{world_passed, left_fit}
 
 module _ (w : Inside) (after : Contents) (left : Tabled) (short long : Linked) (picks : List Pick) (d : Decides (parts_of w.marked.heap.objects w.table w.short w.long) (contains w.marked.marker.marked) picks (parts_of after.objects left short long)) where
   module _ (later : Ready) (reclaimed n : ℕ) (idle : IsFalse w.cycle) (counted : n ≡ length picks)
@@ -46,6 +47,10 @@ module _ (w : Inside) (after : Contents) (left : Tabled) (short long : Linked) (
     pub pass_keeps : (other : Marking) → IsClosed w.marked.heap.objects w.marked.marker.marked → ((a : ℕ) → IsRoot (core_inside w) a → IsTrue (contains w.marked.marker.marked a)) → len left.registrations ≤ later.room
         → IsWorld w.marked.heap w.table.registered w.ready w.marked.marker w.dirty w.cycle → IsWorld after left.registered later other w.dirty w.cycle
     pass_keeps other closed roots room h =
+        let fit = left_fit _ _ _ _ d in
+        let longer = ap length gains.queue ∙ length-append w.ready.queue _ in
+        let count = length-entries_of (w.passes + 1) (length w.ready.queue) picks in
+        let few : length later.queue + len left.registrations ≤ length w.ready.queue + len w.table.registrations = omega (arith, fit, longer, count) in
         let was : IsWorld w.marked.heap w.table.registered w.ready w.marked.marker w.dirty false = subst (λ b. IsWorld w.marked.heap w.table.registered w.ready w.marked.marker w.dirty b) idle h in
-        let now : IsWorld after left.registered later other w.dirty false = world_passed (core_inside w) (contains w.marked.marker.marked) _ _ pass_passes (has_reachable (core_inside w) w.marked.marker.marked closed roots) w.marked.heap after w.table.registered left.registered w.ready later w.marked.marker other w.dirty refl refl refl refl refl refl refl refl refl refl (ap (λ (c : Contents). c.blocks) heap_is) room was in
+        let now : IsWorld after left.registered later other w.dirty false = world_passed (core_inside w) (contains w.marked.marker.marked) _ _ pass_passes (has_reachable (core_inside w) w.marked.marker.marked closed roots) w.marked.heap after w.table.registered left.registered w.ready later w.marked.marker other w.dirty refl refl refl refl refl refl refl refl refl refl (ap (λ (c : Contents). c.blocks) heap_is) room few was in
         subst (λ b. IsWorld after left.registered later other w.dirty b) (sym idle) now

@@ -11,7 +11,7 @@ use Rattle.fz_model.specs.declared.finalizer.Finalizer.{Finalizer}
 use Rattle.fz_model.specs.declared.answers.Entry.{Entry}
 use Rattle.fz_model.specs.declared.answers.Pick.{Pick}
 use Rattle.fz_model.specs.declared.answers.Registration.{Registration}
-use Rattle.fz_model.specs.declared.limits.TheConstants.{MAX_OBJECT_WORDS}
+use Rattle.fz_model.specs.declared.limits.TheConstants.{COUNT_LIMIT, MAX_OBJECT_WORDS}
 use Rattle.fz_model.specs.State.{Map, Object, Core}
 use Rattle.fz_model.specs.Memory.{written, new_object}
 use Rattle.fz_model.specs.Allocation.{block_of, blocks_for, place_for}
@@ -60,9 +60,18 @@ world_opening heap table ready marker pages blocks few none nothing empty all = 
         first;
     pages_are = all ∙ sym few;
     room = let zero_ = ap (λ (t : Registered). map.len t.registrations) nothing ∙ len-empty nat_cmp Registration in omega (arith, zero_);
+    few = let zero_ = ap (λ (t : Registered). map.len t.registrations) nothing ∙ len-empty nat_cmp Registration in let none_ = ap (λ (es : List Entry). length es) empty.0 in omega (arith, zero_, none_);
+    numbers = let zero_ = ap (λ (t : Registered). t.next_number) nothing in omega (arith, zero_);
   },
   λ on. absurd (true≢false (sym on)),
 )
+
+one_more : (registrations : Map Registration) (object : ℕ) (r : Registration) → map.len (map.insert registrations object r) ≤ map.len registrations + 1
+one_more registrations object r =
+    elim (contains_key registrations object) as (λ b. map.len (map.insert registrations object r) ≡ cond b (map.len registrations) (map.len registrations + 1) → map.len (map.insert registrations object r) ≤ map.len registrations + 1) [
+      | true ↦ λ e. omega (arith, e)
+      | false ↦ λ e. omega (arith, e)
+    ] (len-insert nat_cmp_total registrations object r)
 
 module _ (heap : Contents) (table : Registered) (ready : Ready) (marker : Marking) (pages : Pages) (cycle : Bool) where
   pub world_pages : IsWorld heap table ready marker pages cycle → pages.pages ≡ heap.blocks
@@ -72,6 +81,15 @@ module _ (heap : Contents) (table : Registered) (ready : Ready) (marker : Markin
   pub world_room : IsWorld heap table ready marker pages cycle → map.len table.registrations ≤ ready.room
   unfolding IsWorld
   world_room h = h.0.room
+
+  -- the next pass's entries have numbers
+  pub world_numbers : IsWorld heap table ready marker pages cycle → length ready.queue + map.len table.registrations ≤ COUNT_LIMIT
+  unfolding IsWorld
+  world_numbers h = let few = h.0.few in let numbers = h.0.numbers in omega (arith, few, numbers)
+
+  pub world_few : IsWorld heap table ready marker pages cycle → length ready.queue + map.len table.registrations ≤ table.next_number
+  unfolding IsWorld
+  world_few h = h.0.few
 
   pub world_sound : IsWorld heap table ready marker pages cycle → AreSound heap.objects table.registrations table.next_number ready.queue ready.held
   unfolding IsWorld
@@ -151,6 +169,8 @@ module _ (heap : Contents) (table : Registered) (ready : Ready) (marker : Markin
       sound = sound_written heap.objects table.registrations table.next_number ready.queue ready.held place value h.0.sound;
       pages_are = h.0.pages_are;
       room = h.0.room;
+      few = h.0.few;
+      numbers = h.0.numbers;
     },
     λ on. record {
       clean = store_keeps heap.objects marker (with_in_cycle cycle pages.noted (block_of place)) place value (noted_now (block_of place) on) ((world_noted (block_of place) h).1 on).clean;
@@ -167,6 +187,8 @@ module _ (heap : Contents) (table : Registered) (ready : Ready) (marker : Markin
       sound = sound_made heap.objects table.registrations table.next_number ready.queue ready.held heap.blocks heap.next_birth heap.next_birth size kind a none place h.0.sound;
       pages_are = h.0.pages_are;
       room = h.0.room;
+      few = h.0.few;
+      numbers = h.0.numbers;
     },
     λ on. record {
       clean =
@@ -192,6 +214,8 @@ module _ (heap : Contents) (table : Registered) (ready : Ready) (marker : Markin
       sound = sound_removed heap.objects table.registrations table.next_number ready.queue ready.held object h.0.sound;
       pages_are = h.0.pages_are;
       room = let few = fewer in let room = h.0.room in omega (arith, few, room);
+      few = let less = fewer in let few = h.0.few in omega (arith, less, few);
+      numbers = h.0.numbers;
     },
     h.1,
   )
@@ -201,14 +225,16 @@ module _ (heap : Contents) (table : Registered) (ready : Ready) (marker : Markin
 
   -- with room for one more registration
   pub world_registered : (object : ℕ) (finalizer : Finalizer) (roomier : Ready) → first_cause (start_causes heap.objects object) ≡ None → (roomier.queue ≡ ready.queue) × (roomier.held ≡ ready.held)
-      → map.len (map.insert table.registrations object (registration_of table.next_number finalizer)) ≤ roomier.room
+      → map.len (map.insert table.registrations object (registration_of table.next_number finalizer)) ≤ roomier.room → table.next_number + 1 ≤ COUNT_LIMIT
       → IsWorld heap table ready marker pages cycle → IsWorld heap (record { registrations = map.insert table.registrations object (registration_of table.next_number finalizer); next_number = table.next_number + 1 }) roomier marker pages cycle
   unfolding IsWorld
-  world_registered object finalizer roomier none same room h = (
+  world_registered object finalizer roomier none same room numbered h = (
     record {
       sound = subst (Sound roomier.held) (sym same.0) (subst (λ held. Sound held ready.queue) (sym same.1) (sound_registered heap.objects table.registrations table.next_number ready.queue ready.held object finalizer none h.0.sound));
       pages_are = h.0.pages_are;
       room = room;
+      few = let one = one_more table.registrations object (registration_of table.next_number finalizer) in let few = h.0.few in let queue = ap (λ (es : List Entry). length es) same.0 in omega (arith, one, few, queue);
+      numbers = numbered;
     },
     h.1,
   )
@@ -216,17 +242,23 @@ module _ (heap : Contents) (table : Registered) (ready : Ready) (marker : Markin
       Sound : List Entry → List Entry → Type 0
       Sound held queue = AreSound heap.objects (map.insert table.registrations object (registration_of table.next_number finalizer)) (table.next_number + 1) queue held
 
-  -- more room alone
-  pub world_roomier : (roomier : Ready) → (roomier.queue ≡ ready.queue) × (roomier.held ≡ ready.held) → ready.room ≤ roomier.room → IsWorld heap table ready marker pages cycle → IsWorld heap table roomier marker pages cycle
+  -- another room, which is enough
+  pub world_rehoused : (other : Ready) → (other.queue ≡ ready.queue) × (other.held ≡ ready.held) → map.len table.registrations ≤ other.room → IsWorld heap table ready marker pages cycle → IsWorld heap table other marker pages cycle
   unfolding IsWorld
-  world_roomier roomier same room h = (
+  world_rehoused other same room h = (
     record {
-      sound = subst (λ q. AreSound heap.objects table.registrations table.next_number q roomier.held) (sym same.0) (subst (λ q. AreSound heap.objects table.registrations table.next_number ready.queue q) (sym same.1) h.0.sound);
+      sound = subst (λ q. AreSound heap.objects table.registrations table.next_number q other.held) (sym same.0) (subst (λ q. AreSound heap.objects table.registrations table.next_number ready.queue q) (sym same.1) h.0.sound);
       pages_are = h.0.pages_are;
-      room = let was = h.0.room in omega (arith, was, room);
+      room = room;
+      few = let few = h.0.few in let queue = ap (λ (es : List Entry). length es) same.0 in omega (arith, few, queue);
+      numbers = h.0.numbers;
     },
     h.1,
   )
+
+  -- more room alone
+  pub world_roomier : (roomier : Ready) → (roomier.queue ≡ ready.queue) × (roomier.held ≡ ready.held) → ready.room ≤ roomier.room → IsWorld heap table ready marker pages cycle → IsWorld heap table roomier marker pages cycle
+  world_roomier roomier same room h = world_rehoused roomier same (let was = world_room h in omega (arith, was, room)) h
 
   pub world_finished : (keep : Entry → Bool) (fewer : Ready) → fewer.queue ≡ ready.queue → fewer.held ≡ filter keep ready.held → ready.room ≤ fewer.room → IsWorld heap table ready marker pages cycle → IsWorld heap table fewer marker pages cycle
   unfolding IsWorld
@@ -235,6 +267,8 @@ module _ (heap : Contents) (table : Registered) (ready : Ready) (marker : Markin
       sound = subst (λ q. AreSound heap.objects table.registrations table.next_number q fewer.held) (sym queue) (subst (λ q. AreSound heap.objects table.registrations table.next_number ready.queue q) (sym held) (sound_filtered heap.objects table.registrations table.next_number ready.queue ready.held keep h.0.sound));
       pages_are = h.0.pages_are;
       room = let was = h.0.room in omega (arith, was, room);
+      few = let few = h.0.few in let same = ap (λ (es : List Entry). length es) queue in omega (arith, few, same);
+      numbers = h.0.numbers;
     },
     h.1,
   )
@@ -294,9 +328,10 @@ left_fit old new found picks d =
 module _ (c : Core) (found : ℕ → Bool) (passed : Passed) (new : Core) (p : Passes c found passed new) (reachable : (a : ℕ) → IsReachable c a → IsTrue (found a)) where
   pub world_passed : (heap after : Contents) (table left : Registered) (ready later : Ready) (marker other : Marking) (pages : Pages) → c.objects ≡ heap.objects → c.registrations ≡ table.registrations → c.next_number ≡ table.next_number → c.queue ≡ ready.queue → c.held ≡ ready.held
       → new.objects ≡ after.objects → new.registrations ≡ left.registrations → new.next_number ≡ left.next_number → new.queue ≡ later.queue → new.held ≡ later.held → after.blocks ≡ heap.blocks → map.len left.registrations ≤ later.room
+      → length later.queue + map.len left.registrations ≤ length ready.queue + map.len table.registrations
       → IsWorld heap table ready marker pages false → IsWorld after left later other pages false
   unfolding IsWorld
-  world_passed heap after table left ready later marker other pages o1 o2 o3 o4 o5 n1 n2 n3 n4 n5 blocks room h = (
+  world_passed heap after table left ready later marker other pages o1 o2 o3 o4 o5 n1 n2 n3 n4 n5 blocks room fewer h = (
     record {
       sound =
           let Sound = λ (objects : Map Object) (registrations : Map Registration) (next : ℕ) (queue held : List Entry). AreSound objects registrations next queue held in
@@ -305,6 +340,11 @@ module _ (c : Core) (found : ℕ → Bool) (passed : Passed) (new : Core) (p : P
           rw (← n1, ← n2, ← n3, ← n4, ← n5) after_;
       pages_are = h.0.pages_are ∙ sym blocks;
       room = room;
+      few = let few = h.0.few in let next = next_is in omega (arith, few, fewer, next);
+      numbers = let numbers = h.0.numbers in let next = next_is in omega (arith, numbers, next);
     },
     λ on. absurd (true≢false (sym on)),
   )
+    where
+      next_is : left.next_number ≡ table.next_number
+      next_is = sym n3 ∙ ap (λ (k : Core). k.next_number) p.is ∙ o3

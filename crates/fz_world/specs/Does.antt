@@ -23,9 +23,9 @@ pub record StandsFor (world : WorldView) (s : State) : Type 0 where
   pub seen : SeenIsClosed s
   pub marks : AreSeen s world.marked
 
--- from each state that the old world stands for there is a step with this reply, to a state that the new world stands for
+-- from each state that the old world stands for there is a step with this reply, to a state that the new world stands for; and nothing is forgotten
 unfoldable pub Does : WorldView → (e : Event) → Result (Answer e) Refusal → WorldView → Type 0
-Does old e reply new = (s : State) → StandsFor old s → (t : State) × Step s e reply t × StandsFor new t
+Does old e reply new = (new.forgotten ≡ old.forgotten) × ((s : State) → StandsFor old s → (t : State) × Step s e reply t × StandsFor new t)
 
 -- the causes of refusal of an opening
 abbrev pub open_causes : ℕ → ℕ → Causes

@@ -1,6 +1,6 @@
 -- What contracts see of a world: all that a state of the model keeps but what an open cycle has seen; and of the cycle begun last the marked
--- and the scanned objects, the noted pages, and the number of scans.
-use Rattle.std.specs.Prelude.{◌≡◌, ℕ, ◌+◌, ◌<◌, ◌≤◌, Bool, List, if◌then◌else◌, IsTrue, refl}
+-- and the scanned objects, the noted pages, and the number of scans; and the number from which on its queue shows entries, and how many are in memory.
+use Rattle.std.specs.Prelude.{◌≡◌, ℕ, ◌+◌, ◌<◌, ◌≤◌, Bool, List, if◌then◌else◌, IsTrue, length, refl}
 use Rattle.std.specs.Coded.{Coded, code_by, coded×, coded_ℕ}
 use Rattle.std.specs.FinSet as sets
 use Rattle.std.specs.FinSet.{contains, insert}
@@ -26,11 +26,14 @@ pub record WorldView : Type 0 where
   pub scanned : Set
   pub noted : Set
   pub scans : ℕ
+  pub forgotten : ℕ
+  pub remembered : ℕ
 
 abbrev pub world_code : Coded WorldView
 world_code =
-    code_by (Core × (Set × (Set × (Set × ℕ)))) (coded× core_code (coded× (sets.code coded_ℕ) (coded× (sets.code coded_ℕ) (coded× (sets.code coded_ℕ) coded_ℕ))))
-    (λ w. (w.core, (w.marked, (w.scanned, (w.noted, w.scans))))) (λ p. record { core = p.0; marked = p.1.0; scanned = p.1.1.0; noted = p.1.1.1.0; scans = p.1.1.1.1 }) (λ _. refl)
+    code_by (Core × (Set × (Set × (Set × (ℕ × (ℕ × ℕ)))))) (coded× core_code (coded× (sets.code coded_ℕ) (coded× (sets.code coded_ℕ) (coded× (sets.code coded_ℕ) (coded× coded_ℕ (coded× coded_ℕ coded_ℕ))))))
+    (λ w. (w.core, (w.marked, (w.scanned, (w.noted, (w.scans, (w.forgotten, w.remembered)))))))
+    (λ p. record { core = p.0; marked = p.1.0; scanned = p.1.1.0; noted = p.1.1.1.0; scans = p.1.1.1.1.0; forgotten = p.1.1.1.1.1.0; remembered = p.1.1.1.1.1.1 }) (λ _. refl)
 
 abbrev pub core_of : Contents → List (List ℕ) → Registered → Linked → Linked → Ready → ℕ → Bool → Bool → Core
 core_of heap frames table short long ready passes closed cycle =
@@ -50,12 +53,21 @@ core_of heap frames table short long ready passes closed cycle =
       cycle = cycle;
     }
 
-abbrev pub view_of : Core → Marking → Pages → WorldView
-view_of core marker pages = record { core = core; marked = marker.marked; scanned = marker.scanned; noted = pages.noted; scans = marker.scans }
+abbrev pub view_of : Core → Marking → Pages → Ready → WorldView
+view_of core marker pages ready =
+    record {
+      core = core;
+      marked = marker.marked;
+      scanned = marker.scanned;
+      noted = pages.noted;
+      scans = marker.scans;
+      forgotten = ready.forgotten;
+      remembered = ready.remembered;
+    }
 
--- a call that leaves all marks and pages as they were
+-- a call that leaves all marks and pages as they were, and forgets nothing; a pass remembers more
 abbrev pub KeepsMarks : WorldView → WorldView → Type 0
-KeepsMarks old new = new ≡ record old { core = new.core }
+KeepsMarks old new = new ≡ record old { core = new.core; remembered = new.remembered }
 
 -- in an open cycle, the set with a number
 abbrev pub with_in_cycle : Bool → Set → ℕ → Set
@@ -76,6 +88,9 @@ pub record IsWhole (objects : Map Object) (blocks : ℕ) (table : Registered) (r
   pub pages_are : pages ≡ blocks
   -- there is room for the entries of all registrations
   pub room : map.len table.registrations ≤ ready.room
+  -- each entry and each registration has a number of its own, so the entries of all have numbers
+  pub few : length ready.queue + map.len table.registrations ≤ table.next_number
+  pub numbers : table.next_number ≤ COUNT_LIMIT
 
 -- what it keeps in an open cycle
 pub record IsMidCycle (heap : Contents) (marker : Marking) (noted : Set) : Type 0 where

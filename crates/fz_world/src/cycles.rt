@@ -129,6 +129,7 @@ impl World {
         requires few { self.old.passes + 1 < COUNT_LIMIT }
         ensures core { self.new.core ≡ record self.old.core { cycle = opens } }
         ensures begun { IsBegun self.old self.new }
+        ensures forgotten { self.new.forgotten ≡ self.old.forgotten }
     {
         self.marked.heap.sweep_all();
         self.marked.marker.begin();
@@ -154,6 +155,7 @@ impl World {
         ensures scans { self.old.scans ≤ self.new.scans }
         ensures few { self.new.scans ≤ len self.old.objects + BLOCK_WORDS * sets.len self.old.noted }
         ensures noted { self.new.noted ≡ self.old.noted }
+        ensures forgotten { self.new.forgotten ≡ self.old.forgotten }
         ensures passes { self.old.passes + 1 < COUNT_LIMIT }
     {
         mark_roots(

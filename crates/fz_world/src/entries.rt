@@ -1,15 +1,20 @@
 //! Entries of the queue, and the end of a world.
 
-ghost use Rattle.std.specs.Prelude.{◌≡◌, ◌-◌, length, slice_get, OnErr};
+ghost use Rattle.std.specs.Prelude.{◌≡◌, ◌≢◌, ◌≤◌, ◌<◌, ◌+◌, ◌-◌, ◌*◌, ◌⊎◌, drop, length, slice_get, Contains, Some, IsFalse, MatchOption, OnErr};
+ghost use Rattle.std.specs.List.{list_any};
 ghost use Rattle.std.specs.FinMap.{len};
 ghost use Rattle.std.specs.declared.result.Result.TheVariants.{Ok};
+ghost use Rattle.fz_model.specs.declared.limits.TheConstants.{COUNT_LIMIT};
 ghost use Rattle.fz_model.specs.Causes.{IsJudgedBy};
+ghost use Rattle.fz_model.specs.declared.answers.Entry.{Entry};
 ghost use Rattle.fz_model.specs.declared.call.Call.TheVariants as calls;
 ghost use Rattle.fz_model.specs.Places.{slot_at};
-ghost use Rattle.fz_model.specs.Events.{Make, Hold, Finish, Queue, causes};
+ghost use Rattle.fz_model.specs.State.{State};
+ghost use Rattle.fz_model.specs.Events.{Make, Hold, Finish, Queue, causes, same_entry};
 ghost use Rattle.fz_world.specs.World.{KeepsMarks};
-ghost use Rattle.fz_world.specs.Does.{Does};
+ghost use Rattle.fz_world.specs.Does.{Does, StandsFor};
 
+use crate::registrations::most_entries;
 use crate::world::World;
 use fz_model::{Entry, Refusal, Slot};
 
@@ -85,18 +90,55 @@ impl World {
         reclaimed
     }
 
-    /// All entries ever queued, in their order.
+    /// The entries from `forgotten` on, in their order: all that were ever queued, where none is forgotten.
     pub fn queue(&self) -> &[Entry]
-        ensures queue { result.now ≡ self.now.queue }
-        ensures step { Does self.now Queue (Ok result.now) self.now }
+        ensures queue { result.now ≡ drop self.now.forgotten self.now.queue }
+        ensures step { self.now.forgotten ≡ 0 → Does self.now Queue (Ok result.now) self.now }
+        ensures few { length self.now.queue ≤ COUNT_LIMIT }
     {
         self.ready.queue()
     }
 
-    /// The entry with this number, if it was queued: the next one for a caller that has taken `taken` entries.
-    pub fn next(&self, taken: u64) -> Option<Entry>
-        ensures { result ≡ slice_get self.now.queue taken }
+    /// How many entries were ever queued.
+    pub fn queued(&self) -> u64
+        ensures { result ≡ length self.now.queue }
     {
-        self.ready.queue().get(taken as usize).copied()
+        self.ready.queued()
+    }
+
+    /// The entry with this number, if it was queued and isn't both finished and forgotten: the next one for a caller that has taken `taken` entries.
+    pub fn next(&self, taken: u64) -> Option<Entry>
+        ensures shown { self.now.forgotten ≤ taken → result ≡ slice_get self.now.queue taken }
+        ensures kept { taken < self.now.forgotten → MatchOption result ((e : Entry) → Contains self.now.held e → e.seq ≢ taken) (λ e. Contains self.now.held e × (e.seq ≡ taken)) }
+        ensures queued { MatchOption result ((e : Entry) → slice_get self.now.queue taken ≡ Some e → IsFalse (list_any (same_entry e) self.now.held)) (λ e. slice_get self.now.queue taken ≡ Some e) }
+    {
+        self.ready.entry(taken)
+    }
+
+    /// The number from which on `queue` shows entries. Of those before it the held ones alone are kept.
+    pub fn forgotten(&self) -> u64
+        ensures { result ≡ self.now.forgotten }
+    {
+        self.ready.forgotten()
+    }
+
+    /// Gives back the memory of finished entries; returns how many went. It takes no memory, and changes no state that the world stands for.
+    ///
+    /// `queue` shows only later entries from then on, unless it has too few finished ones to be worth it. What isn't finished stays, with its number.
+    pub fn forget(&mut self) -> u64
+        ensures same { self.new ≡ record self.old { forgotten = self.new.forgotten; remembered = self.new.remembered } }
+        ensures stands { (s : State) → StandsFor self.old s → StandsFor self.new s }
+        ensures forgotten { (self.new.forgotten ≡ self.old.forgotten) ⊎ (self.new.forgotten ≡ length self.old.queue) }
+        ensures few { 16 * self.new.remembered ≤ 17 * length self.new.held }
+        ensures freed { result + self.new.remembered ≡ self.old.remembered }
+    {
+        self.ready.forget(most_entries(&self.marked.heap).max(self.table.len()))
+    }
+
+    /// How many entries are in memory.
+    pub fn remembered(&self) -> u64
+        ensures { result ≡ self.now.remembered }
+    {
+        self.ready.remembered()
     }
 }

@@ -4,7 +4,7 @@ ghost use Rattle.std.specs.Prelude.{◌≡◌, ◌≤◌, ◌⊎◌, IsTrue, IsF
 ghost use Rattle.std.specs.Option.{IsNone};
 ghost use Rattle.std.specs.FinMap.{get, contains_key, len, insert};
 ghost use Rattle.fz_model.specs.declared.answers.Registration.{Registration};
-ghost use Rattle.fz_model.specs.declared.limits.TheConstants.{TABLE_LIMIT};
+ghost use Rattle.fz_model.specs.declared.limits.TheConstants.{COUNT_LIMIT, TABLE_LIMIT};
 ghost use Rattle.fz_model.specs.Causes.{IsJudgedBy, start_causes, is_off_heap, full};
 ghost use Rattle.fz_model.specs.declared.call.Call.TheVariants as calls;
 ghost use Rattle.fz_model.specs.Places.{slot_at, finalizer_of};
@@ -57,6 +57,7 @@ fn make_first_room(table: &mut Table, ready: &mut Ready, most: usize)
     requires { most ≤ TABLE_LIMIT }
     ensures registered { table.new.registered ≡ table.old.registered }
     ensures queue { (ready.new.queue ≡ ready.old.queue) × (ready.new.held ≡ ready.old.held) }
+    ensures forgotten { (ready.new.forgotten ≡ ready.old.forgotten) × (ready.new.remembered ≡ ready.old.remembered) }
     ensures roomier { (table.old.room ≤ table.new.room) × (ready.old.room ≤ ready.new.room) }
 {
     if table.is_empty() {
@@ -75,6 +76,7 @@ fn make_room(table: &Table, ready: &mut Ready, object: Addr) -> Result<(), Refus
     ensures growth { IfErr result (λ r. IsNone (get table.now.registrations object)) }
     ensures wanting { OnErr result (ready.old.room ≤ len table.now.registrations) }
     ensures same { (ready.new.queue ≡ ready.old.queue) × (ready.new.held ≡ ready.old.held) }
+    ensures forgotten { (ready.new.forgotten ≡ ready.old.forgotten) × (ready.new.remembered ≡ ready.old.remembered) }
     ensures roomier { ready.old.room ≤ ready.new.room }
     ensures room { OnOk result ((r : Registration) → len (insert table.now.registrations object r) ≤ ready.new.room) }
 {
@@ -102,8 +104,10 @@ fn enroll(
     ensures registers { Registers table.old.registered object finalizer result table.new.registered }
     ensures wanting { IfErr result (λ r. r ≡ Refusal.NoMemory → (table.old.room ≡ 0) ⊎ (ready.old.room ≤ len table.old.registrations)) }
     ensures same { (ready.new.queue ≡ ready.old.queue) × (ready.new.held ≡ ready.old.held) }
+    ensures forgotten { (ready.new.forgotten ≡ ready.old.forgotten) × (ready.new.remembered ≡ ready.old.remembered) }
     ensures roomier { ready.old.room ≤ ready.new.room }
     ensures room { OnOk result (len table.new.registrations ≤ ready.new.room) }
+    ensures numbers { OnOk result (table.new.next_number ≤ COUNT_LIMIT) }
 {
     table.check(object)?;
     make_room(table, ready, object)?;

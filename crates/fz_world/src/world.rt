@@ -71,7 +71,7 @@ impl Model for World {
 
     ghost coded = { world_code };
 
-    ghost view = { λ w. view_of (core_of w.marked.heap w.frames w.table.registered w.short w.long w.ready w.passes w.closed w.cycle) w.marked.marker w.dirty };
+    ghost view = { λ w. view_of (core_of w.marked.heap w.frames w.table.registered w.short w.long w.ready w.passes w.closed w.cycle) w.marked.marker w.dirty w.ready };
 
     ghost invariant = { λ w. IsWorld w.marked.heap w.table.registered w.ready w.marked.marker w.dirty w.cycle × HasNumber w.passes w.cycle × HaveTargets w.marked.heap.objects w.short.links × HaveTargets w.marked.heap.objects w.long.links };
 }
@@ -97,6 +97,7 @@ impl World {
         ensures judged { IsJudgedOrLacks (open_causes config.blocks config.frames) result }
         ensures opened { IfOk result (λ world. StandsFor world (opening config.blocks config.frames)) }
         ensures unmarked { IfOk result (λ world. (world.scans ≡ 0) × (world.noted ≡ empty)) }
+        ensures forgotten { IfOk result (λ world. world.forgotten ≡ 0) }
     {
         if config.frames < 1 || config.frames > MAX_FRAMES {
             return Err(Refusal::BadCount);

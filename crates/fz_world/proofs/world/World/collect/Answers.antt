@@ -60,7 +60,7 @@ returns-clause-step c =
     (is_reachable (core_inside w) marked (λ b t. let from = c.finish.ensures.led b t in (from.0, first from.0 from.1, from.2)) a, has_reachable (core_inside w) marked closed roots a) in
     let P : Core → Type 0 = λ k. (found : ℕ → Bool) × Computes found (IsReachable k) × Passes k found c.pass.result c.pass.new.self.core in
     let accepts : P c.args.self.now.core = subst P core (contains marked, computes, c.pass.ensures.passes) in
-    does_ended c.args.self.now c.pass.new.self (Make Collect) c.pass.result refl tt c.in_ok-check_begin.ensures.judged accepts (ap (λ (k : Core). k.cycle) c.pass.ensures.passes.is)
+    does_ended c.args.self.now c.pass.new.self (Make Collect) c.pass.result refl tt c.in_ok-check_begin.ensures.judged accepts (ap (λ (k : Core). k.cycle) c.pass.ensures.passes.is) (ap (λ (v : WorldView). v.forgotten) c.pass.ensures.marks ∙ ap (λ (v : WorldView). v.forgotten) c.self.view_is ∙ c.mark_anew.ensures.forgotten)
 
 pub returns-clause-few : goal.returns-clause-few
 returns-clause-few c =

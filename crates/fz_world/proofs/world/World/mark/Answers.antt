@@ -31,4 +31,4 @@ returns-clause-step c =
     let each_once = c.step.ensures.each_once in
     let left = one_left w.marked.heap.objects c.step.new.self.marked w.marked.marker.scanned c.step.new.self.scanned (c.step.ensures.left more) in
     omega (arith, scans, each_once, left) in
-    rw (← c.self.view_is) (does_mark (view_of (core_inside w) w.marked.marker w.dirty) (view_of (core_inside w) c.step.new.self w.dirty) c.args.budget c.step.result none (few, refl) c.step.ensures.led)
+    rw (← c.self.view_is) (does_mark (view_of (core_inside w) w.marked.marker w.dirty w.ready) (view_of (core_inside w) c.step.new.self w.dirty w.ready) c.args.budget c.step.result none (few, refl) c.step.ensures.led refl)

@@ -1,4 +1,4 @@
-use Rattle.std.proofs.Common.{ℕ, ◌+◌, is_some, sym, ap, subst, IsTrue, IsFalse, true≢false, ◌∙◌}
+use Rattle.std.proofs.Common.{ℕ, ◌+◌, arith, is_some, sym, ap, subst, IsTrue, IsFalse, true≢false, ◌∙◌}
 use Rattle.std.specs.FinSet.{contains}
 use Rattle.fz_model.specs.Reachability.{IsRoot}
 use Rattle.fz_marker.specs.Marking.{IsClosed}
@@ -7,7 +7,7 @@ use Rattle.fz_model.specs.Pass.{Passes}
 use Rattle.fz_world.proofs.Inside.{core_inside}
 use Rattle.fz_world.proofs.Rooted.{registered_here}
 use Rattle.fz_world.proofs.Targets.{are_targets, short_passed, long_passed}
-use Rattle.fz_world.proofs.Whole.{world_room, world_sound}
+use Rattle.fz_world.proofs.Whole.{world_room, world_numbers, world_sound}
 use Rattle.fz_world.proofs.Passing.{pass_passes, pass_keeps}
 use Rattle.fz_world.proofs.world.World.pass.Goals as goal
 
@@ -25,6 +25,9 @@ pass-requires-clause-long c = are_targets _ _ c.self.invariant.3
 
 pub pass-requires-clause-room : goal.pass-requires-clause-room
 pass-requires-clause-room c = world_room _ _ _ _ _ _ c.self.invariant.0
+
+pub pass-requires-clause-numbers : goal.pass-requires-clause-numbers
+pass-requires-clause-numbers c = let few = world_numbers _ _ _ _ _ _ c.self.invariant.0 in omega (arith, few)
 
 pub invariant_of-self : goal.invariant_of-self
 invariant_of-self c =

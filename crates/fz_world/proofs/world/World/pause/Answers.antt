@@ -1,4 +1,4 @@
-use Rattle.std.proofs.Common.{◌≡◌, true, false, None, sym, ap, subst, arith, rules}
+use Rattle.std.proofs.Common.{◌≡◌, true, false, None, sym, ap, ◌∙◌, subst, arith, rules}
 use Rattle.std.specs.FinSet.{contains}
 use Rattle.fz_model.specs.State.{Core}
 use Rattle.fz_model.specs.Reachability.{IsRoot}
@@ -25,7 +25,7 @@ returns-clause-step c =
     let on : c.args.self.now.core.cycle ≡ true = search rules in
     let none : first_cause (causes c.args.self.now.core (Make Pause)) ≡ None = search rules in
     let passes = same_pass c.args.self.now.core (contains c.mark_rest.new.self.marked) c.pass.result c.pass.new.self.core (subst (λ (k : Core). Passes k (contains c.mark_rest.new.self.marked) c.pass.result c.pass.new.self.core) c.mark_rest.ensures.core c.pass.ensures.passes) in
-    does_pause c.args.self.now c.pass.new.self c.mark_rest.new.self.marked c.pass.result none on c.mark_rest.ensures.roots c.mark_rest.ensures.closed c.mark_rest.ensures.led passes (ap (λ (k : Core). k.cycle) passes.is)
+    does_pause c.args.self.now c.pass.new.self c.mark_rest.new.self.marked c.pass.result none on c.mark_rest.ensures.roots c.mark_rest.ensures.closed c.mark_rest.ensures.led passes (ap (λ (k : Core). k.cycle) passes.is) (ap (λ (v : WorldView). v.forgotten) c.pass.ensures.marks ∙ c.mark_rest.ensures.forgotten)
 
 pub returns-clause-few : goal.returns-clause-few
 returns-clause-few c =

@@ -2,7 +2,7 @@
 use Rattle.std.proofs.Common.{◌≡◌, ◌||◌, ℕ}
 use Rattle.std.specs.FinSet.{contains}
 use Rattle.fz_world.specs.Ready.{is_between}
-use Rattle.fz_world.proofs.ready.hold.Given as goal
+use Rattle.fz_world.proofs.stored.hold.Given as goal
 
 abbrev pub invariant-loop-number : goal.invariant-loop-number
 invariant-loop-number l = record {

@@ -4,7 +4,7 @@ use Rattle.fz_model.proofs.Sets.{has_inserted}
 use Rattle.fz_bits.specs.Flags.{Flagged}
 use Rattle.fz_world.specs.Ready.{is_between}
 use Rattle.fz_world.proofs.Queues.{between_more}
-use Rattle.fz_world.proofs.ready.hold.Goals as goal
+use Rattle.fz_world.proofs.stored.hold.Goals as goal
 
 pub loop-number-preserved : goal.loop-number-preserved
 loop-number-preserved c =
