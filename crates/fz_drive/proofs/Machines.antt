@@ -13,6 +13,7 @@ use Rattle.fz_model.specs.Causes.{first_cause}
 use Rattle.fz_model.specs.declared.places.Slot.{Slot}
 use Rattle.fz_model.specs.Events.{Event, Hold, Finish, Answer}
 use Rattle.fz_model.specs.Joint.{Worker, Joint, idle, JointEvent, Call, Take, HoldOwn, FinishOwn, Forfeit, JointAnswer, is_finish, worker_at, taken_by, own_causes, Acts, JointStep}
+use Rattle.fz_world.specs.World.{WorldView}
 use Rattle.fz_world.specs.Does.{StandsFor, Does}
 use Rattle.fz_script.specs.declared.step.Step.{Step}
 use Rattle.fz_drive.specs.declared.machine.Machine.{Machine}
@@ -82,8 +83,8 @@ no_such m j w s l = ap not (le-ltb w (length j.workers) (let e = length_same in 
 pub called : (old new : Machine) (e : Event) (reply : Result (Answer e) Refusal) → IsFalse (is_finish e) → Does old.world e reply new.world → new.line ≡ old.line → new.hands ≡ old.hands → JointDoes old (Call e) reply new
 unfolding Does
 called old new e reply f does line hands j s =
-    let d = does j.state s.world in
-    (record j { state = d.0 }, (f, d.1, refl), record { world = d.2; line = line ∙ s.line; hands = ap (λ (h : _). h.items) hands ∙ s.hands })
+    let d = does.1 j.state s.world in
+    (record j { state = d.0 }, (f, d.1, refl), record { world = d.2; shown = does.0 ∙ s.shown; line = line ∙ s.line; hands = ap (λ (h : _). h.items) hands ∙ s.hands })
 
 -- ---- steps of a worker
 
@@ -124,21 +125,23 @@ hand_over : (old new : Machine) (j : Joint) (w : ℕ) (o : Option Entry) → Sta
     → new.world ≡ old.world → new.line ≡ old.line + (if is_some o then 1 else 0) → new.hands.items ≡ set old.hands.items w o → StandsForJoint new (taken_by j w o)
 hand_over old new j w None s idle world line hands = record {
   world = subst (λ c. StandsFor c j.state) (sym world) s.world;
+  shown = ap (λ (c : WorldView). c.forgotten) world ∙ s.shown;
   line = let l = s.line in omega (arith, l, line);
   hands = hands ∙ set_itself old.hands.items w None idle ∙ s.hands;
 }
 hand_over old new j w (Some e) s idle world line hands = record {
   world = subst (λ c. StandsFor c j.state) (sym world) s.world;
+  shown = ap (λ (c : WorldView). c.forgotten) world ∙ s.shown;
   line = let l = s.line in omega (arith, l, line);
   hands = hands ∙ ap (λ l. set l w (Some e)) s.hands ∙ sym (map-set hand_of j.workers w (record (worker_at j w) { hand = Some e; took = (worker_at j w).took ++ e.seq ∷ [] }));
 }
 
-pub took : (old new : Machine) (w : ℕ) (h o : Option Entry) → slice_get old.hands.items w ≡ Some h → is_some h ≡ false → o ≡ slice_get old.world.queue old.line
+pub took : (old new : Machine) (w : ℕ) (h o : Option Entry) → slice_get old.hands.items w ≡ Some h → is_some h ≡ false → o ≡ slice_get (drop old.world.forgotten old.world.queue) old.line
     → new.world ≡ old.world → new.line ≡ old.line + (if is_some o then 1 else 0) → new.hands.items ≡ set old.hands.items w o → JointDoes old (Take w) (Ok o) new
 took old new w (Some e) o is idle given world line hands j s = absurd cc
 took old new w None o is idle given world line hands j s =
     let at = at_hand old j w None s is in
-    let next : slice_get j.state.queue j.taken ≡ o = ap (λ q. slice_get q j.taken) (ap (λ (c : _). c.queue) (sym s.world.core)) ∙ ap (slice_get old.world.queue) (sym s.line) ∙ sym given in
+    let next : slice_get j.state.queue j.taken ≡ o = ap (λ q. slice_get q j.taken) (ap (λ (c : _). c.queue) (sym s.world.core)) ∙ ap (slice_get old.world.queue) (sym s.line) ∙ ap (λ n. slice_get (drop n old.world.queue) old.line) (sym s.shown) ∙ sym given in
     (taken_by j w o, acting_step j (Take w) (Ok o) (taken_by j w o) (neither _ _ _ _ (is_worker j w at.0) (ap is_some at.1)) (ap Ok (sym next), ap (taken_by j w) (sym next)), hand_over old new j w o s is world line hands)
 
 -- the world's call for the entry in the worker's hand
@@ -147,15 +150,15 @@ pub held : (old new : Machine) (w : ℕ) (slot : Slot) (e : Entry) (reply : Resu
 unfolding Does
 held old new w slot e reply is does line hands j s =
     let at = at_hand old j w (Some e) s is in
-    let d = does j.state s.world in
-    (record j { state = d.0 }, acting_step j (HoldOwn w slot) reply (record j { state = d.0 }) (neither _ _ _ _ (is_worker j w at.0) (ap is_none at.1)) (e, at.1, d.1, refl), record { world = d.2; line = line ∙ s.line; hands = ap (λ (h : _). h.items) hands ∙ s.hands })
+    let d = does.1 j.state s.world in
+    (record j { state = d.0 }, acting_step j (HoldOwn w slot) reply (record j { state = d.0 }) (neither _ _ _ _ (is_worker j w at.0) (ap is_none at.1)) (e, at.1, d.1, refl), record { world = d.2; shown = does.0 ∙ s.shown; line = line ∙ s.line; hands = ap (λ (h : _). h.items) hands ∙ s.hands })
 
 pub finish_refused : (old new : Machine) (w : ℕ) (e : Entry) (r : Refusal) → slice_get old.hands.items w ≡ Some (Some e) → Does old.world (Finish e) (Err r) new.world → new.line ≡ old.line → new.hands ≡ old.hands → JointDoes old (FinishOwn w) (Err r) new
 unfolding Does
 finish_refused old new w e r is does line hands j s =
     let at = at_hand old j w (Some e) s is in
-    let d = does j.state s.world in
-    (record j { state = d.0 }, acting_step j (FinishOwn w) (Err r) (record j { state = d.0 }) (neither _ _ _ _ (is_worker j w at.0) (ap is_none at.1)) (e, at.1, d.1, refl), record { world = d.2; line = line ∙ s.line; hands = ap (λ (h : _). h.items) hands ∙ s.hands })
+    let d = does.1 j.state s.world in
+    (record j { state = d.0 }, acting_step j (FinishOwn w) (Err r) (record j { state = d.0 }) (neither _ _ _ _ (is_worker j w at.0) (ap is_none at.1)) (e, at.1, d.1, refl), record { world = d.2; shown = does.0 ∙ s.shown; line = line ∙ s.line; hands = ap (λ (h : _). h.items) hands ∙ s.hands })
 
 -- a worker's hand is empty after it, whatever else the worker has
 emptied : (old : Machine) (hands : List (Option Entry)) (j : Joint) (w : ℕ) (worker : Worker) → StandsForJoint old j → worker.hand ≡ None → hands ≡ set old.hands.items w None → hands ≡ map hand_of (set j.workers w worker)
@@ -165,17 +168,17 @@ pub finished : (old new : Machine) (w : ℕ) (e : Entry) (answer : Unit {0}) →
 unfolding Does
 finished old new w e answer is does line hands j s =
     let at = at_hand old j w (Some e) s is in
-    let d = does j.state s.world in
+    let d = does.1 j.state s.world in
     let worker : Worker = record (worker_at j w) { hand = None } in
     let t : Joint = record j { state = d.0; workers = set j.workers w worker } in
-    (t, acting_step j (FinishOwn w) (Ok answer) t (neither _ _ _ _ (is_worker j w at.0) (ap is_none at.1)) (e, at.1, d.1, refl), record { world = d.2; line = line ∙ s.line; hands = emptied old new.hands.items j w worker s refl hands })
+    (t, acting_step j (FinishOwn w) (Ok answer) t (neither _ _ _ _ (is_worker j w at.0) (ap is_none at.1)) (e, at.1, d.1, refl), record { world = d.2; shown = does.0 ∙ s.shown; line = line ∙ s.line; hands = emptied old new.hands.items j w worker s refl hands })
 
 pub forfeited : (old new : Machine) (w : ℕ) (e : Entry) (answer : Unit {0}) → slice_get old.hands.items w ≡ Some (Some e) → new.world ≡ old.world → new.line ≡ old.line → new.hands.items ≡ set old.hands.items w None → JointDoes old (Forfeit w) (Ok answer) new
 forfeited old new w e answer is world line hands j s =
     let at = at_hand old j w (Some e) s is in
     let worker : Worker = record (worker_at j w) { hand = None; forfeited = (worker_at j w).forfeited ++ e ∷ [] } in
     let t : Joint = record j { workers = set j.workers w worker } in
-    (t, acting_step j (Forfeit w) (Ok answer) t (neither _ _ _ _ (is_worker j w at.0) (ap is_none at.1)) (e, at.1, refl), record { world = subst (λ c. StandsFor c j.state) (sym world) s.world; line = line ∙ s.line; hands = emptied old new.hands.items j w worker s refl hands })
+    (t, acting_step j (Forfeit w) (Ok answer) t (neither _ _ _ _ (is_worker j w at.0) (ap is_none at.1)) (e, at.1, refl), record { world = subst (λ c. StandsFor c j.state) (sym world) s.world; shown = ap (λ (c : WorldView). c.forgotten) world ∙ s.shown; line = line ∙ s.line; hands = emptied old new.hands.items j w worker s refl hands })
 
 -- ---- how the code writes and refuses
 

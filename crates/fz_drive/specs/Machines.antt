@@ -25,9 +25,10 @@ use Rattle.fz_drive.specs.Replies.{called_words, taken_words, reply_words, end_w
 use Rattle.fz_text.specs.Written.{text_line, done, refused_words, malformed_words}
 use Rattle.fz_drive.specs.Report.{Course, opening_causes, AsksFor, IsRefusedOpening, finishes, forfeits}
 
--- The machine is where the joint state is. What the workers took and forfeited is history, which it doesn't keep.
+-- The machine is where the joint state is, and has forgotten nothing. What the workers took and forfeited is history, which it doesn't keep.
 pub record StandsForJoint (machine : Machine) (j : Joint) : Type 0 where
   pub world : StandsFor machine.world j.state
+  pub shown : machine.world.forgotten ≡ 0
   pub line : machine.line ≡ j.taken
   pub hands : machine.hands.items ≡ map (λ (w : Worker). w.hand) j.workers
 

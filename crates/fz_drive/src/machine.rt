@@ -135,14 +135,14 @@ impl Machine {
     pub(crate) fn enqueued(&self) -> u64
         ensures { result ≡ length self.now.world.queue }
     {
-        self.world.queue().len() as u64
+        self.world.queued()
     }
 
     /// The number of entries that the line hasn't given.
     pub(crate) fn left(&self) -> u64
         ensures { result ≡ length self.now.world.queue - self.now.line }
     {
-        self.world.queue().len().saturating_sub(self.line.taken()) as u64
+        self.world.queued().saturating_sub(self.line.taken() as u64)
     }
 
     /// The number of entries in workers' hands.

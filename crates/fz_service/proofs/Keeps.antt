@@ -1,5 +1,5 @@
 -- What lies under the lock stays in order.
-use Rattle.std.proofs.Common.{◌≡◌, ℕ, ◌+◌, ◌<◌, ◌≤◌, List, [], ◌++◌, length, take, drop, not, Some, None, Result, Ok, Err, Bool, true, false, true≢false, cond, inl, inr, ⊎_elim, refl, sym, ap, ◌∙◌, subst, arith, IsFalse, length-append, zero-add, filter, Contains}
+use Rattle.std.proofs.Common.{◌≡◌, ℕ, ◌+◌, ◌<◌, ◌≤◌, ◌⊎◌, List, [], ◌++◌, length, take, drop, not, Some, None, Result, Ok, Err, Bool, true, false, true≢false, cond, inl, inr, ⊎_elim, refl, sym, ap, ◌∙◌, subst, arith, IsFalse, length-append, zero-add, filter, Contains}
 use Rattle.std.proofs.lemmas.Bool.{not-false}
 use Rattle.std.proofs.lemmas.Option.{same_Some, none-some}
 use Rattle.std.proofs.lemmas.List.{take-append-le, length-take-le, length-drop}
@@ -16,27 +16,28 @@ use Rattle.fz_model.proofs.Sound.{first_none}
 use Rattle.fz_model.proofs.Runs.{reached_sound}
 use Rattle.fz_line.specs.Numbers.{AreNumberedFrom}
 use Rattle.fz_line.proofs.Numbers.{numbered_rest}
-use Rattle.fz_world.specs.World.{WorldView, KeepsMarks}
+use Rattle.fz_world.specs.World.{WorldView}
 use Rattle.fz_world.specs.Does.{StandsFor, Does}
 use Rattle.fz_line.specs.States.{OwnerState, owner_state}
 use Rattle.fz_service.specs.States.{Origin, line_room, locked_state, IsReachedFrom, IsInOrder, IsReady, LetsGo, RunsCalls}
 use Rattle.fz_service.proofs.Growing.{IsLonger, step_longer, steps_longer, steps_on}
 use Rattle.fz_service.proofs.Finishing.{held_one, one_less}
 
-pub opened : (origin : Origin) (world : WorldView) → StandsFor world (opening origin.blocks origin.frames) → IsInOrder origin (locked_state world [] 0 0)
-opened origin world stands =
+pub opened : (origin : Origin) (world : WorldView) → StandsFor world (opening origin.blocks origin.frames) → world.forgotten ≡ 0 → IsInOrder origin (locked_state world [] 0 0)
+opened origin world stands none =
     let queue : length world.queue ≡ 0 = ap (λ (c : Core). length c.queue) stands.core in
     let held : length world.held ≡ 0 = ap (λ (c : Core). length c.held) stands.core in
     record {
       reached = record { state = opening origin.blocks origin.frames; steps = NoStep; stands = stands };
       sent = refl;
       within = omega arith;
+      forgotten = omega (arith, none);
       finished = omega (arith, queue, held);
     }
 
 module _ (origin : Origin) (old new : WorldView) (sent : List Entry) (published finished : ℕ) where
-  grown : (s t : State) → StandsFor old s → StandsFor new t → IsLonger s.core t.core → StepsTo any_call (opening origin.blocks origin.frames) t → IsInOrder origin (locked_state old sent published finished) → IsInOrder origin (locked_state new sent published finished)
-  grown s t was stands longer steps h =
+  grown : (s t : State) → new.forgotten ≡ old.forgotten → StandsFor old s → StandsFor new t → IsLonger s.core t.core → StepsTo any_call (opening origin.blocks origin.frames) t → IsInOrder origin (locked_state old sent published finished) → IsInOrder origin (locked_state new sent published finished)
+  grown s t kept was stands longer steps h =
       let more : List Entry = longer.more in
       let queue : new.queue ≡ old.queue ++ more = ap (λ (c : Core). c.queue) stands.core ∙ longer.queue ∙ ap (λ (c : Core). c.queue ++ more) (sym was.core) in
       let held : new.held ≡ old.held ++ more = ap (λ (c : Core). c.held) stands.core ∙ longer.held ∙ ap (λ (c : Core). c.held ++ more) (sym was.core) in
@@ -44,10 +45,12 @@ module _ (origin : Origin) (old new : WorldView) (sent : List Entry) (published 
       let counted : length new.held ≡ length old.held + length more = ap (λ (es : List Entry). length es) held ∙ length-append old.held more in
       let within = h.within in
       let all = h.finished in
+      let shown = h.forgotten in
       record {
         reached = record { state = t; steps = steps; stands = stands };
         sent = h.sent ∙ sym (take-append-le published old.queue more within) ∙ ap (take published) (sym queue);
         within = omega (arith, within, queued);
+        forgotten = omega (arith, shown, kept);
         finished = omega (arith, all, queued, counted);
       }
 
@@ -56,30 +59,40 @@ module _ (origin : Origin) (old new : WorldView) (sent : List Entry) (published 
   unfolding Does
   stepped e reply other does h =
       let r = h.reached in
-      let next = does r.state r.stands in
-      grown r.state next.0 r.stands next.2 (step_longer r.state e reply next.0 other next.1) (OneMore e reply refl r.steps next.1) h
+      let next = does.1 r.state r.stands in
+      grown r.state next.0 does.0 r.stands next.2 (step_longer r.state e reply next.0 other next.1) (OneMore e reply refl r.steps next.1) h
 
   -- after calls of a procedure
   pub ran : RunsCalls old new → IsInOrder origin (locked_state old sent published finished) → IsInOrder origin (locked_state new sent published finished)
   unfolding RunsCalls
   ran runs h =
       let r = h.reached in
-      let next = runs r.state r.stands in
-      grown r.state next.0 r.stands next.2 (steps_longer r.state next.0 next.1) (steps_on (opening origin.blocks origin.frames) r.state next.0 r.steps next.1) h
+      let next = runs.1 r.state r.stands in
+      grown r.state next.0 runs.0 r.stands next.2 (steps_longer r.state next.0 next.1) (steps_on (opening origin.blocks origin.frames) r.state next.0 r.steps next.1) h
 
-  -- a refused call changes nothing
-  pub unchanged : (e : Event) (r : Refusal) → Does old e (Err r) new → KeepsMarks old new → IsReachedFrom origin old → new ≡ old
-  unfolding Does
-  unchanged e r does marks reached =
-      let next = does reached.state reached.stands in
-      let core : new.core ≡ old.core = next.2.core ∙ ap (λ (t : State). t.core) next.1.1 ∙ sym reached.stands.core in
-      marks ∙ ap (λ (c : Core). record old { core = c }) core
+  -- what is forgotten was sent
+  pub forgot : new ≡ record old { forgotten = new.forgotten; remembered = new.remembered } → ((s : State) → StandsFor old s → StandsFor new s) → (new.forgotten ≡ old.forgotten) ⊎ (new.forgotten ≡ length old.queue) → length old.queue ≤ published
+      → IsInOrder origin (locked_state old sent published finished) → IsInOrder origin (locked_state new sent published finished)
+  forgot same stands forgotten all h =
+      let queue : new.queue ≡ old.queue = ap (λ (w : WorldView). w.queue) same in
+      let count : length new.queue ≡ length old.queue = ap (λ (es : List Entry). length es) queue in
+      let held : length new.held ≡ length old.held = ap (λ (w : WorldView). length w.held) same in
+      let within = h.within in
+      let every = h.finished in
+      let shown = h.forgotten in
+      record {
+        reached = record { state = h.reached.state; steps = h.reached.steps; stands = stands h.reached.state h.reached.stands };
+        sent = h.sent ∙ ap (take published) (sym queue);
+        within = omega (arith, within, count);
+        forgotten = ⊎_elim (λ is. omega (arith, is, shown)) (λ is. omega (arith, is, all)) forgotten;
+        finished = omega (arith, every, count, held);
+      }
 
   -- a finish is refused for one reason alone
   pub finish_refused : (entry : Entry) (r : Refusal) → Does old (Finish entry) (Err r) new → IsReachedFrom origin old → r ≡ NotHeld
   unfolding Does
   finish_refused entry r does reached =
-      let next = does reached.state reached.stands in
+      let next = does.1 reached.state reached.stands in
       ⊎_elim (λ cause. from (not (list_any (same_entry entry) reached.state.held)) cause) (λ lacks. absurd (true≢false (sym lacks.2))) next.1.0
     where
       from : (b : Bool) → cond b (Some NotHeld) None ≡ Some r → r ≡ NotHeld
@@ -91,7 +104,9 @@ module _ (origin : Origin) (old new : WorldView) (sent : List Entry) (published 
   unfolding Does
   finished_one given entry is given_does h =
       let r = h.reached in
-      let does = subst (λ (e : Entry). (s : State) → StandsFor old s → (t : State) × Step s (Finish e) (Ok tt) t × StandsFor new t) is given_does in
+      let does = subst (λ (e : Entry). (s : State) → StandsFor old s → (t : State) × Step s (Finish e) (Ok tt) t × StandsFor new t) is given_does.1 in
+      let shown = h.forgotten in
+      let kept = given_does.0 in
       let s : State = r.state in
       let next = does s r.stands in
       let t : State = next.0 in
@@ -110,6 +125,7 @@ module _ (origin : Origin) (old new : WorldView) (sent : List Entry) (published 
           reached = record { state = t; steps = OneMore (Finish entry) (Ok tt) refl r.steps next.1; stands = next.2 };
           sent = h.sent ∙ ap (take published) (sym queue);
           within = omega (arith, within, same);
+          forgotten = omega (arith, shown, kept);
           finished = omega (arith, all, same, left);
         },
         record {
@@ -126,7 +142,7 @@ module _ (origin : Origin) (world : WorldView) (sent : List Entry) (published fi
       let r = h.reached in
       (reached_sound r.state (origin.blocks, origin.frames, r.steps)).numbered k e (ap (λ (c : Core). Rattle.std.proofs.Common.slice_get c.queue k) (sym r.stands.core) ∙ at) ∙ sym (zero-add k)
 
-  sent_count : length sent ≡ published
+  pub sent_count : length sent ≡ published
   sent_count = ap (λ (es : List Entry). length es) h.sent ∙ length-take-le published world.queue h.within
 
   -- the outbox is numbered on from what was sent
@@ -151,6 +167,7 @@ module _ (origin : Origin) (world : WorldView) (sent : List Entry) (published fi
         reached = h.reached;
         sent = ap (λ (es : List Entry). es ++ take count outbox) h.sent ∙ ap (λ (es : List Entry). take published world.queue ++ take count es) is ∙ sym (take-add published count world.queue);
         within = omega (arith, all, a, few);
+        forgotten = let shown = h.forgotten in omega (arith, shown);
         finished = h.finished;
       }
 

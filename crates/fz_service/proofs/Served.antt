@@ -28,7 +28,7 @@ pub not_there : (origin : Origin) (world new : WorldView) (e : Entry) (r : Refus
 unfolding Does
 not_there origin world new e r does reached (k, within, at) =
     let s : State = reached.state in
-    let next = does s reached.stands in
+    let next = does.1 s reached.stands in
     let held : world.held ≡ s.held = ap (λ (c : Core). c.held) reached.stands.core in
     let there : list_any (same_entry e) world.held ≡ true = list_any-from_Any (same_entry e) world.held (k, e, within, at, same_itself e) in
     ⊎_elim (λ cause. from _ (ap (λ (es : List Entry). list_any (same_entry e) es) (sym held) ∙ there) cause) (λ lacks. absurd (true≢false (sym lacks.2))) next.1.0
@@ -41,7 +41,7 @@ not_there origin world new e r does reached (k, within, at) =
 pub same_queue : (origin : Origin) (old new : WorldView) (e : Entry) → Does old (Finish e) (Ok tt) new → IsReachedFrom origin old → new.queue ≡ old.queue
 unfolding Does
 same_queue origin old new e does reached =
-    let next = does reached.state reached.stands in
+    let next = does.1 reached.state reached.stands in
     ap (λ (c : Core). c.queue) next.2.core ∙ ap (λ (c : Core). c.queue) next.1.1 ∙ ap (λ (c : Core). c.queue) (sym reached.stands.core)
 
 -- where the queue and what was sent of it stay, what is unsent stays

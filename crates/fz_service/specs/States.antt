@@ -53,6 +53,8 @@ pub record IsInOrder (origin : Origin) (s : LockedState) : Type 0 where
   -- what was sent is the first entries of the queue, so the outbox is the rest
   pub sent : s.sent ≡ take s.published s.world.queue
   pub within : s.published ≤ length s.world.queue
+  -- what isn't sent is shown
+  pub forgotten : s.world.forgotten ≤ s.published
   -- what is held no more was finished
   pub finished : s.finished + length s.world.held ≡ length s.world.queue
 
@@ -87,9 +89,9 @@ pub record LetsGo (old new : WorldView) (entry : Entry) : Type 0 where
 abbrev pub is_no_finish : Event → Bool
 is_no_finish e = not (is_finish e)
 
--- calls other than `finish` lead from the old world to the new
+-- calls other than `finish` lead from the old world to the new, and nothing is forgotten
 unfoldable pub RunsCalls : WorldView → WorldView → Type 0
-RunsCalls old new = (s : State) → StandsFor old s → (t : State) × StepsTo is_no_finish s t × StandsFor new t
+RunsCalls old new = (new.forgotten ≡ old.forgotten) × ((s : State) → StandsFor old s → (t : State) × StepsTo is_no_finish s t × StandsFor new t)
 
 -- a seat of this line that has finished nothing
 abbrev pub IsNewAt : Line → SeatState → Type 0

@@ -1,19 +1,20 @@
 //! The calls of a world, under the lock.
 
-ghost use Rattle.std.specs.Prelude.{◌≡◌, ◌≤◌, ◌+◌, ◌*◌, ◌↔◌, ℕ, IsTrue, IsFalse, IfOk, IfErr, IsSome, OnOk, OnErr, length};
+ghost use Rattle.std.specs.Prelude.{◌≡◌, ◌<◌, ◌≤◌, ◌⊎◌, ◌+◌, ◌*◌, ◌↔◌, ℕ, IsTrue, IsFalse, IfOk, IfErr, IsSome, OnOk, OnErr, drop, length};
 ghost use Rattle.std.specs.Option.{IsNone};
 ghost use Rattle.std.specs.FinMap.{len};
 ghost use Rattle.std.specs.FinSet.{contains};
 ghost use Rattle.std.specs.FinSet as sets;
 ghost use Rattle.std.specs.declared.result.Result.TheVariants.{Ok};
 ghost use Rattle.fz_model.specs.declared.limits.TheConstants.{BLOCK_WORDS};
+ghost use Rattle.fz_model.specs.State.{State};
 ghost use Rattle.fz_model.specs.Memory.{address_of};
 ghost use Rattle.fz_model.specs.Causes.{IsJudgedBy, IsJudgedOrLacks};
 ghost use Rattle.fz_model.specs.declared.call.Call.TheVariants.{Alloc, Load, Store, Set, Copy, Unregister, Link, Unlink, Move, Begin, Mark, Pause, Collect, Close, Outstanding};
 ghost use Rattle.fz_model.specs.Places.{slot_at, place_at, finalizer_of};
 ghost use Rattle.fz_model.specs.Events.{Make, Hold, Queue, causes};
 ghost use Rattle.fz_world.specs.Cycles.{IsBegun, AreScanned};
-ghost use Rattle.fz_world.specs.Does.{Does};
+ghost use Rattle.fz_world.specs.Does.{Does, StandsFor};
 ghost use Rattle.fz_world.specs.Links.{link_at};
 ghost use Rattle.fz_world.specs.Registering.{RegistersFinalizer};
 ghost use Rattle.fz_world.specs.Replies.{Replies};
@@ -341,12 +342,42 @@ impl<O: Opening> Locked<O> {
         self.world.outstanding()
     }
 
-    /// All entries ever queued, in their order.
+    /// The entries from `forgotten` on, in their order: all that were ever queued, where none is forgotten.
     pub fn queue(&self) -> &[Entry]
-        ensures queue { result.now ≡ self.now.world.queue }
-        ensures step { Does self.now.world Queue (Ok result.now) self.now.world }
+        ensures queue { result.now ≡ drop self.now.world.forgotten self.now.world.queue }
+        ensures step { self.now.world.forgotten ≡ 0 → Does self.now.world Queue (Ok result.now) self.now.world }
     {
         self.world.queue()
+    }
+
+    /// How many entries were ever queued.
+    pub fn queued(&self) -> u64
+        ensures { result ≡ length self.now.world.queue }
+    {
+        self.world.queued()
+    }
+
+    /// The number from which on `queue` shows entries.
+    pub fn forgotten(&self) -> u64
+        ensures { result ≡ self.now.world.forgotten }
+    {
+        self.world.forgotten()
+    }
+
+    /// Gives back the memory of finished entries, as the world does, once all entries were sent, and before that nothing; returns how many went.
+    pub fn forget(&mut self) -> u64
+        ensures line { KeepsLine self.old self.new }
+        ensures same { self.new.world ≡ record self.old.world { forgotten = self.new.world.forgotten; remembered = self.new.world.remembered } }
+        ensures stands { (s : State) → StandsFor self.old.world s → StandsFor self.new.world s }
+        ensures forgotten { (self.new.world.forgotten ≡ self.old.world.forgotten) ⊎ (self.new.world.forgotten ≡ length self.old.world.queue) }
+        ensures few { self.old.published ≡ length self.old.world.queue → 16 * self.new.world.remembered ≤ 17 * length self.new.world.held }
+        ensures waiting { self.old.published < length self.old.world.queue → (result ≡ 0) × (self.new ≡ self.old) }
+        ensures freed { result + self.new.world.remembered ≡ self.old.world.remembered }
+    {
+        if (self.published as u64) < self.world.queued() {
+            return 0;
+        }
+        self.world.forget()
     }
 
     /// How many objects were scanned in the cycle begun last; 0 before any.

@@ -5,7 +5,7 @@ ghost use Rattle.std.specs.FinMap.{len};
 ghost use Rattle.fz_service.specs.States.{IsInOrder};
 ghost use Rattle.fz_service.specs.Ends.{IsEnd, IsEachOnce, IsOfLine, IsRefusedEnd, has_index};
 
-use crate::locked::Locked;
+use crate::locked::{Locked, queue_from};
 use crate::opening::{Finishes, Opening};
 use crate::seat::Seat;
 use fz_line::retire_all;
@@ -46,7 +46,7 @@ impl<O: Opening> Locked<O> {
         if !is_each_once(seats.as_slice(), self.owner.seats()) {
             return Err((Refusal::SeatsMissing, self, seats));
         }
-        match room(self.alloc, self.world.queue().len(), seats.len()) {
+        match room(self.alloc, self.world.queued() as usize, seats.len()) {
             Ok((left, plain)) => Ok(self.settle(seats, plain, left)),
             Err(_) => Err((Refusal::NoMemory, self, seats)),
         }
@@ -59,7 +59,7 @@ impl<O: Opening> Locked<O> {
         requires left { (left.items ≡ []) × (length self.world.queue ≤ vec_capacity left) }
         ensures { IsEnd self seats.items result }
     {
-        let enqueued = self.world.queue().len() as u64;
+        let enqueued = self.world.queued();
         let outstanding = self.world.outstanding();
         let passes = self.world.passes();
         let reclaimed = self.world.reclaimed();
@@ -77,7 +77,7 @@ impl<O: Opening> Locked<O> {
         owner.drain(plain.as_mut_slice(), &mut left);
         retire_all(plain);
         let taken = (published - left.len()) as u64;
-        append(&mut left, &world.queue()[published..]);
+        append(&mut left, queue_from(&world, published));
         drop(world);
         let finished = enqueued - outstanding;
         Final {

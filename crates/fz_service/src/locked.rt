@@ -1,6 +1,7 @@
 //! What the lock holds.
 
 ghost use Rattle.std.specs.Prelude.{◌≡◌, ◌+◌, ◌<◌, ◌≤◌, [], ◌++◌, drop, length, take, IfOk, IfErr, OnOk};
+ghost use Rattle.fz_model.specs.declared.limits.TheConstants.{COUNT_LIMIT};
 ghost use Rattle.fz_model.specs.Events.{Finish};
 ghost use Rattle.fz_model.specs.State.{opening};
 ghost use Rattle.fz_line.specs.States.{owner_state};
@@ -46,6 +47,15 @@ impl<O: Opening> Model for Locked<O> {
     ghost invariant = { λ s. IsInOrder O.origin (locked_state s.world s.owner.sent s.published s.book.total) × IsReady O.origin s.owner s.rest.parts s.rest.amount };
 }
 
+/// The entries of a queue from a number on, none of which is forgotten.
+pub(crate) fn queue_from(world: &World, number: usize) -> &[Entry]
+    requires { (world.now.forgotten ≤ number) × (number ≤ length world.now.queue) }
+    ensures queue { result.now ≡ drop number world.now.queue }
+    ensures few { length world.now.queue ≤ COUNT_LIMIT }
+{
+    &world.queue()[number - world.forgotten() as usize..]
+}
+
 impl<O: Opening> Locked<O> {
     /// A new world and a new line, once each share of the book was given away.
     pub(crate) fn new(
@@ -56,6 +66,7 @@ impl<O: Opening> Locked<O> {
         rest: Share<Finishes<O>>,
     ) -> Locked<O>
         requires world { StandsFor world (opening O.origin.blocks O.origin.frames) }
+        requires forgotten { world.forgotten ≡ 0 }
         requires owner { owner ≡ owner_state O.origin.line O.origin.workers (line_room O.origin.blocks) [] [] }
         requires book { (book.total ≡ 0) × (rest.parts ≡ 0) × (rest.amount ≡ 0) }
     {
@@ -80,7 +91,7 @@ impl<O: Opening> Locked<O> {
     pub fn outbox(&self) -> &[Entry]
         ensures { result.now ≡ drop self.now.published self.now.world.queue }
     {
-        &self.world.queue()[self.published..]
+        queue_from(&self.world, self.published)
     }
 
     /// Sends the entries of the outbox, the oldest first; returns how many were sent.
@@ -92,7 +103,7 @@ impl<O: Opening> Locked<O> {
         ensures within { self.new.published ≤ length self.old.world.queue }
         ensures room { self.new.published < length self.old.world.queue → line_room O.origin.blocks ≤ self.new.published }
     {
-        let outbox = &self.world.queue()[self.published..];
+        let outbox = queue_from(&self.world, self.published);
         let count = self.owner.publish(outbox);
         self.published += count;
         count

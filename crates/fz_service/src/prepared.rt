@@ -39,7 +39,7 @@ impl Model for Prepared {
 
     ghost view = { λ p. record { line = p.owner.line; workers = p.owner.seats; finishes = p.blank.name; blocks = p.config.blocks; frames = p.config.frames } };
 
-    ghost invariant = { λ p. (p.owner ≡ owner_state p.owner.line p.owner.seats (line_room p.config.blocks) [] []) × (p.seats.items ≡ new_seats p.owner.line p.owner.seats) × (p.blank.parts ≡ p.owner.seats) × StandsFor p.world (opening p.config.blocks p.config.frames) };
+    ghost invariant = { λ p. (p.owner ≡ owner_state p.owner.line p.owner.seats (line_room p.config.blocks) [] []) × (p.seats.items ≡ new_seats p.owner.line p.owner.seats) × (p.blank.parts ≡ p.owner.seats) × StandsFor p.world (opening p.config.blocks p.config.frames) × (p.world.forgotten ≡ 0) };
 }
 
 /// What isn't opened goes, and its seats are retired.

@@ -50,7 +50,7 @@ module _ (apart : (s : State) → IsReached s → AreApart (extents s.objects)) 
   unfolding Does
   got keys cache old new key word is few does w =
       let s : State = w.state in
-      let next = does s w.stands in
+      let next = does.1 s w.stands in
       let within_keys : key < keys = subst (λ n. key < n) (sym (ap (λ (c : CacheView). c.keys) is)) few in
       let same = next.1.1.0 ∙ read keys s.core w.cache (apart s w.reached) key within_keys in
       subst (λ (c : Core). IsFound c key word) (sym w.stands.core ∙ ap (λ (c : CacheView). c.world.core) is)

@@ -95,18 +95,19 @@ reached_on s e reply t (blocks, frames, steps) step = (blocks, frames, OneMore e
 pub quiet_whole : (keys : ℕ) (mid new : WorldView) (e : Event) (reply : Result (Answer e) Refusal) → Does mid e reply new → IsTrue (is_quiet e) → IsWhole keys mid → IsWhole keys new
 unfolding Does
 quiet_whole keys mid new e reply does quiet w =
-    let next = does w.state w.stands in
+    let next = does.1 w.state w.stands in
     record {
       state = next.0;
       reached = reached_on w.state e reply next.0 w.reached next.1;
       stands = next.2;
+      shown = does.0 ∙ w.shown;
       cache = (quiet_step keys w.state e reply next.0 next.1 quiet w.cache).0;
     }
 
 pub quiet_same : (keys : ℕ) (old mid new : WorldView) (e : Event) (reply : Result (Answer e) Refusal) → Does mid e reply new → IsTrue (is_quiet e) → IsWhole keys mid → KeepsCached old mid → KeepsCached old new
 unfolding Does KeepsCached
 quiet_same keys old mid new e reply does quiet w before key =
-    let next = does w.state w.stands in
+    let next = does.1 w.state w.stands in
     ap (λ (c : Core). cached_in c key) next.2.core
     ∙ (quiet_step keys w.state e reply next.0 next.1 quiet w.cache).1 key
     ∙ ap (λ (c : Core). cached_in c key) (sym w.stands.core)

@@ -27,11 +27,11 @@ pub record IsOpened (keys : ℕ) (world : WorldView) : Type 0 where
   pub whole : IsWhole keys world
   pub empty : (key : ℕ) → cached_in world.core key ≡ None
 
-pub opened : (blocks keys : ℕ) (old new : WorldView) (a birth : ℕ) → StandsFor old (opening blocks 1) → Does old (Make (Alloc (slot_at 0 LIST) keys Atomic)) (Ok (a, birth)) new → IsOpened keys new
+pub opened : (blocks keys : ℕ) (old new : WorldView) (a birth : ℕ) → StandsFor old (opening blocks 1) → old.forgotten ≡ 0 → Does old (Make (Alloc (slot_at 0 LIST) keys Atomic)) (Ok (a, birth)) new → IsOpened keys new
 unfolding Does
-opened blocks keys old new a birth stands does =
+opened blocks keys old new a birth stands shown does =
     let s : State = opening blocks 1 in
-    let next = does s stands in
+    let next = does.1 s stands in
     let at = next.1.1 in
     let start : ℕ = at.0 in
     let made = new_object Atomic 0 keys in
@@ -49,6 +49,7 @@ opened blocks keys old new a birth stands does =
         state = next.0;
         reached = reached_on s (Make (Alloc (slot_at 0 LIST) keys Atomic)) (Ok (a, birth)) next.0 (blocks, 1, NoStep) next.1;
         stands = next.2;
+        shown = does.0 ∙ shown;
         cache = subst (IsCache keys) (sym at.3) whole;
       };
       empty = λ key. ap (λ (d : Core). cached_in d key) (next.2.core ∙ at.3) ∙ none (start + key);

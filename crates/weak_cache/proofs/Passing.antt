@@ -127,13 +127,13 @@ module _ (apart : (s : State) → IsReached s → AreApart (extents s.objects)) 
   pub pass_whole : (keys : ℕ) (old new : WorldView) (reply : Result Passed Refusal) → Does old (Make Collect) reply new → IsWhole keys old → IsWhole keys new
   unfolding Does
   pass_whole keys old new reply does w =
-      let next = does w.state w.stands in
-      record { state = next.0; reached = reached_on w.state (Make Collect) reply next.0 w.reached next.1; stands = next.2; cache = (pass_step keys w.state next.0 reply w.reached next.1 w.cache).whole }
+      let next = does.1 w.state w.stands in
+      record { state = next.0; reached = reached_on w.state (Make Collect) reply next.0 w.reached next.1; stands = next.2; shown = does.0 ∙ w.shown; cache = (pass_step keys w.state next.0 reply w.reached next.1 w.cache).whole }
 
   pub pass_kept : (keys : ℕ) (cache : CacheView) (old new : WorldView) (reply : Result Passed Refusal) → record { keys = keys; world = old } ≡ cache → Does old (Make Collect) reply new → IsWhole keys old
       → Collected keys cache.world.core new.core
   unfolding Does
   pass_kept keys cache old new reply is does w =
-      let next = does w.state w.stands in
+      let next = does.1 w.state w.stands in
       subst (λ (c : Core). Collected keys c new.core) (sym w.stands.core ∙ ap (λ (c : CacheView). c.world.core) is)
       (subst (λ (d : Core). Collected keys w.state.core d) (sym next.2.core) (pass_step keys w.state next.0 reply w.reached next.1 w.cache))

@@ -65,7 +65,7 @@ pub store_stands : (keys : ℕ) (old mid : WorldView) (key : ℕ) (answer : Link
 unfolding Does
 store_stands keys old mid key answer link w =
     let s : State = w.state in
-    let first = link s w.stands in
+    let first = link.1 s w.stands in
     subst (λ (c : Core). first_cause (causes c (Make (Store (place_at 0 LIST key) (slot_at 0 HAND)))) ≡ None) (sym (first.2.core ∙ first.1.1.1))
     (store_fits s.core key (insert s.short (list_in s.core + key) (slot_word s.frames (slot_at 0 HAND))) first.1.0)
 
@@ -117,14 +117,15 @@ pub puts : (keys : ℕ) (old mid new : WorldView) (key : ℕ) (answer : LinkAnsw
 unfolding Does
 puts keys old mid new key answer reply link store w =
     let s : State = w.state in
-    let first = link s w.stands in
-    let last = store first.0 first.2 in
+    let first = link.1 s w.stands in
+    let last = store.1 first.0 first.2 in
     let is = both s first.0 last.0 key answer reply first.1 last.1 in
     record {
       whole = record {
         state = last.0;
         reached = reached_on first.0 (Make (Store (place_at 0 LIST key) (slot_at 0 HAND))) reply last.0 (reached_on s (Make (Link Short (place_at 0 LIST key) (slot_at 0 HAND))) (Ok answer) first.0 w.reached first.1) last.1;
         stands = last.2;
+        shown = store.0 ∙ link.0 ∙ w.shown;
         cache = subst (IsCache keys) (sym is) (put_whole keys s.core key w.cache);
       };
       is = last.2.core ∙ is ∙ ap (λ (c : Core). with_put c key) (sym w.stands.core);

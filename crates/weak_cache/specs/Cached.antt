@@ -78,9 +78,10 @@ pub record IsCache (keys : ℕ) (c : Core) : Type 0 where
   pub words : (key : ℕ) → key < keys → slice_get list.words key ≡ Some (unwrap_or (cached_in c key) 0)
   pub no_long : (place : ℕ) → get c.long place ≡ None
 
--- the world stands for a state that calls reach, and in which the cache is whole
+-- the world stands for a state that calls reach, and in which the cache is whole; it has forgotten nothing
 pub record IsWhole (keys : ℕ) (world : WorldView) : Type 0 where
   pub state : State
   pub reached : IsReached state
   pub stands : StandsFor world state
+  pub shown : world.forgotten ≡ 0
   pub cache : IsCache keys state.core

@@ -23,6 +23,7 @@ returns-clause-opened c =
       judged_more (bad_count 8 c.args.workers ∷ []) (open_causes c.args.blocks c.args.frames) (ap (λ b. first_cause ((b, BadCount) ∷ [])) count) ∙ c.in_ok-world.ensures.judged,
       record {
         world = c.in_ok-world.ensures.opened;
+        shown = c.in_ok-world.ensures.forgotten;
         line = c.new.ensures;
         hands = c.empty_hands.ensures ∙ hands_of_idle c.args.workers;
       },

@@ -1,13 +1,13 @@
 use Rattle.std.proofs.Common.{◌∙◌, ap, sym, subst}
 use Rattle.fz_world.specs.World.{WorldView}
 use Rattle.fz_service.specs.States.{LockedState, locked_state, IsInOrder, LetsGo}
-use Rattle.fz_service.proofs.Keeps.{finished_one, unchanged, finish_refused}
+use Rattle.fz_service.proofs.Keeps.{finished_one, finish_refused}
 use Rattle.fz_service.proofs.locked.Locked.finish.Goals as goal
 
 pub invariant_of-self : goal.invariant_of-self
 invariant_of-self g c =
     let w = c.self.inside in
-    let same = unchanged _ _ _ w.owner.sent w.published w.book.total _ _ c.in-Err.ensures.step c.finish.ensures.marks c.self.invariant.0.reached in (
+    let same = c.in-Err.ensures.refused in (
       subst (λ (v : WorldView). IsInOrder g.O.Opening.origin (locked_state v w.owner.sent w.published w.book.total)) (sym same) c.self.invariant.0,
       c.self.invariant.1,
     )
@@ -15,7 +15,7 @@ invariant_of-self g c =
 pub returns-in-Err-clause-refused : goal.returns-in-Err-clause-refused
 returns-in-Err-clause-refused g c =
     let w = c.self.inside in
-    let same = unchanged _ _ _ w.owner.sent w.published w.book.total _ _ c.in-Err.ensures.step c.finish.ensures.marks c.self.invariant.0.reached in
+    let same = c.in-Err.ensures.refused in
     let cause = finish_refused _ _ _ w.owner.sent w.published w.book.total _ _ c.in-Err.ensures.step c.self.invariant.0.reached in (
       (λ i. (cause i, c.args.duty)),
       ap (λ (v : WorldView). locked_state v w.owner.sent w.published w.book.total) same ∙ c.self.view_is,

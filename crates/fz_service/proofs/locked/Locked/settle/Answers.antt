@@ -1,5 +1,4 @@
-use Rattle.std.proofs.Common.{◌≡◌, ◌-◌, ◌++◌, List, length, drop, refl, sym, ap, ◌∙◌, subst, arith}
-use Rattle.std.proofs.lemmas.List.{take_rest}
+use Rattle.std.proofs.Common.{◌≡◌, ◌-◌, ◌++◌, List, length, refl, sym, ap, ◌∙◌, subst, arith}
 use Rattle.fz_model.specs.declared.answers.Entry.{Entry}
 use Rattle.fz_service.specs.States.{LockedState, locked_state}
 use Rattle.fz_service.specs.declared.ending.Final.{Final}
@@ -10,7 +9,7 @@ use Rattle.fz_service.proofs.locked.Locked.settle.Goals as goal
 pub overflow_sub-finished : goal.overflow_sub-finished
 overflow_sub-finished g c =
     let w = c.self.inside in
-    let queue = ap (λ (es : List Entry). length es) c.queue.ensures.queue in
+    let queue = c.queued-enqueued.ensures in
     let held = c.outstanding-outstanding.ensures.count in
     let all = c.self.invariant.0.finished in
     omega (arith, queue, held, all)
@@ -18,7 +17,7 @@ overflow_sub-finished g c =
 pub overflow_sub-result : goal.overflow_sub-result
 overflow_sub-result g c =
     let w = c.self.inside in
-    let queue = ap (λ (es : List Entry). length es) c.queue.ensures.queue in
+    let queue = c.queued-enqueued.ensures in
     let held = c.outstanding-outstanding.ensures.count in
     let d = drained_by g.O.Opening.origin (locked_state w.world w.owner.sent w.published w.book.total) _ c.args.seats.items _ (c.as_mut_slice.ensures.value ∙ c.without_shares-plain.ensures.seats) c.self.invariant.0 c.drain.ensures.first c.drain.ensures.rest c.drain.ensures.idle
     (sym (c.audit.ensures.whole (c.without_shares-plain.ensures.all.0 ∙ c.requires.all)) ∙ c.without_shares-plain.ensures.all.1) in
@@ -29,19 +28,19 @@ overflow_sub-result g c =
 pub returns : goal.returns
 returns g c =
     let w = c.self.inside in
-    let queue = ap (λ (es : List Entry). length es) c.queue.ensures.queue in
+    let queue = c.queued-enqueued.ensures in
     let held = c.outstanding-outstanding.ensures.count in
     let d = drained_by g.O.Opening.origin (locked_state w.world w.owner.sent w.published w.book.total) _ c.args.seats.items _ (c.as_mut_slice.ensures.value ∙ c.without_shares-plain.ensures.seats) c.self.invariant.0 c.drain.ensures.first c.drain.ensures.rest c.drain.ensures.idle
     (sym (c.audit.ensures.whole (c.without_shares-plain.ensures.all.0 ∙ c.requires.all)) ∙ c.without_shares-plain.ensures.all.1) in
     let left = c.len.ensures in
-    let rest = take_rest c.queue-2.result.now w.published ∙ ap (drop w.published) c.queue-2.ensures.queue in
+    let rest = c.queue_from.ensures.queue in
     let taken : w.published - c.len.result ≡ w.published - length c.drain.new.out.items = omega (arith, left) in
-    let finished : length c.queue.result.now - c.outstanding-outstanding.result ≡ length w.world.queue - length w.world.held = omega (arith, queue, held) in
+    let finished : c.queued-enqueued.result - c.outstanding-outstanding.result ≡ length w.world.queue - length w.world.held = omega (arith, queue, held) in
     let end : Final = record {
-      enqueued = length c.queue.result.now;
+      enqueued = c.queued-enqueued.result;
       taken = w.published - c.len.result;
-      finished = length c.queue.result.now - c.outstanding-outstanding.result;
-      forfeited = w.published - c.len.result - (length c.queue.result.now - c.outstanding-outstanding.result);
+      finished = c.queued-enqueued.result - c.outstanding-outstanding.result;
+      forfeited = w.published - c.len.result - (c.queued-enqueued.result - c.outstanding-outstanding.result);
       left = c.append.new.left;
       passes = c.passes-passes.result;
       reclaimed = c.reclaimed-reclaimed.result;
