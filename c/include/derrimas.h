@@ -410,6 +410,12 @@ derrimas_code derrimas_hold(derrimas_world *world, derrimas_slot slot, const der
  * Refused: DERRIMAS_NO_WORLD, DERRIMAS_NOT_HELD. */
 derrimas_code derrimas_finish(derrimas_world *world, const derrimas_entry *entry) DERRIMAS_NONNULL(1, 2);
 
+/* Gives back the memory of entries that are finished; tells in *count how many went. What isn't finished stays, with its
+ * place, and is taken, held and finished as ever. It takes no memory. A world that never forgets keeps 56 bytes for each
+ * entry ever queued, so a program that runs on calls this after its collections.
+ * Refused: DERRIMAS_NO_WORLD. */
+derrimas_code derrimas_forget(derrimas_world *world, uint64_t *count) DERRIMAS_NONNULL(1, 2);
+
 /* ---- a line, from which workers take entries without a lock
  *
  * Who has the world takes its entries by derrimas_take, and publishes each on a line. Each worker has a seat: it takes
@@ -478,8 +484,12 @@ derrimas_code derrimas_next_link(derrimas_world *world, derrimas_links kind, uin
 derrimas_code derrimas_next_held(derrimas_world *world, uint64_t from, derrimas_entry *entry) DERRIMAS_NONNULL(1, 3);
 
 /* The entry at the queue's place `seq`, taken or not, finished or not.
- * Refused: DERRIMAS_NO_WORLD, DERRIMAS_EMPTY where the queue isn't so long. */
+ * Refused: DERRIMAS_NO_WORLD, DERRIMAS_EMPTY where the queue isn't so long, or the entry is finished and forgotten. */
 derrimas_code derrimas_queued(derrimas_world *world, uint64_t seq, derrimas_entry *entry) DERRIMAS_NONNULL(1, 3);
+
+/* Tells in *place from which place of the queue on no entry is forgotten: 0 until derrimas_forget gives memory back.
+ * Refused: DERRIMAS_NO_WORLD. */
+derrimas_code derrimas_forgotten(derrimas_world *world, uint64_t *place) DERRIMAS_NONNULL(1, 2);
 
 /* The world's counts.
  * Refused: DERRIMAS_NO_WORLD. */

@@ -226,6 +226,13 @@ public:
     void hold(slot to, const entry &entry) { check(derrimas_hold(&handle_, to, &entry)); }
     void finish(const entry &entry) { check(derrimas_finish(&handle_, &entry)); }
 
+    std::uint64_t forget()
+    {
+        std::uint64_t count;
+        check(derrimas_forget(&handle_, &count));
+        return count;
+    }
+
     /* Takes entries until none is left, calls `run` with the world and each, and finishes it, unless `run` did. Where `run` throws, its entry stays held:
      * next_held finds it. Returns how many it took. */
     template <typename Run> std::uint64_t invoke(Run run)
@@ -249,6 +256,13 @@ public:
     std::optional<registration> next_registration(address from) { return maybe<registration>(derrimas_next_registration, from); }
     std::optional<entry> next_held(std::uint64_t from) { return maybe<entry>(derrimas_next_held, from); }
     std::optional<entry> queued(std::uint64_t seq) { return maybe<entry>(derrimas_queued, seq); }
+
+    std::uint64_t forgotten()
+    {
+        std::uint64_t place;
+        check(derrimas_forgotten(&handle_, &place));
+        return place;
+    }
 
     std::optional<linked> next_link(links kind, address from)
     {

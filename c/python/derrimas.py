@@ -88,7 +88,7 @@ def library() -> ctypes.CDLL:
         "register_object": [Slot, kind, n, n, c_uint8, POINTER(Registered)], "unregister": [Slot, POINTER(Old)],
         "link": [kind, Slot, n, Slot, POINTER(kind)], "unlink": [kind, Slot, n, POINTER(c_bool)], "move_link": [kind, Slot, n, Slot, n, POINTER(kind)],
         "begin": [], "mark": [n, POINTER(c_bool)], "pause": [POINTER(Passed)], "collect": [POINTER(Passed)], "take": [POINTER(Entry)],
-        "waiting": [POINTER(c_bool)], "outstanding": [POINTER(n)], "hold": [Slot, POINTER(Entry)], "finish": [POINTER(Entry)],
+        "waiting": [POINTER(c_bool)], "outstanding": [POINTER(n)], "hold": [Slot, POINTER(Entry)], "finish": [POINTER(Entry)], "forget": [POINTER(n)], "forgotten": [POINTER(n)],
         "next_object": [n, POINTER(Object)], "next_registration": [n, POINTER(Registration)], "next_link": [kind, n, POINTER(Linked)],
         "next_held": [n, POINTER(Entry)], "queued": [n, POINTER(Entry)], "count": [POINTER(Counts)],
         "finalize_all": [Slot, POINTER(PROCEDURE), ctypes.c_size_t, c_void_p, POINTER(n)],
@@ -230,6 +230,10 @@ class World:
         """How many entries aren't finished."""
         return self._call("outstanding", answer=c_uint64)
 
+    def forget(self) -> int:
+        """Gives back the memory of finished entries; how many went."""
+        return self._call("forget", answer=c_uint64)
+
     def hold(self, slot: At, entry: Entry) -> None:
         """Puts the address of the entry's object into a slot."""
         self._call("hold", Slot(*slot), byref(entry))
@@ -305,8 +309,12 @@ class World:
         return self._walk("next_held", "seq", Entry)
 
     def queued(self, seq: int) -> Optional[Entry]:
-        """The entry at a place of the queue, or None."""
+        """The entry at a place of the queue, or None where the queue isn't so long, or the entry is finished and forgotten."""
         return self._or_none("queued", seq, answer=Entry)
+
+    def forgotten(self) -> int:
+        """From which place of the queue on no entry is forgotten."""
+        return self._call("forgotten", answer=c_uint64)
 
     def counts(self) -> Counts:
         """Counts of the world's life."""

@@ -43,6 +43,7 @@ with World(blocks=4) as world:
             refused()
         except Refused as why:
             print(f"refused: {why.code} {why.name}, {why}")
+    print("forgot", world.forget(), "of", world.forgotten())
 
 try:
     world.collect()

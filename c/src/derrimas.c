@@ -182,6 +182,7 @@ derrimas_code derrimas_pause(derrimas_world *world, derrimas_passed *passed)
 derrimas_code derrimas_take(derrimas_world *world, derrimas_entry *entry) { return fz_take(world, entry); }
 derrimas_code derrimas_waiting(derrimas_world *world, bool *waiting) { return fz_waiting(world, waiting); }
 derrimas_code derrimas_outstanding(derrimas_world *world, uint64_t *count) { return fz_outstanding(world, count); }
+derrimas_code derrimas_forget(derrimas_world *world, uint64_t *count) { return fz_forget(world, count); }
 
 derrimas_code derrimas_hold(derrimas_world *world, derrimas_slot slot, const derrimas_entry *entry)
 {
@@ -262,6 +263,7 @@ derrimas_code derrimas_next_link(derrimas_world *world, derrimas_links kind, uin
 
 derrimas_code derrimas_next_held(derrimas_world *world, uint64_t from, derrimas_entry *entry) { return fz_next_held(world, from, entry); }
 derrimas_code derrimas_queued(derrimas_world *world, uint64_t seq, derrimas_entry *entry) { return fz_queued(world, seq, entry); }
+derrimas_code derrimas_forgotten(derrimas_world *world, uint64_t *place) { return fz_forgotten(world, place); }
 derrimas_code derrimas_count(derrimas_world *world, derrimas_counts *counts) { return fz_count(world, counts); }
 void derrimas_sample(derrimas_samples *samples) { fz_sample(samples); }
 

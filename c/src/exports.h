@@ -37,11 +37,13 @@ uint8_t fz_waiting(derrimas_world *world, bool *waiting);
 uint8_t fz_outstanding(derrimas_world *world, uint64_t *count);
 uint8_t fz_hold(derrimas_world *world, derrimas_slot slot, const derrimas_entry *entry);
 uint8_t fz_finish(derrimas_world *world, const derrimas_entry *entry);
+uint8_t fz_forget(derrimas_world *world, uint64_t *count);
 uint8_t fz_next_object(derrimas_world *world, uint64_t from, derrimas_object *object);
 uint8_t fz_next_registration(derrimas_world *world, uint64_t from, derrimas_registration *registration);
 uint8_t fz_next_link(derrimas_world *world, bool is_long, uint64_t from, derrimas_linked *linked);
 uint8_t fz_next_held(derrimas_world *world, uint64_t from, derrimas_entry *entry);
 uint8_t fz_queued(derrimas_world *world, uint64_t seq, derrimas_entry *entry);
+uint8_t fz_forgotten(derrimas_world *world, uint64_t *number);
 uint8_t fz_count(derrimas_world *world, derrimas_counts *counts);
 void fz_sample(derrimas_samples *samples);
 

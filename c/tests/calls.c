@@ -54,6 +54,8 @@ static void without_a_world(derrimas_world *w)
     REFUSED(DERRIMAS_NO_WORLD, linked, derrimas_next_link(w, DERRIMAS_SHORT, 0, &linked));
     REFUSED(DERRIMAS_NO_WORLD, entry, derrimas_next_held(w, 0, &entry));
     REFUSED(DERRIMAS_NO_WORLD, entry, derrimas_queued(w, 0, &entry));
+    REFUSED(DERRIMAS_NO_WORLD, number, derrimas_forget(w, &number));
+    REFUSED(DERRIMAS_NO_WORLD, number, derrimas_forgotten(w, &number));
     REFUSED(DERRIMAS_NO_WORLD, counts, derrimas_count(w, &counts));
     IS(derrimas_invoke_finalizers(w, NULL, 0, NULL), 0);
     derrimas_destroy(w);
@@ -561,7 +563,7 @@ static void queue(void)
     OK(derrimas_next_held(&w, 0, &forged));
     IS(forged.seq, 1);
     REFUSED(DERRIMAS_EMPTY, forged, derrimas_next_held(&w, 2, &forged));
-    OK(derrimas_queued(&w, 0, &forged)); /* finished, and in the queue for good */
+    OK(derrimas_queued(&w, 0, &forged)); /* finished, and in the queue until it is forgotten */
     IS(memcmp(&forged, &first, sizeof first), 0);
     REFUSED(DERRIMAS_EMPTY, forged, derrimas_queued(&w, 2, &forged));
     OK(derrimas_collect(&w, &passed));
@@ -571,6 +573,72 @@ static void queue(void)
     IS(passed.picked == 0 && passed.reclaimed == 1, true);
     OK(derrimas_outstanding(&w, &number));
     IS(number, 0);
+    derrimas_destroy(&w);
+}
+
+/* Queues this many entries. */
+static void queue_entries(derrimas_world *w, uint64_t count)
+{
+    for (uint64_t n = 0; n < count; n++) {
+        OK(derrimas_alloc(w, A, 1, DERRIMAS_SCANNED, &made));
+        OK(derrimas_register(w, A, DERRIMAS_NORMAL, 0, 0, 0, &registered));
+    }
+    OK(derrimas_set(w, A, 0));
+    OK(derrimas_collect(w, &passed));
+    IS(passed.picked, count);
+}
+
+/* What is finished and forgotten has no memory; what isn't finished stays, and is taken, held and finished as ever. */
+static void forgotten_entries(void)
+{
+    derrimas_world w = {0};
+    uint64_t seq;
+
+    OK(derrimas_open(&w, 8, 1));
+    OK(derrimas_forget(&w, &number));
+    IS(number, 0);
+    queue_entries(&w, 100);
+    OK(derrimas_forget(&w, &number)); /* none is finished */
+    IS(number, 0);
+    OK(derrimas_forgotten(&w, &number));
+    IS(number, 0);
+    for (seq = 0; seq < 40; seq++) {
+        OK(derrimas_take(&w, &entry));
+        IS(entry.seq, seq);
+        if (seq != 0) /* which is forfeited */
+            OK(derrimas_finish(&w, &entry));
+    }
+    for (seq = 50; seq < 90; seq++) {
+        OK(derrimas_queued(&w, seq, &entry));
+        OK(derrimas_finish(&w, &entry));
+    }
+    OK(derrimas_forget(&w, &number));
+    IS(number, 79);
+    OK(derrimas_forgotten(&w, &number));
+    IS(number, 100);
+    REFUSED(DERRIMAS_EMPTY, entry, derrimas_queued(&w, 1, &entry));
+    OK(derrimas_queued(&w, 0, &entry));
+    IS(entry.seq, 0);
+    OK(derrimas_finish(&w, &entry));
+    IS(derrimas_finish(&w, &entry), DERRIMAS_NOT_HELD);
+    queue_entries(&w, 3);
+    for (seq = 40; seq < 103; seq++) {
+        if (seq == 50)
+            seq = 90;
+        OK(derrimas_waiting(&w, &is));
+        IS(is, true);
+        OK(derrimas_take(&w, &entry));
+        IS(entry.seq, seq);
+        OK(derrimas_hold(&w, B, &entry));
+        OK(derrimas_finish(&w, &entry));
+        IS(derrimas_hold(&w, B, &entry), DERRIMAS_NOT_HELD);
+    }
+    REFUSED(DERRIMAS_EMPTY, entry, derrimas_take(&w, &entry));
+    OK(derrimas_count(&w, &counts));
+    IS(counts.queued == 103 && counts.taken == 103 && counts.outstanding == 0, true);
+    OK(derrimas_forget(&w, &number));
+    IS(number, 24);
+    REFUSED(DERRIMAS_EMPTY, entry, derrimas_queued(&w, 102, &entry));
     derrimas_destroy(&w);
 }
 
@@ -821,6 +889,7 @@ int main(void)
     links_disappear();
     cycles();
     queue();
+    forgotten_entries();
     urgent_entries();
     walks();
     counting();

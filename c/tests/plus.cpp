@@ -110,6 +110,7 @@ static void thrown()
     IS(w.invoke(run) == 1 && ran == 2);
     w.finish(*w.next_held(0));
     IS(w.outstanding() == 0);
+    IS(w.forgotten() == 0 && w.forget() == w.count().queued && w.forgotten() == w.count().queued && !w.queued(0));
 }
 
 /* The same out of a C procedure, through the library. */

@@ -84,11 +84,13 @@ static uint64_t collect_world(void)
 {
     static const derrimas_proc procs[] = {[CLOSE_FILE] = run, [CALL_LISP] = run};
     derrimas_passed passed;
+    uint64_t forgotten;
 
     set_slot(HOLDER, 0);
     set_slot(WORD, 0);
     must(derrimas_collect(&world, &passed));
     derrimas_invoke_finalizers(&world, procs, sizeof procs / sizeof *procs, NULL);
+    must(derrimas_forget(&world, &forgotten));
     return passed.reclaimed;
 }
 

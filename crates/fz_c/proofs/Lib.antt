@@ -2,3 +2,4 @@ pub mod Told
 pub mod Looking
 pub mod Taking
 pub mod Opening
+pub mod Forgetting

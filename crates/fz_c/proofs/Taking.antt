@@ -1,13 +1,23 @@
 -- The taking of entries through a handle, from what its parts ensure.
-use Rattle.std.proofs.Common.{◌≡◌, ℕ, Bool, Option, Some, None, length, nat_lt, refl, sym, subst}
+use Rattle.std.proofs.Common.{◌≡◌, ℕ, Bool, Option, Some, None, length, nat_lt, slice_get, IsFalse, refl, sym, subst}
+use Rattle.std.proofs.lemmas.Bool.{both_ways}
 use Rattle.fz_model.specs.declared.answers.Entry as answers
 use Rattle.fz_c.specs.declared.codes.TheConstants.{OK, NO_WORLD}
 use Rattle.fz_c.specs.declared.entries.Entry.{Entry}
-use Rattle.fz_c.specs.Next.{IsNext, TakesNext}
+use Rattle.fz_world.specs.World.{WorldView}
+use Rattle.fz_c.specs.Next.{IsNext, TakesNext, is_held}
 use Rattle.fz_c.specs.Owned.{Held}
 use Rattle.fz_c.specs.Told.{IsFound}
 use Rattle.fz_c.specs.Places.{TellsEntry}
 use Rattle.fz_c.specs.Takes.{Taken, Takes, Waited, Waits}
+
+-- where nothing is told at the next place, nothing stands there
+pub none_next : (w : WorldView) (from place : ℕ) → IsNext w from place → ((e : answers.Entry) → slice_get w.queue place ≡ Some e → IsFalse (is_held w e)) → None ≡ slice_get w.queue place
+none_next w from place next none = by (slice_get w.queue place) refl
+  where
+    by : (o : Option answers.Entry) → slice_get w.queue place ≡ o → None ≡ o
+    by None is = refl
+    by (Some e) is = absurd (both_ways (is_held w e) (none e is) (next.held e is))
 
 pub not_taken : {old new : Option Held} (entry : Entry) (kept : Type 0) → old ≡ None → new ≡ None → kept → Takes old new NO_WORLD entry kept
 unfolding Takes

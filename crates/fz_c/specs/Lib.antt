@@ -6,3 +6,4 @@ pub mod Next
 pub mod Takes
 pub mod Opens
 pub mod Samples
+pub mod Forgets

@@ -1,5 +1,6 @@
 -- What the readers of a world find, as its own contracts say it.
-use Rattle.std.specs.Prelude.{◌≡◌, ◌+◌, ◌-◌, ◌<◌, ℕ, Option, Some, Result, IfOk, IfSome, MatchOption, Contains, length, option_map}
+use Rattle.std.specs.Prelude.{◌≡◌, ◌+◌, ◌-◌, ◌<◌, ◌≤◌, ℕ, Option, Some, Result, IfOk, IfSome, MatchOption, Contains, IsFalse, length, slice_get, option_map}
+use Rattle.std.specs.List.{list_any}
 use Rattle.std.specs.FinMap.{get, contains_key, len}
 use Rattle.std.specs.FinSet as sets
 use Rattle.fz_model.specs.declared.answers.Entry.{Entry}
@@ -9,7 +10,7 @@ use Rattle.fz_model.specs.declared.refusal.Refusal.{Refusal}
 use Rattle.fz_model.specs.Places.{slot_at}
 use Rattle.fz_model.specs.Memory.{slot_word, word_at, points}
 use Rattle.fz_model.specs.Causes.{IsJudgedBy, slot_causes, place_causes}
-use Rattle.fz_model.specs.Events.{links_of}
+use Rattle.fz_model.specs.Events.{links_of, same_entry}
 use Rattle.fz_world.specs.declared.shown.Object.{Object}
 use Rattle.fz_world.specs.World.{WorldView}
 use Rattle.fz_world.specs.Ready.{IsNextHeld}
@@ -43,6 +44,12 @@ IsNextLink w which from found =
 
 abbrev pub IsNextHeldEntry : WorldView → ℕ → Option Entry → Type 0
 IsNextHeldEntry w from found = MatchOption found ((e : Entry) → Contains w.held e → e.seq < from) (IsNextHeld w.held from)
+
+-- the entry of the queue with a number: any from `forgotten` on, and before that those that aren't finished
+abbrev pub IsQueuedEntry : WorldView → ℕ → Option Entry → Type 0
+IsQueuedEntry w number found =
+    (w.forgotten ≤ number → found ≡ slice_get w.queue number)
+    × MatchOption found ((e : Entry) → slice_get w.queue number ≡ Some e → IsFalse (list_any (same_entry e) w.held)) (λ e. slice_get w.queue number ≡ Some e)
 
 -- `taken` counts the entries that were handed out
 pub record IsCounted (w : WorldView) (taken : ℕ) (counts : Counts) : Type 0 where

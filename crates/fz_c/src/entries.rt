@@ -7,6 +7,7 @@ ghost use Rattle.fz_model.specs.Events.{Make, Hold, Finish};
 ghost use Rattle.fz_c.specs.Told.{Calls, IsFound};
 ghost use Rattle.fz_c.specs.Places.{entry_of, TellsEntry, TellsWord};
 ghost use Rattle.fz_c.specs.Takes.{Takes, Waits};
+ghost use Rattle.fz_c.specs.Forgets.{Forgets};
 
 use crate::codes::{Code, EMPTY, NO_WORLD, OK, tell};
 use crate::handle::Handle;
@@ -90,6 +91,19 @@ pub extern "C" fn fz_waiting(alloc: Global, world: &mut Handle, waiting: &mut bo
         return NO_WORLD;
     };
     *waiting = session.is_waiting();
+    world.put(session);
+    OK
+}
+
+/// `World::forget`.
+#[unsafe(no_mangle)]
+pub extern "C" fn fz_forget(alloc: Global, world: &mut Handle, count: &mut u64) -> Code
+    ensures { Forgets world.old.value world.new.value result count.new (count.new ≡ count.old) }
+{
+    let Some(mut session) = world.take(alloc) else {
+        return NO_WORLD;
+    };
+    *count = session.world.forget();
     world.put(session);
     OK
 }

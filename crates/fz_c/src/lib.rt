@@ -20,7 +20,7 @@ mod worlds;
 
 pub use codes::Code;
 pub use collections::{Passed, fz_begin, fz_collect, fz_mark, fz_pause};
-pub use entries::{Entry, fz_finish, fz_hold, fz_outstanding, fz_take, fz_waiting};
+pub use entries::{Entry, fz_finish, fz_forget, fz_hold, fz_outstanding, fz_take, fz_waiting};
 pub use finalizers::{
     Old, Registered, fz_register, fz_register_ignore_self, fz_register_no_order, fz_unregister,
 };
@@ -30,8 +30,8 @@ pub use objects::{Made, fz_alloc, fz_load, fz_read, fz_store};
 pub use samples::{Samples, fz_sample};
 pub use session::Session;
 pub use shown::{
-    Counts, Linked, Object, Registration, fz_base, fz_count, fz_next_held, fz_next_link,
-    fz_next_object, fz_next_registration, fz_queued,
+    Counts, Linked, Object, Registration, fz_base, fz_count, fz_forgotten, fz_next_held,
+    fz_next_link, fz_next_object, fz_next_registration, fz_queued,
 };
 pub use slots::{CSlot, fz_copy, fz_get, fz_set};
 pub use worlds::{fz_close, fz_destroy, fz_open};

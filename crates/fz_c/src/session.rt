@@ -1,8 +1,9 @@
 //! What stands behind a handle.
 
-ghost use Rattle.std.specs.Prelude.{◌≡◌, length, nat_lt, slice_get};
-ghost use Rattle.fz_c.specs.Next.{IsNext, TakesNext};
-ghost use Rattle.fz_c.specs.Shows.{IsCounted};
+ghost use Rattle.std.specs.Prelude.{◌≡◌, Some, length, nat_lt, slice_get, IsTrue, IsFalse};
+ghost use Rattle.fz_model.specs.declared.answers.Entry.{Entry};
+ghost use Rattle.fz_c.specs.Next.{IsNext, TakesNext, is_held};
+ghost use Rattle.fz_c.specs.Shows.{IsCounted, IsQueuedEntry};
 
 use crate::shown::Counts;
 use fz_model::Entry;
@@ -15,14 +16,24 @@ pub struct Session {
     pub(crate) taken: usize,
 }
 
+/// Whether the entry with that number isn't finished.
+fn is_waiting_at(world: &World, number: u64) -> bool
+    ensures { (e : Entry) → slice_get world.now.queue number ≡ Some e → result ≡ is_held world.now e }
+{
+    match world.next(number) {
+        Some(entry) => world.is_held(&entry),
+        None => false,
+    }
+}
+
 impl Session {
     /// Passes over entries that were finished before they were taken.
     fn pass_finished(&mut self)
         ensures world { self.new.world ≡ self.old.world }
         ensures next { IsNext self.old.world self.old.taken self.new.taken }
     {
-        while let Some(entry) = self.world.queue().get(self.taken) {
-            if self.world.is_held(entry) {
+        while (self.taken as u64) < self.world.queued() {
+            if is_waiting_at(&self.world, self.taken as u64) {
                 return;
             }
             self.taken += 1;
@@ -35,9 +46,11 @@ impl Session {
         ensures next { TakesNext self.old.world self.old.taken result self.new.taken }
     {
         self.pass_finished();
-        let place = self.taken;
-        let entry = self.world.queue().get(place).copied()?;
-        self.taken = place + 1;
+        if self.taken as u64 >= self.world.queued() {
+            return None;
+        }
+        let entry = self.world.next(self.taken as u64)?;
+        self.taken += 1;
         Some(entry)
     }
 
@@ -48,14 +61,14 @@ impl Session {
         ensures waiting { result ≡ nat_lt self.new.taken (length self.old.world.queue) }
     {
         self.pass_finished();
-        self.taken < self.world.queue().len()
+        (self.taken as u64) < self.world.queued()
     }
 
-    /// The entry of the queue with that number.
+    /// The entry of the queue with that number, if it isn't both finished and forgotten.
     pub(crate) fn queued(&self, number: u64) -> Option<Entry>
-        ensures { result ≡ slice_get self.now.world.queue number }
+        ensures { IsQueuedEntry self.now.world number result }
     {
-        self.world.queue().get(number as usize).copied()
+        self.world.next(number)
     }
 
     /// All that is counted.
@@ -65,7 +78,7 @@ impl Session {
         Counts {
             passes: self.world.passes(),
             reclaimed: self.world.reclaimed(),
-            queued: self.world.queue().len() as u64,
+            queued: self.world.queued(),
             taken: self.taken as u64,
             outstanding: self.world.outstanding(),
             scans: self.world.scans(),

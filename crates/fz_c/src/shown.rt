@@ -1,10 +1,10 @@
 //! What a world shows: objects, registrations and links in order of address, entries in order of the queue, and counts.
 
-ghost use Rattle.std.specs.Prelude.{◌≡◌, slice_get};
+ghost use Rattle.std.specs.Prelude.{◌≡◌};
 ghost use Rattle.fz_c.specs.declared.codes.TheConstants as codes;
 ghost use Rattle.fz_c.specs.Told.{IsFound, Looks, Finds};
 ghost use Rattle.fz_c.specs.Places.{kind_of, number_of, link_kind_of, TellsEntry, TellsObject, TellsRegistration, TellsLinked};
-ghost use Rattle.fz_c.specs.Shows.{IsNextObject, IsObjectOf, IsNextRegistration, IsNextLink, IsNextHeldEntry, IsCounted};
+ghost use Rattle.fz_c.specs.Shows.{IsNextObject, IsObjectOf, IsNextRegistration, IsNextLink, IsNextHeldEntry, IsQueuedEntry, IsCounted};
 
 use crate::codes::{Code, EMPTY, NO_WORLD, OK};
 use crate::entries::{Entry, tell_entry};
@@ -222,11 +222,11 @@ pub extern "C" fn fz_next_held(
     tell_entry(found, entry)
 }
 
-/// The entry of the queue with that number, whether or not it was taken or finished.
+/// The entry of the queue with that number, whether or not it was taken or finished, if it isn't both finished and forgotten.
 #[tactic(auto, using(crate::proofs::Looking::not_found, crate::proofs::Looking::finds, crate::proofs::Told::none_taken))]
 #[unsafe(no_mangle)]
 pub extern "C" fn fz_queued(alloc: Global, world: &mut Handle, seq: u64, entry: &mut Entry) -> Code
-    ensures { Finds world.old.value world.new.value result (λ session found. found ≡ slice_get session.world.queue seq) (TellsEntry entry.new) (entry.new ≡ entry.old) }
+    ensures { Finds world.old.value world.new.value result (λ session. IsQueuedEntry session.world seq) (TellsEntry entry.new) (entry.new ≡ entry.old) }
 {
     let Some(session) = world.take(alloc) else {
         return NO_WORLD;
@@ -234,6 +234,20 @@ pub extern "C" fn fz_queued(alloc: Global, world: &mut Handle, seq: u64, entry: 
     let found = session.queued(seq);
     world.put(session);
     tell_entry(found, entry)
+}
+
+/// `World::forgotten`.
+#[tactic(auto, using(crate::proofs::Looking::not_looked, crate::proofs::Looking::looked, crate::proofs::Told::none_taken))]
+#[unsafe(no_mangle)]
+pub extern "C" fn fz_forgotten(alloc: Global, world: &mut Handle, number: &mut u64) -> Code
+    ensures { Looks world.old.value world.new.value result (λ session. (result ≡ codes.OK) × (number.new ≡ session.world.forgotten)) (number.new ≡ number.old) }
+{
+    let Some(session) = world.take(alloc) else {
+        return NO_WORLD;
+    };
+    *number = session.world.forgotten();
+    world.put(session);
+    OK
 }
 
 /// Tells all that the world counts.
