@@ -11,7 +11,7 @@ use std::time::Instant;
 use std::{io, mem};
 
 /// Makes `count` objects of one word, each registered, to which nothing leads. Returns whether all calls were accepted.
-fn make<O: Opening, R: Wait>(rt: &R, service: &Service<O>, count: u64) -> bool {
+pub(crate) fn make<O: Opening, R: Wait>(rt: &R, service: &Service<O>, count: u64) -> bool {
     let mut locked = service.enter(rt);
     for _ in 0..count {
         let made = locked.alloc(0, 0, 1, ObjKind::Atomic).is_ok()

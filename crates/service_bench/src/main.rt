@@ -2,14 +2,18 @@
 //!
 //! `mutex` takes a bare lock COUNT times and writes a word each time. `step` enters a service COUNT times and sets a slot each time. `workers` collects
 //! COUNT registered objects to which nothing leads, beside WORKERS workers on threads of their own, and ends when the workers have finished all of their
-//! entries. `busy` is the same with a procedure that works for about 2 microseconds. The other tests have no use for workers. It stands beside
+//! entries. `busy` is the same with a procedure that works for about 2 microseconds. `mutex` and `step` have no use for workers. It stands beside
 //! `bench/run`, which calls it.
+//!
+//! `soak` finalizes COUNT objects in rounds, and forgets their entries after each: by a service with WORKERS workers, or in a world alone where WORKERS is 0.
+//! It gives up the first of each 100,000 entries, and then says how many there were, so that `tests/soak-memory` sees what memory it has.
 #![tactic(auto)]
 
 mod bare;
 mod finalizers;
 mod finishing;
 mod session;
+mod soak;
 mod steps;
 
 use bare::lock_bare;
@@ -17,6 +21,7 @@ use finalizers::Procedure;
 use fz_service::Service;
 use fz_world::Config;
 use session::{Test, run};
+use soak::{soak_service, soak_world};
 use std::alloc::Global;
 use std::marker::Brand;
 use std::process::ExitCode;
@@ -49,6 +54,8 @@ fn main(rt: HostRuntime) -> io::Result<ExitCode> {
             let test = Test::Workers(Procedure::Busy);
             of_service(&rt, rt.alloc(), test, count, workers)?
         }
+        "soak" if workers == 0 => return soaked(soak_world(&rt, rt.alloc(), count)?),
+        "soak" => return soaked(soak_by_workers(&rt, rt.alloc(), workers, count)?),
         _ => return wrong(&rt),
     };
     match nanoseconds {
@@ -58,8 +65,26 @@ fn main(rt: HostRuntime) -> io::Result<ExitCode> {
     Ok(ExitCode::from(0))
 }
 
+/// Whether a soak by a service went well, whose last seat is the program's own.
+fn soak_by_workers<R: Print + Threads + Wait + Sync>(
+    rt: &R,
+    alloc: Global,
+    workers: u64,
+    count: u64,
+) -> io::Result<bool> {
+    match Service::prepare(alloc, soak::CONFIG, workers.saturating_add(1)) {
+        Ok(prepared) => soak_service::<Brand, R>(rt, alloc, prepared, workers, count),
+        Err(_) => Ok(false),
+    }
+}
+
+/// The status of a soak.
+fn soaked(all: bool) -> io::Result<ExitCode> {
+    Ok(ExitCode::from(u8::from(!all)))
+}
+
 fn wrong(rt: &impl Eprint) -> io::Result<ExitCode> {
-    eprintln!(rt; "service_bench: want mutex, step, workers or busy, WORKERS and COUNT")?;
+    eprintln!(rt; "service_bench: want mutex, step, workers, busy or soak, WORKERS and COUNT")?;
     Ok(ExitCode::from(2))
 }
 

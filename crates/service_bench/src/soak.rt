@@ -1,0 +1,171 @@
+//! A world that lives long: objects that are finalized in rounds, whose entries are forgotten.
+
+ghost use Rattle.std.specs.Prelude.{◌≡◌};
+
+use crate::finalizers::Nothing;
+use crate::finishing::make as make_registered;
+use fz_model::{ObjKind, RegKind};
+use fz_service::{OpenGate, Opening, Prepared, Proc, Seat, Service, Take, procedures, retire_all};
+use fz_world::{Config, World};
+use std::alloc::Global;
+use std::io;
+use std::sync::Wait;
+use std::thread;
+use std::thread::Threads;
+
+/// How many objects are made, dropped and finalized in a round.
+const ROUND: u64 = 10_000;
+
+/// Of so many entries the first is given up. After each so many it says how many there were.
+const PART: u64 = 100_000;
+
+/// The world of one soak.
+pub(crate) const CONFIG: Config = Config {
+    blocks: 1_024,
+    frames: 1,
+};
+
+/// Makes the objects of a round, each registered, to which nothing leads. Returns whether all calls were accepted.
+fn make(world: &mut World) -> bool {
+    for _ in 0..ROUND {
+        let made = world.alloc(0, 0, 1, ObjKind::Atomic).is_ok()
+            && world.register(0, 0, RegKind::Normal, 0, 0, 0).is_ok();
+        if !made {
+            return false;
+        }
+    }
+    world.set(0, 0, 0).is_ok()
+}
+
+/// Finishes the entries from a number on, but for those that are given up, and forgets them. Returns the number behind the last.
+fn finish_from(world: &mut World, from: u64) -> u64 {
+    let mut taken = from;
+    while let Some(entry) = world.next(taken) {
+        if taken % PART != 0 {
+            let _ = world.finish(&entry);
+        }
+        taken += 1;
+    }
+    world.forget();
+    taken
+}
+
+/// Says how many entries there were, after each part.
+fn report<R: Print>(rt: &R, queued: u64) -> io::Result<()> {
+    if queued % PART == 0 {
+        println!(rt; "{queued}")?;
+    }
+    Ok(())
+}
+
+/// Finalizes `count` objects in a world alone. Returns whether all calls were accepted.
+pub(crate) fn soak_world<R: Print>(rt: &R, alloc: Global, count: u64) -> io::Result<bool> {
+    let Ok(mut world) = World::open(alloc, CONFIG) else {
+        return Ok(false);
+    };
+    let mut taken = 0;
+    while taken < count {
+        if !make(&mut world) || world.collect().is_err() {
+            return Ok(false);
+        }
+        taken = finish_from(&mut world, taken);
+        report(rt, taken)?;
+    }
+    Ok(true)
+}
+
+/// Takes the first entry of the line, if there is one, and gives it up.
+fn give_up<O: Opening>(seat: Seat<O>) -> Seat<O> {
+    match seat.take() {
+        Take::Taken(duty) => duty.forfeit(),
+        Take::Empty(seat) | Take::Busy(seat) => seat,
+    }
+}
+
+/// Makes a round of objects and collects. Returns how many entries were ever queued, if all calls were accepted.
+fn collect_round<O: Opening, R: Wait>(rt: &R, service: &Service<O>) -> Option<u64> {
+    if !make_registered(rt, service, ROUND) {
+        return None;
+    }
+    let mut locked = service.enter(rt);
+    locked.collect().ok()?;
+    Some(locked.queued())
+}
+
+/// Waits until the workers have finished all entries but those that were given up, and forgets them.
+fn forget_round<O: Opening, R: Wait>(rt: &R, service: &Service<O>, given_up: u64) {
+    while service.enter(rt).outstanding() > given_up {
+        thread::yield_now();
+    }
+    service.enter(rt).forget();
+}
+
+/// Finalizes objects by the workers, until one more is to be given up. Returns how many entries were ever queued, if all calls were accepted.
+fn run_rounds<O: Opening, R: Wait>(rt: &R, service: &Service<O>, given_up: u64) -> Option<u64> {
+    loop {
+        let queued = collect_round(rt, service)?;
+        forget_round(rt, service, given_up);
+        if queued % PART == 0 {
+            return Some(queued);
+        }
+    }
+}
+
+/// Finalizes objects by workers, until `count` entries were queued. Before each part it takes an entry by its own seat, and gives it up. Returns the
+/// seats, its own behind the others, and whether all calls were accepted.
+fn run_parts<O: Opening + Send + Sync, R: Print + Threads + Wait + Sync>(
+    rt: &R,
+    service: &Service<O>,
+    mut seats: Vec<Seat<O>>,
+    mut own: Seat<O>,
+    procs: &mut [Vec<Box<dyn Proc + Send>>],
+    count: u64,
+) -> (Vec<Seat<O>>, Seat<O>, io::Result<bool>) {
+    let mut queued = 0;
+    while queued < count {
+        if collect_round(rt, service).is_none() {
+            return (seats, own, Ok(false));
+        }
+        own = give_up(own);
+        let given_up = own.forfeited();
+        let (back, ran) = service.run_beside(seats, procs, &OpenGate, rt, || run_rounds(rt, service, given_up));
+        seats = back;
+        let Some(now) = ran else {
+            return (seats, own, Ok(false));
+        };
+        queued = now;
+        if let Err(error) = report(rt, queued) {
+            return (seats, own, Err(error));
+        }
+    }
+    (seats, own, Ok(true))
+}
+
+/// Finalizes `count` objects by a service with workers, which leaves none but those that are given up. Returns whether all was so.
+pub(crate) fn soak_service<O: Opening + Send + Sync, R: Print + Threads + Wait + Sync>(
+    rt: &R,
+    alloc: Global,
+    prepared: Prepared,
+    workers: u64,
+    count: u64,
+) -> io::Result<bool>
+    requires { prepared ≡ O.origin }
+{
+    let mut procs = procedures!(alloc; workers; Nothing);
+    let Ok((service, mut seats)) = Service::<O>::open(prepared) else {
+        return Ok(false);
+    };
+    let Some(own) = seats.pop() else {
+        retire_all(seats);
+        return Ok(false);
+    };
+    let (mut seats, own, ran) = run_parts(rt, &service, seats, own, procs.as_mut_slice(), count);
+    let given_up = own.forfeited();
+    if let Err(failed) = seats.push(own) {
+        failed.value.retire();
+    }
+    match service.conclude(seats) {
+        Ok(end) => Ok(ran? && end.forfeited == given_up && end.left.is_empty()),
+        Err(_) => Ok(false),
+    }
+}
