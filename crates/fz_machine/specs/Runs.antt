@@ -24,7 +24,7 @@ pub data Runs (Exact : Type 0) (begun : Machine) (before : Graph) : Machine → 
   Goes : {m new : Machine} {g after : Graph} {next : Next} (answers : List Bool) (goes : GoesTo m answers new next)
       → Runs Exact begun before m g → AreHonest Exact goes.phase answers m.walk.left g after → Runs Exact begun before new after
 
--- what `Finalizers::pass` makes of finalizers and a host's heap: what the model decides, in the finalizers alone, and no marks are lost
+-- as of `Finalizers::pass`: what the model decides, what comes and goes in the finalizers, and that marks stay and are closed
 pub record MakesPass (Exact : Type 0) (old : State) (before : Graph) (new : State) (after : Graph) : Type 0 where
   pub decided : DecidesFor Exact (next_pass old.passes) old before.objects before.marked new after.objects after.marked
   pub follows : Follows old Pass new
