@@ -22,3 +22,5 @@ pub mod Turning
 pub mod Ran
 pub mod Fewer
 pub mod Within
+pub mod Throughout
+pub mod Called

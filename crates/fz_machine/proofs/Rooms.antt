@@ -13,6 +13,7 @@ use Rattle.fz_machine.specs.declared.phase.Phase.{Phase}
 use Rattle.fz_machine.specs.Going.{HasRoom}
 use Rattle.fz_machine.specs.Phases.{after, asks}
 use Rattle.fz_machine.specs.Steps.{Going, step, stepped, steps, skip, skipped}
+use Rattle.fz_machine.proofs.Throughout.{skip_keeps, steps_keep}
 use Rattle.fz_machine.proofs.Within.{still}
 
 pub opened : (room : ℕ) → HasRoom opening room
@@ -63,27 +64,11 @@ module _ (s : State) (room : ℕ) (h : HasRoom s room) where
       record { registrations = t.registered; short = t.short; long = t.long }
 
 module _ (phase : Phase) (room : ℕ) where
-  pub step_room : (answer : Bool) (g : Going) → HasRoom g.finalizers room → HasRoom (step phase answer g).finalizers room
-  step_room answer g h = by g.left
-    where
-      by : (xs : List Item) → HasRoom (stepped phase answer g xs).finalizers room
-      by [] = h
-      by (item ∷ left) = still_room g.finalizers room h phase item answer
-
   pub steps_room : (xs : List Bool) (g : Going) → HasRoom g.finalizers room → HasRoom (steps phase xs g).finalizers room
-  steps_room [] g h = h
-  steps_room (x ∷ xs) g h = steps_room xs (step phase x g) (step_room x g h)
-
-  either : (b : Bool) (g k : Going) → HasRoom g.finalizers room → HasRoom k.finalizers room → HasRoom (cond b g k).finalizers room
-  either true g k x y = x
-  either false g k x y = y
-
-  skipped_room : (xs : List Item) (g : Going) → HasRoom g.finalizers room → HasRoom (skipped phase xs g).finalizers room
-  skipped_room [] g h = h
-  skipped_room (item ∷ left) g h = either (is_some (asks phase item)) g (skipped phase left (step phase false g)) h (skipped_room left (step phase false g) (step_room false g h))
+  steps_room = steps_keep (λ s. HasRoom s room) (λ p item answer s h. still_room s room h p item answer) phase
 
   pub skip_room : (g : Going) → HasRoom g.finalizers room → HasRoom (skip phase g).finalizers room
-  skip_room g h = skipped_room g.left g h
+  skip_room = skip_keeps (λ s. HasRoom s room) (λ p item answer s h. still_room s room h p item answer) phase
 
 -- as parts are seen to be what they were
 pub same_room : (s new : State) (room new_room : ℕ) → new ≡ s → new_room ≡ room → HasRoom s room → HasRoom new new_room

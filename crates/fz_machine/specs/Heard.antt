@@ -1,6 +1,7 @@
--- How long a pass goes on, whatever the host answers.
-use Rattle.std.specs.Prelude.{ℕ, ◌+◌, ◌*◌, ◌≤◌, Bool, List, length}
+-- What holds of a pass whatever the host answers: it ends, and is made of calls of the finalizers.
+use Rattle.std.specs.Prelude.{◌≡◌, ◌⊎◌, ℕ, ◌+◌, ◌*◌, ◌≤◌, Bool, List, length}
 use Rattle.std.specs.FinMap.{len}
+use Rattle.fz_finalizers.specs.Promises.{Past, IsReached}
 use Rattle.fz_finalizers.specs.States.{State}
 use Rattle.fz_machine.specs.declared.pass.Next.{Next}
 use Rattle.fz_machine.specs.Machines.{Machine, IsBegun, GoesTo}
@@ -16,3 +17,14 @@ most_answers s = 6 * (len s.registrations + len s.late) + 3 * (len s.short + len
 
 abbrev pub PassesEnd : Type 0
 PassesEnd = (old begun m : Machine) (n : ℕ) → IsBegun old begun → Hears begun m n → n ≤ most_answers old.finalizers.state
+
+-- calls lead to the state, and of these no other takes and ends than those of a past
+pub record IsCalled (past : Past) (s : State) : Type 0 where
+  pub later : Past
+  pub reached : IsReached s later
+  pub taken : later.taken ≡ past.taken
+  pub finished : later.finished ≡ past.finished
+
+-- calls lead through a pass
+abbrev pub PassesAreCalls : Type 0
+PassesAreCalls = (old new : Machine) (past : Past) → IsReached old.finalizers.state past → IsBegun old new ⊎ ((answers : List Bool) × (next : Next) × GoesTo old answers new next) → IsCalled past new.finalizers.state

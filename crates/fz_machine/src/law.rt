@@ -1,6 +1,6 @@
 //! What a run of questions and answers makes.
 
-ghost use Rattle.fz_machine.specs.Heard.{PassesEnd};
+ghost use Rattle.fz_machine.specs.Heard.{PassesAreCalls, PassesEnd};
 ghost use Rattle.fz_machine.specs.Runs.{RunsPass};
 
 /// A run whose answers are a graph's makes the model's pass, just as `Finalizers::pass` does, and asks nothing that it may not.
@@ -16,4 +16,10 @@ pub fn runs_make_the_pass()
 /// goes on to answer comes to the end.
 pub fn passes_end()
     ensures { PassesEnd }
+{}
+
+/// Whatever the host answers, a pass is made of calls of the finalizers that take and end nothing. So what `every_sequence` of `fz_finalizers` promises
+/// holds after each question.
+pub fn passes_are_calls()
+    ensures { PassesAreCalls }
 {}

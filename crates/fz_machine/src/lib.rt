@@ -16,7 +16,7 @@ mod reserving;
 mod walk;
 
 pub use item::Item;
-pub use law::{passes_end, runs_make_the_pass};
+pub use law::{passes_are_calls, passes_end, runs_make_the_pass};
 pub use machine::Machine;
 pub use pass::Next;
 pub use phase::Phase;
