@@ -6,6 +6,7 @@ use Rattle.fz_model.specs.declared.answers.Registration.{Registration}
 use Rattle.fz_model.specs.State.{Object}
 use Rattle.fz_model.specs.Pass.{is_dead}
 use Rattle.fz_model.proofs.Maps.{filled_back}
+use Rattle.fz_pass.specs.Late.{AreApart, AreNormal}
 use Rattle.fz_pass.specs.Leading.{LedAreMarked}
 use Rattle.fz_pass.specs.Marks.{IsClosed, AreRegistered, AreTargets}
 use Rattle.fz_pass.proofs.Both.{in_first, in_second, led_are_marked, led_still}
@@ -16,7 +17,13 @@ use Rattle.fz_machine.specs.Graph.{Graph, MayBegin}
 use Rattle.fz_machine.proofs.Chosen.{tabled}
 use Rattle.fz_machine.proofs.Phased.{clear, all, Leading, Picked}
 
-module _ (E : Type 0) (b : State) (before : Graph) (begin : MayBegin b before) where
+pub record HasBegun (b : State) (before : Graph) : Type 0 where
+  pub may : MayBegin b before
+  pub open may use *
+  pub apart : AreApart b.registrations b.late
+  pub normal : AreNormal b.late
+
+module _ (E : Type 0) (b : State) (before : Graph) (begin : HasBegun b before) where
   pub registered : AreRegistered (clear E b before) b.registrations
   registered = registered_still before.objects b.short before.marked b.registrations begin.registered
 

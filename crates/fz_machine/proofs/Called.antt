@@ -1,5 +1,5 @@
 -- A pass is made of calls, and calls keep the tables of the kinds.
-use Rattle.std.proofs.Common.{◌≡◌, ◌≢◌, ◌+◌, ◌⊎◌, ◌∙◌, ℕ, Bool, true, false, cond, List, Option, Some, None, refl, sym, ap, subst, inl, inr, ⊎_elim, nat_cmp}
+use Rattle.std.proofs.Common.{◌≡◌, ◌≢◌, ◌+◌, ◌∙◌, ℕ, Bool, true, false, cond, Option, Some, None, refl, sym, ap, subst, inl, inr, ⊎_elim, nat_cmp}
 use Rattle.std.proofs.lemmas.Bool.{cases_eq, true≢false}
 use Rattle.std.proofs.lemmas.Option.{none-some, same_Some}
 use Rattle.std.specs.FinMap.{get, get-empty, insert, remove}
@@ -21,14 +21,12 @@ use Rattle.fz_finalizers.specs.Kinds.{is_late, table_finalizer, table_kind}
 use Rattle.fz_finalizers.specs.Promises.{IsReached, Opened, Past, Then}
 use Rattle.fz_finalizers.specs.States.{State, registered, with_links}
 use Rattle.fz_machine.specs.declared.item.Item.{Item}
-use Rattle.fz_machine.specs.declared.pass.Next.{Next}
 use Rattle.fz_machine.specs.declared.phase.Phase.{Phase}
 use Rattle.fz_machine.specs.declared.phase.Phase.TheVariants.{ShortTargets, ShortWords, Objects, Children, Again, Picks, LateAgain, LatePicks, LongTargets, LongWords, ShortHolders, LongHolders}
 use Rattle.fz_machine.specs.Going.{going}
 use Rattle.fz_machine.specs.Heard.{IsCalled, PassesAreCalls}
-use Rattle.fz_machine.specs.Machines.{GoesTo, IsBegun, Machine}
 use Rattle.fz_machine.specs.Phases.{after}
-use Rattle.fz_machine.specs.Steps.{Going, steps}
+use Rattle.fz_machine.specs.Steps.{steps}
 use Rattle.fz_machine.proofs.Throughout.{goes_keep, steps_keep}
 
 -- ---- what answers do
@@ -98,7 +96,7 @@ module _ (old new : State) (h : AreNormal old.late) where
     where
       by : (b : Bool) → is_late f.kind ≡ b
           → AreNormal (cond b (record old { registrations = remove old.registrations object; late = insert old.late object (registration_of old.next_number (table_finalizer f)); next_number = old.next_number + 1 })
-            (record old { registrations = insert old.registrations object (registration_of old.next_number (table_finalizer f)); late = remove old.late object; next_number = old.next_number + 1 })).late
+          (record old { registrations = insert old.registrations object (registration_of old.next_number (table_finalizer f)); late = remove old.late object; next_number = old.next_number + 1 })).late
       by true on = entered old.late object (registration_of old.next_number (table_finalizer f)) (late_is_normal f.kind on) h
       by false off = removed old.late object h
 

@@ -18,11 +18,11 @@ use Rattle.fz_machine.specs.declared.item.Item.{Item}
 use Rattle.fz_machine.specs.declared.phase.Phase.{Phase}
 use Rattle.fz_machine.specs.declared.phase.Phase.TheVariants.{ShortTargets, ShortWords, Objects, Children, Again, Picks, LateAgain, LatePicks, LongTargets, LongWords, ShortHolders, LongHolders}
 use Rattle.fz_machine.specs.declared.question.Ask.TheVariants.{MarkAlone}
-use Rattle.fz_machine.specs.Graph.{Graph, IsHonest, MayBegin}
+use Rattle.fz_machine.specs.Graph.{Graph, IsHonest}
 use Rattle.fz_machine.specs.Items.{of_other, place_of}
 use Rattle.fz_machine.specs.Phases.{after, asks, child_ask, keeps, pick_ask, subject}
 use Rattle.fz_machine.proofs.Among.{AreInOrder, OneOf, each_push, one_last, one_left, order_after, order_without}
-use Rattle.fz_machine.proofs.Begun.{births, late_led, late_registered, late_starts, left_none, not_late, not_other, others_led, registered, starts}
+use Rattle.fz_machine.proofs.Begun.{HasBegun, births, late_led, late_registered, late_starts, left_none, not_late, not_other, others_led, registered, starts}
 use Rattle.fz_machine.proofs.Choosing.{marked_alone, marked_by_kind}
 use Rattle.fz_machine.proofs.Chosen.{chosen_again, chosen_more, chosen_on, no_more, place_in, still}
 use Rattle.fz_machine.proofs.Entered.{IsLate, IsLateAt, IsOfEither}
@@ -37,7 +37,7 @@ not_late_kind table.Normal = refl
 not_late_kind table.IgnoreSelf = refl
 not_late_kind table.NoOrder = refl
 
-module _ (E : Type 0) (b : State) (before : Graph) (begin : MayBegin b before) where
+module _ (E : Type 0) (b : State) (before : Graph) (begin : HasBegun b before) where
   abbrev Either : Item → Type 0
   Either = IsOfEither b.registrations b.late
 

@@ -5,6 +5,8 @@ use Rattle.fz_model.specs.Pass.{entries_of}
 use Rattle.fz_model.proofs.Sound.{length-entries_of}
 use Rattle.fz_finalizers.specs.Follows.{Follows, Pass, next_pass}
 use Rattle.fz_finalizers.proofs.Following.{decided_queues}
+use Rattle.fz_finalizers.proofs.Promised.{promised}
+use Rattle.fz_finalizers.specs.Promises.{IsReached, Past}
 use Rattle.fz_finalizers.specs.States.{State}
 use Rattle.fz_machine.specs.declared.item.Item.{Item}
 use Rattle.fz_machine.specs.declared.phase.Phase.{Phase}
@@ -17,6 +19,8 @@ use Rattle.fz_machine.specs.Machines.{IsBegun, Machine}
 use Rattle.fz_machine.specs.Phases.{after, asks, keeps, next_phase, subject}
 use Rattle.fz_machine.specs.Runs.{AreHonest, Begun, Goes, MakesPass, Runs, RunsPass}
 use Rattle.fz_machine.specs.Steps.{Asks, Begins, Ends, Going, GoesOn, Turns, skip, skipped, steps}
+use Rattle.fz_machine.proofs.Begun.{HasBegun}
+use Rattle.fz_machine.proofs.Called.{reached_normal}
 use Rattle.fz_machine.proofs.DeadWords.{IsLink, IsLinkAt}
 use Rattle.fz_machine.proofs.Entered.{links_all, links_each}
 use Rattle.fz_machine.proofs.Keeping.{keep}
@@ -25,7 +29,7 @@ use Rattle.fz_machine.proofs.Phasing.{kept_on, sifts_begin}
 use Rattle.fz_machine.proofs.Stated.{as_begun}
 use Rattle.fz_machine.proofs.Turning.{closed_after, decides, still_marked, turn}
 
-module _ (E : Type 0) (b : State) (before : Graph) (begin : MayBegin b before) where
+module _ (E : Type 0) (b : State) (before : Graph) (begin : HasBegun b before) where
   abbrev IsOn : Phase → Going → Graph → Type 0
   IsOn phase g h = IsIn E b before phase g.finalizers g.kept g.left h
 
@@ -78,22 +82,15 @@ module _ (E : Type 0) (b : State) (before : Graph) (begin : MayBegin b before) w
 
 -- ---- from the begin to the end
 
-module _ (E : Type 0) (old begun new : Machine) (before after_it : Graph) (is : IsBegun old begun) (may : MayBegin old.finalizers.state before) (runs : Runs E begun before new after_it) (ends : new.phase ≡ None) where
+module _ (E : Type 0) (old begun new : Machine) (past : Past) (before after_it : Graph) (reached : IsReached old.finalizers.state past) (is : IsBegun old begun) (may : MayBegin old.finalizers.state before) (runs : Runs E begun before new after_it) (ends : new.phase ≡ None) where
   abbrev b : State
   b = record old.finalizers.state { passes = next_pass old.finalizers.passes }
 
-  may_begin : MayBegin b before
-  may_begin = record {
-    registered = may.registered;
-    late = may.late;
-    apart = may.apart;
-    normal = may.normal;
-    short = may.short;
-    long = may.long;
-    zero = may.zero;
-    closed = may.closed;
-    births = may.births;
-    starts = may.starts;
+  has_begun : HasBegun b before
+  has_begun = record {
+    may = record { registered = may.registered; late = may.late; short = may.short; long = may.long; zero = may.zero; closed = may.closed; births = may.births; starts = may.starts };
+    apart = (promised old.finalizers.state past reached).apart;
+    normal = reached_normal old.finalizers.state past reached;
   }
 
   starts : IsIn E b before ShortTargets begun.finalizers.state begun.walk.kept begun.walk.left before
@@ -106,7 +103,7 @@ module _ (E : Type 0) (old begun new : Machine) (before after_it : Graph) (is : 
   at_end : IsAtEnd E b before new.finalizers.state after_it
   at_end =
       subst (λ o. IsWhere E b before o new.finalizers.state new.walk.kept new.walk.left after_it) ends
-      (ran E b before may_begin begun new after_it (subst (λ o. IsWhere E b before o begun.finalizers.state begun.walk.kept begun.walk.left before) (sym is.phase) starts) runs)
+      (ran E b before has_begun begun new after_it (subst (λ o. IsWhere E b before o begun.finalizers.state begun.walk.kept begun.walk.left before) (sym is.phase) starts) runs)
 
   -- what comes and goes in the finalizers
   as_pass : Follows old.finalizers.state Pass new.finalizers.state
@@ -117,18 +114,18 @@ module _ (E : Type 0) (old begun new : Machine) (before after_it : Graph) (is : 
       let entries = length-entries_of b.passes b.queued picks in
       let queued = ap (λ (s : State). s.queued) at_end.state in
       let count : length old.finalizers.waiting + new.finalizers.queued ≡ length new.finalizers.waiting + old.finalizers.queued = omega (arith, long, entries, queued) in (
-        decided_queues E b.passes before.objects (retain_keys after_it.objects after_it.marked) before.marked old.finalizers.state new.finalizers.state may.apart
-            (decides E b before may_begin new.finalizers.state after_it at_end) count (ap (λ (s : State). s.held) at_end.state) (ap (λ (s : State). s.next_number) at_end.state),
+        decided_queues E b.passes before.objects (retain_keys after_it.objects after_it.marked) before.marked old.finalizers.state new.finalizers.state has_begun.apart
+            (decides E b before has_begun new.finalizers.state after_it at_end) count (ap (λ (s : State). s.held) at_end.state) (ap (λ (s : State). s.next_number) at_end.state),
         ap (λ (s : State). s.passes) at_end.state,
       )
 
   pub makes_pass : MakesPass E old.finalizers.state before new.finalizers.state after_it
   makes_pass = record {
-    decided = decides E b before may_begin new.finalizers.state after_it at_end;
+    decided = decides E b before has_begun new.finalizers.state after_it at_end;
     follows = as_pass;
-    marks = still_marked E b before may_begin new.finalizers.state after_it at_end;
-    closed = closed_after E b before may_begin new.finalizers.state after_it at_end;
+    marks = still_marked E b before has_begun new.finalizers.state after_it at_end;
+    closed = closed_after E b before has_begun new.finalizers.state after_it at_end;
   }
 
 pub runs_pass : (E : Type 0) → RunsPass E
-runs_pass E old begun new before after_it is may runs ends = makes_pass E old begun new before after_it is may runs ends
+runs_pass E old begun new past before after_it reached is may runs ends = makes_pass E old begun new past before after_it reached is may runs ends

@@ -1,5 +1,5 @@
 -- The list of a phase has room for all that may come onto it.
-use Rattle.std.proofs.Common.{◌≡◌, ◌≤◌, ℕ, Bool, true, false, cond, List, [], ◌∷◌, is_some, Result, Ok, Err, OnOk, OnErr, nat_cmp, sym, ap, subst, arith}
+use Rattle.std.proofs.Common.{◌≡◌, ◌≤◌, ℕ, Bool, List, Result, Ok, Err, OnOk, OnErr, nat_cmp, sym, ap, subst, arith}
 use Rattle.std.specs.FinMap.{get, len, remove, empty, len-empty}
 use Rattle.fz_model.specs.declared.answers.Registration.{Registration}
 use Rattle.fz_model.specs.declared.kinds.LinkKind.{LinkKind}
@@ -11,8 +11,8 @@ use Rattle.fz_finalizers.proofs.Counting.{len_less, len_moved_to}
 use Rattle.fz_machine.specs.declared.item.Item.{Item}
 use Rattle.fz_machine.specs.declared.phase.Phase.{Phase}
 use Rattle.fz_machine.specs.Going.{HasRoom}
-use Rattle.fz_machine.specs.Phases.{after, asks}
-use Rattle.fz_machine.specs.Steps.{Going, step, stepped, steps, skip, skipped}
+use Rattle.fz_machine.specs.Phases.{after}
+use Rattle.fz_machine.specs.Steps.{Going, steps, skip}
 use Rattle.fz_machine.proofs.Throughout.{skip_keeps, steps_keep}
 use Rattle.fz_machine.proofs.Within.{still}
 

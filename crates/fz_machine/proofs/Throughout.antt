@@ -1,10 +1,10 @@
 -- What each answer keeps of the finalizers, a pass keeps.
-use Rattle.std.proofs.Common.{◌≡◌, ◌∷◌, [], Bool, true, false, cond, List, Option, sym, subst, is_some}
+use Rattle.std.proofs.Common.{◌∷◌, [], Bool, true, false, cond, List, Option, sym, subst, is_some}
 use Rattle.fz_finalizers.specs.States.{State}
 use Rattle.fz_machine.specs.declared.item.Item.{Item}
 use Rattle.fz_machine.specs.declared.phase.Phase.{Phase}
 use Rattle.fz_machine.specs.Phases.{after, asks}
-use Rattle.fz_machine.specs.Steps.{Asks, Begins, Ends, Going, GoesOn, Turns, skip, skipped, step, stepped, steps}
+use Rattle.fz_machine.specs.Steps.{Asks, Ends, Going, GoesOn, Turns, skip, skipped, step, stepped, steps}
 
 module _ (P : State → Type 0) (keeps : (phase : Phase) (item : Item) (answer : Bool) (s : State) → P s → P (after phase item answer s)) where
   module _ (phase : Phase) where

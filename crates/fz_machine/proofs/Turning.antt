@@ -13,11 +13,11 @@ use Rattle.fz_finalizers.specs.States.{State}
 use Rattle.fz_machine.specs.declared.item.Item.{Item}
 use Rattle.fz_machine.specs.declared.phase.Phase.{Phase}
 use Rattle.fz_machine.specs.declared.phase.Phase.TheVariants.{ShortTargets, ShortWords, Objects, Children, Again, Picks, LateAgain, LatePicks, LongTargets, LongWords, ShortHolders, LongHolders}
-use Rattle.fz_machine.specs.Graph.{Graph, MayBegin}
+use Rattle.fz_machine.specs.Graph.{Graph}
 use Rattle.fz_machine.specs.Items.{AreInTurn, AreLinks, AreObjects, place_of}
 use Rattle.fz_machine.specs.Phases.{next_phase}
 use Rattle.fz_machine.proofs.Among.{AreInOrder, Each, OneOf, each_as, each_permuted, one_as, one_permuted, order_from}
-use Rattle.fz_machine.proofs.Begun.{closed, late_registered, long_targets, not_before, registered}
+use Rattle.fz_machine.proofs.Begun.{HasBegun, closed, late_registered, long_targets, not_before, registered}
 use Rattle.fz_machine.proofs.Chosen.{choosing_begins, chosen_all, tabled}
 use Rattle.fz_machine.proofs.DeadWords.{IsLink, IsLinkAt}
 use Rattle.fz_machine.proofs.Entered.{IsEitherAt, IsLate, IsLateAt, IsOfEither, links_all, links_each, objects_all, objects_each}
@@ -27,7 +27,7 @@ use Rattle.fz_machine.proofs.Phasing.{Sifts, Clears, clears_all, clears_begin, h
 use Rattle.fz_machine.proofs.Sifting.{IsAt, sifted}
 use Rattle.fz_machine.proofs.Stated.{state_with}
 
-module _ (E : Type 0) (b : State) (before : Graph) (begin : MayBegin b before) where
+module _ (E : Type 0) (b : State) (before : Graph) (begin : HasBegun b before) where
   abbrev Either : Item → Type 0
   Either = IsOfEither b.registrations b.late
 

@@ -5,7 +5,6 @@ use Rattle.std.specs.Option.{option_map_or}
 use Rattle.fz_model.specs.Memory.{points, written}
 use Rattle.fz_model.specs.Reachability.{Leads}
 use Rattle.fz_model.specs.State.{Map, Object}
-use Rattle.fz_pass.specs.Late.{AreApart, AreNormal}
 use Rattle.fz_pass.specs.Marks.{IsClosed, Marks, IsLeadingBut, IsLastToMark, AreRegistered, AreTargets}
 use Rattle.fz_finalizers.specs.States.{State}
 use Rattle.fz_machine.specs.declared.question.Ask.{Ask}
@@ -51,12 +50,10 @@ abbrev pub IsHonest : Type 0 → Option Ask → ℕ → Graph → Bool → Graph
 IsHonest Exact (Some ask) subject old answer new = MayAsk ask subject old → Answers Exact ask subject old answer new
 IsHonest Exact None subject old answer new = new ≡ old
 
--- where a pass may begin: marking is done, what is registered and linked to are objects of the graph, and the second table has late ones alone
+-- where a pass may begin: marking is done, and what is registered and linked to are objects of the graph
 pub record MayBegin (s : State) (g : Graph) : Type 0 where
   pub registered : AreRegistered g.objects s.registrations
   pub late : AreRegistered g.objects s.late
-  pub apart : AreApart s.registrations s.late
-  pub normal : AreNormal s.late
   pub short : AreTargets g.objects s.short
   pub long : AreTargets g.objects s.long
   pub zero : points g.objects 0 ≡ None  -- a word that was cleared points to nothing

@@ -3,6 +3,7 @@ use Rattle.std.specs.Prelude.{◌≡◌, ℕ, Bool, List, [], ◌∷◌, None, I
 use Rattle.fz_pass.specs.Marks.{IsClosed}
 use Rattle.fz_finalizers.specs.Follows.{Follows, Pass, next_pass}
 use Rattle.fz_finalizers.specs.Passed.{DecidesFor}
+use Rattle.fz_finalizers.specs.Promises.{IsReached, Past}
 use Rattle.fz_finalizers.specs.States.{State}
 use Rattle.fz_machine.specs.declared.item.Item.{Item}
 use Rattle.fz_machine.specs.declared.pass.Next.{Next}
@@ -31,8 +32,8 @@ pub record MakesPass (Exact : Type 0) (old : State) (before : Graph) (new : Stat
   pub marks : (a : ℕ) → IsTrue (before.marked a) → IsTrue (after.marked a)
   pub closed : IsClosed after.objects after.marked
 
--- a run whose answers are a graph's makes the pass
+-- where calls have led to the finalizers, a run whose answers are a graph's makes the pass
 abbrev pub RunsPass : Type 0 → Type 0
-RunsPass Exact = (old begun new : Machine) (before after : Graph)
-    → IsBegun old begun → MayBegin old.finalizers.state before → Runs Exact begun before new after → new.phase ≡ None
+RunsPass Exact = (old begun new : Machine) (past : Past) (before after : Graph)
+    → IsReached old.finalizers.state past → IsBegun old begun → MayBegin old.finalizers.state before → Runs Exact begun before new after → new.phase ≡ None
     → MakesPass Exact old.finalizers.state before new.finalizers.state after
