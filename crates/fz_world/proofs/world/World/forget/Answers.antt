@@ -1,9 +1,6 @@
 -- The queue forgets, and keeps room for the entries of all registrations.
-use Rattle.std.proofs.Common.{length, sym, ap, ◌∙◌, arith}
+use Rattle.std.proofs.Common.{ap, arith}
 use Rattle.fz_world.specs.Ready.{Ready}
-use Rattle.fz_world.specs.World.{WorldView, view_of}
-use Rattle.fz_world.proofs.Does.{forgets_nothing}
-use Rattle.fz_world.proofs.Inside.{core_inside}
 use Rattle.fz_world.proofs.Whole.{world_room, world_rehoused}
 use Rattle.fz_world.proofs.world.World.forget.Goals as goal
 
