@@ -41,14 +41,6 @@ does_refused old new e r h same = (
   λ s stands. (s, (subst (λ c. IsRefusedAs c e r) stands.core h, refl), record { core = ap (λ (w : WorldView). w.core) same ∙ stands.core; seen = stands.seen; marks = subst (λ (w : WorldView). AreSeen s w.marked) (sym same) stands.marks }),
 )
 
--- what is forgotten is in no state
-pub forgets_nothing : (old new : WorldView) (s : State) → new ≡ record old { forgotten = new.forgotten; remembered = new.remembered } → StandsFor old s → StandsFor new s
-forgets_nothing old new s same stands = record {
-  core = ap (λ (w : WorldView). w.core) same ∙ stands.core;
-  seen = stands.seen;
-  marks = subst (λ (m : Set). AreSeen s m) (sym (ap (λ (w : WorldView). w.marked) same)) stands.marks;
-}
-
 -- the same of a reply that only hands a refusal on
 pub hands_on : (old : WorldView) (e : Event) (reply : Result (Answer e) Refusal) (r : Refusal) → first_cause (causes old.core e) ≡ Some r → IsErrAnd reply (λ x. x ≡ r) → Does old e reply old
 hands_on old e (Err x) r h is = does_refused old old e x (inl (h ∙ ap Some (sym is))) refl

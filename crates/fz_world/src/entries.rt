@@ -122,9 +122,9 @@ impl World {
         self.ready.forgotten()
     }
 
-    /// Gives back the memory of finished entries; returns how many went. It takes no memory, and changes no state that the world stands for.
+    /// Gives back the memory of finished entries, once they are more than 1 for each 16 that aren't; returns how many went. It takes no memory.
     ///
-    /// `queue` shows only later entries from then on, unless it has too few finished ones to be worth it. What isn't finished stays, with its number.
+    /// `queue` then shows only what is queued afterwards, and `next` and `next_held` know what isn't finished, by the numbers of old.
     pub fn forget(&mut self) -> u64
         ensures same { self.new ≡ record self.old { forgotten = self.new.forgotten; remembered = self.new.remembered } }
         ensures stands { (s : State) → StandsFor self.old s → StandsFor self.new s }

@@ -42,6 +42,8 @@ enum Step {
     Finish(usize, Result<u64, Refusal>),
     Close(Result<(), Refusal>),
     Outstanding(u64),
+    /// So many entries go, and the queue is shown from this number on.
+    Forget(u64, u64),
     Scans(u64),
     Noted(u64),
     /// So many pairs of entries are finished, whose objects are the second and the third of each three blocks.
@@ -49,7 +51,7 @@ enum Step {
 }
 
 use Step::{
-    Begin, Close, Collect, Finish, FinishPairs, Hold, Link, Load, Mark, Move, New, Noted,
+    Begin, Close, Collect, Finish, FinishPairs, Forget, Hold, Link, Load, Mark, Move, New, Noted,
     Outstanding, Pause, Register, Registers, Scans, Set, Store, Unlink, Unregister,
 };
 
@@ -133,7 +135,7 @@ fn number(number: u64) -> Result<RegAnswer, Refusal> {
 
 /// The entry at a place of the queue.
 fn entry_at(world: &World, place: usize) -> Result<Entry, Refusal> {
-    world.queue().get(place).copied().ok_or(Refusal::NotHeld)
+    world.next(place as u64).ok_or(Refusal::NotHeld)
 }
 
 /// Finishes the entry at a place of the queue; returns its object.
@@ -170,6 +172,7 @@ fn answers(world: &mut World, step: Step) -> bool {
         Finish(place, want) => finished(world, place) == want,
         Close(want) => world.close() == want,
         Outstanding(want) => world.outstanding() == want,
+        Forget(count, number) => world.forget() == count && world.forgotten() == number,
         Scans(want) => world.scans() == want,
         Noted(want) => world.noted() == want,
         FinishPairs(pairs) => first_out_of_turn(world, pairs).is_none(),
@@ -213,6 +216,43 @@ const ONE_OBJECT_LIFE: [Step; 13] = [
 fn one_object_life(rt: HostRuntime) {
     let made = opened(rt.alloc(), 4, 1);
     assert_eq!(rt; first_wrong_of(made, &ONE_OBJECT_LIFE), Ok(None));
+}
+
+const FORGOTTEN_ENTRIES: [Step; 27] = [
+    Forget(0, 0),
+    New(0, 1, Scanned, Ok(HEAP_START)),
+    New(1, 1, Scanned, Ok(HEAP_START + 1)),
+    Register(0, Normal, 0, 0),
+    Register(1, Normal, 0, 1),
+    Set(0, 0),
+    Set(1, 0),
+    Collect(1, 2, 0),
+    Forget(0, 0),
+    Finish(1, Ok(HEAP_START + 1)),
+    Forget(1, 2),
+    Finish(1, Err(Refusal::NotHeld)),
+    Outstanding(1),
+    Hold(3, 0),
+    Finish(0, Ok(HEAP_START)),
+    Finish(0, Err(Refusal::NotHeld)),
+    Outstanding(0),
+    Set(3, 0),
+    Collect(2, 0, 2),
+    New(0, 1, Scanned, Ok(HEAP_START)),
+    Register(0, Normal, 0, 2),
+    Set(0, 0),
+    Collect(3, 1, 0),
+    Finish(2, Ok(HEAP_START)),
+    Forget(2, 3),
+    Finish(2, Err(Refusal::NotHeld)),
+    Forget(0, 3),
+];
+
+/// What is finished is forgotten, and what isn't stays with its number, also where it is the first.
+#[test]
+fn forgotten_entries(rt: HostRuntime) {
+    let made = opened(rt.alloc(), 4, 1);
+    assert_eq!(rt; first_wrong_of(made, &FORGOTTEN_ENTRIES), Ok(None));
 }
 
 const CHAIN_IN_ORDER: [Step; 12] = [
@@ -673,11 +713,22 @@ fn lives_through(world: &mut World, pass: u64) -> Result<bool, Refusal> {
     Ok(are_right && world.outstanding() == 0)
 }
 
-/// Lives through this number of passes; returns the first that answers wrongly.
-fn first_wrong_pass(alloc: Global, passes: u64) -> Result<Option<u64>, Refusal> {
+/// Whether the pass's entries, all finished, are forgotten.
+fn forgets(world: &mut World, pass: u64) -> bool {
+    let are_gone = world.forget() == PICKS && world.remembered() == 0;
+    are_gone && world.forgotten() == PICKS.wrapping_mul(pass) && world.queue().is_empty()
+}
+
+/// Lives through this number of passes, and forgets after each if it is to; returns the first that answers wrongly.
+fn first_wrong_pass(
+    alloc: Global,
+    passes: u64,
+    is_to_forget: bool,
+) -> Result<Option<u64>, Refusal> {
     let mut world = opened(alloc, 64, 1)?;
     for pass in 1..=passes {
-        if !lives_through(&mut world, pass)? {
+        let are_right = lives_through(&mut world, pass)?;
+        if !are_right || is_to_forget && !forgets(&mut world, pass) {
             return Ok(Some(pass));
         }
     }
@@ -687,7 +738,13 @@ fn first_wrong_pass(alloc: Global, passes: u64) -> Result<Option<u64>, Refusal> 
 /// More than 150,000 entries go through a small world.
 #[test]
 fn a_long_life_with_ample_memory(rt: HostRuntime) {
-    assert_eq!(rt; first_wrong_pass(rt.alloc(), 2_400), Ok(None));
+    assert_eq!(rt; first_wrong_pass(rt.alloc(), 2_400, false), Ok(None));
+}
+
+/// As many go through one that forgets them.
+#[test]
+fn a_long_life_that_forgets_with_ample_memory(rt: HostRuntime) {
+    assert_eq!(rt; first_wrong_pass(rt.alloc(), 2_400, true), Ok(None));
 }
 
 const EDGE_OF_THE_HEAP: [Step; 6] = [
