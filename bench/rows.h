@@ -109,12 +109,14 @@ static double in_own_process(Run run, const Row *row, const Objects *objects, bo
     return t;
 }
 
-/* the time of a run with the row's call less that of one without: both by turns, until so much time was spent, and the least time of each */
+/* the time of a run with the row's call less that of one without: both by turns, until so much time was spent, and the least time of each; or one turn, where
+   BENCH_ONCE is set, for who counts something else than time */
 enum { LEAST_TURNS = 5, MOST_TURNS = 99 };
 static const double SPENT = 300e6;
 static double difference(Run run, const Row *row, const Objects *objects) {
     double less = INFINITY, more = INFINITY, spent = 0;
-    for (int turn = 0; turn < LEAST_TURNS || (turn < MOST_TURNS && spent < SPENT); turn++) {
+    int least = getenv("BENCH_ONCE") ? 1 : LEAST_TURNS, most = least < LEAST_TURNS ? least : MOST_TURNS;
+    for (int turn = 0; turn < least || (turn < most && spent < SPENT); turn++) {
         double without = run(row, objects, false), with = run(row, objects, true);
         if (without < less) less = without;
         if (with < more) more = with;
