@@ -343,6 +343,22 @@ static void step_finish(void)
     }
 }
 
+/* Finished entries go once they are more than 1 for each 16 that aren't. */
+static void step_forget(void)
+{
+    uint64_t gone = m.remembered - m.outstanding, count;
+
+    if (16 * gone <= m.outstanding)
+        gone = 0;
+    else
+        m.forgotten = m.queued;
+    m.remembered -= gone;
+    OK(derrimas_forget(&world, &count));
+    IS(count, gone);
+    OK(derrimas_forgotten(&world, &count));
+    IS(count, m.forgotten);
+}
+
 /* ---- all that the world shows */
 
 static void show_objects(void)
@@ -402,8 +418,8 @@ static void show_all(void)
         IS(word, m.slot[n / DERRIMAS_SLOTS][n % DERRIMAS_SLOTS]);
     }
     for (uint64_t held = seq; seq < m.queued; seq++) {
-        OK(derrimas_queued(&world, seq, &entry));
-        IS(same(&entry, &m.queue[seq]), true);
+        if (ACCEPTED(derrimas_queued(&world, seq, &entry), seq < m.forgotten && m.finished[seq] ? DERRIMAS_EMPTY : DERRIMAS_OK))
+            IS(same(&entry, &m.queue[seq]), true);
         if (!m.finished[seq]) {
             OK(derrimas_next_held(&world, held, &entry));
             IS(entry.seq, seq);
@@ -453,7 +469,7 @@ int main(int count, char **given)
         unsigned weight;
     } steps[] = {{step_alloc, 20}, {step_set, 8}, {step_copy, 6}, {step_load, 8}, {step_store, 12}, {step_write, 4}, {step_read, 4}, {step_register, 10},
                  {step_unregister, 2}, {step_link, 10}, {step_unlink, 3}, {step_move, 5}, {step_collect, 3}, {step_cycle, 1}, {step_take, 4},
-                 {step_finish, 6}};
+                 {step_finish, 6}, {step_forget, 1}};
     uint64_t asked = count > 1 ? strtoull(given[1], NULL, 10) : 1000000, all = 0;
 
     seed = count > 2 ? strtoull(given[2], NULL, 10) : 1;
