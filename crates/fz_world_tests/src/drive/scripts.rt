@@ -253,6 +253,14 @@ pub(crate) const REPLACED_REGISTRATION: Row = Row {
     fault: None,
 };
 
+/// A finalizer puts its object back into a slot by `hold`, and registers it again, which is a new registration. What the
+/// pass did before stays: the short link is gone, and its word is 0. The long link has seen the object come back.
+pub(crate) const RESURRECTED: Row = Row {
+    script: b"open 4 1 1\nnew 0 0 2 atomic\nnew 0 1 1 scanned\nstore 0 0 0 0 1\nstore 0 0 1 0 1\nlink short 0 0 0 0 1\nlink long 0 0 1 0 1\nregister 0 1 normal 1 0\nset 0 1 0\ncollect\ntake 0\nhold 0 0 1\nregister 0 1 normal 1 0\nfinish 0\ncollect\nload 0 0 0 0 2\nload 0 0 1 0 2\nset 0 2 0\nset 0 1 0\ncollect\ntake 0\nfinish 0\ncollect\nload 0 0 1 0 2\n",
+    report: b"ok\nnew 65536 0\nnew 65600 1\nok\nok\nsuccess\nsuccess\nreg 0\nok\npass 1 picked 1 reclaimed 0\nentry 0 1 0 65600 1 1 0\nok\nreg 1\nok\npass 2 picked 0 reclaimed 0\nword 0\nword 65600\nok\nok\npass 3 picked 1 reclaimed 0\nentry 1 3 1 65600 1 1 0\nok\npass 4 picked 0 reclaimed 1\nword 0\nend enqueued 2 finished 2 forfeited 0 in_hand 0 left 0\n",
+    fault: None,
+};
+
 /// Four objects. The first leads to itself and is normal, so it waits for itself. The second leads to itself
 /// and ignores that: pass 1 queues it. The last two lead to one another: ignore_self helps against a direct
 /// reference alone, so the third waits.
@@ -284,8 +292,17 @@ pub(crate) const TWO_IN_ORDER: Row = Row {
     fault: None,
 };
 
+/// Two weak maps with an entry each, whose keys are short links in atomic objects. The first map has the value in an
+/// object of its own, and the value leads to its key: neither ever goes. The second map's value stands in the key: both
+/// go with the last other reference to the key.
+pub(crate) const VALUE_LEADS_TO_ITS_KEY: Row = Row {
+    script: b"open 8 1 1\nnew 0 0 1 atomic\nnew 0 1 1 scanned\nnew 0 2 1 scanned\nnew 0 3 1 scanned\nstore 0 3 0 0 2\nstore 0 0 0 0 2\nlink short 0 0 0 0 2\nstore 0 1 0 0 3\nset 0 2 0\nset 0 3 0\ncollect\nload 0 0 0 0 5\nset 0 5 0\nnew 0 4 1 atomic\nnew 0 2 1 scanned\nnew 0 3 1 scanned\nstore 0 3 0 0 2\nstore 0 2 0 0 3\nstore 0 4 0 0 2\nlink short 0 4 0 0 2\nset 0 2 0\nset 0 3 0\ncollect\nload 0 4 0 0 5\n",
+    report: b"ok\nnew 65536 0\nnew 65600 1\nnew 65601 2\nnew 65602 3\nok\nok\nsuccess\nok\nok\nok\npass 1 picked 0 reclaimed 0\nword 65601\nok\nnew 65537 4\nnew 65603 5\nnew 65604 6\nok\nok\nok\nsuccess\nok\nok\npass 2 picked 0 reclaimed 2\nword 0\nend enqueued 0 finished 0 forfeited 0 in_hand 0 left 0\n",
+    fault: None,
+};
+
 /// The first of those over small worlds.
-pub(crate) const FIRST_SMALL: [Row; 15] = [
+pub(crate) const FIRST_SMALL: [Row; 18] = [
     CHAIN_IN_ORDER_RANKED,
     CLIENT_DATA_IS_A_ROOT,
     CLOSED_IN_A_CYCLE,
@@ -301,13 +318,13 @@ pub(crate) const FIRST_SMALL: [Row; 15] = [
     FULL_HEAP,
     HELD_ENTRIES,
     INTERIOR_POINTER,
-];
-
-/// The others.
-pub(crate) const LAST_SMALL: [Row; 17] = [
     LARGE_OBJECTS,
     LARGE_SIZE_AND_FULL_HEAP,
     LEADING_ZERO,
+];
+
+/// The others.
+pub(crate) const LAST_SMALL: [Row; 16] = [
     LINKS,
     NO_BLOCKS,
     NO_ORDER_CYCLE,
@@ -318,10 +335,12 @@ pub(crate) const LAST_SMALL: [Row; 17] = [
     RANK_TOO_LARGE,
     RANKS,
     REPLACED_REGISTRATION,
+    RESURRECTED,
     SELF_REFERENCE,
     SHORT_AND_LONG_LINKS,
     SWEPT_CELL_REUSED,
     TWO_IN_ORDER,
+    VALUE_LEADS_TO_ITS_KEY,
 ];
 
 /// Those over the largest world.
