@@ -121,3 +121,9 @@ had_back v2 v3 sent out took lists is2 is3 = is3 ∙ (λ i. view_of true (is2 i)
 pub each_rest : {X : Type 0} (P : X → Type 0) (xs rest : List X) → rest ≡ drop 1 xs → AllByRecursion P xs → AllByRecursion P rest
 each_rest P [] rest e h = subst (AllByRecursion P) (sym e) tt
 each_rest P (x ∷ xs) rest e h = subst (AllByRecursion P) (sym e) h.1
+
+-- the first of the seats, and the rest
+pub total_split : {X : Type 0} (f : X → ℕ) (x : X) (xs front rest : List X) → xs ≡ front ++ rest → length front ≡ 1 → total f xs ≡ f (get_or front 0 x) + total f rest
+total_split f x xs [] rest is one = absurd (omega arith)
+total_split f x xs (y ∷ []) rest is one = ap (total f) is
+total_split f x xs (y ∷ z ∷ ys) rest is one = absurd (omega arith)

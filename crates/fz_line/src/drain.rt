@@ -21,7 +21,7 @@ pub(crate) fn gather(worker: &mut LineWorker, seats: &mut [Seat], out: &mut Vec<
     requires own { AllByRecursion (λ seat. seat.line ≡ (worker_deque worker.old).0) seats.old }
     requires once { HasPoppedNothing worker.old }
     requires all { length (worker_view worker.old).lists + length seats.old ≡ MAX_WORKERS }
-    requires room { (out.old.items ≡ []) × (length (worker_view worker.old).sent ≤ vec_capacity out.old) }
+    requires room { (out.old.items ≡ []) × (length (worker_view worker.old).sent ≤ vec_capacity out.old + (total (λ list. length list) (worker_view worker.old).lists + total (λ seat. length seat.took) seats.old)) }
     ensures seats { seats.new ≡ seats.old }
     ensures kept { IsKept worker.old worker.new }
     ensures popped { HasPopped worker.old out.new.items worker.new }
@@ -49,7 +49,7 @@ pub(crate) fn gather(worker: &mut LineWorker, seats: &mut [Seat], out: &mut Vec<
 fn pop_all(worker: &mut LineWorker, out: &mut Vec<Entry>)
     requires once { HasPoppedNothing worker.old }
     requires all { length (worker_view worker.old).lists ≡ MAX_WORKERS }
-    requires room { (out.old.items ≡ []) × (length (worker_view worker.old).sent ≤ vec_capacity out.old) }
+    requires room { (out.old.items ≡ []) × (length (worker_view worker.old).sent ≤ vec_capacity out.old + total (λ list. length list) (worker_view worker.old).lists) }
     ensures kept { IsKept worker.old worker.new }
     ensures popped { HasPopped worker.old out.new.items worker.new }
     ensures whole { (weight : Entry → ℕ) → total (total weight) (worker_view worker.old).lists + total weight out.new.items ≡ total weight (worker_view worker.old).sent }

@@ -76,13 +76,13 @@ impl Owner {
     /// Takes all entries that wait in the line out of it, into `out`, in order.
     ///
     /// It is lent all seats of the line, and gives each back as it was. So it is known that what the seats took and `out` are together what
-    /// was sent: the seats took its beginning, each entry once, and `out` is the rest. It needs room for all that was sent, takes no memory
+    /// was sent: the seats took its beginning, each entry once, and `out` is the rest. It needs room for the rest alone, takes no memory
     /// and can't fail. A line is drained once.
     pub fn drain(&mut self, seats: &mut [Seat], out: &mut Vec<Entry>)
         requires once { self.old.popped ≡ [] }
         requires all { length seats.old ≡ self.old.seats }
         requires own { All (λ seat. seat.line ≡ self.old.line) seats.old }
-        requires room { (out.old.items ≡ []) × (length self.old.sent ≤ vec_capacity out.old) }
+        requires room { (out.old.items ≡ []) × (length self.old.sent ≤ vec_capacity out.old + length (taken_by seats.old)) }
 
         ensures first { IsPermutation (taken_by seats.old) (take (length (taken_by seats.old)) self.old.sent) }
         ensures rest { out.new.items ≡ drop (length (taken_by seats.old)) self.old.sent }

@@ -78,6 +78,15 @@ module _ (origin : Origin) (s : LockedState) (seats : List SeatState) (popped : 
   pub enough : length s.world.queue - length s.world.held ≤ s.published - length popped
   enough = let a = taken_is in let b = spent_is in let c = d.order.finished in omega (arith, a, b, c)
 
+  -- what is left fits where there is room for what the seats didn't take
+  pub fits_left : (capacity : ℕ) → length s.world.queue ≤ capacity + length (taken_by seats) → length popped + (length s.world.queue - s.published) ≤ capacity
+  unfolding count
+  fits_left capacity room =
+      let le = some_sent in
+      let sent = sent_length in
+      let n : length popped ≡ length s.sent - length (taken_by seats) = ap (λ (l : List Entry). length l) d.rest ∙ length-drop (length (taken_by seats)) s.sent in
+      omega (arith, room, le, sent, n, d.order.within)
+
   left_is : (left : List Entry) → left ≡ popped ++ drop s.published s.world.queue → left ≡ drop (length (taken_by seats)) s.world.queue
   unfolding count
   left_is left is =

@@ -1,5 +1,6 @@
 //! How a service ends.
 
+ghost use Rattle.fz_line.specs.States.{taken_by};
 ghost use Rattle.std.specs.Prelude.{◌≡◌, ◌+◌, ◌-◌, ◌≤◌, ◌⊎◌, ◌↔◌, [], ◌++◌, IsTrue, IfOk, IfErr, length, sum_by, All, vec_capacity};
 ghost use Rattle.std.specs.FinMap.{len};
 ghost use Rattle.fz_service.specs.States.{IsInOrder};
@@ -46,7 +47,8 @@ impl<O: Opening> Locked<O> {
         if !is_each_once(seats.as_slice(), self.owner.seats()) {
             return Err((Refusal::SeatsMissing, self, seats));
         }
-        match room(self.alloc, self.world.queued() as usize, seats.len()) {
+        let entries = self.world.queued().saturating_sub(count_taken(seats.as_slice()));
+        match room(self.alloc, entries as usize, seats.len()) {
             Ok((left, plain)) => Ok(self.settle(seats, plain, left)),
             Err(_) => Err((Refusal::NoMemory, self, seats)),
         }
@@ -56,7 +58,7 @@ impl<O: Opening> Locked<O> {
     fn settle(self, seats: Vec<Seat<O>>, plain: Vec<fz_line::Seat>, mut left: Vec<Entry>) -> Final
         requires all { length seats.items ≡ O.origin.workers }
         requires plain { (plain.items ≡ []) × (length seats.items ≤ vec_capacity plain) }
-        requires left { (left.items ≡ []) × (length self.world.queue ≤ vec_capacity left) }
+        requires left { (left.items ≡ []) × (length self.world.queue ≤ vec_capacity left + length (taken_by seats.items)) }
         ensures { IsEnd self seats.items result }
     {
         let enqueued = self.world.queued();
@@ -89,6 +91,16 @@ impl<O: Opening> Locked<O> {
             passes,
             reclaimed,
         }
+    }
+}
+
+/// How many entries these seats took, as far as a number tells it.
+fn count_taken<O: Opening>(seats: &[Seat<O>]) -> u64
+    ensures { result ≤ length (taken_by seats.now) }
+{
+    match seats {
+        [] => 0,
+        [first, rest @ ..] => first.taken().saturating_add(count_taken(rest)),
     }
 }
 

@@ -1,4 +1,4 @@
-use Rattle.std.proofs.Common.{◌∙◌, ap, length, arith}
+use Rattle.std.proofs.Common.{◌∙◌, refl, ap, length, arith}
 use Rattle.fz_line.specs.declared.protocol.View.{View}
 use Rattle.fz_line.proofs.Steps.{pops, ends}
 use Rattle.fz_line.proofs.Draining.{view_popped, rest_popped}
@@ -29,3 +29,9 @@ loop-entry-preserved c =
       so_far = (rest_popped _ _ _ _ _ _ _ i.popped s.rule p.items i.so_far).0;
       capacity = p.capacity ∙ i.capacity;
     }
+
+pub push_reserved-requires : goal.push_reserved-requires
+push_reserved-requires c =
+    let i = c.loop-entry.invariant in
+    let less = (rest_popped _ _ _ _ _ _ _ i.popped c.in-Some.ensures.rule refl i.so_far).1 in
+    omega (arith, less, c.requires.room.1, i.capacity)

@@ -1,9 +1,9 @@
-use Rattle.std.proofs.Common.{◌≡◌, ◌-◌, ◌++◌, List, length, refl, sym, ap, ◌∙◌, subst, arith}
+use Rattle.std.proofs.Common.{◌≡◌, ◌-◌, ◌++◌, List, length, length-drop, vec_capacity, refl, sym, ap, ◌∙◌, subst, arith}
 use Rattle.fz_model.specs.declared.answers.Entry.{Entry}
 use Rattle.fz_service.specs.States.{LockedState, locked_state}
 use Rattle.fz_service.specs.declared.ending.Final.{Final}
 use Rattle.fz_service.specs.Ends.{IsEnd}
-use Rattle.fz_service.proofs.Ends.{drained_by, enough, is_end}
+use Rattle.fz_service.proofs.Ends.{drained_by, enough, fits_left, is_end}
 use Rattle.fz_service.proofs.locked.Locked.settle.Goals as goal
 
 pub overflow_sub-finished : goal.overflow_sub-finished
@@ -47,3 +47,13 @@ returns g c =
     } in
     subst (λ (s : LockedState). IsEnd s c.args.seats.items end) c.self.view_is
     (is_end _ _ _ _ d end queue taken finished refl (c.append.ensures ∙ ap (λ (es : List Entry). c.drain.new.out.items ++ es) rest) c.passes-passes.ensures c.reclaimed-reclaimed.ensures)
+
+pub append-requires : goal.append-requires
+append-requires g c =
+    let w = c.self.inside in
+    let d = drained_by g.O.Opening.origin (locked_state w.world w.owner.sent w.published w.book.total) _ c.args.seats.items _ (c.as_mut_slice.ensures.value ∙ c.without_shares-plain.ensures.seats) c.self.invariant.0 c.drain.ensures.first c.drain.ensures.rest c.drain.ensures.idle
+    (sym (c.audit.ensures.whole (c.without_shares-plain.ensures.all.0 ∙ c.requires.all)) ∙ c.without_shares-plain.ensures.all.1) in
+    let same = ap (λ (s : LockedState). length s.world.queue) c.self.view_is in
+    let fits = fits_left _ _ _ _ d (vec_capacity c.args.left) (omega (arith, c.requires.left.1, same)) in
+    let rest = ap (λ (l : List Entry). length l) c.queue_from.ensures.queue ∙ length-drop w.published w.world.queue in
+    omega (arith, fits, rest, c.drain.ensures.capacity)
