@@ -1,19 +1,15 @@
 -- What a publish and a drain keep from entry to entry, and the lists of all seats in the end.
-use Rattle.std.proofs.Common.{◌≡◌, ℕ, zero, suc, ◌+◌, ◌-◌, ◌<◌, ◌≤◌, List, [], ◌∷◌, ◌++◌, length, take, drop, get_or, true, min, refl, sym, ap, ◌∙◌, subst, arith, append_assoc, length-append, length-take, take-append-drop, replicate}
+use Rattle.std.proofs.Common.{◌≡◌, ℕ, zero, suc, ◌+◌, ◌-◌, ◌<◌, List, [], ◌∷◌, ◌++◌, length, take, drop, get_or, true, refl, sym, ap, ◌∙◌, subst, arith, append_assoc, length-append, take-append-drop, replicate}
 use Rattle.std.specs.List.{AllByRecursion, flat_map}
 use Rattle.std.specs.List.Sorted.{IsPermutation}
-use Rattle.crossbeam_deque.specs.Tasks.{Pushes}
 use Rattle.fz_model.specs.declared.answers.Entry.{Entry}
 use Rattle.fz_line.specs.declared.protocol.View.{View}
-use Rattle.fz_line.specs.Views.{total, sent_limit, view_of, seat_view, with_lists_of}
+use Rattle.fz_line.specs.Views.{total, view_of, seat_view, with_lists_of}
 use Rattle.fz_model.specs.declared.limits.TheConstants.{MAX_WORKERS}
-use Rattle.fz_line.specs.Numbers.{AreNumberedFrom}
-use Rattle.fz_line.specs.Rule.{IsLine, GainsSent, left_count, GainsPopped}
+use Rattle.fz_line.specs.Rule.{left_count, GainsPopped}
 use Rattle.fz_line.specs.States.{SeatState, taken_by}
 use Rattle.fz_line.proofs.Totals.{total-append}
-use Rattle.fz_line.proofs.Numbers.{numbered_index}
 use Rattle.fz_line.proofs.Permutations.{same_weights}
-use Rattle.fz_line.proofs.Steps.{sends}
 
 -- so many empty lists
 abbrev none_of : ℕ → List (List Entry)
@@ -79,18 +75,6 @@ taken_first v k seats sent out same empty whole rest =
     let d : total h out ≡ total h (drop (length (taken_by seats)) sent) = ap (total h) rest in
     let e : total h v.sent ≡ total h sent = ap (total h) same in
     let w = whole h in omega arith)
-
--- the next entry of an outbox may be pushed
-pub sends_next : (port : ℕ) (v0 v : View) (sent xs : List Entry) (k : ℕ) (d : Entry) → v0.sent ≡ sent → v0.owner ≡ true → v ≡ view_of v0.owner (v0.sent ++ take k xs) v0.popped v0.lists → AreNumberedFrom (length sent) xs → length sent + length xs ≤ sent_limit → k < length xs
-    → Pushes IsLine port v (get_or xs k d ∷ []) (GainsSent v (get_or xs k d ∷ []))
-sends_next port v0 v sent xs k d same owner is numbers room lt =
-    let a : v.sent ≡ v0.sent ++ take k xs = ap (λ (u : View). u.sent) is in
-    let n : length v.sent ≡ length (v0.sent ++ take k xs) = ap (λ (l : List Entry). length l) a in
-    let e : length v0.sent ≡ length sent = ap (λ (l : List Entry). length l) same in
-    let t : length (take k xs) ≡ min k (length xs) = length-take k xs in
-    let b = length-append v0.sent (take k xs) in
-    let s = numbered_index (length sent) xs k d numbers lt in
-    sends port v (get_or xs k d) (ap (λ (u : View). u.owner) is ∙ owner) (omega arith) (omega arith)
 
 -- what the owner knows after a pop, as the loop keeps it
 pub view_popped : (v w : View) (sent out out' : List Entry) (lists : List (List Entry)) (x : Entry) → v ≡ view_of true sent out lists → GainsPopped v (x ∷ []) w → out' ≡ out ++ x ∷ [] → w ≡ view_of true sent out' lists

@@ -2,7 +2,7 @@
 use Rattle.std.proofs.Common.{◌≡◌, ℕ, zero, suc, ◌+◌, ◌<◌, List, [], ◌∷◌, ◌++◌, Some, length, map, drop, get_or, slice_get, sym, ap, ◌∙◌, subst, ⊎_elim, arith, add-zero}
 use Rattle.std.specs.List.{AllByRecursion}
 use Rattle.std.specs.List.Sorted.{IsStrictlyIncreasing}
-use Rattle.std.proofs.lemmas.Option.{same_Some, none-some, slice_get-get_or}
+use Rattle.std.proofs.lemmas.Option.{same_Some, none-some}
 use Rattle.fz_model.specs.declared.answers.Entry.{Entry}
 use Rattle.fz_model.proofs.Lists.{slice_get-right, slice_get-cases}
 use Rattle.fz_line.specs.Numbers.{AreNumberedFrom, Rises}
@@ -18,10 +18,6 @@ numbered_push n xs y numbers last k e at = ⊎_elim (numbers k e) (λ new. at_en
 -- the number of an entry in the midst
 pub numbered_at : (n : ℕ) (xs : List Entry) (y : Entry) (ys : List Entry) → AreNumberedFrom n (xs ++ y ∷ ys) → y.seq ≡ n + length xs
 numbered_at n xs y ys numbers = numbers (length xs) y (ap (slice_get (xs ++ y ∷ ys)) (sym (add-zero (length xs))) ∙ slice_get-right xs (y ∷ ys) 0)
-
--- the number of the entry at a place
-pub numbered_index : (n : ℕ) (xs : List Entry) (k : ℕ) (d : Entry) → AreNumberedFrom n xs → k < length xs → (get_or xs k d).seq ≡ n + k
-numbered_index n xs k d numbers lt = numbers k (get_or xs k d) (slice_get-get_or xs k d lt)
 
 rises_cons : (y : ℕ) (ys : List ℕ) → (0 < length ys → y < get_or ys 0 0) → IsStrictlyIncreasing ys → IsStrictlyIncreasing (y ∷ ys)
 rises_cons y ys first rest zero lt = first (omega arith)

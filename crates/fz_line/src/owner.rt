@@ -1,12 +1,13 @@
 //! The owner's end of the line.
 
-ghost use Rattle.std.specs.Prelude.{◌≡◌, ◌+◌, ◌<◌, ◌≤◌, [], ◌++◌, length, take, drop, vec_capacity, All, IsPermutation};
+ghost use Rattle.std.specs.Prelude.{◌≡◌, ◌+◌, ◌<◌, ◌≤◌, [], ◌∷◌, ◌++◌, true, IsTrue, IsFalse, length, take, drop, vec_capacity, All, IsPermutation};
+ghost use Rattle.crossbeam_deque.specs.Handles.{worker_view, worker_index, SameWorker};
 ghost use Rattle.fz_line.specs.Views.{sent_limit};
 ghost use Rattle.fz_line.specs.Numbers.{AreNumberedFrom};
 ghost use Rattle.fz_line.specs.States.{IsIdle, taken_by};
 
 use crate::drain::gather;
-use crate::protocol::{LineWorker, Sending};
+use crate::protocol::{LineWorker, Sending, Waiting};
 use crate::seat::Seat;
 use fz_model::Entry;
 use std::marker::Model;
@@ -19,6 +20,10 @@ pub struct Owner {
     pub(crate) worker: LineWorker,
     pub(crate) seats: usize,
     pub(crate) room: usize,
+    /// How many entries wait in the line at most.
+    pub(crate) most: usize,
+    /// How many may be sent before it looks again how many wait.
+    pub(crate) space: usize,
 }
 
 // Written out: who owns an owner then drops it by one call that is proved here, not field by field at each way out of a function.
@@ -28,6 +33,8 @@ impl Drop for Owner {
             worker: _,
             seats: _,
             room: _,
+            most: _,
+            space: _,
         } = self;
     }
 }
@@ -42,7 +49,7 @@ impl Model for Owner {
 
     ghost view = { λ o. owner_state (worker_deque o.worker).0 o.seats o.room (worker_view o.worker).sent (worker_view o.worker).popped };
 
-    ghost invariant = { λ o. IsOwnerEnd o.seats o.worker × (o.room ≤ worker_capacity o.worker) };
+    ghost invariant = { λ o. IsOwnerEnd o.seats o.worker × (o.room ≤ worker_capacity o.worker) × (o.room ≤ o.most) };
 }
 
 impl Owner {
@@ -53,10 +60,20 @@ impl Owner {
         self.seats
     }
 
+    /// From now on an entry is sent only while fewer than `most` wait in the line, or fewer than it has room for. So the line takes no memory for what waits
+    /// beyond that, and gives none back that it took.
+    pub fn bound(&mut self, most: usize)
+        ensures { self.new ≡ self.old }
+    {
+        self.most = most.max(self.room);
+        self.space = 0;
+    }
+
     /// Sends the entries of the outbox in order; returns how many were sent.
     ///
-    /// It stops early only where there was no memory for the next entry, which is then, with all after it, not sent. As many entries as the
-    /// line was made with room for always find it. The entries are numbered on from what was sent before, and 2^62 is the most that a line is ever sent.
+    /// It stops early only where as many wait as may, or where there was no memory for the next entry, which is then, with all after it, not sent. As many
+    /// entries as the line was made with room for are always sent. The entries are numbered on from what was sent before, and 2^62 is the most that a line
+    /// is ever sent.
     pub fn publish(&mut self, outbox: &[Entry]) -> usize
         requires numbers { AreNumberedFrom (length self.old.sent) outbox.now }
         requires limit { length self.old.sent + length outbox.now ≤ sent_limit }
@@ -64,13 +81,29 @@ impl Owner {
         ensures within { result ≤ length outbox.now }
         ensures room { result < length outbox.now → self.old.room ≤ length self.new.sent }
     {
-        let worker = &mut self.worker;
         for (count, &entry) in outbox.iter().enumerate() {
-            if worker.push_as::<Sending>(entry).is_err() {
+            if !self.send(entry) {
                 return count;
             }
         }
         outbox.len()
+    }
+
+    /// Sends the entry with the next number, if there is room for it; returns whether there was.
+    #[tactic(auto, using(crate::proofs::Steps::sends))]
+    fn send(&mut self, entry: Entry) -> bool
+        requires { (entry.seq ≡ length self.old.sent) × (length self.old.sent < sent_limit) }
+        ensures sent { IsTrue result → self.new ≡ record self.old { sent = self.old.sent ++ entry ∷ [] } }
+        ensures refused { IsFalse result → (self.new ≡ self.old) × (self.old.room ≤ length self.old.sent) }
+    {
+        if self.space == 0 {
+            self.space = self.most.saturating_sub(waiting(&mut self.worker));
+        }
+        if self.space == 0 || self.worker.push_as::<Sending>(entry).is_err() {
+            return false;
+        }
+        self.space -= 1;
+        true
     }
 
     /// Takes all entries that wait in the line out of it, into `out`, in order.
@@ -94,4 +127,13 @@ impl Owner {
     {
         gather(&mut self.worker, seats, out);
     }
+}
+
+/// How many entries wait in the line, at one moment of the call.
+fn waiting(worker: &mut LineWorker) -> usize
+    requires { (worker_view worker.old).owner ≡ true }
+    ensures same { SameWorker worker.old worker.new × (worker_index worker.new ≡ worker_index worker.old) × (worker_view worker.new ≡ worker_view worker.old) }
+    ensures few { result ≤ length (worker_view worker.old).sent }
+{
+    worker.len_as::<Waiting>()
 }

@@ -35,7 +35,7 @@ gather-requires t c =
     let seen = ap (λ (s : SeatState). length s.took) c.seat.view_is in
     let inside = ap (λ (s : Inside). length s.taker.took) c.seat-inside.view_is in
     let with_first : total (λ (l : List Entry). length l) (worker_view c.absorb.new.self).lists ≡ length (took_by c.seat-inside.inside.0.0.pass) + total (λ (l : List Entry). length l) (worker_view c.args.worker.now).lists
-        = ap (λ (v : View). total (λ (l : List Entry). length l) v.lists) g in (
+    = ap (λ (v : View). total (λ (l : List Entry). length l) v.lists) g in (
       (let d = c.decreases in omega arith),
       (
         subst (λ (line : ℕ × ℕ). AllByRecursion (λ (seat : SeatState). seat.line ≡ line) rest) (sym (ap (λ (d : (ℕ × ℕ) × _). d.0) deque)) (each_rest (λ (seat : SeatState). seat.line ≡ (worker_deque c.args.worker.now).0) c.args.seats.now rest c.split_at_mut-front.ensures.back c.requires.own),

@@ -1,9 +1,7 @@
-use Rattle.std.proofs.Common.{◌-◌, List, ap, ◌∙◌, length, arith}
+use Rattle.std.proofs.Common.{◌-◌, ap, length, arith}
 use Rattle.crossbeam_deque.specs.Handles.{worker_view}
 use Rattle.fz_line.specs.declared.protocol.View.{View}
 use Rattle.fz_line.specs.States.{OwnerState, SeatState}
-use Rattle.fz_model.specs.declared.answers.Entry.{Entry}
-use Rattle.fz_line.specs.Views.{total}
 use Rattle.fz_model.specs.declared.limits.TheConstants.{MAX_WORKERS}
 use Rattle.fz_line.proofs.Draining.{popped_rest, taken_first, length_flat}
 use Rattle.fz_line.proofs.owner.Owner.drain.Goals as goal
