@@ -52,6 +52,7 @@ impl<O: Opening> Service<O> {
             || {
                 let answer = main();
                 stop.store(true, Ordering::SeqCst);
+                self.wake();
                 answer
             },
         );

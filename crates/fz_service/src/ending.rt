@@ -73,6 +73,7 @@ impl<O: Opening> Locked<O> {
             mut book,
             rest,
             holds: _,
+            bell: _,
         } = self;
         let (mut plain, mut all) = without_shares(seats, plain, rest);
         book.audit(&mut all);

@@ -4,6 +4,7 @@
 //! seats. `enter` takes the lock and lends `Locked`, which has the calls of a world.
 #![tactic(auto)]
 
+mod bell;
 mod beside;
 mod calls;
 mod ending;

@@ -11,6 +11,7 @@ ghost use Rattle.fz_service.specs.States.{locked_state, line_room, LetsGo, RunsC
 ghost use Rattle.std.specs.Fn.{FnOnceReturnsAtMut};
 ghost use Rattle.fz_service.specs.Takes.{reply_of};
 
+use crate::bell::Bell;
 use crate::opening::{Finishes, Opening};
 use crate::seat::{Duty, Seat};
 use fz_line::Owner;
@@ -18,6 +19,7 @@ use fz_model::{Entry, Refusal};
 use fz_world::World;
 use std::alloc::Global;
 use std::marker::Model;
+use std::sync::Arc;
 use std::sync::ledger::{Book, Share};
 
 /// A world, the owner's end of the line to which its ready entries are sent, and the book of finished duties.
@@ -33,6 +35,8 @@ pub struct Locked<O: Opening> {
     /// What is left of the book's shares, once each seat has its own: no part.
     pub(crate) rest: Share<Finishes<O>>,
     pub(crate) holds: u64,
+    /// Rung where entries are sent.
+    pub(crate) bell: Arc<Bell, Global>,
 }
 
 impl<O: Opening> Model for Locked<O> {
@@ -64,6 +68,7 @@ impl<O: Opening> Locked<O> {
         owner: Owner,
         book: Book<Finishes<O>>,
         rest: Share<Finishes<O>>,
+        bell: Arc<Bell, Global>,
     ) -> Locked<O>
         requires world { StandsFor world (opening O.origin.blocks O.origin.frames) }
         requires forgotten { world.forgotten ≡ 0 }
@@ -78,6 +83,7 @@ impl<O: Opening> Locked<O> {
             book,
             rest,
             holds: 0,
+            bell,
         }
     }
 
@@ -94,7 +100,7 @@ impl<O: Opening> Locked<O> {
         queue_from(&self.world, self.published)
     }
 
-    /// Sends the entries of the outbox, the oldest first; returns how many were sent.
+    /// Sends the entries of the outbox, the oldest first, and wakes a worker that sleeps for each; returns how many were sent.
     ///
     /// It stops early only where a push found no memory, as no entry does for which the line has room from the first: min(65,536,
     /// 64 * blocks) entries. What isn't sent stays in the outbox.
@@ -106,6 +112,7 @@ impl<O: Opening> Locked<O> {
         let outbox = queue_from(&self.world, self.published);
         let count = self.owner.publish(outbox);
         self.published += count;
+        self.bell.ring_for(count);
         count
     }
 

@@ -5,6 +5,7 @@ ghost use Rattle.std.specs.List.{AllByRecursion};
 ghost use Rattle.fz_line.specs.States.{new_seats};
 ghost use Rattle.fz_service.specs.States.{IsNewAt};
 
+use crate::bell::Bell;
 use crate::locked::Locked;
 use crate::opening::{Finishes, Opening};
 use crate::seat::Seat;
@@ -13,8 +14,8 @@ use fz_line::{Owner, retire_all};
 use fz_world::{Config, World};
 use std::alloc::Global;
 use std::marker::Model;
-use std::sync::Mutex;
 use std::sync::ledger::{Blank, Share};
+use std::sync::{Arc, Mutex};
 
 /// A world, a line with its seats, and a book, which no marker names yet.
 ///
@@ -61,8 +62,13 @@ impl Drop for Prepared {
 }
 
 impl Prepared {
-    /// The service and its seats, in room for them.
-    pub(crate) fn into_service<O: Opening>(self, room: Vec<Seat<O>>) -> (Service<O>, Vec<Seat<O>>)
+    /// The service and its seats, in room for them, with the two ends of a bell.
+    pub(crate) fn into_service<O: Opening>(
+        self,
+        room: Vec<Seat<O>>,
+        bell: Arc<Bell, Global>,
+        rung: Arc<Bell, Global>,
+    ) -> (Service<O>, Vec<Seat<O>>)
         requires origin { self ≡ O.origin }
         requires room { (room.items ≡ []) × (self.workers ≤ vec_capacity room) }
         ensures { result.1.items ≡ new_seats O.origin.line O.origin.workers }
@@ -77,9 +83,10 @@ impl Prepared {
         } = self;
         let (book, all) = blank.open::<Finishes<O>>();
         let (seats, rest) = share_out(seats, room, all);
-        let locked = Locked::new(alloc, world, owner, book, rest);
+        let locked = Locked::new(alloc, world, owner, book, rest, rung);
         let service = Service {
             lock: Mutex::new(locked),
+            bell,
         };
         (service, seats)
     }

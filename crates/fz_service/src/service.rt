@@ -9,6 +9,7 @@ ghost use Rattle.fz_world.specs.Does.{open_causes};
 ghost use Rattle.fz_service.specs.States.{IsInOrder, line_room};
 ghost use Rattle.fz_service.specs.Ends.{IsEndOfRun, IsEachOnce, IsRefusedEnd};
 
+use crate::bell::Bell;
 use crate::ending::Final;
 use crate::locked::Locked;
 use crate::opening::Opening;
@@ -22,10 +23,13 @@ use std::alloc::Global;
 use std::hint;
 use std::marker::Brand;
 use std::sync::ledger::Blank;
-use std::sync::{Mutex, MutexGuard, Wait};
+use std::sync::{Arc, Mutex, MutexGuard, Wait};
 
 /// How often a thread asks for the lock before it sleeps until it is free. That takes one to three microseconds.
 const TRIES: u32 = 64;
+
+/// How many times as many entries as one pass can queue wait in the line at most. The others wait in the outbox, which takes no memory.
+const PASSES_IN_A_LINE: usize = 4;
 
 /// The lock, held: it lends `Locked`.
 pub type Guard<'a, O> = MutexGuard<'a, Locked<O>>;
@@ -33,12 +37,14 @@ pub type Guard<'a, O> = MutexGuard<'a, Locked<O>>;
 /// A world and the owner's end of its line, under one lock.
 pub struct Service<O: Opening> {
     pub(crate) lock: Mutex<Locked<O>>,
+    /// That which the lock holds too.
+    pub(crate) bell: Arc<Bell, Global>,
 }
 
 // Written out: who owns a service then drops it by one call that is proved here, not field by field at each way out of a function.
 impl<O: Opening> Drop for Service<O> {
     fn drop(self) {
-        let Service { lock: _ } = self;
+        let Service { lock: _, bell: _ } = self;
     }
 }
 
@@ -75,7 +81,9 @@ impl Service<Brand> {
         ensures prepared { IfOk result (λ made. (made.blocks ≡ config.blocks) × (made.frames ≡ config.frames) × (made.workers ≡ workers)) }
     {
         check_config(config)?;
-        let (owner, seats) = line(alloc, workers, line_room(config.blocks))?;
+        let room = line_room(config.blocks);
+        let (mut owner, seats) = line(alloc, workers, room)?;
+        owner.bound(PASSES_IN_A_LINE * room);
         let blank = Blank::new(workers);
         match World::open(alloc, config) {
             Ok(world) => Ok(Prepared {
@@ -103,8 +111,10 @@ impl<O: Opening> Service<O> {
         ensures seats { IfOk result (λ opened. opened.1.items ≡ new_seats O.origin.line O.origin.workers) }
         ensures refused { IfErr result (λ refusal. refusal ≡ Refusal.NoMemory) }
     {
+        let bell = Arc::new(prepared.alloc, Bell::new())?;
+        let rung = Arc::try_clone(&bell)?;
         let room = Vec::with_capacity(prepared.alloc, prepared.seats.len())?;
-        Ok(prepared.into_service(room))
+        Ok(prepared.into_service(room, bell, rung))
     }
 
     /// Takes the lock. Whenever it is taken, the world stands for a state that steps reach from the opening, what was sent is the beginning of
@@ -129,6 +139,12 @@ impl<O: Opening> Service<O> {
         self.lock.lock(rt)
     }
 
+    /// Wakes all workers that sleep, so that they look at `stop` and at the line. For who sets the `stop` of `run_workers`, after that: a worker that
+    /// sleeps sees it within 50 milliseconds else. `run_beside` calls it itself.
+    pub fn wake(&self) {
+        self.bell.ring();
+    }
+
     /// Ends the service, with all its seats, as `Locked::end` says of what the lock held. No pass is carried out, and the world ends with it.
     ///
     /// Refusals, in their order, with all that was given: `SeatsMissing` where the seats' indices aren't each index once, `NoMemory` where an
@@ -138,12 +154,12 @@ impl<O: Opening> Service<O> {
         ensures refused { IfErr result (λ refused. IsRefusedEnd O.origin.workers seats.items refused.0) }
         ensures same { IfErr result (λ refused. refused.2.items ≡ seats.items) }
     {
-        let Service { lock } = self;
+        let Service { lock, bell } = self;
         match lock.into_inner().end(seats) {
             Ok(end) => Ok(end),
             Err((refusal, locked, seats)) => {
                 let lock = Mutex::new(locked);
-                Err((refusal, Service { lock }, seats))
+                Err((refusal, Service { lock, bell }, seats))
             }
         }
     }

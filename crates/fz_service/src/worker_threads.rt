@@ -3,6 +3,7 @@
 ghost use Rattle.std.specs.Prelude.{◌≡◌, ◌≢◌, ℕ, ◌<◌, ◌≤◌, [], Some, length, map, slice_get, slice_index_or, vec_capacity};
 ghost use Rattle.fz_service.specs.Workers.{Extends, ExtendEach, SlotExtends, slots_of, in_slots};
 
+use crate::bell::Bell;
 use crate::opening::Opening;
 use crate::seat::Seat;
 use crate::service::Service;
@@ -12,8 +13,7 @@ use crate::workers::{Gate, Proc, lock_for_next_turn};
 use std::alloc::Global;
 use std::sync::Wait;
 use std::sync::atomic::AtomicBool;
-use std::thread::{Parker, Threads};
-use std::time::Duration;
+use std::thread::Threads;
 use std::{hint, mem, thread};
 
 /// How often in a row a worker spins where the line is empty, before it begins to yield: for some 10 microseconds in all.
@@ -25,28 +25,32 @@ const HINTS_IN_A_SPIN: u32 = 16;
 /// How often in a row it yields, before it begins to sleep.
 const YIELDS_IN_A_ROW: u32 = 64;
 
-/// For how many microseconds it sleeps at a time.
-const MICROSECONDS_OF_SLEEP: u64 = 100;
-
-/// What a worker does while the line is empty: it spins at first, then yields, and then sleeps for a moment at a time, since nothing wakes it.
+/// What a worker does while the line is empty: it spins at first, then yields, and then sleeps until the bell rings.
 #[derive(Drop)]
-struct Pause {
+struct Pause<'a> {
+    bell: &'a Bell,
     spins: u32,
     yields: u32,
-    parker: Parker,
+    /// How often the bell had rung before the worker last looked at `stop` and at the line; something only while it counts as a sleeper.
+    heard: Option<u32>,
 }
 
-impl Pause {
-    fn new() -> Pause {
+impl<'a> Pause<'a> {
+    fn new(bell: &'a Bell) -> Pause<'a> {
         Pause {
+            bell,
             spins: 0,
             yields: 0,
-            parker: Parker::new(),
+            heard: None,
         }
     }
 
-    /// The line had an entry, so that the next pause is a first one.
+    /// The line had an entry, or the worker is to stop, so that the next pause is a first one.
     fn end(&mut self) {
+        if self.heard.is_some() {
+            self.bell.get_up();
+        }
+        self.heard = None;
         self.spins = 0;
         self.yields = 0;
     }
@@ -59,9 +63,17 @@ impl Pause {
             self.yields += 1;
             thread::yield_now();
         } else {
-            self.parker
-                .park_timeout(rt, Duration::from_micros(MICROSECONDS_OF_SLEEP));
+            self.sleep(rt);
         }
+    }
+
+    /// The first time it only counts as a sleeper, and the worker looks once more.
+    fn sleep<R: Wait>(&mut self, rt: &R) {
+        match self.heard {
+            Some(heard) => self.bell.sleep(heard, rt),
+            None => self.bell.lie_down(),
+        }
+        self.heard = Some(self.bell.rings());
     }
 }
 
@@ -180,11 +192,12 @@ impl<O: Opening> Service<O> {
         ensures { Extends seat result.0 }
     {
         let mut seat = seat;
-        let mut pause = Pause::new();
+        let mut pause = Pause::new(&self.bell);
         let mut held = None;
         let mut turns = 0u64;
         for _turn in rt.forever() {
             if let Some(told) = Told::read(stop) {
+                pause.end();
                 return (seat, told);
             }
             let Turn {
@@ -281,7 +294,8 @@ impl<O: Opening> Service<O> {
     /// The worker of the first seat runs the procedures of the first list, and so on, and none where `procs` is shorter.
     /// It does with each entry as `invoke_finalizers` does, and ends when it finds the line empty in a take that began after it had read
     /// `stop` as true. So what was published before `stop` was set is taken. While the line is empty and `stop` is false, it spins, then yields,
-    /// and later sleeps for a moment at a time. The calling thread is one of the workers: whoever sets `stop` runs in another.
+    /// and later sleeps until an entry is sent, or `wake` is called, for 50 milliseconds at a time at most. The calling thread is one of the workers:
+    /// whoever sets `stop` runs in another.
     ///
     /// Where a thread can't be started, another one serves its seat too. Without the memory for the threads' slots, all seats come back unused.
     pub fn run_workers<G: Gate + Sync, R: Threads + Wait + Sync>(

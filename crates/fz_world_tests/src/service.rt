@@ -1,6 +1,7 @@
 //! What no clause says: that memory is asked for only where it is needed, that takes need no lock and look at the line, which procedures workers call,
 //! that they run at the same time, and the service's answers from end to end.
 
+mod bell;
 mod eight;
 mod limits;
 mod lists;

@@ -93,6 +93,8 @@ fn stops_after<O: Opening, R: Abort + Wait>(rt: &R, prepared: Prepared, steps: u
     let finished = steps / 4 * 2 + (steps % 4).saturating_sub(2);
     counts(rt, steps, &end, taken, finished);
     lists_the_rest(rt, steps, end.left.as_slice(), end.taken);
+    let room = end.left.capacity();
+    assert_eq!(rt; room, end.left.len(), "room after {steps} steps");
 }
 
 #[test]
