@@ -132,7 +132,8 @@ impl World {
         ensures few { 16 * self.new.remembered ≤ 17 * length self.new.held }
         ensures freed { result + self.new.remembered ≡ self.old.remembered }
     {
-        self.ready.forget(most_entries(&self.marked.heap).max(self.table.len()))
+        self.ready
+            .forget(most_entries(&self.marked.heap).max(self.table.len()))
     }
 
     /// How many entries are in memory.

@@ -8,10 +8,9 @@ use fz_model::{ObjKind, RegKind};
 use fz_service::{OpenGate, Opening, Prepared, Proc, Seat, Service, Take, procedures, retire_all};
 use fz_world::{Config, World};
 use std::alloc::Global;
-use std::io;
 use std::sync::Wait;
-use std::thread;
 use std::thread::Threads;
+use std::{io, thread};
 
 /// How many objects are made, dropped and finalized in a round.
 const ROUND: u64 = 10_000;
@@ -128,7 +127,13 @@ fn run_parts<O: Opening + Send + Sync, R: Print + Threads + Wait + Sync>(
         }
         own = give_up(own);
         let given_up = own.forfeited();
-        let (back, ran) = service.run_beside(seats, procs, &OpenGate, rt, || run_rounds(rt, service, given_up));
+        let (back, ran) = service.run_beside(
+            seats,
+            procs,
+            &OpenGate,
+            rt,
+            || run_rounds(rt, service, given_up),
+        );
         seats = back;
         let Some(now) = ran else {
             return (seats, own, Ok(false));
