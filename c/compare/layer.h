@@ -79,6 +79,10 @@ static inline void copy(int at, int to) { roots[to] = roots[at]; }
 static inline void store(int at, uint64_t offset, int from) { ((void **)roots[at])[offset] = roots[from]; }
 static inline bool load(int at, uint64_t offset, int to) { return (roots[to] = ((void **)roots[at])[offset]) != 0; }
 
+/* A root's word as a number that keeps no object, and back: while the object lives. */
+static inline uint64_t number_in(int at) { return (uint64_t)GC_HIDE_POINTER(roots[at]); }
+static inline void aim(int at, uint64_t number) { roots[at] = GC_REVEAL_POINTER(number); }
+
 /* The client data of a registration is the number of a row of this table, which isn't an address. */
 static struct closure { finalizer run; uint64_t cd; } closures[1 << 16];
 static unsigned made = 0;
@@ -137,16 +141,22 @@ APART static void scrub(void)
         old[n] = 0;
 }
 
-APART static void collect(void)
+APART static void collect_only(void)
 {
-    scrub();
     GC_enable();
     GC_gcollect();
     GC_disable();
+}
+
+APART static void collect(void)
+{
+    scrub();
+    collect_only();
     scrub();
 }
 
 static inline uint64_t invoke(void) { return (uint64_t)GC_invoke_finalizers(); }
+static inline void forget_past(void) {}
 
 #elif defined OWN_HEAP
 #include "../examples/own_heap/own_heap.h"
@@ -249,7 +259,11 @@ static unsigned known = 0;
 
 static derrimas_slot root(int n) { return derrimas_at((uint64_t)n / DERRIMAS_SLOTS, (uint64_t)n % DERRIMAS_SLOTS); }
 
-static inline void layer_open(void) { MUST(derrimas_open(&world, 1024, DERRIMAS_MAX_FRAMES)); }
+#ifndef BLOCKS
+#define BLOCKS 1024
+#endif
+
+static inline void layer_open(void) { MUST(derrimas_open(&world, BLOCKS, DERRIMAS_MAX_FRAMES)); }
 static inline void layer_close(void) { derrimas_destroy(&world); }
 
 /* Calls the procedure where nothing of earlier calls is left. */
@@ -285,6 +299,16 @@ static uint64_t number_of(finalizer f)
     finalizers[known] = f;
     return known++;
 }
+
+static inline uint64_t number_in(int at)
+{
+    uint64_t word;
+
+    MUST(derrimas_get(&world, root(at), &word));
+    return word;
+}
+
+static inline void aim(int at, uint64_t number) { MUST(derrimas_set(&world, root(at), number)); }
 
 static inline void finalize(int at, int kind, finalizer f, uint64_t cd)
 {
@@ -323,9 +347,15 @@ static inline int move_link(bool is_long, int at, uint64_t offset, uint64_t to)
     return DERRIMAS_GC_ANSWER(answer);
 }
 
-static void collect(void)
+static inline void scrub(void) {}
+static inline void collect_only(void) { MUST(derrimas_collect(&world, NULL)); }
+static void collect(void) { collect_only(); }
+
+static inline void forget_past(void)
 {
-    MUST(derrimas_collect(&world, NULL));
+    uint64_t forgotten;
+
+    MUST(derrimas_forget(&world, &forgotten));
 }
 
 static void run(derrimas_world *w, const derrimas_entry *entry, void *data)
