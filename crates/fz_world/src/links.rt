@@ -13,7 +13,7 @@ ghost use Rattle.fz_world.specs.Does.{Does};
 ghost use Rattle.fz_world.specs.Links.{link_at, two_place_causes, end_causes};
 
 use crate::frames::Frames;
-use crate::registrations::{check_start, most_entries};
+use crate::registrations::{check_start, first_entries};
 use crate::world::World;
 use fz_heap::Heap;
 use fz_links::Links;
@@ -48,7 +48,7 @@ fn ends(frames: &Frames, heap: &Heap, place: Place, target: Slot) -> Result<(Add
     Ok((link, start))
 }
 
-/// Makes room for `most` links, where there is none yet. So the links grow once, and not again and again.
+/// Makes room for `most` links, where there is none yet. So the links seldom grow.
 fn make_first_room(links: &mut Links, most: usize)
     ensures same { links.new.links ≡ links.old.links }
     ensures roomier { links.old.room ≤ links.new.room }
@@ -91,7 +91,7 @@ impl World {
             slot: target_slot,
         };
         let (link, target) = ends(&self.frames, &self.marked.heap, place, target)?;
-        let most = most_entries(&self.marked.heap);
+        let most = first_entries(&self.marked.heap, self.passes);
         match which {
             LinkKind::Short => {
                 make_first_room(&mut self.short, most);

@@ -23,6 +23,9 @@ use fz_model::{
 };
 use fz_table::Table;
 
+/// The least room that a table is given at once, so that a small one doesn't grow again and again.
+const LEAST_ROOM: u64 = 1024;
+
 /// Whether the word is zero, or lies outside the heap.
 fn is_off_heap(heap: &Heap, word: Word) -> bool
     ensures { result ≡ is_off_heap heap.now.blocks word }
@@ -52,7 +55,17 @@ pub(crate) fn most_entries(heap: &Heap) -> usize
     (BLOCK_WORDS * heap.blocks()).min(TABLE_LIMIT) as usize
 }
 
-/// Makes room for `most` registrations and their entries, where there is no registration yet. So tables and queue grow once, and not again and again.
+/// For how many registrations, or links of a kind, there is room at first: one for each object, where no pass has reclaimed any. Else a table starts small: one
+/// with room for far more than it has lies strewn over memory.
+pub(crate) fn first_entries(heap: &Heap, passes: u64) -> usize
+    ensures { result ≤ TABLE_LIMIT }
+{
+    let made = if passes == 0 { heap.births() } else { 0 };
+    let wanted = made.clamp(LEAST_ROOM, TABLE_LIMIT) as usize;
+    wanted.min(most_entries(heap))
+}
+
+/// Makes room for `most` registrations and their entries, where there is no registration yet. So tables and queue seldom grow.
 fn make_first_room(table: &mut Table, ready: &mut Ready, most: usize)
     requires { most ≤ TABLE_LIMIT }
     ensures registered { table.new.registered ≡ table.old.registered }
@@ -152,7 +165,7 @@ impl World {
         make_first_room(
             &mut self.table,
             &mut self.ready,
-            most_entries(&self.marked.heap),
+            first_entries(&self.marked.heap, self.passes),
         );
         let (number, old) = enroll(&mut self.table, &mut self.ready, word, finalizer)?;
         Ok(RegAnswer::Number(number, old))
