@@ -28,8 +28,11 @@ impl Bell {
 
     /// Wakes a sleeper for each of these entries, as far as there are any.
     pub(crate) fn ring_for(&self, entries: usize) {
+        if entries == 0 {
+            return;
+        }
         let sleepers = self.sleepers.load(Ordering::SeqCst);
-        if entries == 0 || sleepers == 0 {
+        if sleepers == 0 {
             return;
         }
         self.rings.fetch_add(1, Ordering::SeqCst);
