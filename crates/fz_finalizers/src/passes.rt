@@ -30,7 +30,8 @@ fn limited(entries: usize) -> usize
 }
 
 impl Finalizers {
-    /// Makes room for further registrations of the kinds other than `Unreachable`, and for further links of both kinds: of each for 2^32 at the most.
+    /// Makes room for further registrations of the kinds other than `Unreachable`, and for further links of both kinds: of each for 2^32 at the most. Takes
+    /// time by what it makes room for.
     ///
     /// Refused `NoMemory` where an allocation failed.
     pub fn reserve(
@@ -59,9 +60,9 @@ impl Finalizers {
         Ok(())
     }
 
-    /// Carries out a pass over the host's heap, whose marking is done: the links to what isn't marked are cleared, the finalizers of objects that
-    /// aren't marked come to the queue where no other of these leads to them, and what they need is marked. What isn't marked afterwards is the
-    /// host's to reclaim.
+    /// Carries out a pass over the host's heap, whose marking is done. The links to what isn't marked are cleared. The finalizers of objects that aren't
+    /// marked come to the queue where no other of these leads to them, and what they need is marked. What isn't marked afterwards is the host's to reclaim.
+    /// Takes time by the registrations and the links, and by what the host takes to answer.
     ///
     /// That registered objects and the targets of links are the host's objects is its duty.
     pub fn pass<H: Host>(&mut self, host: &mut H) -> Passed
@@ -99,8 +100,8 @@ impl Finalizers {
         }
     }
 
-    /// Queues all that is registered, whatever is marked, by rank, then object, and the unreachable ones after the others; returns how many there
-    /// were: `GC_finalize_all`. The entries' pass is 0, and so are their births. Links stay.
+    /// Queues all that is registered, whatever is marked, by rank, then object, and the unreachable ones after the others; returns how many there were:
+    /// `GC_finalize_all`. The entries' pass is 0, and so are their births. Links stay. Takes time by the registrations.
     pub fn queue_all(&mut self) -> u64
         ensures queued { QueuesTables self.old.queued self.old.registrations self.old.late self.old.waiting self.new.waiting }
         ensures follows { Follows self.old.state QueueAll self.new.state }

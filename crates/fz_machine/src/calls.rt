@@ -29,8 +29,8 @@ impl Machine {
         Ok(())
     }
 
-    /// Makes room for further registrations of the kinds other than `Unreachable`, and for further links of both kinds: of each for 2^32 at the most.
-    /// Up to there no call wants memory.
+    /// Makes room for further registrations of the kinds other than `Unreachable`, and for further links of both kinds: of each for 2^32 at the most. Up to
+    /// there no call wants memory. Takes time by what it makes room for.
     ///
     /// Refused `PassOpen`, and `NoMemory` where an allocation failed.
     pub fn reserve(
@@ -136,7 +136,8 @@ impl Machine {
         }
     }
 
-    /// Queues all that is registered, whatever is marked; returns how many there were: `GC_finalize_all`. Refused `PassOpen`.
+    /// Queues all that is registered, whatever is marked; returns how many there were: `GC_finalize_all`. Takes time by the registrations. Refused
+    /// `PassOpen`.
     pub fn queue_all(&mut self) -> Result<u64, Refused>
         ensures judged { IsJudgedBy self.old.phase [] result }
         ensures refused { OnErr result (self.new ≡ self.old) }

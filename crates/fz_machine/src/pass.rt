@@ -45,8 +45,8 @@ impl Machine {
         Ok(number)
     }
 
-    /// Takes the answers to the question before, of `IsMarked` and `IsHolderMarked` one for each that it was about, and any of the others; and tells
-    /// what comes next. Where there are fewer answers, the others are asked for again.
+    /// Takes the answers to the question before, of `IsMarked` and `IsHolderMarked` one for each that it was about, and any of the others; and tells what
+    /// comes next. Where there are fewer answers, the others are asked for again. Takes time by the question and its answers.
     ///
     /// It takes no memory. Refused `NoPass` where none is open.
     pub fn next(&mut self, answers: &[bool]) -> Result<Next, Refused>

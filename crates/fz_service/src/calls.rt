@@ -18,6 +18,7 @@ ghost use Rattle.fz_world.specs.Does.{Does, StandsFor};
 ghost use Rattle.fz_world.specs.Links.{link_at};
 ghost use Rattle.fz_world.specs.Registering.{RegistersFinalizer};
 ghost use Rattle.fz_world.specs.Replies.{Replies};
+ghost use Rattle.fz_world.specs.Retried.{TriesTwice};
 ghost use Rattle.fz_world.specs.World.{KeepsMarks, MarksMade, NotesWritten};
 ghost use Rattle.fz_service.specs.States.{ends_cycle, KeepsLine, SendsMore};
 
@@ -40,7 +41,7 @@ fn ends_cycle(call: Call) -> bool
 
 /// Each call is the step of the same name of the world, and leaves the line as it is, but for what `pause` and `collect` send.
 impl<O: Opening> Locked<O> {
-    /// Makes the call, and tells its answer; `pause` and `collect` send what they queued.
+    /// Makes the call, and tells its answer; `pause` and `collect` send what they queued. Takes the time of that call.
     ///
     /// It is refused as the call of its name is.
     pub fn make(&mut self, call: Call) -> Result<Reply, Refusal>
@@ -56,7 +57,8 @@ impl<O: Opening> Locked<O> {
         Ok(reply)
     }
 
-    /// Makes an object of `size` words, all of them zero, and puts its address into the slot; returns the address and the birth.
+    /// Makes an object of `size` words, all of them zero, and puts its address into the slot; returns the address and the birth. Takes time by the object's
+    /// words.
     ///
     /// Refusals, in their order: `BadSlot`, `BadSize`, `Exhausted`, `NoSpace`.
     pub fn alloc(
@@ -73,6 +75,30 @@ impl<O: Opening> Locked<O> {
         ensures marks { IfOk result (λ made. MarksMade self.old.world made.0 self.new.world) }
     {
         self.world.alloc(frame, slot, size, kind)
+    }
+
+    /// Makes an object as `alloc` does. Where there is no space it collects, which sends what it queued, and tries once more. What it queued is reclaimed by
+    /// a later collection, when workers have finished it. Takes time by the heap where it collects.
+    ///
+    /// Refusals, in their order: `BadSlot`, `BadSize`, `Exhausted`, then `CycleOpen` and `Exhausted` of the collection, and `NoSpace` where it made none.
+    pub fn alloc_or_collect(
+        &mut self,
+        frame: u64,
+        slot: u64,
+        size: u64,
+        kind: ObjKind,
+    ) -> Result<(Addr, u64), Refusal>
+        ensures step { TriesTwice (λ collected same. same ≡ collected) (Make (Alloc (slot_at frame slot) size kind)) self.old.world result self.new.world }
+        ensures line { self.new ≡ record self.old { world = self.new.world; sent = self.new.sent; published = self.new.published } }
+    {
+        match self.alloc(frame, slot, size, kind) {
+            Err(Refusal::NoSpace) => {}
+            answer => return answer,
+        }
+        if let Err(refusal) = self.collect() {
+            return Err(refusal);
+        }
+        self.alloc(frame, slot, size, kind)
     }
 
     /// Reads the word at an offset from where the slot points into an object, and puts it into the second slot too.
@@ -147,7 +173,7 @@ impl<O: Opening> Locked<O> {
         self.world.copy(frame, slot, to_frame, to_slot)
     }
 
-    /// Registers a finalizer of the object that starts at the slot's word.
+    /// Registers a finalizer of the object that starts at the slot's word. The first in a world takes time by the heap.
     ///
     /// Refusals, in their order: `BadSlot`, `NotPointer`, `NotStart`, `Exhausted`, `TableFull`, `NoMemory`.
     pub fn register(
@@ -245,7 +271,7 @@ impl<O: Opening> Locked<O> {
             .move_link(which, frame, slot, offset, to_frame, to_slot, to_offset)
     }
 
-    /// Opens a cycle.
+    /// Opens a cycle. Takes time by the heap.
     ///
     /// Refusals, in their order: `CycleOpen`, `Exhausted` at the 2^48th pass.
     pub fn begin(&mut self) -> Result<(), Refusal>
@@ -258,7 +284,7 @@ impl<O: Opening> Locked<O> {
         self.world.begin()
     }
 
-    /// Scans at most `budget` marked objects that weren't scanned in the cycle: `Done` where none is left.
+    /// Scans at most `budget` marked objects that weren't scanned in the cycle: `Done` where none is left. Takes time by the words of what it scans.
     ///
     /// Refusals, in their order: `BadCount` where the budget is 0, `NoCycle`.
     pub fn mark(&mut self, budget: u64) -> Result<Progress, Refusal>
@@ -301,7 +327,7 @@ impl<O: Opening> Locked<O> {
         self.world.close()
     }
 
-    /// Ends the cycle with a pass, and sends what it queued.
+    /// Ends the cycle with a pass, and sends what it queued. Takes time by the heap.
     ///
     /// Refused `NoCycle` where no cycle is open.
     pub fn pause(&mut self) -> Result<Passed, Refusal>
@@ -318,7 +344,7 @@ impl<O: Opening> Locked<O> {
         Ok(passed)
     }
 
-    /// A whole cycle in one step, which sends what it queued.
+    /// A whole cycle in one step, which sends what it queued. Takes time by the heap.
     ///
     /// Refusals, in their order: `CycleOpen`, `Exhausted` at the 2^48th pass.
     pub fn collect(&mut self) -> Result<Passed, Refusal>
@@ -364,7 +390,8 @@ impl<O: Opening> Locked<O> {
         self.world.forgotten()
     }
 
-    /// Gives back the memory of finished entries, as the world does, once all entries were sent, and before that nothing; returns how many went.
+    /// Gives back the memory of finished entries, as the world does, once all entries were sent, and before that nothing; returns how many went. Takes time
+    /// by the entries in memory.
     pub fn forget(&mut self) -> u64
         ensures line { KeepsLine self.old self.new }
         ensures same { self.new.world ≡ record self.old.world { forgotten = self.new.world.forgotten; remembered = self.new.world.remembered } }

@@ -34,7 +34,7 @@ pub struct Final {
 }
 
 impl<O: Opening> Locked<O> {
-    /// Ends the service, with all its seats. No pass is carried out.
+    /// Ends the service, with all its seats. No pass is carried out. Takes time by the heap and by the entries that are left.
     ///
     /// Refusals, in their order, with all that was given: `SeatsMissing` where the seats' indices aren't each index once, `NoMemory` where an
     /// allocation failed.
@@ -47,7 +47,10 @@ impl<O: Opening> Locked<O> {
         if !is_each_once(seats.as_slice(), self.owner.seats()) {
             return Err((Refusal::SeatsMissing, self, seats));
         }
-        let entries = self.world.queued().saturating_sub(count_taken(seats.as_slice()));
+        let entries = self
+            .world
+            .queued()
+            .saturating_sub(count_taken(seats.as_slice()));
         match room(self.alloc, entries as usize, seats.len()) {
             Ok((left, plain)) => Ok(self.settle(seats, plain, left)),
             Err(_) => Err((Refusal::NoMemory, self, seats)),

@@ -100,7 +100,7 @@ impl<O: Opening> Locked<O> {
         queue_from(&self.world, self.published)
     }
 
-    /// Sends the entries of the outbox, the oldest first, and wakes a worker that sleeps for each; returns how many were sent.
+    /// Sends the entries of the outbox, the oldest first, and wakes a worker that sleeps for each; returns how many were sent. Takes time by what it sends.
     ///
     /// It stops early only where a push found no memory, as no entry does for which the line has room from the first: min(65,536,
     /// 64 * blocks) entries. What isn't sent stays in the outbox.

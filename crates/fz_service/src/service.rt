@@ -70,7 +70,7 @@ fn line_room(blocks: u64) -> usize
 }
 
 impl Service<Brand> {
-    /// Makes what a service needs: a world of this size, and a line with a seat for each worker.
+    /// Makes what a service needs: a world of this size, and a line with a seat for each worker. Takes time by the heap.
     ///
     /// The line has room for as many entries as one pass can queue, min(65,536, 64 * blocks), so that none of them asks for memory. A place of it
     /// takes some 80 bytes, that is 5.2 MB and some 4 ms for a heap of 1,024 blocks or more.
@@ -145,7 +145,8 @@ impl<O: Opening> Service<O> {
         self.bell.ring();
     }
 
-    /// Ends the service, with all its seats, as `Locked::end` says of what the lock held. No pass is carried out, and the world ends with it.
+    /// Ends the service, with all its seats, as `Locked::end` says of what the lock held. No pass is carried out, and the world ends with it. Takes time by
+    /// the heap and by the entries that are left.
     ///
     /// Refusals, in their order, with all that was given: `SeatsMissing` where the seats' indices aren't each index once, `NoMemory` where an
     /// allocation failed.
@@ -164,7 +165,8 @@ impl<O: Opening> Service<O> {
         }
     }
 
-    /// Ends the service, with all its seats, as `shutdown` does. Where that is refused, the seats are retired and the service is dropped.
+    /// Ends the service, with all its seats, as `shutdown` does. Where that is refused, the seats are retired and the service is dropped. Takes time by the
+    /// heap and by the entries that are left.
     ///
     /// Refusals, in their order: `SeatsMissing` where the seats' indices aren't each index once, `NoMemory` where an allocation failed.
     pub fn conclude(self, seats: Vec<Seat<O>>) -> Result<Final, Refusal>

@@ -9,7 +9,7 @@ use crate::world::World;
 use fz_model::{Call, Finalizer, LinkKind, ObjKind, Place, Refusal, Reply, Slot, Word};
 
 impl World {
-    /// Makes the call, and tells its answer. It is refused as the call of its name is, and then changes nothing.
+    /// Makes the call, and tells its answer. It is refused as the call of its name is, and then changes nothing. Takes the time of that call.
     pub fn make(&mut self, call: Call) -> Result<Reply, Refusal>
         ensures told { Replies self.old call result self.new }
         ensures refused { OnErr result (self.new ≡ self.old) }

@@ -22,7 +22,7 @@ use fz_model::{COUNT_LIMIT, Passed, Progress, Refusal};
 
 #[tactic(auto, using(crate::proofs::Does::does_refused))]
 impl World {
-    /// Opens a cycle: marks what the roots point to, and notes from now on the pages that are written.
+    /// Opens a cycle: marks what the roots point to, and notes from now on the pages that are written. Takes time by the heap.
     ///
     /// Refusals, in their order: `CycleOpen`, `Exhausted` at the 2^48th pass.
     pub fn begin(&mut self) -> Result<(), Refusal>
@@ -36,7 +36,7 @@ impl World {
         Ok(())
     }
 
-    /// Scans at most `budget` marked objects that weren't scanned in the cycle: `Done` where none is left.
+    /// Scans at most `budget` marked objects that weren't scanned in the cycle: `Done` where none is left. Takes time by the words of what it scans.
     ///
     /// Refusals, in their order: `BadCount` where the budget is 0, `NoCycle`.
     pub fn mark(&mut self, budget: u64) -> Result<Progress, Refusal>
@@ -58,7 +58,7 @@ impl World {
         Ok(self.marked.marker.step(&self.marked.heap, budget))
     }
 
-    /// Ends the cycle: marks on from the roots as they are now, and from marked objects on noted pages, and carries out a pass.
+    /// Ends the cycle: marks on from the roots as they are now, and from marked objects on noted pages, and carries out a pass. Takes time by the heap.
     ///
     /// Refused `NoCycle` where no cycle is open.
     pub fn pause(&mut self) -> Result<Passed, Refusal>
@@ -77,7 +77,7 @@ impl World {
         Ok(self.pass())
     }
 
-    /// A whole cycle in one step, as `GC_gcollect`: finds what is reachable, and carries out a pass.
+    /// A whole cycle in one step, as `GC_gcollect`: finds what is reachable, and carries out a pass. Takes time by the heap.
     ///
     /// Refusals, in their order: `CycleOpen`, `Exhausted` at the 2^48th pass.
     pub fn collect(&mut self) -> Result<Passed, Refusal>

@@ -122,7 +122,8 @@ impl World {
         self.ready.forgotten()
     }
 
-    /// Gives back the memory of finished entries, once they are more than 1 for each 16 that aren't; returns how many went. It takes no memory.
+    /// Gives back the memory of finished entries, once they are more than 1 for each 16 that aren't; returns how many went. It takes no memory, and time by
+    /// the entries in memory.
     ///
     /// `queue` then shows only what is queued afterwards, and `next` and `next_held` know what isn't finished, by the numbers of old.
     pub fn forget(&mut self) -> u64

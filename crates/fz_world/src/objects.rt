@@ -40,8 +40,8 @@ fn mark_new(marker: &mut Marker, cycle: bool, start: Addr, blocks: u64)
 
 #[tactic(auto, using(fz_model::proofs::Judged::judged_more, fz_model::proofs::Judged::judged_err, crate::proofs::Targets::targets_made, crate::proofs::Targets::targets_written, crate::proofs::Whole::world_pages, crate::proofs::Whole::world_made, crate::proofs::Whole::world_written, crate::proofs::Does::does_refused, crate::proofs::Does::does_accepted, crate::proofs::Does::does_alloc))]
 impl World {
-    /// Makes an object of `size` words, all of them zero, and puts its address into the slot. Returns the address and the birth. An atomic
-    /// object is one of `GC_malloc_atomic`. In an open cycle the object is marked and its page noted.
+    /// Makes an object of `size` words, all of them zero, and puts its address into the slot. Returns the address and the birth. An atomic object is one of
+    /// `GC_malloc_atomic`. In an open cycle the object is marked and its page noted. Takes time by the object's words.
     ///
     /// Refusals, in their order: `BadSlot`, `BadSize` outside 1 to 1,024 words, `Exhausted` after 2^48 births, `NoSpace`.
     pub fn alloc(

@@ -129,9 +129,9 @@ fn enroll(
 
 #[tactic(auto, using(fz_model::proofs::Judged::judged_more, fz_model::proofs::Judged::judged_err, crate::proofs::Whole::world_room, crate::proofs::Whole::world_registered, crate::proofs::Whole::world_roomier, crate::proofs::Whole::world_removed, crate::proofs::Does::start_refused, crate::proofs::Does::does_refused, crate::proofs::Does::does_accepted))]
 impl World {
-    /// Registers a finalizer of the object that starts at the slot's word, as `GC_register_finalizer` does, or by its kind the `_ignore_self`
-    /// or `_no_order` one. A pass queues what is ready by rank, then address. A word that is zero or outside the heap is answered `Outside`, and
-    /// changes nothing.
+    /// Registers a finalizer of the object that starts at the slot's word, as `GC_register_finalizer` does, or by its kind the `_ignore_self` or `_no_order`
+    /// one. A pass queues what is ready by rank, then address. A word that is zero or outside the heap is answered `Outside`, and changes nothing. The first
+    /// in a world takes time by the heap.
     ///
     /// Refusals, in their order: `BadSlot`, `NotPointer`, `NotStart`, `Exhausted` after 2^48 numbers, `TableFull` for a 65,537th object, `NoMemory`.
     pub fn register(

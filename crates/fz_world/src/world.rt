@@ -90,7 +90,7 @@ fn marks(alloc: Global, blocks: u64) -> Result<(Marker, Dirty), Refusal>
 
 #[tactic(auto, using(crate::proofs::Whole::world_opening, crate::proofs::Targets::targets_opening))]
 impl World {
-    /// Opens a world without objects, all of whose slots are zero. Heap, marks and pages have all their memory from here on.
+    /// Opens a world without objects, all of whose slots are zero. Heap, marks and pages have all their memory from here on. Takes time by the heap.
     ///
     /// Refusals, in their order: `BadCount` where blocks or frames are outside their limits, `NoMemory` where an allocation failed.
     pub fn open(alloc: Global, config: Config) -> Result<World, Refusal>

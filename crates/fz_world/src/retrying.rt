@@ -1,0 +1,39 @@
+//! Allocations that collect where there is no space.
+
+ghost use Rattle.std.specs.Fn.{FnOnceReturnsAtMut};
+ghost use Rattle.fz_model.specs.declared.call.Call.TheVariants as calls;
+ghost use Rattle.fz_model.specs.Places.{slot_at};
+ghost use Rattle.fz_model.specs.Events.{Make};
+ghost use Rattle.fz_world.specs.Retried.{TriesTwice};
+
+use crate::world::World;
+use fz_model::{Addr, ObjKind, Refusal};
+
+impl World {
+    /// Makes an object as `alloc` does. Where there is no space it collects, lets `work` run what became ready, and tries once more. What `work` finishes is
+    /// reclaimed by the next collection, and not by this one. Takes time by the heap where it collects.
+    ///
+    /// Refusals, in their order: `BadSlot`, `BadSize`, `Exhausted` after 2^48 births, then `CycleOpen` and `Exhausted` of the collection, and `NoSpace` where it
+    /// made none.
+    pub fn alloc_or_collect<F: FnOnce(&mut World)>(
+        &mut self,
+        frame: u64,
+        slot: u64,
+        size: u64,
+        kind: ObjKind,
+        work: F,
+    ) -> Result<(Addr, u64), Refusal>
+        requires { F.IsAlwaysCallable work }
+        ensures { TriesTwice (λ mid worked. FnOnceReturnsAtMut F.FnOnce work mid tt worked) (Make (calls.Alloc (slot_at frame slot) size kind)) self.old result self.new }
+    {
+        match self.alloc(frame, slot, size, kind) {
+            Err(Refusal::NoSpace) => {}
+            answer => return answer,
+        }
+        if let Err(refusal) = self.collect() {
+            return Err(refusal);
+        }
+        work(self);
+        self.alloc(frame, slot, size, kind)
+    }
+}

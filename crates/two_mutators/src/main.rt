@@ -1,0 +1,82 @@
+//! two_mutators: two threads make objects, each in a frame of its own, while two workers run the finalizers of those that were let go.
+#![tactic(auto)]
+
+ghost use Rattle.std.specs.Prelude.{◌≡◌};
+
+use anyhow::Result;
+use fz_model::ObjKind::Scanned;
+use fz_model::RegKind::Normal;
+use fz_model::{Entry, Refusal};
+use fz_service::{OpenGate, Opening, Prepared, Proc, Service, procedures};
+use fz_world::Config;
+use std::alloc::Global;
+use std::marker::Brand;
+use std::sync::atomic::{AtomicU64, Ordering};
+use std::sync::{Arc, Wait};
+use std::thread;
+use std::thread::Threads;
+
+/// A finalizer, which counts what it is called for. It is procedure 0.
+#[derive(Drop)]
+struct Counts(Arc<AtomicU64, Global>);
+
+impl Proc for Counts {
+    fn work(&mut self, _entry: &Entry) {
+        self.0.fetch_add(1, Ordering::SeqCst);
+    }
+}
+
+/// Makes 100 objects in the frame's slot 0, each of which takes the place of the one before, and lets go of the last.
+fn mutate<O: Opening, R: Wait>(rt: &R, service: &Service<O>, frame: u64) -> Result<(), Refusal> {
+    for number in 0..100 {
+        let mut locked = service.enter(rt);
+        locked.alloc(frame, 0, 4, Scanned)?;
+        locked.register(frame, 0, Normal, 0, number, 0)?;
+    }
+    service.enter(rt).set(frame, 0, 0)
+}
+
+/// Lets two mutators run, and collects when both have ended.
+fn run_both<O: Opening + Send + Sync, R: Threads + Wait + Sync>(
+    rt: &R,
+    service: &Service<O>,
+) -> Result<u64, Refusal> {
+    let (first, second) = thread::join(rt, || mutate(rt, service, 0), || mutate(rt, service, 1));
+    first?;
+    second?;
+    Ok(service.enter(rt).collect()?.picked)
+}
+
+fn run<O: Opening + Send + Sync, R: Print + Threads + Wait + Sync>(
+    rt: &R,
+    prepared: Prepared,
+    mut procs: Vec<Vec<Box<dyn Proc + Send>>>,
+) -> Result<()>
+    requires { prepared ≡ O.origin }
+{
+    let (service, seats) = Service::<O>::open(prepared)?;
+    let (seats, picked) = service.run_beside(seats, procs.as_mut_slice(), &OpenGate, rt, || {
+        run_both(rt, &service)
+    });
+    let end = service.conclude(seats)?;
+    println!(rt;
+        "picked {}, finished {}, left {}",
+        picked?,
+        end.finished,
+        end.left.len()
+    )?;
+    Ok(())
+}
+
+fn main(rt: HostRuntime) -> Result<()> {
+    let count = Arc::new(rt.alloc(), AtomicU64::new(0))?;
+    let procs = procedures!(rt.alloc(); 2u64; Counts(Arc::try_clone(&count)?));
+    let config = Config {
+        blocks: 64,
+        frames: 2,
+    };
+    let prepared = Service::prepare(rt.alloc(), config, 2)?;
+    run::<Brand, HostRuntime>(&rt, prepared, procs)?;
+    println!(rt; "called {}", count.load(Ordering::SeqCst))?;
+    Ok(())
+}

@@ -1,0 +1,121 @@
+"""The page of calls, docs/CALLS.md, as the sources have it: signatures, comments, and the fields of answers."""
+import glob, re, textwrap
+
+PAGE = 'docs/CALLS.md'
+# The types whose calls it has, each with its crate.
+TYPES = [('World', 'fz_world'), ('Service', 'fz_service'), ('Locked', 'fz_service'), ('Seat', 'fz_service'), ('Duty', 'fz_service'), ('Proc', 'fz_service'),
+         ('Finalizers', 'fz_finalizers'), ('Machine', 'fz_machine')]
+# Where the types of answers stand, but for those of a crate itself.
+SHARED = 'fz_model'
+# What begins a block of calls in a source, a call, and a type with fields or variants.
+BLOCK = re.compile(r'(?:impl(?:<.*?>)? |pub trait )(\w+)[<: {]')
+CALL = re.compile(r' {4}(pub )?(?:const )?fn (\w+)')
+DATA = re.compile(r'pub (struct|enum) (\w+)(?:<.*?>)? \{')
+OPENING = '''# The calls
+
+`tests/documents --write` writes this page from the sources, and the gate compares the two. A head leaves out `self`. Refusals stand in their order. A refused
+call changes nothing.
+
+A call takes constant time, or the logarithm of what it searches, where its text names no other. The growth of a table counts for the calls that filled it.
+The [last part](#answers) has the fields of what calls take and return.
+
+'''
+
+
+def documented(lines):
+    """Each line of a source with the comment before it."""
+    comment = []
+    for number, line in enumerate(lines):
+        text = line.strip()
+        if text.startswith('///'):
+            comment.append(text[3:].strip())
+        elif not text.startswith('#['):
+            yield number, line, comment
+            comment = []
+
+
+def said(comment):
+    """A comment as one paragraph."""
+    return ' '.join(line for line in comment if line)
+
+
+def signature(lines, number):
+    """The head of a function on one line, without what isn't its type."""
+    head = ''
+    for line in lines[number:]:
+        text = line.strip()
+        if text.startswith(('ensures', 'requires', 'where', '//')):
+            break
+        head += ' ' + text
+        if text.endswith((' {', ' {}', ';')) or text == '{':
+            break
+    head = re.sub(r'[ {};]+$', '', head.strip())
+    head = re.sub(r"&(?:'a )?(?:mut )?self(?:, )?|\b(?:mut )?self, |\(self\)", lambda found: '()' if found[0] == '(self)' else '', head)
+    head = re.sub(r'^(?:pub )?(?:const )?fn ', '', head)
+    return re.sub(r'\( ', '(', re.sub(r',? \)', ')', head))
+
+
+def calls_of(name, crate):
+    """The public calls of a type, those beside its declaration first: each as its signature and what is said of it."""
+    declares = re.compile(rf'^pub (?:struct|trait) {name}\b', re.M)
+    for _, file in sorted((not declares.search(open(file).read()), file) for file in glob.glob(f'crates/{crate}/src/*.rt')):
+        lines, owner, is_trait = open(file).read().split('\n'), None, False
+        for number, line, comment in documented(lines):
+            block, call = BLOCK.match(line), CALL.match(line)
+            if block or line.startswith('}'):
+                owner, is_trait = block and block[1], line.startswith('pub trait')
+            if not block and call and owner == name and (call[1] or is_trait):
+                yield signature(lines, number), said(comment)
+
+
+def parts_of(lines, number):
+    """The variants or the public fields of a type, each with what is said of it."""
+    public = 'pub ' if lines[number].startswith('pub struct') else ''
+    for _, line, comment in documented(lines[number + 1:]):
+        if line.startswith('}'):
+            return
+        part = re.match(rf' {{4}}{public}(\w.*?),?$', line)
+        if part:
+            yield re.sub(r'#\[\w+\] ', '', part[1]), said(comment)
+
+
+def types_of(crates):
+    """The types of crates that have variants or public fields, each with its crate, what is said of it, and them."""
+    for crate in crates:
+        for file in sorted(glob.glob(f'crates/{crate}/src/*.rt')):
+            lines = open(file).read().split('\n')
+            for number, line, comment in documented(lines):
+                data = DATA.match(line)
+                parts = list(parts_of(lines, number)) if data else []
+                if parts:
+                    yield data[2], crate, said(comment), parts
+
+
+def answers(crates, text):
+    """The types that signatures name, or that those name."""
+    found, wanted, before = list(types_of(crates)), [], None
+    while wanted != before:
+        before, named = wanted, text + ' '.join(part for one in wanted for part, _ in one[3])
+        wanted = [one for one in found if re.search(rf'\b{one[0]}\b', named)]
+    return wanted
+
+
+def item(text, depth=0):
+    return textwrap.fill(text, 158, initial_indent='  ' * depth + '- ', subsequent_indent='  ' * (depth + 1), break_long_words=False, break_on_hyphens=False) + '\n'
+
+
+def page():
+    """The whole page."""
+    text, heads = OPENING, ''
+    for name, crate in TYPES:
+        text += f'## {name}\n\nIn `{crate}`:\n\n'
+        for head, comment in calls_of(name, crate):
+            heads += head + '\n'
+            text += item(f'`{head}`: {comment}')
+        text += '\n'
+    text += '## Answers\n\n'
+    for name, crate, comment, parts in answers([SHARED, *dict.fromkeys(crate for _, crate in TYPES)], heads):
+        text += item(f'`{name}` in `{crate}`: {comment}')
+        for part, about in parts:
+            text += item(f'`{part}`: {about}' if about else f'`{part}`', 1)
+    return text
