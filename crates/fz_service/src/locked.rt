@@ -103,7 +103,7 @@ impl<O: Opening> Locked<O> {
     /// Sends the entries of the outbox, the oldest first, and wakes a worker that sleeps for each; returns how many were sent. Takes time by what it sends.
     ///
     /// It stops early only where a push found no memory, as no entry does for which the line has room from the first: min(65,536,
-    /// 64 * blocks) entries. What isn't sent stays in the outbox.
+    /// 64 * blocks) entries; or where four times as many wait in the line. What isn't sent stays in the outbox.
     pub fn publish(&mut self) -> usize
         ensures sent { self.new ≡ record self.old { sent = self.old.sent ++ take result (drop self.old.published self.old.world.queue); published = self.old.published + result } }
         ensures within { self.new.published ≤ length self.old.world.queue }

@@ -36,17 +36,18 @@ fn make(world: &mut World) -> bool {
     world.set(0, 0, 0).is_ok()
 }
 
-/// Finishes the entries from a number on, but for those that are given up, and forgets them. Returns the number behind the last.
+/// Finishes the entries from a number on, but for those that are given up, and forgets them. Returns how many were ever queued.
 fn finish_from(world: &mut World, from: u64) -> u64 {
-    let mut taken = from;
-    while let Some(entry) = world.next(taken) {
-        if taken % PART != 0 {
+    let end = world.queued();
+    for number in from..end {
+        if number % PART != 0
+            && let Some(entry) = world.next(number)
+        {
             let _ = world.finish(&entry);
         }
-        taken += 1;
     }
     world.forget();
-    taken
+    end
 }
 
 /// Says how many entries there were, after each part.
@@ -63,7 +64,7 @@ pub(crate) fn soak_world<R: Print>(rt: &R, alloc: Global, count: u64) -> io::Res
         return Ok(false);
     };
     let mut taken = 0;
-    while taken < count {
+    for _ in 0..count.div_ceil(ROUND) {
         if !make(&mut world) || world.collect().is_err() {
             return Ok(false);
         }
@@ -93,21 +94,24 @@ fn collect_round<O: Opening, R: Wait>(rt: &R, service: &Service<O>) -> Option<u6
 
 /// Waits until the workers have finished all entries but those that were given up, and forgets them.
 fn forget_round<O: Opening, R: Wait>(rt: &R, service: &Service<O>, given_up: u64) {
-    while service.enter(rt).outstanding() > given_up {
+    for _ in rt.forever() {
+        if service.enter(rt).outstanding() <= given_up {
+            break;
+        }
         thread::yield_now();
     }
     service.enter(rt).forget();
 }
 
-/// Finalizes objects by the workers, until one more is to be given up. Returns how many entries were ever queued, if all calls were accepted.
+/// Finalizes the other objects of a part by the workers. Returns how many entries were ever queued, if all calls were accepted.
 fn run_rounds<O: Opening, R: Wait>(rt: &R, service: &Service<O>, given_up: u64) -> Option<u64> {
-    loop {
-        let queued = collect_round(rt, service)?;
+    forget_round(rt, service, given_up);
+    let mut queued = 0;
+    for _ in 1..PART / ROUND {
+        queued = collect_round(rt, service)?;
         forget_round(rt, service, given_up);
-        if queued % PART == 0 {
-            return Some(queued);
-        }
     }
+    Some(queued)
 }
 
 /// Finalizes objects by workers, until `count` entries were queued. Before each part it takes an entry by its own seat, and gives it up. Returns the
@@ -120,8 +124,7 @@ fn run_parts<O: Opening + Send + Sync, R: Print + Threads + Wait + Sync>(
     procs: &mut [Vec<Box<dyn Proc + Send>>],
     count: u64,
 ) -> (Vec<Seat<O>>, Seat<O>, io::Result<bool>) {
-    let mut queued = 0;
-    while queued < count {
+    for _ in 0..count.div_ceil(PART) {
         if collect_round(rt, service).is_none() {
             return (seats, own, Ok(false));
         }
@@ -135,10 +138,9 @@ fn run_parts<O: Opening + Send + Sync, R: Print + Threads + Wait + Sync>(
             || run_rounds(rt, service, given_up),
         );
         seats = back;
-        let Some(now) = ran else {
+        let Some(queued) = ran else {
             return (seats, own, Ok(false));
         };
-        queued = now;
         if let Err(error) = report(rt, queued) {
             return (seats, own, Err(error));
         }
