@@ -801,3 +801,22 @@ fn all_slots_answer(alloc: Global) -> Result<bool, Refusal> {
 fn limits_of_frames(rt: HostRuntime) {
     assert_eq!(rt; all_slots_answer(rt.alloc()), Ok(true));
 }
+
+/// Whether an allocation finds no space, one that collects has it, and a further one finds none in what is still led to.
+fn allocations_answer(alloc: Global) -> Result<[bool; 3], Refusal> {
+    let mut world = opened(alloc, 1, 1)?;
+    world.alloc(0, 0, BLOCK_WORDS, Scanned)?;
+    world.set(0, 0, 0)?;
+    let has_no_space = world.alloc(0, 0, 1, Atomic) == Err(Refusal::NoSpace);
+    let is_made = world
+        .alloc_or_collect(0, 0, BLOCK_WORDS, Scanned, |_world: &mut World| {})
+        .is_ok();
+    let is_full = world.alloc_or_collect(0, 1, 1, Atomic, |_world: &mut World| {})
+        == Err(Refusal::NoSpace);
+    Ok([has_no_space, is_made, is_full])
+}
+
+#[test]
+fn an_allocation_collects(rt: HostRuntime) {
+    assert_eq!(rt; allocations_answer(rt.alloc()), Ok([true; 3]));
+}
