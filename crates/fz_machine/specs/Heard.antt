@@ -6,7 +6,7 @@ use Rattle.fz_finalizers.specs.States.{State}
 use Rattle.fz_machine.specs.declared.pass.Next.{Next}
 use Rattle.fz_machine.specs.Machines.{Machine, IsBegun, GoesTo}
 
--- so many answers were heard since a pass began, no more to a question than it asked for
+-- a number of answers was heard since a pass began, no more to a question than it asked for
 pub data Hears (begun : Machine) : Machine → ℕ → Type 0 where
   Begun : Hears begun begun 0
   Goes : {m new : Machine} {next : Next} {n : ℕ} (answers : List Bool) → length answers ≤ m.asked → GoesTo m answers new next → Hears begun m n → Hears begun new (n + length answers)

@@ -15,7 +15,7 @@ use std::{io, thread};
 /// How many objects are made, dropped and finalized in a round.
 const ROUND: u64 = 10_000;
 
-/// Of so many entries the first is given up. After each so many it says how many there were.
+/// The entries of a part. The first of a part is given up, and the count of entries is printed behind it.
 const PART: u64 = 100_000;
 
 /// The world of one soak.
