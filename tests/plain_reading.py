@@ -30,6 +30,10 @@ class TooMany(Exception):
     pass
 
 
+class Malformed(Exception):
+    """A line that is no step, or a refused opening: where it stands, and the refusal."""
+
+
 def refuse(number, stands):
     if stands:
         raise Refused(number)
@@ -381,6 +385,24 @@ def followed(worlds, step, reply):
     return agreed, options[0][0]
 
 
+def steps_of(script):
+    """The lines of a script, each with its number and its step, or None for a comment."""
+    lines, is_open = script.split(b'\n'), False
+    lines = lines[:-1] if lines[-1] == b'' else lines
+    for number, line in enumerate(lines, 1):
+        is_short, step = len(line) <= 200, None
+        if not is_short or line[:1] not in (b'', b'#'):
+            step = step_of(line) if is_short else None
+            if step is None or (step[0] == 'open') == is_open:
+                raise Malformed(f'line {number} ', 'refused 15 BadLine')
+            if not is_open and not all(1 <= count <= most for count, most in zip(step[1], COUNTS)):
+                raise Malformed(f'line {number} ', 'refused 7 BadCount')
+            is_open = True
+        yield number, line, step
+    if not is_open:
+        raise Malformed(f'line {len(lines) + 1} ', 'refused 15 BadLine')
+
+
 def reading(script, report):
     """The report that a script should have, its exit status, and what happened in it. Where a step may have several replies, this follows the
     report; where the report has none of them, this ends with one of them."""
@@ -389,25 +411,17 @@ def reading(script, report):
     def done(status, last):
         return ''.join(it + '\n' for it in [*text, last]).encode(), status, notes.union(*[world.notes for world in worlds[:1]])
 
-    lines = script.split(b'\n')
-    lines = lines[:-1] if lines[-1] == b'' else lines
-    for number, line in enumerate(lines, 1):
-        if len(line) <= 200 and line[:1] in (b'', b'#'):
-            continue
-        step, reply = step_of(line) if len(line) <= 200 else None, next(said, '')
-        if step is None or (step[0] == 'open') != (worlds == []):
-            notes.add('malformed line')
-            return done(1, f'line {number} refused 15 BadLine')
-        if step[0] == 'open' and not all(1 <= count <= most for count, most in zip(step[1], COUNTS)):
-            notes.add('refused opening')
-            return done(1, 'refused 7 BadCount')
-        worlds, wanted = ([World(*step[1])] if reply == 'ok' else [], 'ok') if step[0] == 'open' else followed(worlds, step, reply)
-        if not worlds:
-            return done(0, wanted)
-        text.append(reply)
-        notes.add(reply if reply.startswith('refused') else f'{step[0]} {reply}' if reply.isalpha() else step[0])
-    if not worlds:
-        return done(1, f'line {len(lines) + 1} refused 15 BadLine')
+    try:
+        for step, reply in ((step, next(said, '')) for _, _, step in steps_of(script) if step):
+            worlds, wanted = ([World(*step[1])] if reply == 'ok' else [], 'ok') if step[0] == 'open' else followed(worlds, step, reply)
+            if not worlds:
+                return done(0, wanted)
+            text.append(reply)
+            notes.add(reply if reply.startswith('refused') else f'{step[0]} {reply}' if reply.isalpha() else step[0])
+    except Malformed as it:
+        where, why = it.args
+        notes.add('malformed line' if why.endswith('BadLine') else 'refused opening')
+        return done(1, where * why.endswith('BadLine') + why)
     notes.update(['ended undecided'] * (len(worlds) > 1))
     ends, reply = [world.end() for world in worlds], next(said, '')
     return done(0, reply if reply in ends else ends[0])
