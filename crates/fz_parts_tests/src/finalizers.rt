@@ -46,6 +46,8 @@ fn registers_replaces_and_removes(rt: HostRuntime) {
     must_be(&rt, finalizers.registrations(), 2, "two objects");
     let number = finalizers.registration(16).map(|found| found.number);
     must_be(&rt, number, Some(2), "its new number");
+    let kind = finalizers.kind(16);
+    must_be(&rt, kind, Some(Kind::Unreachable), "its new kind");
     let next = finalizers.next_registration(17).map(|found| found.0);
     must_be(&rt, next, Some(32), "the next object");
     let last = finalizers.next_registration(33).map(|found| found.0);
@@ -61,10 +63,10 @@ fn registers_replaces_and_removes(rt: HostRuntime) {
 fn links_move_and_go(rt: HostRuntime) {
     let mut finalizers = Finalizers::new(rt.alloc());
     must_be(&rt, finalizers.reserve(4, 4, 4), Ok(()), "room");
-    let success = Ok(LinkAnswer::Success);
     let kinds = [LinkKind::Short, LinkKind::Long];
     for kind in kinds {
-        must_be(&rt, finalizers.link(kind, 8, 16), success, "a link");
+        let linked = finalizers.link(kind, 8, 16);
+        must_be(&rt, linked, Ok(LinkAnswer::Success), "a link");
         let zero = finalizers.link(kind, 8, 0);
         must_be(&rt, zero, Err(Refused::Zero), "zero is no target");
         let again = finalizers.link(kind, 8, 32);
@@ -204,11 +206,11 @@ fn finishes_what_is_held(rt: HostRuntime) {
     let taken = finalizers.take_finished();
     must_be(&rt, taken, Some(second), "the second isn't held");
     must_be(&rt, finalizers.is_held(&second), false, "it isn't");
-    let never = finalizers.finish(&second);
-    must_be(&rt, never, Err(Refused::NotHeld), "it isn't held");
-    must_be(&rt, finalizers.finish(&first), Ok(()), "finished");
-    let again = finalizers.finish(&first);
-    must_be(&rt, again, Err(Refused::NotHeld), "once");
+    let not_held = Err(Refused::NotHeld);
+    must_be(&rt, finalizers.finish(&second), not_held, "it isn't held");
+    let finished = finalizers.finish(&first);
+    must_be(&rt, finished, Ok(()), "finished");
+    must_be(&rt, finalizers.finish(&first), not_held, "once");
     let counts = (finalizers.waiting(), finalizers.held(), finalizers.queued());
     must_be(&rt, counts, (2, 0, 4), "the counts");
     let walked = finalizers.entries().next().map(|entry| entry.obj);

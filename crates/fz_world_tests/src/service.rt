@@ -2,6 +2,7 @@
 //! that they run at the same time, and the service's answers from end to end.
 
 mod bell;
+mod calls;
 mod eight;
 mod limits;
 mod lists;

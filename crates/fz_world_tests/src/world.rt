@@ -1,4 +1,5 @@
 //! Tests of a world.
 
+mod calls;
 mod shown;
 mod tests;
