@@ -7,8 +7,8 @@ use fz_model::ObjKind::{Atomic, Scanned};
 use fz_model::Progress::{Done, More};
 use fz_model::RegKind::{IgnoreSelf, NoOrder, Normal};
 use fz_model::{
-    BLOCK_WORDS, Entry, HEAP_START, LinkAnswer, LinkKind, MAX_BLOCKS, MAX_FRAMES, MAX_OBJECT_WORDS,
-    MoveAnswer, ObjKind, Old, Passed, Progress, Refusal, RegAnswer, RegKind, SLOTS, TABLE_LIMIT,
+    BLOCK_WORDS, Entry, HEAP_START, LinkAnswer, LinkKind, MAX_BLOCKS, MAX_OBJECT_WORDS, MoveAnswer,
+    ObjKind, Old, Passed, Progress, Refusal, RegAnswer, RegKind, TABLE_LIMIT,
 };
 use fz_world::{Config, World};
 use std::alloc::Global;
@@ -58,7 +58,7 @@ use Step::{
 /// The most refusals of a call, since no more allocations fail.
 const MOST_REFUSALS: u64 = 4;
 
-fn opened(alloc: Global, blocks: u64, frames: u64) -> Result<World, Refusal> {
+pub(super) fn opened(alloc: Global, blocks: u64, frames: u64) -> Result<World, Refusal> {
     let config = Config { blocks, frames };
     for _ in 0..MOST_REFUSALS {
         match World::open(alloc, config) {
@@ -75,7 +75,12 @@ fn made(world: &mut World, slot: u64, size: u64, kind: ObjKind) -> Result<u64, R
 }
 
 /// Registers what a slot of the first frame holds, with procedure 7 and no client data.
-fn registered(world: &mut World, slot: u64, kind: RegKind, rank: u8) -> Result<RegAnswer, Refusal> {
+pub(super) fn registered(
+    world: &mut World,
+    slot: u64,
+    kind: RegKind,
+    rank: u8,
+) -> Result<RegAnswer, Refusal> {
     for _ in 0..MOST_REFUSALS {
         match world.register(0, slot, kind, 7, 0, rank) {
             Err(Refusal::NoMemory) => (),
@@ -761,62 +766,4 @@ const EDGE_OF_THE_HEAP: [Step; 6] = [
 fn edge_of_the_heap(rt: HostRuntime) {
     let made = opened(rt.alloc(), MAX_BLOCKS, 1);
     assert_eq!(rt; first_wrong_of(made, &EDGE_OF_THE_HEAP), Ok(None));
-}
-
-const BAD_COUNTS: [(u64, u64); 4] = [(0, 1), (MAX_BLOCKS + 1, 1), (1, 0), (1, MAX_FRAMES + 1)];
-
-/// The place of the first counts of blocks and frames that aren't refused.
-fn first_opened(alloc: Global, counts: &[(u64, u64)]) -> Option<usize> {
-    for (place, (blocks, frames)) in counts.iter().enumerate() {
-        if opened(alloc, *blocks, *frames).err() != Some(Refusal::BadCount) {
-            return Some(place);
-        }
-    }
-    None
-}
-
-/// Worlds open with 1 to 8 frames and 1 to 4,096 blocks.
-#[test]
-fn limits_of_an_opening(rt: HostRuntime) {
-    assert_eq!(rt; first_opened(rt.alloc(), &BAD_COUNTS), None);
-}
-
-/// What the calls on the last slot, and past it, answer.
-fn slots_answer(world: &mut World) -> bool {
-    let (frame, slot) = (MAX_FRAMES - 1, SLOTS - 1);
-    world.set(frame, slot, 1) == Ok(())
-        && world.set(frame + 1, 0, 1) == Err(Refusal::BadSlot)
-        && world.set(frame, slot + 1, 1) == Err(Refusal::BadSlot)
-        && world.copy(frame, slot, 0, slot) == Ok(())
-}
-
-/// Whether the slots of a world with all frames answer so.
-fn all_slots_answer(alloc: Global) -> Result<bool, Refusal> {
-    let mut world = opened(alloc, 1, MAX_FRAMES)?;
-    Ok(slots_answer(&mut world))
-}
-
-/// A world has at most 8 frames of 16 slots.
-#[test]
-fn limits_of_frames(rt: HostRuntime) {
-    assert_eq!(rt; all_slots_answer(rt.alloc()), Ok(true));
-}
-
-/// Whether an allocation finds no space, one that collects has it, and a further one finds none in what is still led to.
-fn allocations_answer(alloc: Global) -> Result<[bool; 3], Refusal> {
-    let mut world = opened(alloc, 1, 1)?;
-    world.alloc(0, 0, BLOCK_WORDS, Scanned)?;
-    world.set(0, 0, 0)?;
-    let has_no_space = world.alloc(0, 0, 1, Atomic) == Err(Refusal::NoSpace);
-    let is_made = world
-        .alloc_or_collect(0, 0, BLOCK_WORDS, Scanned, |_world: &mut World| {})
-        .is_ok();
-    let is_full = world.alloc_or_collect(0, 1, 1, Atomic, |_world: &mut World| {})
-        == Err(Refusal::NoSpace);
-    Ok([has_no_space, is_made, is_full])
-}
-
-#[test]
-fn an_allocation_collects(rt: HostRuntime) {
-    assert_eq!(rt; allocations_answer(rt.alloc()), Ok([true; 3]));
 }

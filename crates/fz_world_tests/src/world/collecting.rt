@@ -1,0 +1,72 @@
+//! Allocations that collect where there is no space.
+
+use super::tests::{opened, registered};
+use fz_model::ObjKind::{Atomic, Scanned};
+use fz_model::RegKind::Normal;
+use fz_model::{Addr, BLOCK_WORDS, HEAP_START, Refusal};
+use fz_world::World;
+use std::alloc::Global;
+
+/// A world of a block, all of which is an object that nothing leads to.
+fn filled(alloc: Global, is_registered: bool) -> Result<World, Refusal> {
+    let mut world = opened(alloc, 1, 1)?;
+    world.alloc(0, 0, BLOCK_WORDS, Scanned)?;
+    if is_registered {
+        registered(&mut world, 0, Normal, 0)?;
+    }
+    world.set(0, 0, 0)?;
+    Ok(world)
+}
+
+/// Whether an allocation finds no space, one that collects has it, and a further one finds none in what is still led to.
+fn allocations_answer(alloc: Global) -> Result<[bool; 3], Refusal> {
+    let mut world = filled(alloc, false)?;
+    let has_no_space = world.alloc(0, 0, 1, Atomic) == Err(Refusal::NoSpace);
+    let is_made = world
+        .alloc_or_collect(0, 0, BLOCK_WORDS, Scanned, |_world: &mut World| {})
+        .is_ok();
+    let is_full = world.alloc_or_collect(0, 1, 1, Atomic, |_world: &mut World| {})
+        == Err(Refusal::NoSpace);
+    Ok([has_no_space, is_made, is_full])
+}
+
+#[test]
+fn an_allocation_collects(rt: HostRuntime) {
+    assert_eq!(rt; allocations_answer(rt.alloc()), Ok([true; 3]));
+}
+
+/// Finishes all that waits, and forgets it.
+fn run_ready(world: &mut World) -> Result<(), Refusal> {
+    for _entry in 0..world.outstanding() {
+        let Some(entry) = world.next_held(0) else {
+            break;
+        };
+        world.finish(&entry)?;
+    }
+    world.forget();
+    Ok(())
+}
+
+/// Makes an object. Where all that was let go is registered, a first collection only queues it, and a second one reclaims it.
+fn make(world: &mut World) -> Result<(Addr, u64), Refusal> {
+    let mut ran = Ok(());
+    let made = world.alloc_or_collect(0, 0, BLOCK_WORDS, Scanned, |world| ran = run_ready(world));
+    ran?;
+    if made != Err(Refusal::NoSpace) {
+        return made;
+    }
+    world.alloc_or_collect(0, 0, BLOCK_WORDS, Scanned, |_| {})
+}
+
+/// What is made in a world that was filled.
+fn made_where_all_is_registered(alloc: Global) -> Result<(Addr, u64), Refusal> {
+    make(&mut filled(alloc, true)?)
+}
+
+#[test]
+fn a_second_collection_reclaims_what_the_first_queued(rt: HostRuntime) {
+    assert_eq!(rt;
+        made_where_all_is_registered(rt.alloc()),
+        Ok((HEAP_START, 1))
+    );
+}
