@@ -6,11 +6,11 @@ ghost use Rattle.std.specs.FinMap.{get, remove, from_entries};
 ghost use Rattle.indexmap.specs.IndexMap.{spare};
 
 use fz_model::Addr;
-use fz_table::Pairs;
+use fz_table::{AddressHasher, Pairs};
 use indexmap::IndexMap;
 
 /// Puts all links with their targets on an empty list that has room for them.
-pub(crate) fn list_all(links: &IndexMap<Addr, Addr>, list: &mut Vec<(Addr, Addr)>)
+pub(crate) fn list_all(links: &IndexMap<Addr, Addr, AddressHasher>, list: &mut Vec<(Addr, Addr)>)
     requires empty { list.old.items ≡ [] }
     requires room { length links.now.entries ≤ vec_capacity list.old }
     ensures all { list.new.items ≡ links.now.entries }
@@ -22,7 +22,11 @@ pub(crate) fn list_all(links: &IndexMap<Addr, Addr>, list: &mut Vec<(Addr, Addr)
 }
 
 /// Puts the listed links into an empty table that has room for them, but one. Then there is room for another.
-pub(crate) fn insert_but(links: &mut IndexMap<Addr, Addr>, list: &mut Vec<(Addr, Addr)>, one: Addr)
+pub(crate) fn insert_but(
+    links: &mut IndexMap<Addr, Addr, AddressHasher>,
+    list: &mut Vec<(Addr, Addr)>,
+    one: Addr,
+)
     requires empty { links.old.entries ≡ [] }
     requires room { length list.old.items ≤ spare links.old }
     ensures all { from_entries {R = nat_cmp} links.new.entries ≡ remove (from_entries list.old.items) one }

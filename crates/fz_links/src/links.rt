@@ -12,7 +12,7 @@ ghost use Rattle.fz_links.specs.Dropped.{ComputesTest, without};
 
 use crate::anew::{insert_but, list_all};
 use fz_model::{Addr, LinkAnswer, MoveAnswer, Refusal, TABLE_LIMIT};
-use fz_table::{MOST_ENTRIES, Pairs};
+use fz_table::{AddressHasher, MOST_ENTRIES, Pairs};
 use indexmap::IndexMap;
 use indexmap::map::Entry;
 use std::alloc::Global;
@@ -22,7 +22,7 @@ use std::marker::Model;
 ///
 /// One value holds short links or long ones; which they are is for the pass that clears their words (gc.h).
 pub struct Links {
-    entries: IndexMap<Addr, Addr>,
+    entries: IndexMap<Addr, Addr, AddressHasher>,
 }
 
 // Written out: who owns links then drops it by one call that is proved here, not field by field at each way out of a function.
@@ -55,7 +55,7 @@ impl Links {
         ensures { result.links ≡ empty }
     {
         Links {
-            entries: IndexMap::new(alloc),
+            entries: IndexMap::with_hasher(alloc, AddressHasher::new()),
         }
     }
 

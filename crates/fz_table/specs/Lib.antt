@@ -2,3 +2,4 @@ pub mod Registered
 pub mod Tabled
 pub mod Registers
 pub mod Places
+pub mod Hashed

@@ -12,6 +12,7 @@ ghost use Rattle.fz_table.specs.declared.limits.TheConstants.{MOST_ENTRIES};
 ghost use Rattle.fz_table.specs.Places.{lacks_place};
 ghost use Rattle.fz_table.specs.Registers.{Registers, RegistersOrLacks};
 
+use crate::hasher::AddressHasher;
 use crate::limits::MOST_ENTRIES;
 use crate::pairs::Pairs;
 use fz_model::{Addr, COUNT_LIMIT, Finalizer, Old, Refusal, Registration, TABLE_LIMIT};
@@ -21,7 +22,7 @@ use std::marker::Model;
 
 /// The registrations by the starts of their objects, at most 2^32 at one time. Each gets a number, counted from 0.
 pub struct Table {
-    entries: IndexMap<Addr, Registration>,
+    entries: IndexMap<Addr, Registration, AddressHasher>,
     next_number: u64,
 }
 
@@ -58,7 +59,7 @@ impl Table {
         ensures { result.registered ≡ record { registrations = empty; next_number = 0 } }
     {
         Table {
-            entries: IndexMap::new(alloc),
+            entries: IndexMap::with_hasher(alloc, AddressHasher::new()),
             next_number: 0,
         }
     }

@@ -5,4 +5,4 @@ use Rattle.fz_table.specs.declared.limits.TheConstants.{MOST_ENTRIES}
 use Rattle.fz_table.proofs.table.Table.new.Goals as goal
 
 pub invariant_of-result : goal.invariant_of-result
-invariant_of-result c = subst (λ es. len (from_entries {R = nat_cmp} es) ≤ MOST_ENTRIES) (sym c.new.ensures.empty) (omega (arith, len-empty nat_cmp Registration))
+invariant_of-result c = subst (λ es. len (from_entries {R = nat_cmp} es) ≤ MOST_ENTRIES) (sym c.with_hasher.ensures.empty) (omega (arith, len-empty nat_cmp Registration))
