@@ -110,6 +110,7 @@ impl Links {
     }
 
     /// Removes a link, and returns whether it was registered.
+    #[inline(always)]
     pub fn unregister(&mut self, link: Addr) -> bool
         ensures answer { result ≡ contains_key self.old.links link }
         ensures removed { self.new.links ≡ remove self.old.links link }

@@ -1,4 +1,4 @@
--- What a hasher of addresses computes. No answer depends on it.
+-- What a hasher of addresses computes: means only, since no answer depends on it.
 use Rattle.std.specs.Prelude.{ℕ, ◌*◌, ◌/◌, ◌%◌, ◌^◌, List, length, if◌then◌else◌, nat_eq, bit_xor}
 use Rattle.std.specs.Int.{w64, from_le_bytes}
 use Rattle.fz_table.specs.declared.hasher.AddressHasher.{AddressHasher}

@@ -141,6 +141,7 @@ impl Table {
     }
 
     /// Removes the object's registration and returns it.
+    #[inline(always)]
     #[tactic(auto, using(fz_model::proofs::Tables::get_made, fz_model::proofs::Tables::made_removed))]
     pub fn take(&mut self, object: Addr) -> Option<Registration>
         ensures answer { result ≡ get self.old.registrations object }
@@ -152,6 +153,7 @@ impl Table {
     }
 
     /// Removes the object's registration; returns its procedure and client data.
+    #[inline(always)]
     pub fn remove(&mut self, object: Addr) -> Option<Old>
         ensures answer { result ≡ old_of self.old.registrations object }
         ensures removed { self.new.registered ≡ record self.old.registered { registrations = remove self.old.registrations object } }

@@ -48,14 +48,14 @@ fn ends(frames: &Frames, heap: &Heap, place: Place, target: Slot) -> Result<(Add
     Ok((link, start))
 }
 
-/// Makes room for `most` links, where there is none yet. So the links seldom grow.
-fn make_first_room(links: &mut Links, most: usize)
+/// Makes room for the first links, where there is none yet. So the links seldom grow.
+fn make_first_room(links: &mut Links, heap: &Heap, passes: u64)
     ensures same { links.new.links ≡ links.old.links }
     ensures roomier { links.old.room ≤ links.new.room }
 {
     if links.is_empty() {
         // Where so much memory can't be had, each link asks for its own.
-        let _ = links.reserve(most);
+        let _ = links.reserve(first_entries(heap, passes));
     }
 }
 
@@ -91,14 +91,13 @@ impl World {
             slot: target_slot,
         };
         let (link, target) = ends(&self.frames, &self.marked.heap, place, target)?;
-        let most = first_entries(&self.marked.heap, self.passes);
         match which {
             LinkKind::Short => {
-                make_first_room(&mut self.short, most);
+                make_first_room(&mut self.short, &self.marked.heap, self.passes);
                 self.short.register(link, target)
             }
             LinkKind::Long => {
-                make_first_room(&mut self.long, most);
+                make_first_room(&mut self.long, &self.marked.heap, self.passes);
                 self.long.register(link, target)
             }
         }

@@ -55,8 +55,7 @@ pub(crate) fn most_entries(heap: &Heap) -> usize
     (BLOCK_WORDS * heap.blocks()).min(TABLE_LIMIT) as usize
 }
 
-/// For how many registrations, or links of a kind, there is room at first: one for each object, where no pass has reclaimed any. Else a table starts small: one
-/// with room for far more than it has lies strewn over memory.
+/// For how many registrations, or links of a kind, there is room at first: one for each object, where no pass has reclaimed any. Else a table starts small.
 pub(crate) fn first_entries(heap: &Heap, passes: u64) -> usize
     ensures { result ≤ TABLE_LIMIT }
 {
@@ -65,15 +64,15 @@ pub(crate) fn first_entries(heap: &Heap, passes: u64) -> usize
     wanted.min(most_entries(heap))
 }
 
-/// Makes room for `most` registrations and their entries, where there is no registration yet. So tables and queue seldom grow.
-fn make_first_room(table: &mut Table, ready: &mut Ready, most: usize)
-    requires { most ≤ TABLE_LIMIT }
+/// Makes room for the first registrations and their entries, where there is no registration yet. So tables and queue seldom grow.
+fn make_first_room(table: &mut Table, ready: &mut Ready, heap: &Heap, passes: u64)
     ensures registered { table.new.registered ≡ table.old.registered }
     ensures queue { (ready.new.queue ≡ ready.old.queue) × (ready.new.held ≡ ready.old.held) }
     ensures forgotten { (ready.new.forgotten ≡ ready.old.forgotten) × (ready.new.remembered ≡ ready.old.remembered) }
     ensures roomier { (table.old.room ≤ table.new.room) × (ready.old.room ≤ ready.new.room) }
 {
     if table.is_empty() {
+        let most = first_entries(heap, passes);
         // Where so much memory can't be had, each registration asks for its own.
         let _ = table.reserve(most);
         let _ = ready.reserve(most);
@@ -165,7 +164,8 @@ impl World {
         make_first_room(
             &mut self.table,
             &mut self.ready,
-            first_entries(&self.marked.heap, self.passes),
+            &self.marked.heap,
+            self.passes,
         );
         let (number, old) = enroll(&mut self.table, &mut self.ready, word, finalizer)?;
         Ok(RegAnswer::Number(number, old))
