@@ -11,7 +11,7 @@ ghost use Rattle.fz_c.specs.Places.{TellsRegistered, TellsOld};
 use crate::codes::{Code, NO_WORLD, OK};
 use crate::handle::Handle;
 use crate::slots::CSlot;
-use fz_model::{Finalizer, Refusal, RegAnswer, RegKind, Slot};
+use fz_model::{Refusal, RegAnswer, RegKind};
 use std::alloc::Global;
 
 /// A registration that went away, if there was one: else both words are 0.
@@ -62,8 +62,8 @@ pub extern "C" fn fz_register(
 ) -> Code
     ensures { Calls world.old.value (Make (Register (slot_at slot.frame slot.slot) (finalizer_of Normal proc cd rank))) world.new.value result (TellsRegistered registered.new) (registered.new ≡ registered.old) }
 {
-    let finalizer = Finalizer::new(RegKind::Normal, proc, cd, rank);
-    register(alloc, world, slot, finalizer, registered)
+    let kind = RegKind::Normal;
+    register(alloc, world, slot, proc, cd, rank, registered, kind)
 }
 
 fn tell_registered(reply: Result<RegAnswer, Refusal>, registered: &mut Registered) -> Code
@@ -103,8 +103,8 @@ pub extern "C" fn fz_register_ignore_self(
 ) -> Code
     ensures { Calls world.old.value (Make (Register (slot_at slot.frame slot.slot) (finalizer_of IgnoreSelf proc cd rank))) world.new.value result (TellsRegistered registered.new) (registered.new ≡ registered.old) }
 {
-    let finalizer = Finalizer::new(RegKind::IgnoreSelf, proc, cd, rank);
-    register(alloc, world, slot, finalizer, registered)
+    let kind = RegKind::IgnoreSelf;
+    register(alloc, world, slot, proc, cd, rank, registered, kind)
 }
 
 #[tactic(auto, using(crate::proofs::Told::not_called, crate::proofs::Told::called, crate::proofs::Told::none_taken))]
@@ -112,19 +112,20 @@ fn register(
     alloc: Global,
     world: &mut Handle,
     slot: CSlot,
-    finalizer: Finalizer,
+    proc: u64,
+    cd: u64,
+    rank: u8,
     registered: &mut Registered,
+    kind: RegKind,
 ) -> Code
-    ensures { Calls world.old.value (Make (Register (slot_at slot.frame slot.slot) finalizer)) world.new.value result (TellsRegistered registered.new) (registered.new ≡ registered.old) }
+    ensures { Calls world.old.value (Make (Register (slot_at slot.frame slot.slot) (finalizer_of kind proc cd rank))) world.new.value result (TellsRegistered registered.new) (registered.new ≡ registered.old) }
 {
     let Some(mut session) = world.take(alloc) else {
         return NO_WORLD;
     };
-    let slot = Slot {
-        frame: slot.frame,
-        slot: slot.slot,
-    };
-    let reply = session.world.register_finalizer(slot, finalizer);
+    let reply = session
+        .world
+        .register(slot.frame, slot.slot, kind, proc, cd, rank);
     world.put(session);
     tell_registered(reply, registered)
 }
@@ -142,8 +143,8 @@ pub extern "C" fn fz_register_no_order(
 ) -> Code
     ensures { Calls world.old.value (Make (Register (slot_at slot.frame slot.slot) (finalizer_of NoOrder proc cd rank))) world.new.value result (TellsRegistered registered.new) (registered.new ≡ registered.old) }
 {
-    let finalizer = Finalizer::new(RegKind::NoOrder, proc, cd, rank);
-    register(alloc, world, slot, finalizer, registered)
+    let kind = RegKind::NoOrder;
+    register(alloc, world, slot, proc, cd, rank, registered, kind)
 }
 
 fn tell_old(reply: Result<Option<fz_model::Old>, Refusal>, old: &mut Old) -> Code
