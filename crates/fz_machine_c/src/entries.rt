@@ -1,10 +1,9 @@
 //! Entries.
 
 ghost use Rattle.std.specs.Prelude.{◌≡◌};
-ghost use Rattle.fz_finalizers.specs.Causes.{finish_causes};
-ghost use Rattle.fz_finalizers.specs.Follows.{Follows, Take, TakeFinished, Finish};
-ghost use Rattle.fz_machine.specs.Causes.{first_of};
-ghost use Rattle.fz_machine_c.specs.Codes.{Answers, Behind};
+ghost use Rattle.fz_finalizers.specs.Follows.{Take, TakeFinished};
+ghost use Rattle.fz_machine_c.specs.Changes.{Finishes};
+ghost use Rattle.fz_machine_c.specs.Codes.{Behind};
 ghost use Rattle.fz_machine_c.specs.Entries.{TellsEntry, Takes, entry_of};
 
 use crate::codes::{Code, EMPTY, NOT_OPEN, OK, code_of};
@@ -99,7 +98,7 @@ pub extern "C" fn fz_machine_take_finished(
 /// `Machine::finish`.
 #[unsafe(no_mangle)]
 pub extern "C" fn fz_machine_finish(alloc: Global, finalizers: &mut Handle, entry: &Entry) -> Code
-    ensures { Behind finalizers.old.value finalizers.new.value result (Unit {0}) (λ m n. Answers (first_of m.phase (finish_causes m.finalizers.held (entry_of entry.now))) result (Follows m.finalizers.state (Finish (entry_of entry.now)) n.finalizers.state) ((n.finalizers.state ≡ m.finalizers.state) × (n.phase ≡ m.phase))) }
+    ensures { Behind finalizers.old.value finalizers.new.value result (Unit {0}) (Finishes (entry_of entry.now) result) }
 {
     let Some(mut session) = finalizers.take(alloc) else {
         return NOT_OPEN;

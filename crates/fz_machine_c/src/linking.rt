@@ -1,14 +1,9 @@
 //! Disappearing links.
 
-ghost use Rattle.std.specs.Prelude.{◌≡◌, ◌⊎◌, ◌≤◌, [], None};
-ghost use Rattle.std.specs.FinMap.{get, len, contains_key};
-ghost use Rattle.fz_model.specs.Steps.{move_answer};
-ghost use Rattle.fz_finalizers.specs.Causes.{link_causes, move_causes};
-ghost use Rattle.fz_finalizers.specs.Follows.{Follows, Link, Unlink, Move};
-ghost use Rattle.fz_finalizers.specs.States.{links_of, room_of};
-ghost use Rattle.fz_machine.specs.Causes.{first_of};
-ghost use Rattle.fz_machine_c.specs.Codes.{Answers, AnswersOrLacks, Behind};
-ghost use Rattle.fz_machine_c.specs.Told.{link_kind_of, link_number, move_number};
+ghost use Rattle.std.specs.Prelude.{◌≡◌};
+ghost use Rattle.fz_machine_c.specs.Changes.{Links, MovesLink, Unlinks};
+ghost use Rattle.fz_machine_c.specs.Codes.{Behind};
+ghost use Rattle.fz_machine_c.specs.Told.{link_kind_of};
 
 use crate::codes::{Code, NOT_OPEN, OK, code_of};
 use crate::handle::Handle;
@@ -35,7 +30,7 @@ pub extern "C" fn fz_machine_link(
     target: u64,
     answer: &mut u8,
 ) -> Code
-    ensures { Behind finalizers.old.value finalizers.new.value result (answer.new ≡ answer.old) (λ m n. AnswersOrLacks (first_of m.phase (link_causes (links_of m.finalizers.state (link_kind_of is_long)) word target)) result (Follows m.finalizers.state (Link (link_kind_of is_long) word target) n.finalizers.state × (answer.new ≡ link_number (contains_key (links_of m.finalizers.state (link_kind_of is_long)) word))) ((n.finalizers.state ≡ m.finalizers.state) × (n.phase ≡ m.phase) × (answer.new ≡ answer.old)) ((get (links_of m.finalizers.state (link_kind_of is_long)) word ≡ None) × ((room_of m.finalizers.rooms (link_kind_of is_long) ≡ 0) ⊎ (m.walk.room ≤ len (links_of m.finalizers.state (link_kind_of is_long)))))) }
+    ensures { Behind finalizers.old.value finalizers.new.value result (answer.new ≡ answer.old) (Links is_long word target result answer.old answer.new) }
 {
     let Some(mut session) = finalizers.take(alloc) else {
         return NOT_OPEN;
@@ -63,7 +58,7 @@ pub extern "C" fn fz_machine_unlink(
     word: u64,
     was: &mut bool,
 ) -> Code
-    ensures { Behind finalizers.old.value finalizers.new.value result (was.new ≡ was.old) (λ m n. Answers (first_of m.phase []) result (Follows m.finalizers.state (Unlink (link_kind_of is_long) word) n.finalizers.state × (was.new ≡ contains_key (links_of m.finalizers.state (link_kind_of is_long)) word)) ((n ≡ m) × (was.new ≡ was.old))) }
+    ensures { Behind finalizers.old.value finalizers.new.value result (was.new ≡ was.old) (Unlinks is_long word result was.old was.new) }
 {
     let Some(mut session) = finalizers.take(alloc) else {
         return NOT_OPEN;
@@ -89,7 +84,7 @@ pub extern "C" fn fz_machine_move_link(
     to: u64,
     answer: &mut u8,
 ) -> Code
-    ensures { Behind finalizers.old.value finalizers.new.value result (answer.new ≡ answer.old) (λ m n. Answers (first_of m.phase (move_causes to)) result (Follows m.finalizers.state (Move (link_kind_of is_long) word to) n.finalizers.state × (answer.new ≡ move_number (move_answer (links_of m.finalizers.state (link_kind_of is_long)) word to))) ((n.finalizers.state ≡ m.finalizers.state) × (n.phase ≡ m.phase) × (answer.new ≡ answer.old))) }
+    ensures { Behind finalizers.old.value finalizers.new.value result (answer.new ≡ answer.old) (MovesLink is_long word to result answer.old answer.new) }
 {
     let Some(mut session) = finalizers.take(alloc) else {
         return NOT_OPEN;

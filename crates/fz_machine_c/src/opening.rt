@@ -1,10 +1,8 @@
 //! Handles are opened and destroyed.
 
-ghost use Rattle.std.specs.Prelude.{◌≡◌, [], None, MatchResult, OnOk, OnErr};
-ghost use Rattle.fz_finalizers.specs.States.{HasRooms, opening};
-ghost use Rattle.fz_machine.specs.Causes.{first_of};
-ghost use Rattle.fz_machine.specs.Going.{HasRoomForMore};
-ghost use Rattle.fz_machine_c.specs.Codes.{AnswersOrLacks, Behind};
+ghost use Rattle.std.specs.Prelude.{◌≡◌, None};
+ghost use Rattle.fz_machine_c.specs.Changes.{Reserves};
+ghost use Rattle.fz_machine_c.specs.Codes.{Behind};
 ghost use Rattle.fz_machine_c.specs.Opens.{Opens};
 
 use crate::codes::{Code, IS_OPEN, NO_MEMORY, NOT_OPEN, OK, code_of};
@@ -47,7 +45,7 @@ pub extern "C" fn fz_machine_reserve(
     shorts: u64,
     longs: u64,
 ) -> Code
-    ensures { Behind finalizers.old.value finalizers.new.value result (Unit {0}) (λ m n. AnswersOrLacks (first_of m.phase []) result (HasRooms n.finalizers.rooms registrations shorts longs × HasRoomForMore m.finalizers.state registrations shorts longs n.walk.room × (n.finalizers.state ≡ m.finalizers.state) × (n.phase ≡ m.phase)) ((n.finalizers.state ≡ m.finalizers.state) × (n.phase ≡ m.phase)) (HasRooms m.finalizers.rooms registrations shorts longs → HasRoomForMore m.finalizers.state registrations shorts longs m.walk.room → ⊥)) }
+    ensures { Behind finalizers.old.value finalizers.new.value result (Unit {0}) (Reserves registrations shorts longs result) }
 {
     let Some(mut session) = finalizers.take(alloc) else {
         return NOT_OPEN;

@@ -1,10 +1,9 @@
 //! Passes.
 
-ghost use Rattle.std.specs.Prelude.{◌≡◌, ◌<◌, ◌/◌, ◌%◌, ◌+◌, [], nat_eq};
-ghost use Rattle.fz_finalizers.specs.Follows.{Follows, QueueAll};
-ghost use Rattle.fz_finalizers.specs.Ready.{QueuesTables};
+ghost use Rattle.std.specs.Prelude.{◌≡◌, ◌<◌, ◌/◌, ◌%◌, [], nat_eq};
 ghost use Rattle.fz_machine.specs.Causes.{first_of};
 ghost use Rattle.fz_machine.specs.Machines.{IsBegun};
+ghost use Rattle.fz_machine_c.specs.Changes.{QueuesAll};
 ghost use Rattle.fz_machine_c.specs.Codes.{Answers, Behind};
 ghost use Rattle.fz_machine_c.specs.Passing.{AsksNext, bits_of, is_bit};
 
@@ -122,7 +121,7 @@ pub extern "C" fn fz_machine_queue_all(
     finalizers: &mut Handle,
     queued: &mut u64,
 ) -> Code
-    ensures { Behind finalizers.old.value finalizers.new.value result (queued.new ≡ queued.old) (λ m n. Answers (first_of m.phase []) result (Follows m.finalizers.state QueueAll n.finalizers.state × QueuesTables m.finalizers.queued m.finalizers.registrations m.finalizers.late m.finalizers.waiting n.finalizers.waiting × (n.finalizers.queued ≡ m.finalizers.queued + queued.new)) ((n ≡ m) × (queued.new ≡ queued.old))) }
+    ensures { Behind finalizers.old.value finalizers.new.value result (queued.new ≡ queued.old) (QueuesAll result queued.old queued.new) }
 {
     let Some(mut session) = finalizers.take(alloc) else {
         return NOT_OPEN;

@@ -1,14 +1,9 @@
 //! Registrations.
 
-ghost use Rattle.std.specs.Prelude.{◌≡◌, ◌⊎◌, ◌≤◌, ◌+◌, [], None};
-ghost use Rattle.std.specs.FinMap.{get, len};
-ghost use Rattle.fz_finalizers.specs.Causes.{register_causes};
-ghost use Rattle.fz_finalizers.specs.Follows.{Follows, Register, Unregister};
-ghost use Rattle.fz_finalizers.specs.Registering.{old_in_either};
-ghost use Rattle.fz_finalizers.specs.States.{registration_room, table_of};
-ghost use Rattle.fz_machine.specs.Causes.{first_of};
-ghost use Rattle.fz_machine_c.specs.Codes.{Answers, AnswersOrLacks, Behind};
-ghost use Rattle.fz_machine_c.specs.Told.{TellsOld, TellsRegistered, finalizer_of, kind_of};
+ghost use Rattle.std.specs.Prelude.{◌≡◌};
+ghost use Rattle.fz_machine_c.specs.Changes.{Registers, Unregisters};
+ghost use Rattle.fz_machine_c.specs.Codes.{Behind};
+ghost use Rattle.fz_machine_c.specs.Told.{finalizer_of, kind_of};
 
 use crate::codes::{Code, NOT_OPEN, OK, code_of};
 use crate::handle::Handle;
@@ -40,7 +35,7 @@ pub extern "C" fn fz_machine_register(
     rank: u8,
     registered: &mut Registered,
 ) -> Code
-    ensures { Behind finalizers.old.value finalizers.new.value result (registered.new ≡ registered.old) (λ m n. AnswersOrLacks (first_of m.phase (register_causes (table_of m.finalizers.state (kind_of kind)) m.finalizers.next_number object)) result (Follows m.finalizers.state (Register object (finalizer_of kind proc cd rank)) n.finalizers.state × TellsRegistered m.finalizers.next_number (old_in_either m.finalizers.registrations m.finalizers.late object) registered.new) ((n.finalizers.state ≡ m.finalizers.state) × (n.phase ≡ m.phase) × (registered.new ≡ registered.old)) ((get (table_of m.finalizers.state (kind_of kind)) object ≡ None) × ((registration_room m.finalizers.rooms (kind_of kind) ≡ 0) ⊎ (m.walk.room ≤ len m.finalizers.registrations + len m.finalizers.late)))) }
+    ensures { Behind finalizers.old.value finalizers.new.value result (registered.new ≡ registered.old) (Registers object (finalizer_of kind proc cd rank) result registered.old registered.new) }
 {
     let Some(mut session) = finalizers.take(alloc) else {
         return NOT_OPEN;
@@ -73,7 +68,7 @@ pub extern "C" fn fz_machine_unregister(
     object: u64,
     old: &mut Old,
 ) -> Code
-    ensures { Behind finalizers.old.value finalizers.new.value result (old.new ≡ old.old) (λ m n. Answers (first_of m.phase []) result (Follows m.finalizers.state (Unregister object) n.finalizers.state × TellsOld (old_in_either m.finalizers.registrations m.finalizers.late object) old.new) ((n ≡ m) × (old.new ≡ old.old))) }
+    ensures { Behind finalizers.old.value finalizers.new.value result (old.new ≡ old.old) (Unregisters object result old.old old.new) }
 {
     let Some(mut session) = finalizers.take(alloc) else {
         return NOT_OPEN;

@@ -1,0 +1,91 @@
+-- What a change does with the finalizers behind a handle, which answers this code, and what C is told of it.
+use Rattle.std.specs.Prelude.{◌≡◌, ◌⊎◌, ℕ, ◌+◌, ◌≤◌, Bool, [], None}
+use Rattle.std.specs.FinMap.{get, len, contains_key}
+use Rattle.fz_model.specs.declared.answers.Entry.{Entry}
+use Rattle.fz_model.specs.Steps.{move_answer}
+use Rattle.fz_finalizers.specs.declared.kinds.Finalizer.{Finalizer}
+use Rattle.fz_finalizers.specs.Causes.{register_causes, link_causes, move_causes, finish_causes}
+use Rattle.fz_finalizers.specs.Follows.{Follows, Register, Unregister, Link, Unlink, Move, QueueAll, Finish}
+use Rattle.fz_finalizers.specs.Ready.{QueuesTables}
+use Rattle.fz_finalizers.specs.Registering.{old_in_either}
+use Rattle.fz_finalizers.specs.States.{HasRooms, links_of, registration_room, room_of, table_of}
+use Rattle.fz_machine.specs.Causes.{first_of}
+use Rattle.fz_machine.specs.Going.{HasRoomForMore}
+use Rattle.fz_machine.specs.Machines.{Machine}
+use Rattle.fz_machine_c.specs.declared.old.Old.{Old}
+use Rattle.fz_machine_c.specs.declared.old.Registered.{Registered}
+use Rattle.fz_machine_c.specs.Codes.{Answers, AnswersOrLacks}
+use Rattle.fz_machine_c.specs.Told.{TellsOld, TellsRegistered, link_kind_of, link_number, move_number}
+
+-- what the finalizers hold, and how far their pass is
+abbrev pub Stays : Machine → Machine → Type 0
+Stays m n = (n.finalizers.state ≡ m.finalizers.state) × (n.phase ≡ m.phase)
+
+-- a registration is new, and lacks room in its table or on the list
+abbrev pub LacksToRegister : ℕ → Finalizer → Machine → Type 0
+LacksToRegister object f m =
+    (get (table_of m.finalizers.state f.kind) object ≡ None)
+    × ((registration_room m.finalizers.rooms f.kind ≡ 0) ⊎ (m.walk.room ≤ len m.finalizers.registrations + len m.finalizers.late))
+
+abbrev pub Registers : ℕ → Finalizer → ℕ → Registered → Registered → Machine → Machine → Type 0
+Registers object f code old told m n =
+    AnswersOrLacks (first_of m.phase (register_causes (table_of m.finalizers.state f.kind) m.finalizers.next_number object)) code
+    (Follows m.finalizers.state (Register object f) n.finalizers.state
+    × TellsRegistered m.finalizers.next_number (old_in_either m.finalizers.registrations m.finalizers.late object) told)
+    (Stays m n × (told ≡ old))
+    (LacksToRegister object f m)
+
+abbrev pub Unregisters : ℕ → ℕ → Old → Old → Machine → Machine → Type 0
+Unregisters object code old told m n =
+    Answers (first_of m.phase []) code
+    (Follows m.finalizers.state (Unregister object) n.finalizers.state × TellsOld (old_in_either m.finalizers.registrations m.finalizers.late object) told)
+    ((n ≡ m) × (told ≡ old))
+
+-- a link is new, and lacks room among those of its kind or on the list
+abbrev pub LacksToLink : Bool → ℕ → Machine → Type 0
+LacksToLink is_long word m =
+    (get (links_of m.finalizers.state (link_kind_of is_long)) word ≡ None)
+    × ((room_of m.finalizers.rooms (link_kind_of is_long) ≡ 0) ⊎ (m.walk.room ≤ len (links_of m.finalizers.state (link_kind_of is_long))))
+
+abbrev pub Links : Bool → ℕ → ℕ → ℕ → ℕ → ℕ → Machine → Machine → Type 0
+Links is_long word target code old told m n =
+    AnswersOrLacks (first_of m.phase (link_causes (links_of m.finalizers.state (link_kind_of is_long)) word target)) code
+    (Follows m.finalizers.state (Link (link_kind_of is_long) word target) n.finalizers.state
+    × (told ≡ link_number (contains_key (links_of m.finalizers.state (link_kind_of is_long)) word)))
+    (Stays m n × (told ≡ old))
+    (LacksToLink is_long word m)
+
+abbrev pub Unlinks : Bool → ℕ → ℕ → Bool → Bool → Machine → Machine → Type 0
+Unlinks is_long word code old told m n =
+    Answers (first_of m.phase []) code
+    (Follows m.finalizers.state (Unlink (link_kind_of is_long) word) n.finalizers.state
+    × (told ≡ contains_key (links_of m.finalizers.state (link_kind_of is_long)) word))
+    ((n ≡ m) × (told ≡ old))
+
+abbrev pub MovesLink : Bool → ℕ → ℕ → ℕ → ℕ → ℕ → Machine → Machine → Type 0
+MovesLink is_long word to code old told m n =
+    Answers (first_of m.phase (move_causes to)) code
+    (Follows m.finalizers.state (Move (link_kind_of is_long) word to) n.finalizers.state
+    × (told ≡ move_number (move_answer (links_of m.finalizers.state (link_kind_of is_long)) word to)))
+    (Stays m n × (told ≡ old))
+
+abbrev pub Reserves : ℕ → ℕ → ℕ → ℕ → Machine → Machine → Type 0
+Reserves registrations shorts longs code m n =
+    AnswersOrLacks (first_of m.phase []) code
+    (HasRooms n.finalizers.rooms registrations shorts longs × HasRoomForMore m.finalizers.state registrations shorts longs n.walk.room × Stays m n)
+    (Stays m n)
+    (HasRooms m.finalizers.rooms registrations shorts longs → HasRoomForMore m.finalizers.state registrations shorts longs m.walk.room → ⊥)
+
+abbrev pub QueuesAll : ℕ → ℕ → ℕ → Machine → Machine → Type 0
+QueuesAll code old told m n =
+    Answers (first_of m.phase []) code
+    (Follows m.finalizers.state QueueAll n.finalizers.state
+    × QueuesTables m.finalizers.queued m.finalizers.registrations m.finalizers.late m.finalizers.waiting n.finalizers.waiting
+    × (n.finalizers.queued ≡ m.finalizers.queued + told))
+    ((n ≡ m) × (told ≡ old))
+
+abbrev pub Finishes : Entry → ℕ → Machine → Machine → Type 0
+Finishes e code m n =
+    Answers (first_of m.phase (finish_causes m.finalizers.held e)) code
+    (Follows m.finalizers.state (Finish e) n.finalizers.state)
+    (Stays m n)
