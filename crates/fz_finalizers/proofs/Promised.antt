@@ -54,56 +54,31 @@ opened = record {
     nothing : (a : ℕ) (r : Registration) → registered opening a ≡ Some r → ⊥
     nothing a r here = none-some r (sym (ap (λ (o : Option Registration). option_or o (get (empty {K = ℕ} {X = Registration} {R = nat_cmp}) a)) (get-empty nat_cmp a) ∙ get-empty nat_cmp a) ∙ here)
 
--- ---- links come and go
+-- ---- links come and go, and a pass begins: of these no promise speaks
+
+beside : (s : State) (past : Past) (short long : Map ℕ) (passes : ℕ) → Promises s past → Promises (record s { short = short; long = long; passes = passes }) past
+beside s past short long passes p = record {
+  takes = p.takes;
+  numbered = p.numbered;
+  counted = p.counted;
+  apart = p.apart;
+  one = p.one;
+  once = p.once;
+  gone = p.gone;
+  below = p.below;
+  queued_below = p.queued_below;
+  held = p.held;
+  by_number = p.by_number;
+  finished_taken = p.finished_taken;
+  kept = p.kept;
+}
 
 linked : (s : State) (past : Past) (kind : LinkKind) (links : Map ℕ) → Promises s past → Promises (with_links s kind links) past
-linked s past Short links p = record {
-  takes = p.takes;
-  numbered = p.numbered;
-  counted = p.counted;
-  apart = p.apart;
-  one = p.one;
-  once = p.once;
-  gone = p.gone;
-  below = p.below;
-  queued_below = p.queued_below;
-  held = p.held;
-  by_number = p.by_number;
-  finished_taken = p.finished_taken;
-  kept = p.kept;
-}
-linked s past Long links p = record {
-  takes = p.takes;
-  numbered = p.numbered;
-  counted = p.counted;
-  apart = p.apart;
-  one = p.one;
-  once = p.once;
-  gone = p.gone;
-  below = p.below;
-  queued_below = p.queued_below;
-  held = p.held;
-  by_number = p.by_number;
-  finished_taken = p.finished_taken;
-  kept = p.kept;
-}
+linked s past Short links = beside s past links s.long s.passes
+linked s past Long links = beside s past s.short links s.passes
 
 begun : (s : State) (past : Past) (passes : ℕ) → Promises s past → Promises (record s { passes = passes }) past
-begun s past passes p = record {
-  takes = p.takes;
-  numbered = p.numbered;
-  counted = p.counted;
-  apart = p.apart;
-  one = p.one;
-  once = p.once;
-  gone = p.gone;
-  below = p.below;
-  queued_below = p.queued_below;
-  held = p.held;
-  by_number = p.by_number;
-  finished_taken = p.finished_taken;
-  kept = p.kept;
-}
+begun s past = beside s past s.short s.long
 
 -- ---- a registration goes
 
