@@ -28,5 +28,5 @@ module _ {X Y : Type 0} (f : X → Y) (before : List Y) (es : List X) where
     all_listed none = are.listed ∙ ap (λ xs. before ++ map f xs) (sym (append-nil done) ∙ ap (λ xs. done ++ xs) (sym none) ∙ are.rest)
 
     -- there is room for one more
-    pub has_room : (room : ℕ) (next : List X) (e : X) → it ≡ e ∷ next → length before + length es ≤ room → length items < room
-    has_room room next e steps enough = let left = ap length steps in let few = are.few in omega (arith, left, few, enough)
+    pub may_put : (room long : ℕ) (next : List X) (e : X) → it ≡ e ∷ next → long ≡ length items → length before + length es ≤ room → long < room
+    may_put room long next e steps is enough = let left = ap length steps in let few = are.few in omega (arith, left, few, enough, is)

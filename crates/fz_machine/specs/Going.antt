@@ -1,7 +1,8 @@
 -- The parts of a machine, as the steps of a pass see them.
-use Rattle.std.specs.Prelude.{ℕ, ◌+◌, ◌≤◌}
-use Rattle.std.specs.FinMap.{len}
-use Rattle.fz_finalizers.specs.States.{State, View, limited}
+use Rattle.std.specs.Prelude.{◌≡◌, ℕ, ◌+◌, ◌≤◌, None}
+use Rattle.std.specs.FinMap.{get, len}
+use Rattle.fz_model.specs.declared.kinds.LinkKind.{LinkKind}
+use Rattle.fz_finalizers.specs.States.{State, View, limited, links_of, registered}
 use Rattle.fz_machine.specs.Steps.{Going}
 use Rattle.fz_machine.specs.Walks.{Walk}
 
@@ -19,3 +20,11 @@ pub record HasRoomForMore (s : State) (registrations shorts longs room : ℕ) : 
   pub registered : (len s.registrations + len s.late) + limited registrations ≤ room
   pub short : len s.short + limited shorts ≤ room
   pub long : len s.long + limited longs ≤ room
+
+-- a new registration finds no room on the list
+abbrev pub LacksToRegister : State → ℕ → ℕ → Type 0
+LacksToRegister s object room = (registered s object ≡ None) × (room ≤ len s.registrations + len s.late)
+
+-- a new link finds no room on the list
+abbrev pub LacksToLink : State → LinkKind → ℕ → ℕ → Type 0
+LacksToLink s kind word room = (get (links_of s kind) word ≡ None) × (room ≤ len (links_of s kind))

@@ -1,12 +1,13 @@
 -- What contracts see of finalizers whose pass asks.
-use Rattle.std.specs.Prelude.{◌≡◌, ℕ, ◌-◌, zero, suc, Bool, List, Option, Some, None, refl}
+use Rattle.std.specs.Prelude.{◌≡◌, ℕ, ◌-◌, zero, suc, Bool, List, [], Option, Some, None, refl}
 use Rattle.std.specs.Coded.{Coded, code_by, coded×, coded_ℕ, coded_option}
+use Rattle.fz_model.specs.declared.answers.Entry.{Entry}
 use Rattle.fz_finalizers.specs.States.{View, view_code}
 use Rattle.fz_machine.specs.declared.phase.Phase.{Phase}
 use Rattle.fz_machine.specs.declared.phase.Phase.TheVariants.{ShortTargets, ShortWords, Objects, Children, Again, Picks, LateAgain, LatePicks, LongTargets, LongWords, ShortHolders, LongHolders}
 use Rattle.fz_machine.specs.declared.pass.Next.{Next}
 use Rattle.fz_machine.specs.declared.pass.Next.TheVariants.{Asks, Ended}
-use Rattle.fz_finalizers.specs.Follows.{next_pass}
+use Rattle.fz_finalizers.specs.Follows.{Event, Follows, next_pass}
 use Rattle.fz_machine.specs.Going.{going}
 use Rattle.fz_machine.specs.Steps.{Begins, GoesOn, IsQuestion, steps}
 use Rattle.fz_machine.specs.Walks.{Walk, walk_code}
@@ -71,6 +72,11 @@ machine_code =
 -- no pass is open
 abbrev pub IsIdle : Machine → Type 0
 IsIdle m = m.phase ≡ None
+
+-- the first entry that waits is taken, as this event says; where none waits, the finalizers stay as they are
+abbrev pub Takes : (Entry → Event) → Machine → Machine → Option Entry → Type 0
+Takes event old new None = (old.finalizers.waiting ≡ []) × (new.finalizers.state ≡ old.finalizers.state)
+Takes event old new (Some e) = Follows old.finalizers.state (event e) new.finalizers.state
 
 -- a pass has begun
 pub record IsBegun (old new : Machine) : Type 0 where

@@ -1,6 +1,6 @@
 //! The calls of finalizers that change them, refused while a pass is open.
 
-ghost use Rattle.std.specs.Prelude.{◌≡◌, ◌≤◌, ◌+◌, ◌⊎◌, [], None, if◌then◌else◌, MatchOption, IfOk, IfErr, OnOk, OnErr};
+ghost use Rattle.std.specs.Prelude.{◌≡◌, ◌≤◌, ◌+◌, ◌⊎◌, [], None, if◌then◌else◌, IfOk, IfErr, OnOk, OnErr};
 ghost use Rattle.std.specs.FinMap.{get, len, contains_key};
 ghost use Rattle.fz_model.specs.Steps.{move_answer};
 ghost use Rattle.fz_finalizers.specs.Causes.{finish_causes, link_causes, move_causes, register_causes};
@@ -10,7 +10,7 @@ ghost use Rattle.fz_finalizers.specs.Registering.{old_in_either};
 ghost use Rattle.fz_finalizers.specs.States.{HasRooms, links_of, room_of, registration_room, table_of};
 ghost use Rattle.fz_machine.specs.Causes.{IsJudgedBy, IsJudgedOrLacks};
 ghost use Rattle.fz_machine.specs.Going.{HasRoomForMore};
-ghost use Rattle.fz_machine.specs.Machines.{IsIdle};
+ghost use Rattle.fz_machine.specs.Machines.{IsIdle, Takes};
 ghost use Rattle.fz_finalizers.specs.declared.refused.Refused.TheVariants.{NoMemory};
 
 use crate::machine::Machine;
@@ -153,7 +153,7 @@ impl Machine {
     pub fn take(&mut self) -> Result<Option<Entry>, Refused>
         ensures judged { IsJudgedBy self.old.phase [] result }
         ensures refused { OnErr result (self.new ≡ self.old) }
-        ensures takes { IfOk result (λ taken. MatchOption taken ((self.old.finalizers.waiting ≡ []) × (self.new.finalizers.state ≡ self.old.finalizers.state)) (λ entry. Follows self.old.finalizers.state (Take entry) self.new.finalizers.state)) }
+        ensures takes { IfOk result (Takes Take self.old self.new) }
         ensures idle { OnOk result (IsIdle self.new) }
     {
         self.check()?;
@@ -164,7 +164,7 @@ impl Machine {
     pub fn take_finished(&mut self) -> Result<Option<Entry>, Refused>
         ensures judged { IsJudgedBy self.old.phase [] result }
         ensures refused { OnErr result (self.new ≡ self.old) }
-        ensures takes { IfOk result (λ taken. MatchOption taken ((self.old.finalizers.waiting ≡ []) × (self.new.finalizers.state ≡ self.old.finalizers.state)) (λ entry. Follows self.old.finalizers.state (TakeFinished entry) self.new.finalizers.state)) }
+        ensures takes { IfOk result (Takes TakeFinished self.old self.new) }
         ensures idle { OnOk result (IsIdle self.new) }
     {
         self.check()?;

@@ -5,9 +5,9 @@ ghost use Rattle.std.specs.FinMap.{get, insert, len, contains_key};
 ghost use Rattle.fz_finalizers.specs.Causes.{IsJudgedOrLacks, link_causes, register_causes};
 ghost use Rattle.fz_finalizers.specs.Follows.{Follows, Register, Link};
 ghost use Rattle.fz_finalizers.specs.Registering.{HasRoomFor, old_in_either};
-ghost use Rattle.fz_finalizers.specs.States.{HasRooms, limited, links_of, registered, room_of, registration_room, table_of};
+ghost use Rattle.fz_finalizers.specs.States.{HasRooms, limited, links_of, room_of, registration_room, table_of};
 ghost use Rattle.fz_machine.specs.Causes.{RefusesOrLacks};
-ghost use Rattle.fz_machine.specs.Going.{HasRoom, HasRoomForMore};
+ghost use Rattle.fz_machine.specs.Going.{HasRoom, HasRoomForMore, LacksToLink, LacksToRegister};
 
 use crate::walk::Walk;
 use fz_finalizers::{Addr, Finalizer, Finalizers, Kind, LinkAnswer, LinkKind, Old, Refused};
@@ -21,7 +21,7 @@ fn room_to_register(
     kind: Kind,
 ) -> Result<(), Refused>
     requires { HasRoom finalizers.now.state walk.old.room }
-    ensures refused { IfErr result (λ r. RefusesOrLacks (register_causes (table_of finalizers.now.state kind) finalizers.now.next_number object) ((registered finalizers.now.state object ≡ None) × (walk.old.room ≤ len finalizers.now.registrations + len finalizers.now.late)) r) }
+    ensures refused { IfErr result (λ r. RefusesOrLacks (register_causes (table_of finalizers.now.state kind) finalizers.now.next_number object) (LacksToRegister finalizers.now.state object walk.old.room) r) }
     ensures kept { walk.old.room ≤ walk.new.room }
     ensures room { OnOk result (HasRoomFor finalizers.now.registrations finalizers.now.late object walk.new.room) }
     ensures late { OnOk result (HasRoomFor finalizers.now.late finalizers.now.registrations object walk.new.room) }
@@ -73,7 +73,7 @@ fn room_to_link(
     target: Addr,
 ) -> Result<(), Refused>
     requires { HasRoom finalizers.now.state walk.old.room }
-    ensures refused { IfErr result (λ r. RefusesOrLacks (link_causes (links_of finalizers.now.state kind) word target) ((get (links_of finalizers.now.state kind) word ≡ None) × (walk.old.room ≤ len (links_of finalizers.now.state kind))) r) }
+    ensures refused { IfErr result (λ r. RefusesOrLacks (link_causes (links_of finalizers.now.state kind) word target) (LacksToLink finalizers.now.state kind word walk.old.room) r) }
     ensures kept { walk.old.room ≤ walk.new.room }
     ensures room { OnOk result (len (insert (links_of finalizers.now.state kind) word target) ≤ walk.new.room) }
 {

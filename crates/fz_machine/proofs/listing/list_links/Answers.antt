@@ -1,6 +1,6 @@
-use Rattle.std.proofs.Common.{◌≤◌, ◌+◌, vec_capacity, ◌++◌, ◌∷◌, [], ◌∙◌, length, map, ap, arith}
+use Rattle.std.proofs.Common.{vec_capacity, ◌++◌, ◌∷◌, [], ◌∙◌, length, map, ap, arith}
 use Rattle.fz_machine.specs.Items.{of_link}
-use Rattle.fz_machine.proofs.Listed.{none_listed, one_more, all_listed, has_room}
+use Rattle.fz_machine.proofs.Listed.{none_listed, one_more, all_listed, may_put}
 use Rattle.fz_machine.proofs.listing.list_links.Goals as goal
 
 pub loop-word-init : goal.loop-word-init
@@ -9,15 +9,15 @@ loop-word-init c = record { are = none_listed of_link c.args.items.now.items c.i
 pub put-requires : goal.put-requires
 put-requires c =
     let given = ap length c.into_iter-word-iterator.ensures.into_iter_gives in
-    let long = c.args.items.now.ok.0 in
-    let none = ap length c.requires.empty in let enough : length c.args.items.now.items + length c.into_iter-word-iterator.result ≤ vec_capacity c.loop-word.items = omega (arith, given, long, c.iter_links-word-items.ensures.count, c.requires.room, c.loop-word.invariant.grown, none) in
-    let room = has_room of_link c.args.items.now.items c.into_iter-word-iterator.result c.loop-word.items.items c.loop-word.yielded c.loop-word.word-iterator c.loop-word.invariant.are (vec_capacity c.loop-word.items) c.next.new.self (c.in-Some.word, c.in-Some.target) c.in-Some.ensures.steps enough in
-    let len = c.loop-word.items.ok.0 in
-    record { room = omega (arith, room, len) }
+    let none = ap length c.requires.empty in
+    record {
+      room = may_put _ _ _ _ _ _ c.loop-word.invariant.are (vec_capacity c.loop-word.items) _ _ _ c.in-Some.ensures.steps c.loop-word.items.ok.0
+          (omega (arith, given, c.args.items.now.ok.0, c.iter_links-word-items.ensures.count, c.requires.room, c.loop-word.invariant.grown, none));
+    }
 
 pub loop-word-preserved : goal.loop-word-preserved
 loop-word-preserved c = record {
-  are = one_more of_link c.args.items.now.items c.into_iter-word-iterator.result c.loop-word.items.items c.loop-word.yielded c.loop-word.word-iterator c.loop-word.invariant.are _ c.next.new.self (c.in-Some.word, c.in-Some.target)
+  are = one_more _ _ _ _ _ _ c.loop-word.invariant.are _ _ (c.in-Some.word, c.in-Some.target)
       (c.put.ensures.listed ∙ ap (λ x. c.loop-word.items.items ++ x ∷ []) c.of_link.ensures) c.in-Some.ensures.steps;
   grown = omega (arith, c.loop-word.invariant.grown, c.put.ensures.capacity);
 }
@@ -26,5 +26,5 @@ pub returns-clause-listed : goal.returns-clause-listed
 returns-clause-listed c =
     let es = c.iter_links-word-items.result in
     let given = c.into_iter-word-iterator.ensures.into_iter_gives in
-    let all = all_listed of_link c.args.items.now.items c.into_iter-word-iterator.result c.loop-word.items.items c.loop-word.yielded c.loop-word.word-iterator c.loop-word.invariant.are c.in-None.ensures.steps.0 in
+    let all = all_listed _ _ _ _ _ _ c.loop-word.invariant.are c.in-None.ensures.steps.0 in
     (es, (c.iter_links-word-items.ensures.all, c.iter_links-word-items.ensures.once), all ∙ ap (λ xs. xs ++ map of_link c.into_iter-word-iterator.result) c.requires.empty ∙ ap (map of_link) given)

@@ -1,7 +1,7 @@
-use Rattle.std.proofs.Common.{◌≤◌, ◌+◌, vec_capacity, ◌++◌, ◌∷◌, [], ◌∙◌, length, map, ap, arith}
+use Rattle.std.proofs.Common.{vec_capacity, ◌++◌, ◌∷◌, [], ◌∙◌, length, map, ap, arith}
 use Rattle.std.proofs.lemmas.List.{length-map}
 use Rattle.fz_machine.specs.Items.{of_other}
-use Rattle.fz_machine.proofs.Listed.{none_listed, one_more, all_listed, has_room}
+use Rattle.fz_machine.proofs.Listed.{none_listed, one_more, all_listed, may_put}
 use Rattle.fz_machine.proofs.listing.list_others.Goals as goal
 
 pub loop-object-init : goal.loop-object-init
@@ -10,15 +10,15 @@ loop-object-init c = record { are = none_listed of_other c.args.items.now.items 
 pub put-requires : goal.put-requires
 put-requires c =
     let given = ap length c.into_iter-object-iterator.ensures.into_iter_gives in
-    let long = c.args.items.now.ok.0 in
-    let none = ap length c.requires.empty in let enough : length c.args.items.now.items + length c.into_iter-object-iterator.result ≤ vec_capacity c.loop-object.items = omega (arith, given, long, c.iter_others-object-items.ensures.count, c.requires.room, c.loop-object.invariant.grown, none) in
-    let room = has_room of_other c.args.items.now.items c.into_iter-object-iterator.result c.loop-object.items.items c.loop-object.yielded c.loop-object.object-iterator c.loop-object.invariant.are (vec_capacity c.loop-object.items) c.next.new.self (c.in-Some.object, c.in-Some.registration) c.in-Some.ensures.steps enough in
-    let len = c.loop-object.items.ok.0 in
-    record { room = omega (arith, room, len) }
+    let none = ap length c.requires.empty in
+    record {
+      room = may_put _ _ _ _ _ _ c.loop-object.invariant.are (vec_capacity c.loop-object.items) _ _ _ c.in-Some.ensures.steps c.loop-object.items.ok.0
+          (omega (arith, given, c.args.items.now.ok.0, c.iter_others-object-items.ensures.count, c.requires.room, c.loop-object.invariant.grown, none));
+    }
 
 pub loop-object-preserved : goal.loop-object-preserved
 loop-object-preserved c = record {
-  are = one_more of_other c.args.items.now.items c.into_iter-object-iterator.result c.loop-object.items.items c.loop-object.yielded c.loop-object.object-iterator c.loop-object.invariant.are _ c.next.new.self (c.in-Some.object, c.in-Some.registration)
+  are = one_more _ _ _ _ _ _ c.loop-object.invariant.are _ _ (c.in-Some.object, c.in-Some.registration)
       (c.put.ensures.listed ∙ ap (λ x. c.loop-object.items.items ++ x ∷ []) c.of_other.ensures) c.in-Some.ensures.steps;
   grown = omega (arith, c.loop-object.invariant.grown, c.put.ensures.capacity);
 }
@@ -27,11 +27,11 @@ pub returns-clause-listed : goal.returns-clause-listed
 returns-clause-listed c =
     let es = c.iter_others-object-items.result in
     let given = c.into_iter-object-iterator.ensures.into_iter_gives in
-    let all = all_listed of_other c.args.items.now.items c.into_iter-object-iterator.result c.loop-object.items.items c.loop-object.yielded c.loop-object.object-iterator c.loop-object.invariant.are c.in-None.ensures.steps.0 in
+    let all = all_listed _ _ _ _ _ _ c.loop-object.invariant.are c.in-None.ensures.steps.0 in
     (es, (c.iter_others-object-items.ensures.all, c.iter_others-object-items.ensures.once), all ∙ ap (λ xs. xs ++ map of_other c.into_iter-object-iterator.result) c.requires.empty ∙ ap (map of_other) given)
 
 pub returns-clause-count : goal.returns-clause-count
 returns-clause-count c =
     let given = c.into_iter-object-iterator.ensures.into_iter_gives in
-    let all = all_listed of_other c.args.items.now.items c.into_iter-object-iterator.result c.loop-object.items.items c.loop-object.yielded c.loop-object.object-iterator c.loop-object.invariant.are c.in-None.ensures.steps.0 in
+    let all = all_listed _ _ _ _ _ _ c.loop-object.invariant.are c.in-None.ensures.steps.0 in
     c.loop-object.items.ok.0 ∙ ap length (all ∙ ap (λ xs. xs ++ map of_other c.into_iter-object-iterator.result) c.requires.empty) ∙ length-map c.into_iter-object-iterator.result of_other ∙ ap length given ∙ c.iter_others-object-items.ensures.count
