@@ -133,7 +133,10 @@ impl Ready {
         requires closed { IsClosed (H.objects host.old) (H.marked host.old) }
         requires room { len table.old.registrations + len late.old.registrations ≤ self.old.room }
         requires numbers { self.old.queued + (len table.old.registrations + len late.old.registrations) < 2 ^ 64 }
-        ensures decided { Decides H.is_exact number (parts_of (H.objects host.old) table.old late.old short.old long.old) (H.marked host.old) (parts_left (H.objects host.new) (H.marked host.new) table.new late.new short.new long.new) self.old self.new }
+        ensures decided { Decides H.is_exact number
+            (parts_of (H.objects host.old) table.old late.old short.old long.old) (H.marked host.old)
+            (parts_left (H.objects host.new) (H.marked host.new) table.new late.new short.new long.new)
+            self.old self.new }
         ensures queued { length self.old.waiting + self.new.queued ≡ length self.new.waiting + self.old.queued }
         ensures held { self.new.held ≡ self.old.held }
         ensures count { self.new.queued + (len table.new.registrations + len late.new.registrations) ≡ self.old.queued + (len table.old.registrations + len late.old.registrations) }

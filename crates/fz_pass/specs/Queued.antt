@@ -19,6 +19,11 @@ MarksLed Exact objects old new registrations = Marks Exact objects old new (AreL
 abbrev pub is_ready : Registered → (ℕ → Bool) → ℕ → Bool
 is_ready table marked a = contains_key table.registrations a && not (marked a)
 
+-- the objects of a table that aren't marked are taken out of it, and their entries come to the end of the queue
+abbrev pub QueuesUnmarked : ℕ → ℕ → Map Object → (ℕ → Bool) → Registered → Registered → List Entry → List Entry → Type 0
+QueuesUnmarked pass first objects marked table new_table queue new_queue =
+    (picks : List Pick) × (new_queue ≡ queue ++ entries_of pass first picks) × Picks objects (is_ready table marked) table new_table [] picks
+
 -- first those of one table, whose objects and all that they lead to are marked, and then those of the other that still aren't
 pub record QueuesBoth (Exact : Type 0) (pass first : ℕ) (objects : Map Object) (marked new_marked : ℕ → Bool) (table new_table late new_late : Registered) (queue new_queue : List Entry) : Type 0 where
   pub picks : List Pick

@@ -98,7 +98,10 @@ pub fn decide_with_late<H: Host>(
     requires list { len table.old.registrations + len late.old.registrations ≤ ready.old.room }
     requires room { vec_len queue.old + (len table.old.registrations + len late.old.registrations) ≤ vec_capacity queue.old }
     requires numbers { first + (len table.old.registrations + len late.old.registrations) < 2 ^ 64 }
-    ensures decided { DecidesLate H.is_exact pass first (two_tables.parts_of (H.objects host.old) table.old late.old short.old long.old) (H.marked host.old) (two_tables.parts_left (H.objects host.new) (H.marked host.new) table.new late.new short.new long.new) queue.old.items queue.new.items }
+    ensures decided { DecidesLate H.is_exact pass first
+        (two_tables.parts_of (H.objects host.old) table.old late.old short.old long.old) (H.marked host.old)
+        (two_tables.parts_left (H.objects host.new) (H.marked host.new) table.new late.new short.new long.new)
+        queue.old.items queue.new.items }
     ensures list { ready.old.room ≤ ready.new.room }
     ensures count { vec_len queue.new + (len table.new.registrations + len late.new.registrations) ≡ vec_len queue.old + (len table.old.registrations + len late.old.registrations) }
     ensures capacity { vec_capacity queue.old ≤ vec_capacity queue.new }
@@ -140,7 +143,10 @@ pub fn decide<H: Host>(
     requires list { len table.old.registrations ≤ ready.old.room }
     requires room { vec_len queue.old + len table.old.registrations ≤ vec_capacity queue.old }
     requires numbers { first + len table.old.registrations < 2 ^ 64 }
-    ensures decided { DecidesInto H.is_exact pass first (parts_of (H.objects host.old) table.old short.old long.old) (H.marked host.old) (parts_left (H.objects host.new) (H.marked host.new) table.new short.new long.new) queue.old.items queue.new.items }
+    ensures decided { DecidesInto H.is_exact pass first
+        (parts_of (H.objects host.old) table.old short.old long.old) (H.marked host.old)
+        (parts_left (H.objects host.new) (H.marked host.new) table.new short.new long.new)
+        queue.old.items queue.new.items }
     ensures list { ready.old.room ≤ ready.new.room }
     // There is room for every registration that is left.
     ensures room { vec_len queue.new + len table.new.registrations ≤ vec_capacity queue.new }
