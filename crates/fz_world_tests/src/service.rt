@@ -222,6 +222,28 @@ fn closes_in_a_cycle<O: Opening, R: Abort + Wait>(rt: &R, prepared: Prepared)
     same(rt, "queued, left and passes", counts, (0, 0, 1));
 }
 
+/// An allocation that finds no space collects, sends what it queued and is made; one for which the collection frees nothing finds none.
+fn collects_for_space<O: Opening, R: Abort + Wait>(rt: &R, prepared: Prepared)
+    requires { prepared ≡ O.origin }
+{
+    let (service, seats) = opened::<O>(rt, prepared);
+    let mut locked = service.enter(rt);
+    make_and_drop(rt, &mut locked);
+    accepted(rt, "alloc", locked.alloc(0, 0, 192, Scanned));
+    accepted(rt, "set", locked.set(0, 0, 0));
+    let full = locked.alloc(0, 0, 192, Scanned);
+    same(rt, "before it collects", full, Err(Refusal::NoSpace));
+    let made = locked.alloc_or_collect(0, 0, 192, Scanned);
+    same(rt, "address and birth", made, Ok((65_600, 2)));
+    let full = locked.alloc_or_collect(0, 1, 192, Scanned);
+    same(rt, "what is led to", full, Err(Refusal::NoSpace));
+    let counts = (locked.queue().len(), locked.outbox().len());
+    same(rt, "queued and not sent", counts, (1, 0));
+    drop(locked);
+    let end = ended(rt, service, seats);
+    same(rt, "passes", end.passes, 2);
+}
+
 /// A service has as many seats as it was prepared with, and ends with all of them.
 fn opens_with_seats<O: Opening>(rt: &impl Abort, prepared: Prepared, workers: u64)
     requires { prepared ≡ O.origin }
@@ -256,4 +278,10 @@ fn a_missing_seat_is_refused(rt: HostRuntime) {
 fn a_closed_world_queues_nothing(rt: HostRuntime) {
     let prepared = prepared(&rt, rt.alloc(), 1);
     closes_in_a_cycle::<Brand, HostRuntime>(&rt, prepared);
+}
+
+#[test]
+fn an_allocation_collects(rt: HostRuntime) {
+    let prepared = prepared(&rt, rt.alloc(), 1);
+    collects_for_space::<Brand, HostRuntime>(&rt, prepared);
 }
