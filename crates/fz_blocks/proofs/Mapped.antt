@@ -57,6 +57,16 @@ key_start blocks a key =
       starts = ap (starts_at at.inside) (sym place_is) ∙ at.starts;
     }
 
+-- what starts in a block has the size of its cells
+pub size_at : (blocks : List Block) (b : ℕ) (block : Block) → slice_get blocks b ≡ Some block → (a : ℕ) (x : Extent) → get (extents_in blocks) a ≡ Some x → (a - 65536) / 64 ≡ b → x.size ≡ block.size
+size_at blocks b block here a x got is =
+    let at = extent_is_at blocks a x got in
+    let start = at.at in
+    let small = at.small in
+    let block_is : at.block ≡ b = omega (arith, start, small, is) in
+    let same = same_Some at.inside block (sym at.here ∙ ap (slice_get blocks) block_is ∙ here) in
+    sym (ap (λ (e : Extent). e.size) at.is) ∙ ap (λ (k : Block). k.size) same
+
 -- whether an object starts at a place of a block
 pub start_key : (blocks : List Block) (b p : ℕ) (block : Block) → slice_get blocks b ≡ Some block → p < 64 → starts_at block p ≡ contains_key (extents_in blocks) (block_start b + p)
 start_key blocks b p block here small =

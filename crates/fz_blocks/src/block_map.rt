@@ -46,6 +46,7 @@ impl BlockMap {
     ghost use Rattle.std.specs.FinMap.{get, keys, insert, remove, retain_keys, contains_key, empty, len};
     ghost use Rattle.std.specs.FinSet as sets;
     ghost use Rattle.fz_model.specs.declared.limits.TheConstants.{BLOCK_WORDS, MAX_BLOCKS};
+    ghost use Rattle.fz_model.specs.declared.extent.Extent.{Extent};
     ghost use Rattle.fz_model.specs.Extents.{points_in, IsInHeap, AreApart, AreWithin};
     ghost use Rattle.fz_model.specs.Allocation.{block_start, block_of, blocks_for, place_in};
     ghost use Rattle.fz_model.specs.Causes.{IsJudgedBy, IsJudgedOrLacks, bad_count};
@@ -183,6 +184,14 @@ impl BlockMap {
         ensures { (place : ℕ) → place < BLOCK_WORDS → has_bit result place ≡ contains_key self.now.extents (block_start block + place) }
     {
         self.blocks.get(block).objects
+    }
+
+    /// The words of each object that starts in a block. Asked only of a block of the heap.
+    pub fn size_in(&self, block: u64) -> u64
+        requires { block < self.now.blocks }
+        ensures { (a : ℕ) (x : Extent) → get self.now.extents a ≡ Some x → block_of a ≡ block → x.size ≡ result }
+    {
+        u64::from(self.blocks.block(block).size)
     }
 
     /// The starts of all objects, by rising address.

@@ -2,3 +2,4 @@ pub mod Mapped
 pub mod Flat
 pub mod Extents
 pub mod Swept
+pub mod Totals

@@ -1,8 +1,9 @@
 -- What contracts see of a heap: its size in blocks, its objects by their starts, where condemned cells start, and the next birth.
-use Rattle.std.specs.Prelude.{ℕ, ◌+◌, List, [], if◌then◌else◌, refl, IsTrue, IsFalse}
+use Rattle.std.specs.Prelude.{ℕ, ◌+◌, List, [], if◌then◌else◌, length, refl, IsTrue, IsFalse}
+use Rattle.std.specs.List.{sum_by}
 use Rattle.std.specs.Coded.{Coded, code_by, coded×, coded_ℕ}
 use Rattle.std.specs.FinMap as map
-use Rattle.std.specs.FinMap.{get, contains_key}
+use Rattle.std.specs.FinMap.{get, contains_key, values}
 use Rattle.std.specs.FinSet as sets
 use Rattle.std.specs.FinSet.{contains}
 use Rattle.std.specs.Option.{option_map_or}
@@ -40,3 +41,7 @@ AreGone heap = (a : ℕ) → IsTrue (contains heap.condemned a) → IsFalse (con
 -- the words of the scanned object at a start, and none of an atomic one
 abbrev pub pointers_of : Map Object → ℕ → List ℕ
 pointers_of objects start = option_map_or (λ (o : Object). if same_kind o.kind Scanned then o.words else []) (get objects start) []
+
+-- how many words the objects have
+abbrev pub words_of : Map Object → ℕ
+words_of objects = sum_by (λ (o : Object). length o.words) (values objects)

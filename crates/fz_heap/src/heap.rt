@@ -1,6 +1,6 @@
 //! The heap: where its objects lie, and their words and births.
 
-ghost use Rattle.std.specs.Prelude.{◌^◌, ◌∷◌, [], ◌≡◌, ◌≤◌, ◌<◌, ◌+◌, ℕ, not, ◌&&◌, ◌||◌, All, IsTrue, IsSome, IfSome, IfOk, OnOk, OnErr, option_map, length, replicate};
+ghost use Rattle.std.specs.Prelude.{◌^◌, ◌∷◌, [], ◌≡◌, ◌≤◌, ◌<◌, ◌+◌, ◌*◌, ℕ, not, ◌&&◌, ◌||◌, All, IsTrue, IsSome, IfSome, IfOk, OnOk, OnErr, option_map, length, replicate};
 ghost use Rattle.std.specs.FinMap.{get, insert, remove, retain_keys, contains_key, keys, len, empty};
 ghost use Rattle.std.specs.FinSet as sets;
 ghost use Rattle.fz_model.specs.declared.limits.TheConstants.{BLOCK_WORDS, MAX_BLOCKS};
@@ -9,7 +9,7 @@ ghost use Rattle.fz_model.specs.Memory.{points, word_at, written};
 ghost use Rattle.fz_model.specs.Allocation.{place_for, block_start};
 ghost use Rattle.fz_model.specs.Condemned.{stands_at, swept};
 ghost use Rattle.fz_model.specs.Bits.{has_bit};
-ghost use Rattle.fz_heap.specs.Contents.{AreGone, pointers_of, with_made};
+ghost use Rattle.fz_heap.specs.Contents.{AreGone, pointers_of, with_made, words_of};
 ghost use Rattle.fz_model.specs.Causes.{IsJudgedBy, IsJudgedOrLacks, bad_count, alloc_causes, place_causes};
 
 use crate::places::{place_of, zero};
@@ -33,6 +33,10 @@ pub struct Heap {
     /// By address too. Only a birth at the start of an object means anything.
     births: Vec<u64>,
     next_birth: u64,
+    /// How many objects there are.
+    live: u64,
+    /// How many words they have.
+    used: u64,
 }
 
 // Written out: who owns a heap then drops it by one call that is proved here, not field by field at each way out of a function.
@@ -43,6 +47,8 @@ impl Drop for Heap {
             words: _,
             births: _,
             next_birth: _,
+            live: _,
+            used: _,
         } = self;
     }
 }
@@ -62,11 +68,11 @@ impl Model for Heap {
     ghost coded = { contents_code };
 
     ghost use Rattle.fz_heap.specs.Flat.{objects_of};
-    ghost use Rattle.fz_heap.specs.Layout.{IsHeap};
+    ghost use Rattle.fz_heap.specs.Layout.{IsCounted};
 
     ghost view = { λ h. record { blocks = h.map.blocks; objects = objects_of h.map.extents h.words.items h.births.items; condemned = h.map.condemned; next_birth = h.next_birth } };
 
-    ghost invariant = { λ h. IsHeap h.map h.words.items h.births.items };
+    ghost invariant = { λ h. IsCounted h.map h.words.items h.births.items h.live h.used };
 }
 
 impl Heap {
@@ -85,6 +91,8 @@ impl Heap {
             words,
             births,
             next_birth: 0,
+            live: 0,
+            used: 0,
         })
     }
 
@@ -123,6 +131,8 @@ impl Heap {
         zero(&mut self.words, first, size as usize);
         self.births[first] = birth;
         self.next_birth += 1;
+        self.live += 1;
+        self.used += size;
         Ok((start, birth))
     }
 
@@ -180,7 +190,10 @@ impl Heap {
         requires { IsTrue (contains_key self.old.objects start) }
         ensures { self.new ≡ record self.old { objects = remove self.old.objects start; condemned = sets.insert self.old.condemned start } }
     {
+        let size = self.map.size_in((start - HEAP_START) / BLOCK_WORDS);
         self.map.condemn(start);
+        self.live -= 1;
+        self.used -= size;
     }
 
     /// Condemns each object that starts in the block at one of these places, a bit each, the first place's lowest; returns their number. Places
@@ -193,7 +206,11 @@ impl Heap {
         ensures count { sets.len self.new.condemned ≡ sets.len self.old.condemned + result }
         ensures fewer { len self.new.objects + result ≡ len self.old.objects }
     {
-        self.map.condemn_in(block, places)
+        let size = self.map.size_in(block);
+        let count = self.map.condemn_in(block, places);
+        self.live -= count;
+        self.used -= count * size;
+        count
     }
 
     /// Frees the condemned cells of a block, or the condemned run that begins there. Asked only of a block of the heap.
@@ -239,6 +256,21 @@ impl Heap {
         ensures { result ≡ self.now.next_birth }
     {
         self.next_birth
+    }
+
+    /// The number of objects.
+    pub fn live(&self) -> u64
+        ensures { result ≡ len self.now.objects }
+    {
+        self.live
+    }
+
+    /// The number of words that the objects have.
+    pub fn used(&self) -> u64
+        ensures used { result ≡ words_of self.now.objects }
+        ensures within { result ≤ BLOCK_WORDS * self.now.blocks }
+    {
+        self.used
     }
 
     /// The size in words, the kind and the birth of the object that starts at the address, if one starts there.
