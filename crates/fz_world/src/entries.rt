@@ -78,16 +78,12 @@ impl World {
         self.passes
     }
 
-    /// The number of objects that were made, less those that there are. It walks over the heap.
+    /// The number of objects that were made, less those that there are.
     pub fn reclaimed(&self) -> u64
         ensures { result ≡ self.now.next_birth - len self.now.objects }
     {
-        let mut reclaimed = self.marked.heap.births();
-        let mut starts = self.marked.heap.objects();
-        while starts.next().is_some() {
-            reclaimed = reclaimed.saturating_sub(1);
-        }
-        reclaimed
+        let heap = &self.marked.heap;
+        heap.births().saturating_sub(heap.live())
     }
 
     /// The entries from `forgotten` on, in their order: all that were ever queued, where none is forgotten.

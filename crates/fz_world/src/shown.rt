@@ -3,14 +3,16 @@
 //! A table is read at one address, or in order of address: `next_object`, `next_registration` and `next_link` find the first row from an address on,
 //! and whoever goes on from the address behind it sees each row once. So no list is made and nothing is sorted, and each answer is exact by itself.
 
-ghost use Rattle.std.specs.Prelude.{◌≡◌, ◌<◌, ◌+◌, Some, IfOk, IfSome, MatchOption, Contains, option_map};
+ghost use Rattle.std.specs.Prelude.{◌≡◌, ◌<◌, ◌+◌, ◌*◌, Some, IfOk, IfSome, MatchOption, Contains, option_map};
 ghost use Rattle.std.specs.List.{list_any};
-ghost use Rattle.std.specs.FinMap.{get, keys, contains_key};
+ghost use Rattle.std.specs.FinMap.{get, keys, contains_key, len};
 ghost use Rattle.fz_model.specs.declared.answers.Entry.{Entry};
 ghost use Rattle.fz_model.specs.Places.{slot_at};
 ghost use Rattle.fz_model.specs.Memory.{slot_word, word_at, points};
 ghost use Rattle.fz_model.specs.Causes.{IsJudgedBy, slot_causes, place_causes};
 ghost use Rattle.fz_model.specs.Events.{links_of, same_entry};
+ghost use Rattle.fz_model.specs.declared.limits.TheConstants.{BLOCK_WORDS};
+ghost use Rattle.fz_heap.specs.Contents.{words_of};
 ghost use Rattle.fz_world.specs.declared.shown.Object.{Object};
 ghost use Rattle.fz_world.specs.Ready.{IsNextHeld};
 ghost use Rattle.fz_world.specs.Shown.{shown_object, has_row, HasNoneFrom, IsFirstFrom};
@@ -60,6 +62,28 @@ impl World {
         ensures read { IfOk result (λ read. read ≡ word_at self.now.objects (word + offset)) }
     {
         self.marked.heap.read(word, offset)
+    }
+
+    /// How many objects there are.
+    pub fn live(&self) -> u64
+        ensures { result ≡ len self.now.objects }
+    {
+        self.marked.heap.live()
+    }
+
+    /// How many words the objects have: what a program may collect by, before an allocation finds no space.
+    pub fn used_words(&self) -> u64
+        ensures { result ≡ words_of self.now.objects }
+    {
+        self.marked.heap.used()
+    }
+
+    /// How many words of the heap no object has. A new object may find no place among them, where they lie apart, or in blocks of another size.
+    pub fn free_words(&self) -> u64
+        ensures { words_of self.now.objects + result ≡ BLOCK_WORDS * self.now.blocks }
+    {
+        let heap = &self.marked.heap;
+        BLOCK_WORDS * heap.blocks() - heap.used()
     }
 
     /// The starts of all objects, by rising address.
