@@ -1,8 +1,8 @@
 //! What stands behind a handle.
 
-ghost use Rattle.std.specs.Prelude.{◌≡◌, Some, length, nat_lt, slice_get, IsTrue, IsFalse};
-ghost use Rattle.fz_model.specs.declared.answers.Entry.{Entry};
-ghost use Rattle.fz_c.specs.Next.{IsNext, TakesNext, is_held};
+ghost use Rattle.std.specs.Prelude.{◌≡◌, ◌≤◌, length, nat_lt, slice_get};
+ghost use Rattle.fz_model.specs.declared.limits.TheConstants.{COUNT_LIMIT};
+ghost use Rattle.fz_c.specs.Next.{IsNext, TakesNext};
 ghost use Rattle.fz_c.specs.Shows.{IsCounted, IsQueuedEntry};
 
 use crate::shown::Counts;
@@ -16,28 +16,21 @@ pub struct Session {
     pub(crate) taken: usize,
 }
 
-/// Whether the entry with that number isn't finished.
-fn is_waiting_at(world: &World, number: u64) -> bool
-    ensures { (e : Entry) → slice_get world.now.queue number ≡ Some e → result ≡ is_held world.now e }
-{
-    match world.next(number) {
-        Some(entry) => world.is_held(&entry),
-        None => false,
-    }
-}
-
 impl Session {
-    /// Passes over entries that were finished before they were taken.
-    fn pass_finished(&mut self)
+    /// Passes over entries that were finished before they were taken. Returns the one that it comes to.
+    #[inline(always)]
+    fn pass_finished(&mut self) -> Option<Entry>
         ensures world { self.new.world ≡ self.old.world }
         ensures next { IsNext self.old.world self.old.taken self.new.taken }
+        ensures entry { result ≡ slice_get self.old.world.queue self.new.taken }
+        ensures few { length self.old.world.queue ≤ COUNT_LIMIT }
     {
-        while (self.taken as u64) < self.world.queued() {
-            if is_waiting_at(&self.world, self.taken as u64) {
-                return;
-            }
-            self.taken += 1;
-        }
+        let next = self.world.next_held(self.taken as u64);
+        self.taken = match &next {
+            Some(entry) => entry.seq as usize,
+            None => self.taken.max(self.world.queued() as usize),
+        };
+        next
     }
 
     /// The next entry of the queue that isn't finished, if there is one, which is taken then.
@@ -45,11 +38,7 @@ impl Session {
         ensures world { self.new.world ≡ self.old.world }
         ensures next { TakesNext self.old.world self.old.taken result self.new.taken }
     {
-        self.pass_finished();
-        if self.taken as u64 >= self.world.queued() {
-            return None;
-        }
-        let entry = self.world.next(self.taken as u64)?;
+        let entry = self.pass_finished()?;
         self.taken += 1;
         Some(entry)
     }
@@ -60,8 +49,7 @@ impl Session {
         ensures next { IsNext self.old.world self.old.taken self.new.taken }
         ensures waiting { result ≡ nat_lt self.new.taken (length self.old.world.queue) }
     {
-        self.pass_finished();
-        (self.taken as u64) < self.world.queued()
+        self.pass_finished().is_some()
     }
 
     /// The entry of the queue with that number, if it isn't both finished and forgotten.

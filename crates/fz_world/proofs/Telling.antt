@@ -1,5 +1,5 @@
--- What is known of the entry with a number, by what the queue tells of it.
-use Rattle.std.proofs.Common.{◌≡◌, ◌≢◌, ◌≤◌, ◌<◌, ℕ, Option, Some, None, MatchOption, Contains, slice_get, IsFalse, sym, ap, ◌∙◌, ⊎_elim}
+-- What is known of the entry with a number, by what the queue tells of it, and of those before the next held one.
+use Rattle.std.proofs.Common.{◌≡◌, ◌≢◌, ◌≤◌, ◌<◌, ℕ, Option, Some, None, IfSome, MatchOption, Contains, slice_get, IsFalse, sym, ap, ◌∙◌, ⊎_elim, arith}
 use Rattle.std.proofs.lemmas.Bool.{cases_lt, false_from_ne_true}
 use Rattle.std.proofs.lemmas.Option.{none-some}
 use Rattle.std.specs.List.{list_any}
@@ -9,6 +9,7 @@ use Rattle.fz_model.specs.Parts.{AreSound}
 use Rattle.fz_model.specs.State.{Core}
 use Rattle.fz_model.proofs.Events.{one_entry}
 use Rattle.fz_model.proofs.Lists.{any_at, contains_at}
+use Rattle.fz_world.specs.Ready.{IsNextHeld}
 
 module _ (c : Core) (sound : AreSound c.objects c.registrations c.next_number c.queue c.held) (number : ℕ) where
   abbrev IsTold : Option Entry → Type 0
@@ -29,3 +30,29 @@ module _ (c : Core) (sound : AreSound c.objects c.registrations c.next_number c.
   pub told : (forgotten : ℕ) (found : Option Entry) → (forgotten ≤ number → found ≡ slice_get c.queue number)
       → (number < forgotten → MatchOption found ((e : Entry) → Contains c.held e → e.seq ≢ number) (λ e. Contains c.held e × (e.seq ≡ number))) → IsTold found
   told forgotten found shown kept = ⊎_elim (λ early. told_kept found (kept early)) (λ late. told_shown found (shown late)) (cases_lt number forgotten)
+
+module _ (c : Core) (sound : AreSound c.objects c.registrations c.next_number c.queue c.held) (from : ℕ) where
+  abbrev IsNextOf : Option Entry → Type 0
+  IsNextOf found = MatchOption found ((e : Entry) → Contains c.held e → e.seq < from) (IsNextHeld c.held from)
+
+  -- the next held entry stands in the queue, at its number
+  pub next_queued : (found : Option Entry) → IsNextOf found → IfSome found (λ e. slice_get c.queue e.seq ≡ Some e)
+  unfolding AreSound
+  next_queued None none = tt
+  next_queued (Some e) next = sound.held_queued e next.member
+
+  -- what is held stands in no place from `from` on before the next held entry
+  apart : (found : Option Entry) → IsNextOf found → (k : ℕ) → from ≤ k → IfSome found (λ next. k < next.seq) → (e : Entry) → Contains c.held e → e.seq ≡ k → ⊥
+  apart None none k after before e held at = let less = none e held in omega (arith, less, at, after)
+  apart (Some n) next k after before e held at =
+      ⊎_elim
+      (λ less. omega (arith, less, at, after))
+      (λ others. ⊎_elim (λ is. let seq = ap (λ (x : Entry). x.seq) is in omega (arith, seq, at, before)) (λ later. omega (arith, later, at, before)) others)
+      (next.others e held)
+
+  -- so what it passes over is finished
+  pub passed : (found : Option Entry) → IsNextOf found → (k : ℕ) (e : Entry) → from ≤ k → IfSome found (λ next. k < next.seq) → slice_get c.queue k ≡ Some e → IsFalse (list_any (same_entry e) c.held)
+  unfolding AreSound
+  passed found next k e after before at = false_from_ne_true (list_any (same_entry e) c.held) (λ on.
+      let some = any_at (same_entry e) c.held on in
+      apart found next k after before some.1 (contains_at c.held some.0 some.1 some.2) (ap (λ (d : Entry). d.seq) (sym (one_entry e some.1 some.3)) ∙ sound.numbered k e at))

@@ -144,6 +144,7 @@ impl Ready {
     }
 
     /// The first held entry whose number is at least `from`.
+    #[inline(always)]
     pub(crate) fn next_held(&self, from: u64) -> Option<Entry>
         ensures next { MatchOption result ((e : Entry) → Contains self.now.held e → e.seq < from) (IsNextHeld self.now.held from) }
         ensures within { IfSome result (λ e. (e.seq < length self.now.queue) × (length self.now.queue < 2 ^ 64)) }

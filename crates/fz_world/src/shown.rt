@@ -3,10 +3,11 @@
 //! A table is read at one address, or in order of address: `next_object`, `next_registration` and `next_link` find the first row from an address on,
 //! and whoever goes on from the address behind it sees each row once. So no list is made and nothing is sorted, and each answer is exact by itself.
 
-ghost use Rattle.std.specs.Prelude.{◌≡◌, ◌<◌, ◌+◌, ◌*◌, Some, IfOk, IfSome, MatchOption, Contains, option_map};
+ghost use Rattle.std.specs.Prelude.{◌≡◌, ◌<◌, ◌≤◌, ◌+◌, ◌*◌, ℕ, Some, IsFalse, IfOk, IfSome, MatchOption, Contains, length, option_map, slice_get};
 ghost use Rattle.std.specs.List.{list_any};
 ghost use Rattle.std.specs.FinMap.{get, keys, contains_key, len};
 ghost use Rattle.fz_model.specs.declared.answers.Entry.{Entry};
+ghost use Rattle.fz_model.specs.declared.limits.TheConstants.{COUNT_LIMIT};
 ghost use Rattle.fz_model.specs.Places.{slot_at};
 ghost use Rattle.fz_model.specs.Memory.{slot_word, word_at, points};
 ghost use Rattle.fz_model.specs.Causes.{IsJudgedBy, slot_causes, place_causes};
@@ -140,8 +141,12 @@ impl World {
     }
 
     /// The first held entry whose number is `from` or more. `queue` has the others too.
+    #[inline(always)]
     pub fn next_held(&self, from: u64) -> Option<Entry>
-        ensures { MatchOption result ((e : Entry) → Contains self.now.held e → e.seq < from) (IsNextHeld self.now.held from) }
+        ensures next { MatchOption result ((e : Entry) → Contains self.now.held e → e.seq < from) (IsNextHeld self.now.held from) }
+        ensures queued { IfSome result (λ e. slice_get self.now.queue e.seq ≡ Some e) }
+        ensures passed { (k : ℕ) (e : Entry) → from ≤ k → IfSome result (λ next. k < next.seq) → slice_get self.now.queue k ≡ Some e → IsFalse (list_any (same_entry e) self.now.held) }
+        ensures few { length self.now.queue ≤ COUNT_LIMIT }
     {
         self.ready.next_held(from)
     }

@@ -9,14 +9,13 @@ ghost use Rattle.fz_world.specs.Ready.{AreStored, IsPlaceOf, is_between, placed_
 use fz_bits::SparseFlags;
 use fz_model::Entry;
 
-/// The place of the first entry whose number is at least this one. `kept` entries stand before the window, whose first number is `first`.
+/// The place of the first entry whose number is at least this one, or a place behind all. `kept` entries stand before the window, whose first number is `first`.
 pub(crate) fn place_of(entries: &[Entry], kept: usize, first: u64, number: u64) -> usize
     requires { AreStored entries.now kept first }
     ensures { IsPlaceOf entries.now number result }
 {
     if number >= first {
-        let distance = (number - first).min((entries.len() - kept) as u64);
-        return kept + distance as usize;
+        return kept + (number - first) as usize;
     }
     entries[..kept].partition_point(
         |entry: &Entry| -> bool
