@@ -5,6 +5,9 @@
 //! entries. `busy` is the same with a procedure that works for about 2 microseconds. `mutex` and `step` have no use for workers. It stands beside
 //! `bench/run`, which calls it.
 //!
+//! `idle` leaves WORKERS workers with nothing to do for COUNT milliseconds, and `wake` tells the middle of the nanoseconds from a collection that queues an
+//! entry, while all workers sleep, until one has taken it, of COUNT of them.
+//!
 //! `soak` finalizes COUNT objects in rounds, and forgets their entries after each: by a service with WORKERS workers, or in a world alone where WORKERS is 0.
 //! It gives up the first of each 100,000 entries, and then says how many there were, so that `tests/soak-memory` sees what memory it has.
 #![tactic(auto)]
@@ -12,6 +15,7 @@
 mod bare;
 mod finalizers;
 mod finishing;
+mod idle;
 mod session;
 mod soak;
 mod steps;
@@ -54,6 +58,8 @@ fn main(rt: HostRuntime) -> io::Result<ExitCode> {
             let test = Test::Workers(Procedure::Busy);
             of_service(&rt, rt.alloc(), test, count, workers)?
         }
+        "idle" => of_service(&rt, rt.alloc(), Test::Idle, count, workers)?,
+        "wake" => of_service(&rt, rt.alloc(), Test::Wake, count, workers)?,
         "soak" if workers == 0 => return soaked(soak_world(&rt, rt.alloc(), count)?),
         "soak" => return soaked(soak_by_workers(&rt, rt.alloc(), workers, count)?),
         _ => return wrong(&rt),
@@ -84,7 +90,9 @@ fn soaked(all: bool) -> io::Result<ExitCode> {
 }
 
 fn wrong(rt: &impl Eprint) -> io::Result<ExitCode> {
-    eprintln!(rt; "service_bench: want mutex, step, workers, busy or soak, WORKERS and COUNT")?;
+    eprintln!(rt;
+        "service_bench: want mutex, step, workers, busy, idle, wake or soak, WORKERS and COUNT"
+    )?;
     Ok(ExitCode::from(2))
 }
 

@@ -4,6 +4,7 @@ ghost use Rattle.std.specs.Prelude.{◌≡◌};
 
 use crate::finalizers::Procedure;
 use crate::finishing::finish_all;
+use crate::idle::{idle, wake};
 use crate::steps::enter_and_set;
 use fz_service::{Opening, Prepared, Service};
 use std::alloc::Global;
@@ -17,6 +18,8 @@ use std::thread::Threads;
 pub(crate) enum Test {
     Steps,
     Workers(Procedure),
+    Idle,
+    Wake,
 }
 
 /// The nanoseconds of the test; nothing where it is too large, or where not all of its entries were finished.
@@ -37,10 +40,12 @@ pub(crate) fn run<O: Opening + Send + Sync, R: Clock + Threads + Wait + Sync>(
         Test::Workers(procedure) => {
             finish_all(rt, alloc, &service, &mut seats, procedure, count)
         }
+        Test::Idle => idle(rt, alloc, &service, &mut seats, count).map(Some),
+        Test::Wake => wake(rt, alloc, &service, &mut seats, count),
     };
     let due = match test {
-        Test::Steps => 0,
-        Test::Workers(_) => count,
+        Test::Steps | Test::Idle => 0,
+        Test::Workers(_) | Test::Wake => count,
     };
     match service.conclude(seats) {
         Ok(end) if end.finished == due => nanoseconds,
