@@ -26,13 +26,14 @@ static uint64_t seed = 88172645463325252ull;
 static size_t below(size_t n) { seed ^= seed << 13; seed ^= seed >> 7; seed ^= seed << 17; return (seed >> 33) % n; }
 
 /* A row: its objects, what table each of them is entered in, whether a root leads to them, and the call that is timed. MAKE makes them, ENTER enters them;
-   COLLECT is one collection, or of live objects COLLECTIONS of them after the first. RANKED ones are normal too, with ranks 0 to 255 in turn. So are BUSY
+   COLLECT is one collection, or of live objects COLLECTIONS of them after the first; COLLECT_AGAIN one that comes after
+   others, whose entries a world has forgotten. RANKED ones are normal too, with ranks 0 to 255 in turn. So are BUSY
    ones, whose procedure works for about 2 microseconds, which only bdwgc.c calls. LINKED ones are the targets of short links, which stand in words of other
    objects, which are live and atomic: one more than links, so that each link can MOVE one further. BOTH are normal and such targets; of them, and of what is
    removed by UNREGISTER, only bdwgc.c has rows. LARGE objects have so many words, and there is one for so many calls: these STORE into each word. */
 typedef enum { LOOSE, LOOSE_LARGE, CHAIN, MIXED_CHAIN, GRAPH } Shape;
 typedef enum { UNREGISTERED, NORMAL, RANKED, BUSY, NO_ORDER, LINKED, BOTH } Kind;
-typedef enum { MAKE, ENTER, COLLECT, FINISH, MOVE, UNLINK, UNREGISTER, STORE, STORE_IN_CYCLE } Call;
+typedef enum { MAKE, ENTER, COLLECT, COLLECT_AGAIN, FINISH, MOVE, UNLINK, UNREGISTER, STORE, STORE_IN_CYCLE } Call;
 typedef struct { const char *name; Shape shape; Kind kind; bool live; Call call; } Row;
 static const Row rows[] = {
     { "alloc", LOOSE, UNREGISTERED, false, MAKE },
@@ -46,6 +47,7 @@ static const Row rows[] = {
     { "dead", LOOSE, UNREGISTERED, false, COLLECT },
     { "dead_linked", LOOSE, LINKED, false, COLLECT },
     { "dead_queued", LOOSE, NORMAL, false, COLLECT },
+    { "dead_queued_again", LOOSE, NORMAL, false, COLLECT_AGAIN },
     { "dead_queued_linked", LOOSE, BOTH, false, COLLECT },
     { "dead_ranked", LOOSE, RANKED, false, COLLECT },
     { "dead_no_order", LOOSE, NO_ORDER, false, COLLECT },

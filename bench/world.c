@@ -8,7 +8,7 @@
 
 /* crates/world_bench */
 typedef struct {
-    uint64_t blocks, frames, objects, size, registered;
+    uint64_t blocks, frames, objects, size, rounds, registered;
     bool no_order, ranked;
     uint64_t holders, linked, root, collections, moved, unlinked;
     bool begun;
@@ -19,7 +19,7 @@ typedef struct {
 typedef struct { uint64_t addresses, numbers, linked, queued, reclaimed, moved, unlinked, loaded, noted, finished; bool done; } Outcome;
 Outcome world_bench_run(const Plan *plan, const uint64_t *words, size_t length);
 
-enum { HEAP_START = 65536, BLOCK_WORDS = 64, HOLDER_WORDS = 1024, SLOTS = 16 };
+enum { HEAP_START = 65536, BLOCK_WORDS = 64, HOLDER_WORDS = 1024, SLOTS = 16, ROUNDS = 2 };
 
 static uint64_t address(const Objects *objects, size_t i) { return HEAP_START + i * objects->size; }
 static uint64_t round_up(uint64_t n, uint64_t size) { return (n + size - 1) / size; }
@@ -27,6 +27,7 @@ static uint64_t round_up(uint64_t n, uint64_t size) { return (n + size - 1) / si
 /* the plan of a row, with the call that is timed or without it */
 static Plan plan_of(const Row *row, const Objects *objects, bool with_call) {
     size_t n = objects->count;
+    bool collects = row->call == COLLECT || row->call == COLLECT_AGAIN;
     Plan plan = { .objects = row->call != MAKE || with_call ? n : 0, .size = objects->size, .no_order = row->kind == NO_ORDER, .ranked = row->kind == RANKED };
     if (row->kind == LINKED) plan.holders = round_up(n + 1, HOLDER_WORDS);
     plan.blocks = round_up(n, BLOCK_WORDS / objects->size) + plan.holders * (HOLDER_WORDS / BLOCK_WORDS);
@@ -35,7 +36,8 @@ static Plan plan_of(const Row *row, const Objects *objects, bool with_call) {
     if (row->kind == LINKED) plan.linked = entered;
     if (is_registered(row)) plan.registered = entered;
     if (row->live) plan.root = address(objects, objects->first);
-    if (row->call == COLLECT) plan.collections = row->live + (with_call ? calls(row) : 0);
+    if (row->call == COLLECT_AGAIN) plan.rounds = ROUNDS;
+    if (collects) plan.collections = row->live + (with_call ? calls(row) : 0);
     if (row->call == COLLECT && row->kind == LINKED) plan.unlinked = 1; /* which tells whether it still stands */
     if (row->call == MOVE && with_call) plan.moved = n;
     if (row->call == UNLINK && with_call) plan.unlinked = n;
@@ -58,7 +60,7 @@ static void check(const Row *row, const Objects *objects, const Plan *plan, cons
     for (size_t i = 0; i < n; i++) addresses += address(objects, i);
     if (!outcome->done) fail("a call was refused");
     if (outcome->addresses != addresses) fail("objects at other addresses");
-    if (outcome->numbers != (plan->registered ? n * (n - 1) / 2 : 0)) fail("other numbers of registrations");
+    if (outcome->numbers != (plan->registered ? n * (n - 1) / 2 + plan->rounds * n * n : 0)) fail("other numbers of registrations");
     if (outcome->linked != plan->linked) fail("another number of links");
     if (outcome->queued != (collected ? queued(row, n) : 0)) fail("another number of entries");
     if (outcome->reclaimed != (collected && !row->live && !is_registered(row) ? n : 0)) fail("another number of reclaimed objects");
@@ -87,7 +89,7 @@ static double run(const Row *row, const Objects *objects, bool with_call) {
 /* A finish takes no memory, and some thirtieth of the time of what has to come before it: so all runs of that row share their memory, since
    fresh memory would make them differ by more than what is timed. So do those of the rows whose calls come after what takes longer too. */
 static double fresh(const Row *row, const Objects *objects, bool with_call) {
-    if (row->call != MAKE && row->call != ENTER && row->call != COLLECT) {
+    if (row->call != MAKE && row->call != ENTER && row->call != COLLECT && row->call != COLLECT_AGAIN) {
         mallopt(M_MMAP_THRESHOLD, 1 << 30);
         mallopt(M_TRIM_THRESHOLD, 1 << 30);
         return run(row, objects, with_call);

@@ -14,7 +14,9 @@ pub struct Plan {
     pub objects: u64,
     /// How many words each of them has: a divisor of 64, so that their words lie one after another from the heap's first word on.
     pub size: u64,
-    /// How many of them it registers, from the first on, without client data.
+    /// How many rounds come first: each makes and registers the objects, drops them, finishes their entries and forgets these.
+    pub rounds: u64,
+    /// How many of the objects it registers, from the first on, without client data.
     pub registered: u64,
     /// Whether these registrations are of the kind no-order. They are normal otherwise.
     pub no_order: bool,

@@ -49,6 +49,7 @@ fn run(alloc: Global, plan: &Plan, words: &[Word]) -> Result<Outcome, Refusal> {
 
 /// Carries the plan out in a world that was just opened.
 fn carry_out(world: &mut World, plan: &Plan, words: &[Word]) -> Result<Outcome, Refusal> {
+    live(world, plan)?;
     let addresses = make(world, plan.objects, plan.size)?;
     write(world, words)?;
     let numbers = register(world, plan)?;
@@ -74,6 +75,20 @@ fn carry_out(world: &mut World, plan: &Plan, words: &[Word]) -> Result<Outcome, 
         finished,
         done: true,
     })
+}
+
+/// Carries out the plan's rounds.
+fn live(world: &mut World, plan: &Plan) -> Result<(), Refusal> {
+    for _ in 0..plan.rounds {
+        make(world, plan.objects, plan.size)?;
+        register(world, plan)?;
+        world.set(0, OBJECT, 0)?;
+        collect(world, 1)?;
+        finish(world, plan.registered)?;
+        world.forget();
+        collect(world, 1)?;
+    }
+    Ok(())
 }
 
 /// Makes `count` objects of this size. Returns the sum of their addresses.
