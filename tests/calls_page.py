@@ -24,7 +24,7 @@ OPENING = '''# The calls
 `tests/documents --write` writes this page from the sources, and the gate compares the two. A head leaves out `self`. Refusals stand in their order. A refused
 call changes nothing.
 
-A call takes constant time, or the logarithm of what it searches, where its text names no other. The growth of a table counts for the calls that filled it.
+`Addr` and `Word` are `u64`. A call takes constant time, or the logarithm of what it searches, where its text names no other. The growth of a table counts for the calls that filled it.
 The [last part](#answers) has the fields of what calls take and return.
 
 Under each call stands a use of it, from the crate that is named there, which the gate proves and runs; `..` is a block that is left out. For a trait it is a

@@ -78,7 +78,7 @@ impl<O: Opening> Locked<O> {
     }
 
     /// Makes an object as `alloc` does. Where there is no space it collects, which sends what it queued, and tries once more. What it queued is reclaimed by
-    /// a later collection, when workers have finished it. Takes time by the heap where it collects.
+    /// a later collection, when workers have finished it: give the lock back before another try. The heap is truly full where `outstanding` is 0. Takes time by the heap where it collects.
     ///
     /// Refusals, in their order: `BadSlot`, `BadSize`, `Exhausted`, then `CycleOpen` and `Exhausted` of the collection, and `NoSpace` where it made none.
     pub fn alloc_or_collect(
@@ -314,7 +314,8 @@ impl<O: Opening> Locked<O> {
         self.world.hold(frame, slot, entry)
     }
 
-    /// Closes the world: every registered object is a root from now on, so no pass queues anything.
+    /// Closes the world: every registered object is a root from now on, so no pass queues anything. What is unreachable but not yet queued stays for good:
+    /// collect before.
     ///
     /// Refused `Closed` where the world is closed.
     pub fn close(&mut self) -> Result<(), Refusal>

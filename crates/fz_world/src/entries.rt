@@ -47,7 +47,8 @@ impl World {
         self.ready.finish(entry)
     }
 
-    /// Closes the world: every registered object is a root from now on, so no pass queues anything.
+    /// Closes the world: every registered object is a root from now on, so no pass queues anything. What is unreachable but not yet queued stays for good:
+    /// collect and finish before.
     ///
     /// Refused `Closed` where the world is closed.
     pub fn close(&mut self) -> Result<(), Refusal>

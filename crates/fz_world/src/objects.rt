@@ -70,7 +70,8 @@ impl World {
         Ok((address, birth))
     }
 
-    /// Reads the word at an offset, in words, from where the slot points into an object, and puts it into the second slot too.
+    /// Reads the word at an offset, in words, from where the slot points into an object, and puts it into the second slot too, which may be
+    /// the first one.
     ///
     /// Refusals, in their order: `BadSlot` of either slot, `NotPointer`, `OutsideObject` where the word plus the offset leaves the object.
     pub fn load(
@@ -98,7 +99,7 @@ impl World {
     }
 
     /// Writes the second slot's word at an offset, in words, from where the first slot points into an object. In an open cycle the page of the
-    /// written word is noted.
+    /// written word is noted. A number is written by a `set` of a slot before.
     ///
     /// Refusals, in their order: `BadSlot` of either slot, `NotPointer`, `OutsideObject` where the word plus the offset leaves the object.
     pub fn store(
