@@ -78,7 +78,8 @@ impl<O: Opening> Locked<O> {
     }
 
     /// Makes an object as `alloc` does. Where there is no space it collects, which sends what it queued, and tries once more. What it queued is reclaimed by
-    /// a later collection, when workers have finished it: give the lock back before another try. The heap is truly full where `outstanding` is 0. Takes time by the heap where it collects.
+    /// a later collection, when workers have finished it: give the lock back before another try. The heap is truly full where `outstanding` is 0. Takes time
+    /// by the heap where it collects.
     ///
     /// Refusals, in their order: `BadSlot`, `BadSize`, `Exhausted`, then `CycleOpen` and `Exhausted` of the collection, and `NoSpace` where it made none.
     pub fn alloc_or_collect(
