@@ -4,7 +4,7 @@ import glob, re, textwrap
 PAGE = 'docs/CALLS.md'
 # The types whose calls it has, each with its crate, and how other crates name a value of it. A trait, which they give, has no name.
 TYPES = [('World', 'fz_world', 'world'), ('Service', 'fz_service', 'service'), ('Locked', 'fz_service', r'locked|service\.enter\(rt\)'),
-         ('Seat', 'fz_service', 'seat'), ('Duty', 'fz_service', 'duty'), ('Proc', 'fz_service', None),
+         ('Seat', 'fz_service', 'seat'), ('Duty', 'fz_service', 'duty'), ('Proc', 'fz_service', None), ('Gate', 'fz_service', None), ('Program', 'fz_service', None),
          ('Finalizers', 'fz_finalizers', 'finalizers'), ('Host', 'fz_pass', None), ('Machine', 'fz_machine', 'machine')]
 # Where the types of answers stand, but for those of a crate itself.
 SHARED = 'fz_model'
@@ -24,8 +24,8 @@ OPENING = '''# The calls
 `tests/documents --write` writes this page from the sources, and the gate compares the two. A head leaves out `self`. Refusals stand in their order. A refused
 call changes nothing.
 
-`Addr` and `Word` are `u64`. A call takes constant time, or the logarithm of what it searches, where its text names no other. The growth of a table counts for the calls that filled it.
-The [last part](#answers) has the fields of what calls take and return.
+A call takes constant time, or the logarithm of what it searches, where its text names no other. The growth of a table counts for the calls that filled it.
+`Addr` and `Word` are `u64`. The [last part](#answers) has the fields of what calls take and return.
 
 Under each call stands a use of it, from the crate that is named there, which the gate proves and runs; `..` is a block that is left out. For a trait it is a
 function of a type that has it.
@@ -102,8 +102,8 @@ def closing(text, place):
 def uses_of(text, name, value, call, has_answer):
     """The uses of a call in a text: each with 0 if it takes the answer, and as a line. A trait is used where its function is given."""
     if not value:
-        for found in re.finditer(rf'\bfn {call}\([^{{]*', text):
-            if re.match(rf'impl(<.*?>)? {name} for', text[text.rfind('impl', 0, found.start()):]):
+        for found in re.finditer(rf'\bfn {call}(?:<[^(]*>)?\(&?(?:mut )?self\b[^{{]*', text):
+            if re.match(rf'impl(<.*?>)? {name}(<.*?>)? for', text[text.rfind('impl', 0, found.start()):]):
                 yield 0, text[found.start():closing(text, found.end())]
         return
     for found in re.finditer(rf'(?<![\w.:])(?:\w+\.)*?((?:(?:{value})\.|{name}(?:::<\w+>)?::){call})\(', text):

@@ -63,6 +63,7 @@ impl<O: Opening> Service<O> {
 
 /// What runs beside the workers of a service that `with_service` opens, with a runtime `R`; it tells a `T`.
 pub trait Program<R: Wait, T> {
+    /// Runs while workers serve. They are stopped when it has ended.
     fn run<O: Opening + Send + Sync>(self, service: &Service<O>, rt: &R) -> T;
 }
 
