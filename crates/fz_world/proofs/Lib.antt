@@ -12,3 +12,4 @@ pub mod Passing
 pub mod Replying
 pub mod Room
 pub mod Telling
+pub mod Stretches

@@ -3,7 +3,7 @@
 //! A table is read at one address, or in order of address: `next_object`, `next_registration` and `next_link` find the first row from an address on,
 //! and whoever goes on from the address behind it sees each row once. So no list is made and nothing is sorted, and each answer is exact by itself.
 
-ghost use Rattle.std.specs.Prelude.{◌≡◌, ◌<◌, ◌≤◌, ◌+◌, ◌*◌, ℕ, Some, IsFalse, IfOk, IfSome, MatchOption, Contains, length, option_map, slice_get};
+ghost use Rattle.std.specs.Prelude.{◌≡◌, ◌<◌, ◌≤◌, ◌+◌, ◌*◌, ◌^◌, ℕ, Some, IsFalse, IfOk, IfSome, MatchOption, Contains, length, option_map, slice_get};
 ghost use Rattle.std.specs.List.{list_any};
 ghost use Rattle.std.specs.FinMap.{get, keys, contains_key, len};
 ghost use Rattle.fz_model.specs.declared.answers.Entry.{Entry};
@@ -12,6 +12,7 @@ ghost use Rattle.fz_model.specs.Places.{slot_at};
 ghost use Rattle.fz_model.specs.Memory.{slot_word, word_at, points};
 ghost use Rattle.fz_model.specs.Causes.{IsJudgedBy, slot_causes, place_causes};
 ghost use Rattle.fz_model.specs.Events.{links_of, same_entry};
+ghost use Rattle.fz_model.specs.Extents.{IsInHeap};
 ghost use Rattle.fz_model.specs.declared.limits.TheConstants.{BLOCK_WORDS};
 ghost use Rattle.fz_heap.specs.Contents.{words_of};
 ghost use Rattle.fz_world.specs.declared.shown.Object.{Object};
@@ -151,7 +152,7 @@ impl World {
         self.ready.next_held(from)
     }
 
-    /// The first object of the heap that starts at `from` or behind it. It looks at each address between.
+    /// The first object of the heap that starts at `from` or behind it. It looks at each block between.
     pub fn next_object(&self, from: Addr) -> Option<Object>
         ensures first { MatchOption result (HasNoneFrom self.now.blocks (contains_key self.now.objects) from) (λ object. IsFirstFrom self.now.blocks (contains_key self.now.objects) from object.start) }
         ensures object { IfSome result (λ object. option_map (shown_object object.start) (get self.now.objects object.start) ≡ Some object) }
@@ -160,7 +161,7 @@ impl World {
         self.object(start)
     }
 
-    /// The first registered object of the heap from `from` on, with its registration. It looks at each address between.
+    /// The first registered object of the heap from `from` on, with its registration. It looks at each block and each object between.
     pub fn next_registration(&self, from: Addr) -> Option<(Addr, Registration)>
         ensures first { MatchOption result (HasNoneFrom self.now.blocks (contains_key self.now.registrations) from) (λ row. IsFirstFrom self.now.blocks (contains_key self.now.registrations) from row.0) }
         ensures registration { IfSome result (λ row. get self.now.registrations row.0 ≡ Some row.1) }
@@ -192,6 +193,34 @@ impl World {
         }
     }
 
+    /// The next address behind one at which an object may start. The rest of a block in which none starts costs as much as one address.
+    fn next_start(&self, address: Addr) -> Addr
+        requires heap { IsInHeap self.now.blocks address }
+        requires fits { address + BLOCK_WORDS < 2 ^ 64 }
+        ensures behind { address < result }
+        ensures objects { (a : ℕ) → address < a → a < result → IsFalse (contains_key self.now.objects a) }
+        ensures registrations { (a : ℕ) → address < a → a < result → IsFalse (contains_key self.now.registrations a) }
+    {
+        let offset = address - HEAP_START;
+        let place = offset % BLOCK_WORDS;
+        let starts = self.marked.heap.starts_in(offset / BLOCK_WORDS);
+        let behind = starts >> place >> 1;
+        address + 1 + u64::from(behind.trailing_zeros()).min(BLOCK_WORDS - 1 - place)
+    }
+
+    /// The next address behind one at which the table may have a row.
+    fn next_place(&self, table: Table, address: Addr) -> Addr
+        requires heap { IsInHeap self.now.blocks address }
+        requires fits { address + BLOCK_WORDS < 2 ^ 64 }
+        ensures behind { address < result }
+        ensures none { (a : ℕ) → address < a → a < result → IsFalse (has_row self.now.core table a) }
+    {
+        match table {
+            Table::Objects | Table::Registrations => self.next_start(address),
+            Table::Links(_) => address + 1,
+        }
+    }
+
     /// The first address of the heap from one on at which the table has a row.
     fn first_from(&self, table: Table, from: Addr) -> Option<Addr>
         ensures { MatchOption result (HasNoneFrom self.now.blocks (has_row self.now.core table) from) (IsFirstFrom self.now.blocks (has_row self.now.core table) from) }
@@ -202,7 +231,7 @@ impl World {
             if self.has_row(table, address) {
                 return Some(address);
             }
-            address += 1;
+            address = self.next_place(table, address);
         }
         None
     }
