@@ -72,6 +72,7 @@ fn with_share<O: Opening>(answer: fz_line::Take, share: Share<Finishes<O>>) -> T
 
 impl<O: Opening> Seat<O> {
     /// Takes the first entry of the line: one steal, with no lock and no wait.
+    #[inline(always)]
     pub fn take(self) -> Take<O>
         ensures { MatchTake result (GainsEntry self) (λ seat. seat ≡ self) }
     {
