@@ -1,28 +1,21 @@
 //! What wakes workers that sleep.
 
 use std::sync::Wait;
-use std::sync::atomic::{AtomicBool, AtomicU64, Ordering};
+use std::sync::atomic::{AtomicU64, Ordering};
 use std::time::Duration;
 
-/// For how many milliseconds the sleeper sleeps at most that has the watch: the net for whoever sets `stop` and doesn't ring.
-const MILLISECONDS_OF_A_WATCH: u64 = 50;
-
-/// For how many the others do: most of what idle workers take are wake-ups.
-const MILLISECONDS_OF_SLEEP: u64 = 250;
+/// For how many milliseconds a worker sleeps at most: the net for whoever sets `stop` and doesn't ring.
+const MILLISECONDS_OF_SLEEP: u64 = 50;
 
 /// The bell of a service.
 ///
 /// No ring is missed: who is about to sleep counts itself a sleeper, reads how often the bell has rung, looks at `stop` and at the line once more, and sleeps only
 /// if it hasn't rung since. Who rings has sent its entries or set `stop` before it looks whether anyone sleeps. Each step stands in one order with all others,
 /// so either the sleeper sees what was sent, or the ringer the sleeper.
-///
-/// One sleeper has the watch, and looks at `stop` for all: a worker that finds it set rings. Who is woken from the watch by a ring wakes another sleeper, which
-/// takes the watch as it lies down again.
 #[derive(Drop)]
 pub(crate) struct Bell {
     sleepers: AtomicU64,
     rings: AtomicU64,
-    is_watched: AtomicBool,
 }
 
 impl Bell {
@@ -30,7 +23,6 @@ impl Bell {
         Bell {
             sleepers: AtomicU64::new(0),
             rings: AtomicU64::new(0),
-            is_watched: AtomicBool::new(false),
         }
     }
 
@@ -71,20 +63,9 @@ impl Bell {
         self.sleepers.fetch_sub(1, Ordering::SeqCst);
     }
 
-    /// Sleeps until the bell rings, unless it has rung since it had so often, with the watch if nobody has it.
+    /// Sleeps until the bell rings, unless it has rung since it had so often.
     pub(crate) fn sleep<R: Wait>(&self, heard: u32, rt: &R) {
-        if self.is_watched.swap(true, Ordering::SeqCst) {
-            return self.sleep_for(heard, MILLISECONDS_OF_SLEEP, rt);
-        }
-        self.sleep_for(heard, MILLISECONDS_OF_A_WATCH, rt);
-        self.is_watched.store(false, Ordering::SeqCst);
-        if self.rings() != heard {
-            self.rings.wake_one();
-        }
-    }
-
-    fn sleep_for<R: Wait>(&self, heard: u32, milliseconds: u64, rt: &R) {
-        let most = Duration::from_millis(milliseconds);
+        let most = Duration::from_millis(MILLISECONDS_OF_SLEEP);
         self.rings.park_timeout(rt, heard, most);
     }
 }

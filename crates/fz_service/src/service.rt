@@ -139,8 +139,8 @@ impl<O: Opening> Service<O> {
         self.lock.lock(rt)
     }
 
-    /// Wakes all workers that sleep, so that they look at `stop` and at the line. For who sets the `stop` of `run_workers`, after that: workers that
-    /// sleep see it within 50 milliseconds else, or within 250 where several `run_workers` are going on. `run_beside` calls it itself.
+    /// Wakes all workers that sleep, so that they look at `stop` and at the line. For who sets the `stop` of `run_workers`, after that: a worker that
+    /// sleeps sees it within 50 milliseconds else. `run_beside` calls it itself.
     pub fn wake(&self) {
         self.bell.ring();
     }

@@ -198,7 +198,6 @@ impl<O: Opening> Service<O> {
         for _turn in rt.forever() {
             if let Some(told) = Told::read(stop) {
                 pause.end();
-                self.bell.ring();
                 return (seat, told);
             }
             let Turn {
@@ -295,8 +294,8 @@ impl<O: Opening> Service<O> {
     /// The worker of the first seat runs the procedures of the first list, and so on, and none where `procs` is shorter.
     /// It does with each entry as `invoke_finalizers` does, and ends when it finds the line empty in a take that began after it had read
     /// `stop` as true. So what was published before `stop` was set is taken. While the line is empty and `stop` is false, it spins, then yields,
-    /// and later sleeps until an entry is sent, or `wake` is called. One of those that sleep looks each 50 milliseconds, and wakes the others where `stop`
-    /// is set. The calling thread is one of the workers: whoever sets `stop` runs in another.
+    /// and later sleeps until an entry is sent, or `wake` is called, for 50 milliseconds at a time at most. The calling thread is one of the workers:
+    /// whoever sets `stop` runs in another.
     ///
     /// Where a thread can't be started, another one serves its seat too. Without the memory for the threads' slots, all seats come back unused.
     pub fn run_workers<G: Gate + Sync, R: Threads + Wait + Sync>(

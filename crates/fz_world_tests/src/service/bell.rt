@@ -1,5 +1,5 @@
-//! Workers that sleep, and what wakes them. What a ring spares is time alone: a worker that missed one looks again after 50 milliseconds, or after 250 without
-//! the watch. So each test here rings so often that it takes longer than a test may, where rings are missed.
+//! Workers that sleep, and what wakes them. What a ring spares is time alone: a worker that missed one looks again after 50 milliseconds. So each test here
+//! rings so often that it takes longer than a test may, where rings are missed.
 
 ghost use Rattle.std.specs.Prelude.{◌≡◌};
 
@@ -18,9 +18,6 @@ use std::{mem, thread};
 
 /// How many rings there are in a test.
 const RINGS: u64 = 1_500;
-
-/// How often workers are stopped without a ring, by the one that has the watch.
-const STOPS: u64 = 280;
 
 /// How often the program looks whether an entry was finished, at most.
 const LOOKS: u32 = 10_000_000;
@@ -99,7 +96,7 @@ fn stops_once<O: Opening + Send + Sync, R: Abort + Wait + Threads + Sync>(
     back
 }
 
-/// Stops workers that sleep, again and again.
+/// Stops two workers that sleep, again and again.
 fn stops_each_time<O: Opening + Send + Sync, R: Abort + Wait + Threads + Sync>(
     rt: &R,
     alloc: Global,
@@ -125,6 +122,6 @@ fn wake_ends_a_sleep(rt: HostRuntime) {
 
 #[test]
 fn a_sleep_ends_by_itself(rt: HostRuntime) {
-    let prepared = prepared(&rt, rt.alloc(), 4);
-    stops_each_time::<Brand, HostRuntime>(&rt, rt.alloc(), prepared, STOPS, false);
+    let prepared = prepared(&rt, rt.alloc(), 2);
+    stops_each_time::<Brand, HostRuntime>(&rt, rt.alloc(), prepared, 20, false);
 }
