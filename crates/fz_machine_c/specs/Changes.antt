@@ -17,7 +17,7 @@ use Rattle.fz_machine_c.specs.declared.old.Registered.{Registered}
 use Rattle.fz_machine_c.specs.Codes.{Answers, AnswersOrLacks}
 use Rattle.fz_machine_c.specs.Told.{TellsOld, TellsRegistered, link_kind_of, link_number, move_number}
 
--- what the finalizers hold, and how far their pass is
+-- what the finalizers hold stays, and so does how far their pass is
 abbrev pub Stays : Machine → Machine → Type 0
 Stays m n = (n.finalizers.state ≡ m.finalizers.state) × (n.phase ≡ m.phase)
 
