@@ -63,8 +63,8 @@ impl<O: Opening> Service<O> {
 
 /// What runs beside the workers of a service that `with_service` opens, with a runtime `R`; it tells a `T`.
 pub trait Program<R: Wait, T> {
-    /// Runs while workers serve. They are stopped when it has ended.
-    fn run<O: Opening + Send + Sync>(self, service: &Service<O>, rt: &R) -> T;
+    /// Runs on the calling thread while workers serve, which are stopped when it has ended. It starts no threads of its own: these want `run_beside`.
+    fn run<O: Opening>(self, service: &Service<O>, rt: &R) -> T;
 }
 
 /// Opens a service of this size with this number of workers, runs the program beside them, and ends the service. Returns what the program told, and the

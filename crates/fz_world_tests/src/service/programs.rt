@@ -14,8 +14,6 @@ use std::process::Abort;
 use std::sync::atomic::{AtomicU64, Ordering};
 use std::sync::{Arc, Wait};
 use std::test::*;
-use std::thread;
-use std::thread::Threads;
 
 /// A procedure that counts its entries.
 #[derive(Drop)]
@@ -27,27 +25,17 @@ impl Proc for Counts {
     }
 }
 
-/// Queues this number of entries from each of two threads, and tells how many they are.
+/// Queues this number of entries, and tells it.
 #[derive(Drop)]
 struct Queues(u64);
 
-/// Makes this number of objects, and drops them.
-fn make_all<O: Opening, R: Abort + Wait>(rt: &R, service: &Service<O>, count: u64) {
-    for _ in 0..count {
-        make_and_drop(rt, &mut service.enter(rt));
-    }
-}
-
-impl<R: Abort + Threads + Wait + Sync> Program<R, u64> for Queues {
-    fn run<O: Opening + Send + Sync>(self, service: &Service<O>, rt: &R) -> u64 {
-        let count = self.0;
-        thread::join(
-            rt,
-            || make_all(rt, service, count),
-            || make_all(rt, service, count),
-        );
+impl<R: Abort + Wait> Program<R, u64> for Queues {
+    fn run<O: Opening>(self, service: &Service<O>, rt: &R) -> u64 {
+        for _ in 0..self.0 {
+            make_and_drop(rt, &mut service.enter(rt));
+        }
         accepted(rt, "collect", service.enter(rt).collect());
-        count.saturating_add(count)
+        self.0
     }
 }
 
@@ -60,7 +48,7 @@ fn a_program_runs_beside_its_workers(rt: HostRuntime) -> Result<(), Fail> {
     let count = Arc::new(rt.alloc(), AtomicU64::new(0))?;
     let procs =
         procedures!(rt.alloc(); 2u64; Counts(Arc::try_clone(&count)?), Counts(Arc::try_clone(&count)?));
-    let (told, end) = with_service(rt.alloc(), config, 2, procs, &rt, Queues(50)).expect(
+    let (told, end) = with_service(rt.alloc(), config, 2, procs, &rt, Queues(100)).expect(
         &rt, "memory",
     );
     same(&rt, "told", told, 100);
