@@ -18,6 +18,10 @@ pub(crate) struct Bell {
     rings: AtomicU64,
 }
 
+/// How often a bell had rung when a worker listened, as far as a sleep compares it. Nothing but `Bell::listen` makes one.
+#[derive(Clone, Copy)]
+pub(crate) struct Heard(u32);
+
 impl Bell {
     pub(crate) fn new() -> Bell {
         Bell {
@@ -49,9 +53,9 @@ impl Bell {
         }
     }
 
-    /// How often it has rung while someone slept, as far as a sleep compares it.
-    pub(crate) fn rings(&self) -> u32 {
-        (self.rings.load(Ordering::SeqCst) % (1 << 32)) as u32
+    /// Listens how often it has rung while someone slept.
+    pub(crate) fn listen(&self) -> Heard {
+        Heard((self.rings.load(Ordering::SeqCst) % (1 << 32)) as u32)
     }
 
     /// Counts the caller among the sleepers, until it gets up.
@@ -63,9 +67,9 @@ impl Bell {
         self.sleepers.fetch_sub(1, Ordering::SeqCst);
     }
 
-    /// Sleeps until the bell rings, unless it has rung since it had so often.
-    pub(crate) fn sleep<R: Wait>(&self, heard: u32, rt: &R) {
+    /// Sleeps until the bell rings, unless it has rung since this was heard.
+    pub(crate) fn sleep<R: Wait>(&self, heard: Heard, rt: &R) {
         let most = Duration::from_millis(MILLISECONDS_OF_SLEEP);
-        self.rings.park_timeout(rt, heard, most);
+        self.rings.park_timeout(rt, heard.0, most);
     }
 }

@@ -3,7 +3,7 @@
 ghost use Rattle.std.specs.Prelude.{◌≡◌, ◌≢◌, ℕ, ◌<◌, ◌≤◌, [], Some, length, map, slice_get, slice_index_or, vec_capacity};
 ghost use Rattle.fz_service.specs.Workers.{Extends, ExtendEach, SlotExtends, slots_of, in_slots};
 
-use crate::bell::Bell;
+use crate::bell::{Bell, Heard};
 use crate::opening::Opening;
 use crate::seat::Seat;
 use crate::service::Service;
@@ -31,8 +31,8 @@ struct Pause<'a> {
     bell: &'a Bell,
     spins: u32,
     yields: u32,
-    /// How often the bell had rung before the worker last looked at `stop` and at the line; something only while it counts as a sleeper.
-    heard: Option<u32>,
+    /// What the worker heard before it last looked at `stop` and at the line; something only while it counts as a sleeper.
+    heard: Option<Heard>,
 }
 
 impl<'a> Pause<'a> {
@@ -73,7 +73,7 @@ impl<'a> Pause<'a> {
             Some(heard) => self.bell.sleep(heard, rt),
             None => self.bell.lie_down(),
         }
-        self.heard = Some(self.bell.rings());
+        self.heard = Some(self.bell.listen());
     }
 }
 
