@@ -78,8 +78,8 @@ impl<O: Opening> Locked<O> {
     }
 
     /// Makes an object as `alloc` does. Where there is no space it collects, which sends what it queued, and tries once more. What it queued is reclaimed by
-    /// a later collection, when workers have finished it: give the lock back before another try. The heap is truly full where `outstanding` is 0. Takes time
-    /// by the heap where it collects.
+    /// a later collection, when workers have finished it. Where there is no space still, ask `outstanding` before the lock is given back: at 0 the heap is
+    /// full, and else another try may find space. Takes time by the heap where it collects.
     ///
     /// Refusals, in their order: `BadSlot`, `BadSize`, `Exhausted`, then `CycleOpen` and `Exhausted` of the collection, and `NoSpace` where it made none.
     pub fn alloc_or_collect(
@@ -362,7 +362,7 @@ impl<O: Opening> Locked<O> {
         Ok(passed)
     }
 
-    /// The number of held entries.
+    /// The number of held entries: those that aren't finished, taken or not.
     pub fn outstanding(&self) -> u64
         ensures step { Does self.now.world (Make Outstanding) (Ok result) self.now.world }
         ensures count { result ≡ length self.now.world.held }

@@ -64,7 +64,7 @@ impl World {
         Ok(())
     }
 
-    /// The number of held entries.
+    /// The number of held entries: those that aren't finished, taken or not.
     pub fn outstanding(&self) -> u64
         ensures step { Does self.now (Make calls.Outstanding) (Ok result) self.now }
         ensures count { result ≡ length self.now.held }

@@ -26,25 +26,57 @@ impl Proc for Counts {
     }
 }
 
-/// Makes 100 objects in the frame's slot 0, each of which takes the place of the one before, and lets go of the last.
+/// Makes an object in the frame's slot 0, and registers it. While the heap is full of objects that wait for workers, it waits for these.
+fn make<O: Opening, R: Wait>(
+    rt: &R,
+    service: &Service<O>,
+    frame: u64,
+    number: u64,
+) -> Result<(), Refusal> {
+    for _ in rt.forever() {
+        let mut locked = service.enter(rt);
+        match locked.alloc_or_collect(frame, 0, 4, Scanned) {
+            Err(Refusal::NoSpace) if locked.outstanding() > 0 => {}
+            Err(refusal) => return Err(refusal),
+            Ok(_) => return locked.register(frame, 0, Normal, 0, number, 0).map(drop),
+        }
+        drop(locked);
+        thread::yield_now();
+    }
+    unreachable!()
+}
+
+/// Makes 100 objects, each of which takes the place of the one before, and lets go of the last.
 fn mutate<O: Opening, R: Wait>(rt: &R, service: &Service<O>, frame: u64) -> Result<(), Refusal> {
     for number in 0..100 {
-        let mut locked = service.enter(rt);
-        locked.alloc(frame, 0, 4, Scanned)?;
-        locked.register(frame, 0, Normal, 0, number, 0)?;
+        make(rt, service, frame, number)?;
     }
     service.enter(rt).set(frame, 0, 0)
 }
 
-/// Lets two mutators run, and collects when both have ended.
+/// Collects until all is finished, and nothing more is queued.
+fn settle<O: Opening, R: Wait>(rt: &R, service: &Service<O>) -> Result<(), Refusal> {
+    for _ in rt.forever() {
+        let mut locked = service.enter(rt);
+        locked.publish();
+        if locked.outstanding() == 0 && locked.collect()?.picked == 0 {
+            return Ok(());
+        }
+        drop(locked);
+        thread::yield_now();
+    }
+    unreachable!()
+}
+
+/// Lets two mutators run, and settles when both have ended.
 fn run_both<O: Opening + Send + Sync, R: Threads + Wait + Sync>(
     rt: &R,
     service: &Service<O>,
-) -> Result<u64, Refusal> {
+) -> Result<(), Refusal> {
     let (first, second) = thread::join(rt, || mutate(rt, service, 0), || mutate(rt, service, 1));
     first?;
     second?;
-    Ok(service.enter(rt).collect()?.picked)
+    settle(rt, service)
 }
 
 fn run<O: Opening + Send + Sync, R: Print + Threads + Wait + Sync>(
@@ -55,16 +87,12 @@ fn run<O: Opening + Send + Sync, R: Print + Threads + Wait + Sync>(
     requires { prepared ≡ O.origin }
 {
     let (service, seats) = Service::<O>::open(prepared)?;
-    let (seats, picked) = service.run_beside(seats, procs.as_mut_slice(), &OpenGate, rt, || {
+    let (seats, ran) = service.run_beside(seats, procs.as_mut_slice(), &OpenGate, rt, || {
         run_both(rt, &service)
     });
     let end = service.conclude(seats)?;
-    println!(rt;
-        "picked {}, finished {}, left {}",
-        picked?,
-        end.finished,
-        end.left.len()
-    )?;
+    ran?;
+    println!(rt; "finished {}, left {}", end.finished, end.left.len())?;
     Ok(())
 }
 
@@ -72,7 +100,7 @@ fn main(rt: HostRuntime) -> Result<()> {
     let count = Arc::new(rt.alloc(), AtomicU64::new(0))?;
     let procs = procedures!(rt.alloc(); 2u64; Counts(Arc::try_clone(&count)?));
     let config = Config {
-        blocks: 64,
+        blocks: 2,
         frames: 2,
     };
     let prepared = Service::prepare(rt.alloc(), config, 2)?;
