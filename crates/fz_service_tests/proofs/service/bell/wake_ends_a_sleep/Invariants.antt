@@ -1,0 +1,4 @@
+use Rattle.fz_service_tests.proofs.service.bell.wake_ends_a_sleep.Given as goal
+
+abbrev pub ghosts-stops_each_time : goal.ghosts-stops_each_time
+ghosts-stops_each_time g a = record { origin = a.prepared }

@@ -1,4 +1,0 @@
-use Rattle.fz_world_tests.proofs.service.workers.one_worker_enters_while_another_is_at_the_gate.Given as goal
-
-abbrev pub ghosts-serve_all : goal.ghosts-serve_all
-ghosts-serve_all g a = record { origin = a.prepared }

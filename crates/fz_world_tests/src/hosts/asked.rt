@@ -1,0 +1,313 @@
+//! A graph of numbered objects whose finalizers ask, as those of a host in C do.
+
+use crate::hosts::equal::must_be;
+use fz_finalizers::{Entry, Finalizer, Kind, LinkKind, Passed, Root};
+use fz_machine::{Ask, BATCH, Machine, Next, Question};
+use own_heap::FIELDS;
+use std::alloc::Global;
+use std::process::Abort;
+use std::test::*;
+
+/// How many objects there may be.
+const OBJECTS: usize = 16;
+
+/// The first word of the first object.
+const FIRST_WORD: u64 = 1_000;
+
+/// Objects, numbered from 1 on, whose words lead to others, or are 0.
+#[derive(Drop)]
+pub(crate) struct Graph {
+    words: [[u64; FIELDS]; OBJECTS],
+    marked: [bool; OBJECTS],
+    roots: [bool; OBJECTS],
+    gone: [bool; OBJECTS],
+}
+
+impl Graph {
+    fn mark_one(&mut self, object: u64) {
+        if let Some(marked) = self.marked.get_mut(object.wrapping_sub(1) as usize) {
+            *marked = true;
+        }
+    }
+
+    /// Marks what the words of an object lead to, but for the object where that is asked.
+    fn mark_words(&mut self, object: u64, but_itself: bool) {
+        let Some(words) = self.words.get(object.wrapping_sub(1) as usize).copied() else {
+            return;
+        };
+        for word in words.iter() {
+            if !(but_itself && *word == object) {
+                self.mark_one(*word);
+            }
+        }
+    }
+
+    /// Marks all that marked objects lead to.
+    fn close(&mut self) {
+        for _ in 0..OBJECTS {
+            for object in 1..=OBJECTS as u64 {
+                if self.is_marked(object) {
+                    self.mark_words(object, false);
+                }
+            }
+        }
+    }
+
+    fn is_marked(&self, object: u64) -> bool {
+        self.marked
+            .get(object.wrapping_sub(1) as usize)
+            .copied()
+            .unwrap_or(false)
+    }
+
+    /// Whether the object that has the word is marked.
+    fn is_holder_marked(&self, word: u64) -> bool {
+        self.is_marked(word.wrapping_sub(FIRST_WORD) / FIELDS as u64 + 1)
+    }
+
+    /// Writes a word of an object.
+    fn set(&mut self, object: u64, field: usize, to: u64) {
+        if let Some(words) = self.words.get_mut(object.wrapping_sub(1) as usize) {
+            if let Some(word) = words.get_mut(field) {
+                *word = to;
+            }
+        }
+    }
+
+    /// Answers a question about one object or word, or does what it says.
+    fn answer(&mut self, ask: Ask, about: u64) -> bool {
+        match ask {
+            Ask::IsMarked => self.is_marked(about),
+            Ask::IsHolderMarked => self.is_holder_marked(about),
+            Ask::MarkChildren => {
+                self.mark_words(about, false);
+                self.close();
+                false
+            }
+            Ask::MarkOthers => {
+                self.mark_words(about, true);
+                self.close();
+                false
+            }
+            Ask::Mark => {
+                self.mark_one(about);
+                self.close();
+                false
+            }
+            Ask::MarkAlone => {
+                self.mark_one(about);
+                false
+            }
+            Ask::Clear => {
+                let place = about.wrapping_sub(FIRST_WORD);
+                let field = (place % FIELDS as u64) as usize;
+                self.set(place / FIELDS as u64 + 1, field, 0);
+                false
+            }
+        }
+    }
+}
+
+/// A graph with finalizers.
+#[derive(Drop)]
+pub(crate) struct Asked {
+    graph: Graph,
+    machine: Machine,
+}
+
+impl Asked {
+    pub(crate) fn new(alloc: Global) -> Asked {
+        Asked {
+            graph: Graph {
+                words: [[0; FIELDS]; OBJECTS],
+                marked: [false; OBJECTS],
+                roots: [false; OBJECTS],
+                gone: [false; OBJECTS],
+            },
+            machine: Machine::new(alloc),
+        }
+    }
+
+    /// Makes a word of an object lead to another.
+    pub(crate) fn refer(&mut self, object: u64, field: usize, to: u64) {
+        self.graph.set(object, field, to);
+    }
+
+    /// Keeps an object for good.
+    pub(crate) fn add_root(&mut self, object: u64) {
+        if let Some(root) = self.graph.roots.get_mut(object.wrapping_sub(1) as usize) {
+            *root = true;
+        }
+    }
+
+    /// Whether no collection has reclaimed the object.
+    pub(crate) fn stands(&self, object: u64) -> bool {
+        !self
+            .graph
+            .gone
+            .get(object.wrapping_sub(1) as usize)
+            .copied()
+            .unwrap_or(true)
+    }
+
+    /// Registers an object that stands.
+    pub(crate) fn register(&mut self, rt: &impl Abort, object: u64, finalizer: Finalizer) {
+        self.machine
+            .register(object, finalizer)
+            .expect(rt, "a registration");
+    }
+
+    /// Makes a word of an object a link to another that stands.
+    pub(crate) fn link(
+        &mut self,
+        rt: &impl Abort,
+        kind: LinkKind,
+        object: u64,
+        field: usize,
+        to: u64,
+    ) {
+        let word = FIRST_WORD
+            .wrapping_add(object.wrapping_sub(1).wrapping_mul(FIELDS as u64))
+            .wrapping_add(field as u64);
+        self.machine.link(kind, word, to).expect(rt, "a link");
+    }
+
+    /// Takes the next entry.
+    pub(crate) fn take(&mut self, rt: &impl Abort) -> Option<Entry> {
+        self.machine.take().expect(rt, "no open pass")
+    }
+
+    /// Ends the holding of an entry.
+    pub(crate) fn finish(&mut self, rt: &impl Abort, entry: &Entry) {
+        self.machine.finish(entry).expect(rt, "the end");
+    }
+
+    /// Marks what roots lead to.
+    fn mark_roots(&mut self) {
+        self.graph.marked = self.graph.roots;
+        for root in [Root::HeldObject, Root::HeldData, Root::RegisteredData].iter() {
+            for word in self.machine.finalizers().roots(*root) {
+                self.graph.mark_one(word);
+            }
+        }
+        self.graph.close();
+    }
+
+    /// A pass by questions and answers.
+    fn pass(&mut self, rt: &impl Abort) -> Passed {
+        self.machine.begin().expect(rt, "no other pass");
+        let mut answers = [false; BATCH];
+        // No pass of so few objects asks so much.
+        for _ in 0..1_000 {
+            match self.machine.next(&answers).expect(rt, "an open pass") {
+                Next::Asks(question) => answers = answers_of(&mut self.graph, &question),
+                Next::Ended(passed) => return passed,
+            }
+        }
+        must_be(rt, true, false, "a pass ends");
+        Passed { pass: 0, picked: 0 }
+    }
+
+    /// A collection.
+    pub(crate) fn collect(&mut self, rt: &impl Abort) -> Passed {
+        self.mark_roots();
+        let passed = self.pass(rt);
+        for object in 1..=OBJECTS as u64 {
+            if !self.graph.is_marked(object) {
+                if let Some(gone) = self.graph.gone.get_mut(object.wrapping_sub(1) as usize) {
+                    *gone = true;
+                }
+            }
+        }
+        passed
+    }
+}
+
+/// The answers to a question, one after another.
+fn answers_of(graph: &mut Graph, question: &Question) -> [bool; BATCH] {
+    let mut answers = [false; BATCH];
+    for (answer, about) in answers
+        .iter_mut()
+        .zip(question.about.iter())
+        .take(question.count)
+    {
+        *answer = graph.answer(question.ask, *about);
+    }
+    answers
+}
+
+#[test]
+fn a_pass_that_is_open_takes_answers_alone(rt: HostRuntime) {
+    let mut asked = Asked::new(rt.alloc());
+    asked.machine.begin().expect(&rt, "a pass");
+    must_be(&rt, asked.machine.is_open(), true, "it is open");
+    must_be(&rt, asked.machine.begin().is_err(), true, "no other opens");
+    must_be(&rt, asked.machine.unregister(1).is_err(), true, "no change");
+    must_be(&rt, asked.machine.take().is_err(), true, "no take");
+    let ended = asked.machine.next(&[]).expect(&rt, "an answer");
+    must_be(
+        &rt,
+        ended,
+        Next::Ended(Passed { pass: 1, picked: 0 }),
+        "its end",
+    );
+    must_be(&rt, asked.machine.next(&[]).is_err(), true, "none is open");
+    must_be(&rt, asked.machine.unregister(1).is_ok(), true, "changes");
+    asked.machine.reserve(100, 10, 10).expect(&rt, "room");
+}
+
+/// A pass of objects of which none is marked, with these answers, as many to each question.
+fn pass_of_unmarked(rt: &impl Abort, machine: &mut Machine, answers: &[bool]) -> Passed {
+    machine.begin().expect(rt, "no other pass");
+    for _ in 0..1_000 {
+        if let Next::Ended(passed) = machine.next(answers).expect(rt, "an open pass") {
+            return passed;
+        }
+    }
+    must_be(rt, true, false, "a pass ends");
+    Passed { pass: 0, picked: 0 }
+}
+
+/// Takes the entry of an object.
+fn take_of(rt: &impl Abort, machine: &mut Machine, object: u64) {
+    let taken = machine.take().expect(rt, "no open pass");
+    let entry = taken.expect(rt, "an entry");
+    must_be(rt, entry.obj, object, "the next pick");
+    machine.finish(&entry).expect(rt, "the end");
+}
+
+/// Forty objects, each fourth of which comes late, are picked in turn, whichever number of answers comes at a time.
+fn forty_are_picked(rt: &impl Abort, alloc: Global, answers: &[bool]) {
+    let mut machine = Machine::new(alloc);
+    for object in 1..=40 {
+        let finalizer = Finalizer {
+            kind: if object % 4 == 0 {
+                Kind::Unreachable
+            } else {
+                Kind::Normal
+            },
+            procedure: object,
+            client_data: 0,
+            rank: 0,
+        };
+        machine.register(object, finalizer).expect(rt, "memory");
+    }
+    let passed = pass_of_unmarked(rt, &mut machine, answers);
+    must_be(rt, passed.picked, 40, "all are picked");
+    for object in 1..=40 {
+        if object % 4 != 0 {
+            take_of(rt, &mut machine, object);
+        }
+    }
+    for fourth in 1..=10 {
+        take_of(rt, &mut machine, fourth * 4);
+    }
+}
+
+#[test]
+fn lists_are_longer_than_questions(rt: HostRuntime) {
+    let answers = [false; BATCH];
+    for count in [1, 7, BATCH].iter() {
+        forty_are_picked(&rt, rt.alloc(), &answers[..*count]);
+    }
+}

@@ -1,0 +1,245 @@
+//! The heap of records, and a graph whose finalizers ask, beside a world: over the same graphs they pick the same, and keep the same.
+
+use crate::hosts::asked::Asked;
+use crate::hosts::equal::must_be;
+use fz_finalizers::{Finalizer, Kind};
+use fz_model::LinkKind::{Long, Short};
+use fz_model::ObjKind::Scanned;
+use fz_model::{Addr, RegKind, Word};
+use fz_world::{Config, World};
+use own_heap::Field::{Nothing, Reference};
+use own_heap::{FIELDS, RecordId, Runtime};
+use std::alloc::Global;
+use std::process::Abort;
+use std::test::*;
+
+/// How many objects a graph has: as many as a frame has slots.
+const OBJECTS: u64 = 16;
+
+/// Numbers that look random: Knuth's linear congruential ones.
+#[derive(Drop)]
+struct Random(u64);
+
+impl Random {
+    /// The next one, below a limit.
+    fn below(&mut self, limit: u64) -> u64 {
+        self.0 = self
+            .0
+            .wrapping_mul(6_364_136_223_846_793_005)
+            .wrapping_add(1_442_695_040_888_963_407);
+        (self.0 >> 33) % limit.max(1)
+    }
+}
+
+/// A world, a heap of records and a graph with the same objects. Each object stands in the slot of its number, until that is emptied; in the graph its number
+/// is one more.
+#[derive(Drop)]
+struct All {
+    world: World,
+    runtime: Runtime,
+    asked: Asked,
+    starts: Vec<Addr>,
+    ids: Vec<RecordId>,
+}
+
+/// Objects without edges.
+fn objects(rt: &impl Abort, alloc: Global) -> All {
+    let config = Config {
+        blocks: 8,
+        frames: 1,
+    };
+    let mut all = All {
+        world: World::open(alloc, config).expect(rt, "a world"),
+        runtime: Runtime::new(alloc, OBJECTS as u32).expect(rt, "a runtime"),
+        asked: Asked::new(alloc),
+        starts: Vec::new(alloc),
+        ids: Vec::new(alloc),
+    };
+    for slot in 0..OBJECTS {
+        let made = all.world.alloc(0, slot, FIELDS as u64, Scanned);
+        all.starts
+            .push(made.expect(rt, "an object").0)
+            .expect(rt, "memory");
+        let id = all.runtime.make([Nothing; FIELDS]).expect(rt, "a record");
+        all.ids.push(id).expect(rt, "memory");
+    }
+    all
+}
+
+/// A record's name, by the number of its object.
+fn id_of(rt: &impl Abort, all: &All, object: u64) -> RecordId {
+    all.ids
+        .get(object as usize)
+        .copied()
+        .expect(rt, "an object")
+}
+
+/// Writes a reference to an object into a field of another.
+fn refer(rt: &impl Abort, all: &mut All, object: u64, field: u64, to: u64) {
+    all.world
+        .store(0, object, field, 0, to)
+        .expect(rt, "a word");
+    let id = id_of(rt, all, object);
+    let target = id_of(rt, all, to);
+    all.runtime
+        .set(id, field as usize % FIELDS, Reference(target));
+    all.asked.refer(
+        object.saturating_add(1),
+        field as usize,
+        to.saturating_add(1),
+    );
+}
+
+/// Registers an object, in one of the kinds that all have, with client data that may refer to another.
+fn register(rt: &impl Abort, all: &mut All, object: u64, random: &mut Random) {
+    let (kind, same_kind) = match random.below(3) {
+        0 => (RegKind::Normal, Kind::Normal),
+        1 => (RegKind::IgnoreSelf, Kind::IgnoreSelf),
+        _ => (RegKind::NoOrder, Kind::NoOrder),
+    };
+    let rank = u8::from(random.below(2) == 0);
+    let to = random.below(OBJECTS * 8);
+    let word: Word = all.starts.get(to as usize).copied().unwrap_or(0);
+    all.world
+        .register(0, object, kind, object, word, rank)
+        .expect(rt, "a registration");
+    let client_data = match all.ids.get(to as usize) {
+        Some(id) => id.address(),
+        None => 0,
+    };
+    let finalizer = Finalizer {
+        kind: same_kind,
+        procedure: object,
+        client_data,
+        rank,
+    };
+    let id = id_of(rt, all, object);
+    if all.runtime.heap().stands(id) {
+        all.runtime.register(id, finalizer).expect(rt, "the same");
+    }
+    let client_data = if to < OBJECTS { to + 1 } else { 0 };
+    let asked_finalizer = Finalizer {
+        client_data,
+        ..finalizer
+    };
+    all.asked
+        .register(rt, object.saturating_add(1), asked_finalizer);
+}
+
+/// Makes a field of an object a link to another.
+fn link(rt: &impl Abort, all: &mut All, object: u64, to: u64, random: &mut Random) {
+    let kind = if random.below(2) == 0 { Short } else { Long };
+    let field = random.below(FIELDS as u64);
+    all.world
+        .link(kind, 0, object, field, 0, to)
+        .expect(rt, "a link");
+    let id = id_of(rt, all, object);
+    let target = id_of(rt, all, to);
+    if all.runtime.heap().stands(target) {
+        all.runtime
+            .link(kind, id, field as usize % FIELDS, target)
+            .expect(rt, "the same");
+    }
+    all.asked.link(
+        rt,
+        kind,
+        object.saturating_add(1),
+        field as usize,
+        to.saturating_add(1),
+    );
+}
+
+/// Edges, registrations and links of an object.
+fn furnish(rt: &impl Abort, all: &mut All, object: u64, random: &mut Random) {
+    for field in 0..FIELDS as u64 {
+        if random.below(5) == 0 {
+            refer(rt, all, object, field, random.below(OBJECTS));
+        }
+    }
+    if random.below(2) == 0 {
+        register(rt, all, object, random);
+    }
+    if random.below(3) == 0 {
+        link(rt, all, object, random.below(OBJECTS), random);
+    }
+}
+
+/// Leaves an object to what leads to it, or makes it a root.
+fn settle(rt: &impl Abort, all: &mut All, object: u64, random: &mut Random) {
+    if random.below(8) == 0 {
+        let id = id_of(rt, all, object);
+        all.runtime.add_root(id).expect(rt, "memory");
+        all.asked.add_root(object.saturating_add(1));
+    } else {
+        all.world.set(0, object, 0).expect(rt, "a slot");
+    }
+}
+
+/// Takes what all have queued, in their order, and finishes it. Returns how many entries were taken so far.
+fn take_same(rt: &impl Abort, all: &mut All, taken: u64) -> u64 {
+    for number in taken..u64::MAX {
+        let Some(entry) = all.world.next(number) else {
+            must_be(rt, all.runtime.take().is_none(), true, "no other pick");
+            must_be(rt, all.asked.take(rt).is_none(), true, "no other pick");
+            return number;
+        };
+        let same = all.runtime.take().expect(rt, "an entry of all");
+        let numbers = (same.reg, same.birth, same.proc);
+        must_be(rt, numbers, (entry.reg, entry.birth, entry.proc), "a pick");
+        let third = all.asked.take(rt).expect(rt, "an entry of all");
+        let numbers = (third.reg, third.obj, third.proc);
+        let number_of_its = entry.proc.saturating_add(1);
+        must_be(
+            rt,
+            numbers,
+            (entry.reg, number_of_its, entry.proc),
+            "its pick",
+        );
+        all.asked.finish(rt, &third);
+        all.world.finish(&entry).expect(rt, "the end");
+        all.runtime.finish(&same).expect(rt, "the end");
+    }
+    taken
+}
+
+/// The same objects stand.
+fn stand_same(rt: &impl Abort, all: &All) {
+    for (start, id) in all.starts.iter().zip(all.ids.iter()) {
+        let stands = all.world.object(*start).is_some();
+        must_be(rt, all.runtime.heap().stands(*id), stands, "an object");
+    }
+    for (start, number) in all.starts.iter().zip(1..=OBJECTS) {
+        let stands = all.world.object(*start).is_some();
+        must_be(rt, all.asked.stands(number), stands, "a numbered object");
+    }
+}
+
+/// A graph that looks random, and collections of it. Returns how many picks there were.
+fn collect_same(rt: &impl Abort, alloc: Global, seed: u64) -> u64 {
+    let mut random = Random(seed);
+    let mut all = objects(rt, alloc);
+    for object in 0..OBJECTS {
+        furnish(rt, &mut all, object, &mut random);
+    }
+    for object in 0..OBJECTS {
+        settle(rt, &mut all, object, &mut random);
+    }
+    let mut taken = 0;
+    for _ in 0..6 {
+        let passed = all.world.collect().expect(rt, "a collection");
+        must_be(rt, all.runtime.collect().picked, passed.picked, "as many");
+        must_be(rt, all.asked.collect(rt).picked, passed.picked, "as many");
+        stand_same(rt, &all);
+        taken = take_same(rt, &mut all, taken);
+    }
+    taken
+}
+
+#[test]
+fn picks_and_keeps_the_same_as_a_world(rt: HostRuntime) {
+    let mut picks = 0u64;
+    for seed in 0..300 {
+        picks = picks.saturating_add(collect_same(&rt, rt.alloc(), seed));
+    }
+    must_be(&rt, picks > 1_000, true, "many picks");
+}

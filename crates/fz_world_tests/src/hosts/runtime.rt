@@ -1,0 +1,80 @@
+//! Tests of a heap with finalizers.
+
+use crate::hosts::equal::must_be;
+use fz_finalizers::{Finalizer, Kind, LinkKind};
+use own_heap::Field::{Nothing, Number, Reference};
+use own_heap::{FIELDS, Field, RecordId, Runtime};
+use std::process::Abort;
+use std::test::*;
+
+/// A finalizer of the kind `Normal`, without client data.
+fn normal(procedure: u64) -> Finalizer {
+    Finalizer {
+        kind: Kind::Normal,
+        procedure,
+        client_data: 0,
+        rank: 0,
+    }
+}
+
+/// A new record.
+fn made(rt: &impl Abort, runtime: &mut Runtime, fields: [Field; FIELDS]) -> RecordId {
+    runtime.make(fields).expect(rt, "a record")
+}
+
+/// Registers a record that stands.
+fn register(rt: &impl Abort, runtime: &mut Runtime, id: RecordId, finalizer: Finalizer) {
+    if runtime.heap().stands(id) {
+        runtime.register(id, finalizer).expect(rt, "a finalizer");
+    }
+}
+
+/// Makes the second field of a record a short link to one that stands.
+fn link(rt: &impl Abort, runtime: &mut Runtime, id: RecordId, target: RecordId) {
+    if runtime.heap().stands(target) {
+        runtime
+            .link(LinkKind::Short, id, 1, target)
+            .expect(rt, "a link");
+    }
+}
+
+#[test]
+fn the_record_of_a_taken_entry_stands_until_it_is_finished(rt: HostRuntime) {
+    let mut runtime = Runtime::new(rt.alloc(), 8).expect(&rt, "a runtime");
+    let leaf = made(&rt, &mut runtime, [Number(7), Nothing, Nothing, Nothing]);
+    let stem = made(
+        &rt,
+        &mut runtime,
+        [Reference(leaf), Nothing, Nothing, Nothing],
+    );
+    let hidden = Number(stem.address());
+    let root = made(
+        &rt,
+        &mut runtime,
+        [Reference(stem), hidden, Nothing, Nothing],
+    );
+    runtime.add_root(root).expect(&rt, "a root");
+    register(&rt, &mut runtime, stem, normal(1));
+    link(&rt, &mut runtime, root, stem);
+    must_be(&rt, runtime.collect().picked, 0, "all is reachable");
+
+    runtime.set(root, 0, Nothing);
+    must_be(&rt, runtime.collect().picked, 1, "the stem is picked");
+    let left = runtime.heap().get(root).copied().map(|read| read.fields);
+    must_be(&rt, left, Some([Nothing; FIELDS]), "the link is cleared");
+    let entry = runtime.take().expect(&rt, "an entry");
+    must_be(
+        &rt,
+        (entry.obj, entry.proc),
+        (stem.address(), 1),
+        "the stem's",
+    );
+    must_be(&rt, runtime.collect().picked, 0, "once");
+    must_be(&rt, runtime.heap().stands(stem), true, "the stem stands");
+    must_be(&rt, runtime.heap().stands(leaf), true, "the leaf stands");
+
+    runtime.finish(&entry).expect(&rt, "the end");
+    must_be(&rt, runtime.collect().picked, 0, "nothing is left");
+    must_be(&rt, runtime.heap().stands(stem), false, "the stem is gone");
+    must_be(&rt, runtime.heap().stands(leaf), false, "the leaf is gone");
+}
