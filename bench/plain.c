@@ -1,6 +1,7 @@
 /* plain.c - what the same takes in plain C.
  *   plain lock N            the nanoseconds of one lock and unlock of a mutex, under which a word is written, of N
  *   plain threads COUNT N   those of each of N times the work of the busy procedure of crates/service_bench, shared out to COUNT threads
+ *   plain sleep COUNT N     has COUNT threads for N milliseconds that only sleep, for 50 of these at a time
  *   plain lines LINES FILE  writes the lines of a file, of which there have to be so many, on standard output: a write each
  * bench/run builds it.
  */
@@ -54,6 +55,28 @@ static double work_by(uint64_t count, uint64_t n)
     return now() - t;
 }
 
+static volatile int is_over;
+
+static void *sleep_on(void *unused)
+{
+    struct timespec nap = {0, 50 * 1000 * 1000};
+
+    while (!is_over) clock_nanosleep(CLOCK_MONOTONIC, 0, &nap, NULL);
+    return unused;
+}
+
+static void sleep_by(uint64_t count, uint64_t milliseconds)
+{
+    pthread_t threads[MOST];
+
+    for (uint64_t i = 0; i < count; i++)
+        if (pthread_create(&threads[i], NULL, sleep_on, NULL)) fail("no thread");
+    usleep(milliseconds * 1000);
+    is_over = 1;
+    for (uint64_t i = 0; i < count; i++)
+        if (pthread_join(threads[i], NULL)) fail("a thread failed");
+}
+
 static void write_lines(const char *name, uint64_t wanted)
 {
     FILE *file = fopen(name, "rb");
@@ -77,6 +100,7 @@ int main(int count, char **words)
     if (count == 4 && !strcmp(test, "lines")) write_lines(words[3], first);
     else if (count == 3 && n && !strcmp(test, "lock")) printf("%.3f\n", lock(n) / n);
     else if (n && first && first <= MOST && !strcmp(test, "threads")) printf("%.3f\n", work_by(first, n) / n);
-    else { fprintf(stderr, "usage: plain lock N, plain threads COUNT N, or plain lines LINES FILE\n"); return 2; }
+    else if (n && first && first <= MOST && !strcmp(test, "sleep")) sleep_by(first, n);
+    else { fprintf(stderr, "usage: plain lock N, plain threads COUNT N, plain sleep COUNT N, or plain lines LINES FILE\n"); return 2; }
     return 0;
 }

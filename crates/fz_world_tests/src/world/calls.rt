@@ -4,8 +4,8 @@ use fz_model::LinkKind::Long;
 use fz_model::ObjKind::{Atomic, Scanned};
 use fz_model::RegKind::{NoOrder, Normal};
 use fz_model::{
-    Addr, Call, Finalizer, HEAP_START, LinkAnswer, MoveAnswer, Old, Passed, Progress, Refusal,
-    RegAnswer, Registration, Reply, Slot, Word,
+    Addr, BLOCK_WORDS, Call, Finalizer, HEAP_START, LinkAnswer, MoveAnswer, Old, Passed, Progress,
+    Refusal, RegAnswer, Registration, Reply, Slot, Word,
 };
 use fz_world::{Config, Object, World};
 use std::alloc::Global;
@@ -43,6 +43,20 @@ fn a_word_is_read_back(rt: HostRuntime) {
     };
     let want = (HEAP_START + 128, 2, HEAP_START + 128, Some(object));
     assert_eq!(rt; words(rt.alloc()), Ok(want));
+}
+
+/// How many objects there are, how many words they have, and how many no object has.
+fn counts(alloc: Global) -> Result<(u64, u64, u64), Refusal> {
+    let world = two_objects(alloc)?;
+    let objects = world.live();
+    let used = world.used_words();
+    let free = world.free_words();
+    Ok((objects, used, free))
+}
+
+#[test]
+fn objects_and_words_are_counted(rt: HostRuntime) {
+    assert_eq!(rt; counts(rt.alloc()), Ok((2, 3, 4 * BLOCK_WORDS - 3)));
 }
 
 /// A link is made, moved from the first word to the second, and removed.
@@ -101,7 +115,7 @@ fn a_registration_is_replaced_and_removed(rt: HostRuntime) {
 }
 
 /// The first object is let go of. A cycle in steps queues its entry, whose object comes back into its slot.
-fn cycle(alloc: Global) -> Result<(Progress, Passed, Word), Refusal> {
+fn cycle(alloc: Global) -> Result<(Progress, Passed, Word, bool), Refusal> {
     let mut world = two_objects(alloc)?;
     world.register(0, 0, Normal, 5, 7, 0)?;
     world.set(0, 0, 0)?;
@@ -111,7 +125,8 @@ fn cycle(alloc: Global) -> Result<(Progress, Passed, Word), Refusal> {
     let entry = world.next(0).ok_or(Refusal::NotHeld)?;
     world.hold(0, 0, &entry)?;
     let back = world.slot(0, 0)?;
-    Ok((progress, passed, back))
+    let is_held = world.is_held(&entry);
+    Ok((progress, passed, back, is_held))
 }
 
 #[test]
@@ -121,7 +136,8 @@ fn a_cycle_queues_and_a_hold_brings_back(rt: HostRuntime) {
         picked: 1,
         reclaimed: 0,
     };
-    assert_eq!(rt; cycle(rt.alloc()), Ok((Progress::Done, passed, HEAP_START)));
+    let want = (Progress::Done, passed, HEAP_START, true);
+    assert_eq!(rt; cycle(rt.alloc()), Ok(want));
 }
 
 /// A closed world queues nothing.
