@@ -37,7 +37,7 @@ impl<R: Clock> Gate for Watch<'_, R> {
     }
 }
 
-/// The nanoseconds in which workers had nothing to do for so many milliseconds, with their start and end.
+/// The nanoseconds in which workers had nothing to do for this number of milliseconds, with their start and end.
 pub(crate) fn idle<O: Opening + Send + Sync, R: Clock + Threads + Wait + Sync>(
     rt: &R,
     alloc: Global,
@@ -74,7 +74,7 @@ fn wake_one<O: Opening, R: Clock + Wait>(rt: &R, service: &Service<O>, watch: &W
     unreachable!()
 }
 
-/// The nanoseconds of so many entries, each from its collection on until a worker that slept has taken it.
+/// The nanoseconds of this number of entries, each from its collection on until a worker that slept has taken it.
 fn wake_each<O: Opening, R: Clock + Wait>(
     rt: &R,
     alloc: Global,
