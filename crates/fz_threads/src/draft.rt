@@ -16,7 +16,7 @@ pub(crate) enum Draft {
 }
 
 impl Draft {
-    /// Adds the job of this line, if it may come next.
+    /// Adds this line's job, if it may come next.
     pub(crate) fn add(&mut self, alloc: Global, line: u64, job: Job) -> Result<(), Refusal>
         ensures { Adds self.old line job result self.new }
     {
