@@ -172,7 +172,7 @@ fn takes_under_the_lock<O: Opening, R: Abort + Wait>(rt: &R, prepared: Prepared)
     same(rt, "the end's counts", counts, (2, 2, 2));
 }
 
-/// A shutdown without all seats fails and gives everything back; with all of them it succeeds. A refused collection doesn't count as a pass.
+/// A shutdown without all seats fails and gives everything back; with all of them it succeeds. A cycle that is still open doesn't count as a pass.
 fn ends_with_all_seats<O: Opening, R: Abort + Wait>(rt: &R, prepared: Prepared)
     requires { prepared ≡ O.origin }
 {
