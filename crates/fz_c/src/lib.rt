@@ -1,8 +1,8 @@
 //! The calls and readers of a world as C exports. `c/include/derrimas.h` declares them.
 //!
 //! C holds a `Handle`, and passes its address to each export. An export returns a code: 0, the number of the world's refusal, or a code of the C interface
-//! itself. Unless it returns 0, the variables that C passed for results are unchanged. No export has a `requires`; docs/reference/PROOFS.md states what a C program has
-//! to observe beyond its types.
+//! itself. Unless it returns 0, the variables that C passed for results are unchanged. No export has a `requires`; docs/reference/PROOFS.md states what a C
+//! program has to observe beyond its types.
 #![tactic(auto)]
 
 mod codes;
