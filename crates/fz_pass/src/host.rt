@@ -44,7 +44,7 @@ pub trait Host {
         ensures marked { Marks is_exact (objects self.old) (marked self.old) (marked self.new) (Leads (objects self.old) object) }
         ensures same { is_same self.old self.new };
 
-    /// Marks an object. Requires that everything else that it reaches is marked already.
+    /// Marks an object, of which everything else that it reaches is marked already.
     fn mark_alone(&mut self, object: Addr)
         requires object { IsTrue (contains_key (objects self.old) object) }
         requires closed { IsClosed (objects self.old) (marked self.old) }
@@ -53,7 +53,7 @@ pub trait Host {
         ensures marked { Marks is_exact (objects self.old) (marked self.old) (marked self.new) (λ a. a ≡ object) }
         ensures same { is_same self.old self.new };
 
-    /// Marks an object's children and everything that they reach. With `but_itself` the object itself is skipped as a child.
+    /// Marks an object's children, or with `but_itself` its children other than itself, and everything that they reach.
     fn mark_children(&mut self, object: Addr, but_itself: bool)
         requires object { IsTrue (contains_key (objects self.old) object) }
         requires closed { IsClosed (objects self.old) (marked self.old) }
