@@ -140,10 +140,11 @@ static unsigned class_of(size_t size)
     return at;
 }
 
-void *derrimas_malloc(size_t size)
+static void *allocate(void *nothing, size_t size)
 {
     union block *block;
 
+    (void)nothing;
     if (size > SIZE_MAX / 2)
         return NULL;
     block = size <= SMALL ? small_block(class_of(size)) : (union block *)pages(HEAD + size);
@@ -153,11 +154,12 @@ void *derrimas_malloc(size_t size)
     return (char *)block + HEAD;
 }
 
-void derrimas_free(void *memory)
+static void release(void *nothing, void *memory)
 {
     union block *block;
     size_t size;
 
+    (void)nothing;
     if (!memory)
         return;
     block = (union block *)(void *)((char *)memory - HEAD);
@@ -183,7 +185,7 @@ static void *moved_pages(void *memory, size_t had, size_t size)
 }
 #endif
 
-void *derrimas_realloc(void *memory, size_t size)
+static void *reallocate(void *nothing, void *memory, size_t size)
 {
     size_t had = memory ? ((union block *)(void *)((char *)memory - HEAD))->size : 0;
     void *other;
@@ -192,12 +194,12 @@ void *derrimas_realloc(void *memory, size_t size)
     if (had > SMALL && size > SMALL && size <= SIZE_MAX / 2)
         return moved_pages(memory, had, size);
 #endif
-    other = derrimas_malloc(size);
+    other = allocate(nothing, size);
     if (!other)
         return NULL;
     if (memory)
         memcpy(other, memory, had < size ? had : size);
-    derrimas_free(memory);
+    release(nothing, memory);
     return other;
 }
 
@@ -211,10 +213,11 @@ static derrimas_finalizers finalizers; /* opened by the first registration or li
 
 static GC_bool is_open(void)
 {
+    static const derrimas_finalizers_options options = {sizeof options, {allocate, reallocate, release, NULL}};
     static GC_bool opened;
 
     if (!opened)
-        opened = derrimas_finalizers_open(&finalizers) == DERRIMAS_FINALIZERS_OK;
+        opened = derrimas_finalizers_open(&finalizers, &options) == DERRIMAS_FINALIZERS_OK;
     return opened;
 }
 
@@ -329,7 +332,7 @@ static int make_link(derrimas_finalizers_links kind, void **link, const void *ta
     GC_reachable_here(link);
     GC_reachable_here(target);
     UNLOCK();
-    return done ? (int)answer : GC_NO_MEMORY;
+    return done ? DERRIMAS_FINALIZERS_GC_ANSWER(answer) : GC_NO_MEMORY;
 }
 
 static int remove_link(derrimas_finalizers_links kind, void **link)
@@ -357,7 +360,7 @@ static int move_link(derrimas_finalizers_links kind, void **link, void **to)
     LOCK();
     (void)derrimas_finalizers_move_link(&finalizers, kind, HIDE(link), HIDE(to), &answer);
     UNLOCK();
-    return (int)answer;
+    return DERRIMAS_FINALIZERS_GC_ANSWER(answer);
 }
 
 GC_API int GC_CALL GC_register_disappearing_link(void **link)

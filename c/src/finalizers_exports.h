@@ -1,5 +1,5 @@
 /* The exports of crates/fz_machine_c, which are proved. finalizers.c alone calls them, and c/build hides their names. c/tests/header.py compares these
- * declarations with the crate's own. Of a handle they use `inside` alone. */
+ * declarations with the crate's own. Of a handle they use `inside` alone. They take memory by the three calls at the end, which finalizers.c has. */
 #ifndef DERRIMAS_FINALIZERS_EXPORTS_H
 #define DERRIMAS_FINALIZERS_EXPORTS_H
 
@@ -47,5 +47,10 @@ uint8_t fz_machine_roots(derrimas_finalizers *finalizers, uint8_t sort, uint64_t
 uint8_t fz_machine_count(derrimas_finalizers *finalizers, derrimas_finalizers_counts *counts);
 uint8_t fz_machine_next_registration(derrimas_finalizers *finalizers, uint64_t from, fz_machine_registration *registration);
 uint8_t fz_machine_next_link(derrimas_finalizers *finalizers, bool is_long, uint64_t from, derrimas_finalizers_link_at *link);
+
+/* What c/build names in the place of malloc, realloc and free: the allocator of the handle whose call this thread makes. */
+void *derrimas_malloc(size_t size);
+void *derrimas_realloc(void *memory, size_t size);
+void derrimas_free(void *memory);
 
 #endif

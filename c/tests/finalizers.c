@@ -23,13 +23,15 @@ static void links(derrimas_finalizers_links kind, object *it, size_t word, const
 static void opens(void)
 {
     memset(&all, 0, sizeof all);
-    OK(derrimas_finalizers_open(&finalizers));
+    OK(derrimas_finalizers_open(&finalizers, NULL));
 }
 
 static void closes(void)
 {
+    const derrimas_finalizers none = {0};
+
     derrimas_finalizers_destroy(&finalizers);
-    IS(finalizers.inside == NULL && finalizers.waiting == 0, true);
+    IS(memcmp(&finalizers, &none, sizeof none), 0);
 }
 
 static derrimas_finalizers_counts counted(void)
@@ -160,6 +162,35 @@ static void kinds_are_refused(void)
         REFUSED(DERRIMAS_FINALIZERS_BAD_KIND, count, derrimas_finalizers_roots(&finalizers, (derrimas_finalizers_root)bad, &from, buffer, 2, &count));
 }
 
+static void *allocates(void *data, size_t size) { return size ? data : NULL; }
+static void *reallocates(void *data, void *memory, size_t size) { return memory && size ? data : NULL; }
+static void releases(void *data, void *memory) { (void)(data && memory); }
+
+/* Options of an unknown size, or whose allocator lacks a function, come before all other causes, and are no further read. */
+static void options_are_refused(void)
+{
+    const derrimas_finalizers before = finalizers;
+    const derrimas_allocator whole = {allocates, reallocates, releases, NULL};
+    const size_t sizes[] = {0, 1, sizeof(size_t), sizeof(derrimas_finalizers_options) - 1, sizeof(derrimas_finalizers_options) + 1, SIZE_MAX};
+    derrimas_finalizers_options options = {sizeof options, whole};
+
+    for (unsigned given = 0; given < 7; given++) {
+        options.allocator.allocate = given & 1 ? allocates : NULL;
+        options.allocator.reallocate = given & 2 ? reallocates : NULL;
+        options.allocator.release = given & 4 ? releases : NULL;
+        IS(derrimas_finalizers_open(&finalizers, &options), DERRIMAS_FINALIZERS_BAD_OPTIONS);
+    }
+    options.allocator = whole;
+    for (size_t n = 0; n < sizeof sizes / sizeof *sizes; n++) {
+        options.size = sizes[n];
+        IS(derrimas_finalizers_open(&finalizers, &options), DERRIMAS_FINALIZERS_BAD_OPTIONS);
+        IS(derrimas_finalizers_open(&finalizers, (const derrimas_finalizers_options *)(const void *)&sizes[n]), DERRIMAS_FINALIZERS_BAD_OPTIONS);
+    }
+    options.size = sizeof options; /* its memory is refused; but an open handle is so first */
+    IS(derrimas_finalizers_open(&finalizers, &options), before.inside ? DERRIMAS_FINALIZERS_IS_OPEN : DERRIMAS_FINALIZERS_NO_MEMORY);
+    IS(memcmp(&finalizers, &before, sizeof before), 0);
+}
+
 /* Calls on a handle that isn't open. */
 static void closed(void)
 {
@@ -172,6 +203,7 @@ static void closed(void)
     size_t count;
 
     closes();
+    options_are_refused();
     changes_are_refused(DERRIMAS_FINALIZERS_NOT_OPEN);
     kinds_are_refused();
     REFUSED(DERRIMAS_FINALIZERS_NOT_OPEN, question, derrimas_finalizers_next(&finalizers, 0, &question, NULL));
@@ -192,13 +224,14 @@ static void closed(void)
 
 static void opening(void)
 {
-    derrimas_finalizers other = {NULL, 0};
+    derrimas_finalizers other = {0};
 
     opens();
-    IS(derrimas_finalizers_open(&finalizers), DERRIMAS_FINALIZERS_IS_OPEN);
+    IS(derrimas_finalizers_open(&finalizers, NULL), DERRIMAS_FINALIZERS_IS_OPEN);
+    options_are_refused();
     kinds_are_refused();
     OK(derrimas_finalizers_reserve(&finalizers, 0, 0, 0));
-    OK(derrimas_finalizers_open(&other));
+    OK(derrimas_finalizers_open(&other, NULL));
     registers(&objects[0], DERRIMAS_FINALIZERS_NORMAL, 1, 0);
     OK(derrimas_finalizers_register(&other, number_of(&objects[0]), DERRIMAS_FINALIZERS_NORMAL, 2, 3, 0, NULL, NULL));
     OK(derrimas_finalizers_queue_all(&other, NULL));
@@ -206,7 +239,7 @@ static void opening(void)
     IS(derrimas_finalizers_has_waiting(&finalizers), false);
     IS(counted().registrations, 1);
     derrimas_finalizers_destroy(&other);
-    IS(other.inside == NULL && other.waiting == 0, true);
+    IS(other.inside == NULL && other.waiting == 0 && !other.allocator.allocate, true);
     closes();
     opens();
     IS(counted().registrations, 0);
@@ -401,8 +434,8 @@ static void open_pass(void)
     OK(derrimas_finalizers_begin(&finalizers));
     for (;;) {
         changes_are_refused(DERRIMAS_FINALIZERS_PASS_OPEN);
-        IS(derrimas_finalizers_open(&finalizers), DERRIMAS_FINALIZERS_IS_OPEN);
-        OK(derrimas_finalizers_roots(&finalizers, DERRIMAS_FINALIZERS_REGISTERED_DATA, &(uint64_t){0}, &word, 0, &count));
+        IS(derrimas_finalizers_open(&finalizers, NULL), DERRIMAS_FINALIZERS_IS_OPEN);
+        IS(derrimas_finalizers_roots(&finalizers, DERRIMAS_FINALIZERS_REGISTERED_DATA, &(uint64_t){0}, &word, 0, &count), DERRIMAS_FINALIZERS_EMPTY);
         IS(counted().waiting + counted().registrations, 100);
         walked(DERRIMAS_FINALIZERS_HELD_OBJECTS, counted().waiting);
         walked(DERRIMAS_FINALIZERS_HELD_DATA, counted().waiting);
@@ -526,7 +559,7 @@ static void roots(void)
     closes();
 }
 
-/* A buffer without room gets nothing, as long as roots are left. */
+/* A walk with a buffer without room ends. */
 static void no_room(void)
 {
     uint64_t from = 0, word = 1;
@@ -535,8 +568,9 @@ static void no_room(void)
     opens();
     REFUSED(DERRIMAS_FINALIZERS_EMPTY, count, derrimas_finalizers_roots(&finalizers, DERRIMAS_FINALIZERS_REGISTERED_DATA, &from, &word, 0, &count));
     registers(&objects[0], DERRIMAS_FINALIZERS_NORMAL, 1, 0);
-    OK(derrimas_finalizers_roots(&finalizers, DERRIMAS_FINALIZERS_REGISTERED_DATA, &from, &word, 0, &count));
-    IS(count == 0 && from == 0 && word == 1, true);
+    REFUSED(DERRIMAS_FINALIZERS_EMPTY, count, derrimas_finalizers_roots(&finalizers, DERRIMAS_FINALIZERS_REGISTERED_DATA, &from, &word, 0, &count));
+    REFUSED(DERRIMAS_FINALIZERS_EMPTY, count, derrimas_finalizers_roots(&finalizers, DERRIMAS_FINALIZERS_REGISTERED_DATA, &from, NULL, 0, &count));
+    IS(from == 0 && word == 1, true);
     from = UINT64_MAX;
     REFUSED(DERRIMAS_FINALIZERS_EMPTY, count, derrimas_finalizers_roots(&finalizers, DERRIMAS_FINALIZERS_REGISTERED_DATA, &from, &word, 1, &count));
     IS(from, UINT64_MAX);

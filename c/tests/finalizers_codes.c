@@ -5,6 +5,7 @@
 #include "check.h"
 
 static uint8_t answer;       /* what each export answers */
+static uint8_t link_answer;  /* what became of a link, by gc.h's number */
 static uint64_t given[8];    /* what the last one was given */
 static unsigned calls;       /* how many were called */
 static derrimas_finalizers finalizers;
@@ -39,9 +40,17 @@ uint8_t fz_machine_unregister(derrimas_finalizers *f, uint64_t object, derrimas_
     return noted(old, sizeof *old, f == &finalizers, object, 0, 0, 0);
 }
 
+/* gc.h's number of what became of a link, if the call was accepted. */
+static uint8_t told_link(uint8_t code, uint8_t *place)
+{
+    if (code == DERRIMAS_FINALIZERS_OK)
+        *place = link_answer;
+    return code;
+}
+
 uint8_t fz_machine_link(derrimas_finalizers *f, bool is_long, uint64_t word, uint64_t target, uint8_t *place)
 {
-    return noted(place, sizeof *place, f == &finalizers, is_long, word, target, 0);
+    return told_link(noted(place, sizeof *place, f == &finalizers, is_long, word, target, 0), place);
 }
 
 uint8_t fz_machine_unlink(derrimas_finalizers *f, bool is_long, uint64_t word, bool *was)
@@ -51,7 +60,7 @@ uint8_t fz_machine_unlink(derrimas_finalizers *f, bool is_long, uint64_t word, b
 
 uint8_t fz_machine_move_link(derrimas_finalizers *f, bool is_long, uint64_t word, uint64_t to, uint8_t *place)
 {
-    return noted(place, sizeof *place, f == &finalizers, is_long, word, to, 0);
+    return told_link(noted(place, sizeof *place, f == &finalizers, is_long, word, to, 0), place);
 }
 
 uint8_t fz_machine_begin(derrimas_finalizers *f) { return noted(NULL, 0, f == &finalizers, 0, 0, 0, 0); }
@@ -133,6 +142,26 @@ static derrimas_finalizers_linked linked;
 static uint64_t number;
 static bool was;
 
+/* gc.h's numbers, which the exports return, get numbers that are no codes, and back. */
+static void answers_of_links(void)
+{
+    static const derrimas_finalizers_linked all[] = {DERRIMAS_FINALIZERS_LINKED, DERRIMAS_FINALIZERS_DUPLICATE, DERRIMAS_FINALIZERS_NOT_FOUND};
+    static const uint8_t numbers[] = {0, 1, 4};
+
+    for (size_t n = 0; answer == DERRIMAS_FINALIZERS_OK && n < 3; n++) {
+        link_answer = numbers[n];
+        OK(derrimas_finalizers_move_link(&finalizers, DERRIMAS_FINALIZERS_LONG, 8, 9, &linked));
+        IS(linked, all[n]);
+        IS(linked, 128 + n);
+        IS(DERRIMAS_FINALIZERS_GC_ANSWER(linked), numbers[n]);
+        if (n == 2)
+            continue;
+        OK(derrimas_finalizers_link(&finalizers, DERRIMAS_FINALIZERS_LONG, 8, 9, &linked));
+        IS(linked, all[n]);
+    }
+    link_answer = 0;
+}
+
 static void changes(void)
 {
     THROUGH(number, derrimas_finalizers_register(&finalizers, 3, DERRIMAS_FINALIZERS_UNREACHABLE, 4, 5, 6, &number, NULL), 3, 3, 4, 5, 6);
@@ -142,13 +171,15 @@ static void changes(void)
     THROUGH(old, derrimas_finalizers_unregister(&finalizers, 7, &old), 1, 7);
     THROUGH(linked, derrimas_finalizers_link(&finalizers, DERRIMAS_FINALIZERS_LONG, 8, 9, &linked), 1, 1, 8, 9);
     THROUGH(linked, derrimas_finalizers_move_link(&finalizers, DERRIMAS_FINALIZERS_SHORT, 8, 9, &linked), 1, 0, 8, 9);
+    answers_of_links();
     THROUGH(was, derrimas_finalizers_unlink(&finalizers, DERRIMAS_FINALIZERS_LONG, 8, &was), 1, 1, 8);
     IS(derrimas_finalizers_unregister(&finalizers, 7, NULL), answer);
     IS(derrimas_finalizers_link(&finalizers, DERRIMAS_FINALIZERS_SHORT, 8, 9, NULL), answer);
     IS(derrimas_finalizers_move_link(&finalizers, DERRIMAS_FINALIZERS_LONG, 8, 9, NULL), answer);
     IS(derrimas_finalizers_unlink(&finalizers, DERRIMAS_FINALIZERS_SHORT, 8, NULL), answer);
     IS(derrimas_finalizers_register(&finalizers, 3, DERRIMAS_FINALIZERS_NORMAL, 4, 5, 6, NULL, NULL), answer);
-    IS(derrimas_finalizers_open(&finalizers), answer);
+    IS(derrimas_finalizers_open(&finalizers, NULL), answer);
+    IS(derrimas_finalizers_open(&finalizers, &(derrimas_finalizers_options){sizeof(derrimas_finalizers_options), libc}), answer);
     IS(derrimas_finalizers_reserve(&finalizers, 11, 12, 13), answer);
     IS(given[1] == 11 && given[2] == 12 && given[3] == 13, true);
     IS(derrimas_finalizers_begin(&finalizers), answer);
@@ -226,7 +257,7 @@ static void bad_kinds(void)
 int main(void)
 {
     finalizers.inside = &finalizers;
-    for (answer = DERRIMAS_FINALIZERS_OK; answer <= DERRIMAS_FINALIZERS_BAD_KIND; answer++) {
+    for (answer = DERRIMAS_FINALIZERS_OK; answer <= DERRIMAS_FINALIZERS_BAD_OPTIONS; answer++) {
         changes();
         waiting();
         shown();

@@ -104,7 +104,7 @@ static void round_of(unsigned number)
     pthread_t looking;
 
     memset(&all, 0, sizeof all);
-    OK(derrimas_finalizers_open(&finalizers));
+    OK(derrimas_finalizers_open(&finalizers, NULL));
     IS(pthread_create(&looking, NULL, look, &seen), 0);
     in_threads(work, (void *[]){(void *)0, (void *)1});
     in_threads(read_all, (void *[]){sums[0], sums[1]});
