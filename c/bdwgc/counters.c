@@ -40,7 +40,7 @@ APART static void drop(unsigned first, unsigned after)
 
 int main(void)
 {
-    size_t waited;
+    size_t waited, size;
 
     GC_INIT();
     GC_set_finalize_on_demand(1);
@@ -48,6 +48,7 @@ int main(void)
     GC_disable();
     objects = GC_malloc_uncollectable(OBJECTS * sizeof *objects);
     make_all();
+    size = GC_size(objects[0]); /* with what the debugging of a build adds */
     tell("all", OBJECTS, 0);
     for (unsigned n = 0; n < 100; n++)
         GC_register_finalizer_no_order(objects[n], note, 0, 0, 0); /* in the place of the first */
@@ -61,7 +62,7 @@ int main(void)
     collect();
     waited = (size_t)GC_invoke_finalizers();
     wrong += waited > 500 || waited < 450;
-    tell("many lost", OBJECTS - 100 - waited, waited * SIZE);
+    tell("many lost", OBJECTS - 100 - waited, waited * size);
     collect();
     tell("no more", OBJECTS - 100 - waited, 0);
     waited = OBJECTS - 100 - waited;

@@ -41,20 +41,24 @@ static void leaks(void)
 /* ---- a collection in a finalizer: what it queues waits, unless an allocation has failed */
 
 static bool is_scarce;
+static void **objects;
 
-APART static void drop_objects(void)
+APART static void make_objects(void)
 {
-    for (unsigned n = 0; n < OBJECTS; n++)
-        GC_register_finalizer(GC_MALLOC(64), note, 0, 0, 0);
+    objects = GC_MALLOC_UNCOLLECTABLE(OBJECTS * sizeof *objects);
+    for (unsigned n = 0; n < OBJECTS; n++) {
+        objects[n] = GC_MALLOC(64);
+        GC_register_finalizer(objects[n], note, 0, 0, 0);
+    }
 }
 
 static void outer(void *object, void *cd)
 {
     (void)object;
     (void)cd;
-    drop_objects();
     if (is_scarce && GC_MALLOC(1 << 30))
         fail("an allocation that has to");
+    memset(objects, 0, OBJECTS * sizeof *objects);
     scrub();
     GC_gcollect(); /* enabled by the collection that runs this */
     printf("nested, %s: they %s\n", is_scarce ? "after a failed allocation" : "else", ran > 0 ? "ran" : "wait");
@@ -68,6 +72,7 @@ static void nests(void)
     GC_set_warn_proc(GC_ignore_warn_proc);
     GC_set_max_heap_size(1 << 26);
     GC_disable();
+    make_objects();
     drop_outer();
     collect();
 }
@@ -82,17 +87,11 @@ static void nests_scarcely(void)
 
 static void notifies(void)
 {
-    void **objects;
-
     GC_INIT();
     GC_set_finalize_on_demand(1);
     GC_set_finalizer_notifier(notify);
     GC_disable();
-    objects = GC_MALLOC_UNCOLLECTABLE(OBJECTS * sizeof *objects);
-    for (unsigned n = 0; n < OBJECTS; n++) {
-        objects[n] = GC_MALLOC(64);
-        GC_register_finalizer(objects[n], note, 0, 0, 0);
-    }
+    make_objects();
     collect();
     printf("notified %u, ", notified);
     GC_finalize_all();

@@ -27,8 +27,8 @@
  * - Before the host frees, reuses or moves the memory of a link's word, it unlinks or moves the link. A pass writes to the
  *   word of each link that it clears, also where no object has the word.
  *
- * Memory is taken by derrimas_finalizers_open, .._reserve, and by a new registration and a new link alone, by the handle's
- * allocator; and it is freed by those and by .._destroy alone. All other calls may be made while other threads are stopped
+ * Memory is taken by derrimas_finalizers_open, .._reserve, .._shrink, and by a new registration and a new link alone, by the
+ * handle's allocator; and it is freed by those and by .._destroy alone. All other calls may be made while other threads are stopped
  * at any place. By .._reserve memory comes beforehand. A registration is new, too, where one of kind UNREACHABLE takes the
  * place of one of another kind, or the other way round. Each new registration takes room for its entry, so that a pass, a
  * take and a move of a link never lack memory. Where the list of a pass has no room left, .._register and .._link make it
@@ -87,7 +87,7 @@ typedef enum derrimas_finalizers_kind {
 
 /* Links whose words are cleared when the target is unreachable, and when not even a finalizer retains it any more:
  * GC_general_register_disappearing_link and GC_register_long_link. */
-typedef enum derrimas_finalizers_links { DERRIMAS_FINALIZERS_SHORT = 0, DERRIMAS_FINALIZERS_LONG = 1 } derrimas_finalizers_links;
+typedef enum derrimas_finalizers_link_kind { DERRIMAS_FINALIZERS_SHORT = 0, DERRIMAS_FINALIZERS_LONG = 1 } derrimas_finalizers_link_kind;
 
 /* What became of a link. The numbers are no codes; DERRIMAS_FINALIZERS_GC_ANSWER makes gc.h's of them: GC_SUCCESS,
  * GC_DUPLICATE and GC_NOT_FOUND. */
@@ -141,19 +141,20 @@ typedef struct derrimas_finalizers_entry {
     uint64_t seq, pass, reg, obj, proc, cd;
 } derrimas_finalizers_entry;
 
-/* A registration that stands: its object, its number, procedure and client data, its kind and rank. */
-typedef struct derrimas_finalizers_registration {
+/* A registration: its object, its number, procedure and client data, its kind and rank. */
+typedef struct derrimas_finalizers_registration_at {
     uint64_t object, number, proc, cd;
     derrimas_finalizers_kind kind;
     uint8_t rank;
-} derrimas_finalizers_registration;
+} derrimas_finalizers_registration_at;
 
-/* A link that stands: its word and its target. */
+/* A link: its word and its target. */
 typedef struct derrimas_finalizers_link_at {
     uint64_t word, target;
 } derrimas_finalizers_link_at;
 
-/* How much stands: registrations and links; entries that wait, and those that are held; entries that ever came; passes. */
+/* How many registrations, links, entries that wait and entries that are held there are; how many entries and passes there
+ * ever were. */
 typedef struct derrimas_finalizers_counts {
     uint64_t registrations, short_links, long_links, waiting, held, queued, passes;
 } derrimas_finalizers_counts;
@@ -176,7 +177,7 @@ typedef enum derrimas_ask {
 } derrimas_ask;
 
 /* A question about `count` objects or words, 1 to DERRIMAS_FINALIZERS_BATCH, to be answered or carried out one after
- * another; what stands behind them is undefined. Of IS_MARKED and HOLDER_IS_MARKED bit i of the answers, from the lowest
+ * another; what is behind them is undefined. Of IS_MARKED and HOLDER_IS_MARKED bit i of the answers, from the lowest
  * on, is the answer about what[i]; of the others answers don't count. */
 typedef struct derrimas_question {
     uint64_t what[DERRIMAS_FINALIZERS_BATCH];
@@ -205,6 +206,12 @@ DERRIMAS_FINALIZERS_CHECKED derrimas_finalizers_code derrimas_finalizers_reserve
                                                                                  uint64_t longs)
     DERRIMAS_FINALIZERS_NONNULL(1);
 
+/* Gives back the memory that isn't needed for what is registered, linked, waits or is held; also what was reserved. Where
+ * the allocator has no memory to make something smaller, that stays as it is. No other call does this but .._destroy. Takes
+ * time by what there is.
+ * Refused: NOT_OPEN, PASS_OPEN. */
+derrimas_finalizers_code derrimas_finalizers_shrink(derrimas_finalizers *finalizers) DERRIMAS_FINALIZERS_NONNULL(1);
+
 /* ---- registrations and links */
 
 /* Registers a finalizer of the object, in the place of the one that it has, of whichever kind. An object has one: for
@@ -228,21 +235,21 @@ derrimas_finalizers_code derrimas_finalizers_unregister(derrimas_finalizers *fin
  * goes, its word untouched, once the object that has the word isn't marked.
  * Refused: BAD_KIND, NOT_OPEN, PASS_OPEN, ZERO, FULL, NO_MEMORY. */
 DERRIMAS_FINALIZERS_CHECKED derrimas_finalizers_code derrimas_finalizers_link(derrimas_finalizers *finalizers,
-                                                                              derrimas_finalizers_links kind, uint64_t word,
+                                                                              derrimas_finalizers_link_kind kind, uint64_t word,
                                                                               uint64_t target,
                                                                               derrimas_finalizers_linked *answer)
     DERRIMAS_FINALIZERS_NONNULL(1);
 
 /* Removes the link of this kind at the word, and tells in *was, which may be NULL, whether there was one.
  * Refused: BAD_KIND, NOT_OPEN, PASS_OPEN. */
-derrimas_finalizers_code derrimas_finalizers_unlink(derrimas_finalizers *finalizers, derrimas_finalizers_links kind,
+derrimas_finalizers_code derrimas_finalizers_unlink(derrimas_finalizers *finalizers, derrimas_finalizers_link_kind kind,
                                                     uint64_t word, bool *was) DERRIMAS_FINALIZERS_NONNULL(1);
 
 /* Moves the link of this kind from the word to the word `to`. *answer, which may be NULL, is LINKED, also where both are
  * the same; or, and then nothing changed, NOT_FOUND or DUPLICATE. It takes no memory. A single move may build the table
  * anew, in the memory that it has: time by the links of the kind.
  * Refused: BAD_KIND, NOT_OPEN, PASS_OPEN, ZERO (of `to`). */
-derrimas_finalizers_code derrimas_finalizers_move_link(derrimas_finalizers *finalizers, derrimas_finalizers_links kind,
+derrimas_finalizers_code derrimas_finalizers_move_link(derrimas_finalizers *finalizers, derrimas_finalizers_link_kind kind,
                                                        uint64_t word, uint64_t to, derrimas_finalizers_linked *answer)
     DERRIMAS_FINALIZERS_NONNULL(1);
 
@@ -259,6 +266,12 @@ derrimas_finalizers_code derrimas_finalizers_begin(derrimas_finalizers *finalize
 derrimas_finalizers_code derrimas_finalizers_next(derrimas_finalizers *finalizers, uint64_t answers,
                                                   derrimas_question *question, derrimas_finalizers_passed *passed)
     DERRIMAS_FINALIZERS_NONNULL(1, 3);
+
+/* Ends the open pass before its last question. What it has queued stays queued. A link stays whose CLEAR wasn't answered,
+ * and so does the registration of an object that wasn't queued. Objects may be marked by then that nothing reaches: so the
+ * host reclaims nothing before its next pass has ended.
+ * Refused: NOT_OPEN, NO_PASS. */
+derrimas_finalizers_code derrimas_finalizers_abandon(derrimas_finalizers *finalizers) DERRIMAS_FINALIZERS_NONNULL(1);
 
 /* ---- the entries of finalizers that are ready */
 
@@ -287,7 +300,7 @@ derrimas_finalizers_code derrimas_finalizers_finish(derrimas_finalizers *finaliz
 /* Whether entries wait, without the lock: a hint, GC_should_invoke_finalizers. */
 bool derrimas_finalizers_has_waiting(const derrimas_finalizers *finalizers) DERRIMAS_FINALIZERS_NONNULL(1);
 
-/* ---- what stands; nothing changes by it, and a pass may be open */
+/* ---- what a handle has; nothing changes by it, and a pass may be open */
 
 /* The roots: what a host marks from before a pass, and keeps. */
 typedef enum derrimas_finalizers_root {
@@ -310,15 +323,30 @@ derrimas_finalizers_code derrimas_finalizers_roots(const derrimas_finalizers *fi
 derrimas_finalizers_code derrimas_finalizers_count(const derrimas_finalizers *finalizers, derrimas_finalizers_counts *counts)
     DERRIMAS_FINALIZERS_NONNULL(1, 2);
 
-/* The registration of the first registered object at `from` or after it; it goes over all of them.
- * Refused: NOT_OPEN, EMPTY. */
-derrimas_finalizers_code derrimas_finalizers_next_registration(const derrimas_finalizers *finalizers, uint64_t from,
-                                                               derrimas_finalizers_registration *registration);
+/* The registration of an object.
+ * Refused: NOT_OPEN; EMPTY where it has none. */
+derrimas_finalizers_code derrimas_finalizers_registration(const derrimas_finalizers *finalizers, uint64_t object,
+                                                          derrimas_finalizers_registration_at *registration)
+    DERRIMAS_FINALIZERS_NONNULL(1, 3);
 
-/* The first link of this kind whose word is at `from` or after it; it goes over all of them.
- * Refused: BAD_KIND, NOT_OPEN, EMPTY. */
-derrimas_finalizers_code derrimas_finalizers_next_link(const derrimas_finalizers *finalizers, derrimas_finalizers_links kind,
-                                                       uint64_t from, derrimas_finalizers_link_at *link);
+/* The target of the link of this kind at the word.
+ * Refused: BAD_KIND, NOT_OPEN; EMPTY where there is no link. */
+derrimas_finalizers_code derrimas_finalizers_target(const derrimas_finalizers *finalizers,
+                                                    derrimas_finalizers_link_kind kind, uint64_t word, uint64_t *target)
+    DERRIMAS_FINALIZERS_NONNULL(1, 4);
+
+/* Copies registrations into the buffer, which has `room` places, as derrimas_finalizers_roots copies roots: from the place
+ * *from on, in no order that a host may rely on. A call takes time by what it copies, wherever it starts.
+ * Refused: NOT_OPEN; EMPTY where none is left, or `room` is 0. */
+derrimas_finalizers_code derrimas_finalizers_registrations(const derrimas_finalizers *finalizers, uint64_t *from,
+                                                           derrimas_finalizers_registration_at *buffer, size_t room,
+                                                           size_t *count) DERRIMAS_FINALIZERS_NONNULL(1, 2, 5);
+
+/* The same of the links of a kind.
+ * Refused: BAD_KIND, NOT_OPEN; EMPTY where none is left, or `room` is 0. */
+derrimas_finalizers_code derrimas_finalizers_links(const derrimas_finalizers *finalizers, derrimas_finalizers_link_kind kind,
+                                                   uint64_t *from, derrimas_finalizers_link_at *buffer, size_t room,
+                                                   size_t *count) DERRIMAS_FINALIZERS_NONNULL(1, 3, 6);
 
 /* ---- a host's procedures, and a pass that they drive */
 

@@ -7,7 +7,7 @@
 typedef derrimas_finalizers_code code;
 
 static bool is_kind(derrimas_finalizers_kind kind) { return (unsigned)kind <= DERRIMAS_FINALIZERS_UNREACHABLE; }
-static bool is_links(derrimas_finalizers_links kind) { return (unsigned)kind <= DERRIMAS_FINALIZERS_LONG; }
+static bool is_links(derrimas_finalizers_link_kind kind) { return (unsigned)kind <= DERRIMAS_FINALIZERS_LONG; }
 static bool is_root(derrimas_finalizers_root sort) { return (unsigned)sort <= DERRIMAS_FINALIZERS_REGISTERED_DATA; }
 
 /* A handle for calls that change nothing. */
@@ -104,6 +104,13 @@ code derrimas_finalizers_reserve(derrimas_finalizers *finalizers, uint64_t regis
     return left(before, fz_machine_reserve(finalizers, registrations, shorts, longs));
 }
 
+code derrimas_finalizers_shrink(derrimas_finalizers *finalizers)
+{
+    const derrimas_allocator *before = entered(&finalizers->allocator);
+
+    return left(before, fz_machine_shrink(finalizers));
+}
+
 /* ---- registrations and links */
 
 code derrimas_finalizers_register(derrimas_finalizers *finalizers, uint64_t object, derrimas_finalizers_kind kind, uint64_t proc, uint64_t cd,
@@ -142,7 +149,7 @@ static code answered(code it, uint8_t found, derrimas_finalizers_linked *answer)
     return it;
 }
 
-code derrimas_finalizers_link(derrimas_finalizers *finalizers, derrimas_finalizers_links kind, uint64_t word, uint64_t target,
+code derrimas_finalizers_link(derrimas_finalizers *finalizers, derrimas_finalizers_link_kind kind, uint64_t word, uint64_t target,
                               derrimas_finalizers_linked *answer)
 {
     const derrimas_allocator *before;
@@ -156,7 +163,7 @@ code derrimas_finalizers_link(derrimas_finalizers *finalizers, derrimas_finalize
     return answered(it, found, answer);
 }
 
-code derrimas_finalizers_unlink(derrimas_finalizers *finalizers, derrimas_finalizers_links kind, uint64_t word, bool *was)
+code derrimas_finalizers_unlink(derrimas_finalizers *finalizers, derrimas_finalizers_link_kind kind, uint64_t word, bool *was)
 {
     bool unwanted;
 
@@ -165,7 +172,7 @@ code derrimas_finalizers_unlink(derrimas_finalizers *finalizers, derrimas_finali
     return fz_machine_unlink(finalizers, kind == DERRIMAS_FINALIZERS_LONG, word, was ? was : &unwanted);
 }
 
-code derrimas_finalizers_move_link(derrimas_finalizers *finalizers, derrimas_finalizers_links kind, uint64_t word, uint64_t to,
+code derrimas_finalizers_move_link(derrimas_finalizers *finalizers, derrimas_finalizers_link_kind kind, uint64_t word, uint64_t to,
                                    derrimas_finalizers_linked *answer)
 {
     uint8_t found = 0;
@@ -203,6 +210,16 @@ code derrimas_finalizers_next(derrimas_finalizers *finalizers, uint64_t answers,
         question->what[i] = asked.what[i];
     question->count = asked.count;
     question->ask = (derrimas_ask)asked.ask;
+    return it;
+}
+
+code derrimas_finalizers_abandon(derrimas_finalizers *finalizers)
+{
+    derrimas_finalizers_counts counts;
+    code it = fz_machine_abandon(finalizers);
+
+    if (it == DERRIMAS_FINALIZERS_OK && fz_machine_count(finalizers, &counts) == DERRIMAS_FINALIZERS_OK)
+        set_waiting(finalizers, counts.waiting); /* with those that the pass had queued */
     return it;
 }
 
@@ -246,7 +263,17 @@ code derrimas_finalizers_finish(derrimas_finalizers *finalizers, const derrimas_
 
 bool derrimas_finalizers_has_waiting(const derrimas_finalizers *finalizers) { return __atomic_load_n(&finalizers->waiting, __ATOMIC_RELAXED) != 0; }
 
-/* ---- what stands */
+/* ---- what is registered and linked, and roots */
+
+/* What a part of a walk returns, of which so many were copied: the next part begins behind them. */
+static code walked(code it, size_t filled, uint64_t *from, size_t *count)
+{
+    if (filled == 0)
+        return it == DERRIMAS_FINALIZERS_OK ? DERRIMAS_FINALIZERS_EMPTY : it; /* OK: the buffer has no room */
+    *from += filled;
+    *count = filled;
+    return DERRIMAS_FINALIZERS_OK;
+}
 
 code derrimas_finalizers_roots(const derrimas_finalizers *finalizers, derrimas_finalizers_root sort, uint64_t *from, uint64_t *buffer, size_t room,
                                size_t *count)
@@ -263,11 +290,73 @@ code derrimas_finalizers_roots(const derrimas_finalizers *finalizers, derrimas_f
         for (uint64_t i = 0; it == DERRIMAS_FINALIZERS_OK && i < some.count && filled < room; i++)
             buffer[filled++] = some.words[i];
     } while (it == DERRIMAS_FINALIZERS_OK && filled < room);
-    if (filled == 0)
-        return it == DERRIMAS_FINALIZERS_OK ? DERRIMAS_FINALIZERS_EMPTY : it; /* OK: the buffer has no room */
-    *from += filled;
-    *count = filled;
-    return DERRIMAS_FINALIZERS_OK;
+    return walked(it, filled, from, count);
+}
+
+/* A registration with its kind as C has it. */
+static derrimas_finalizers_registration_at shown(const fz_machine_registration_at *found)
+{
+    derrimas_finalizers_registration_at it;
+
+    it.object = found->object;
+    it.number = found->number;
+    it.proc = found->proc;
+    it.cd = found->cd;
+    it.kind = (derrimas_finalizers_kind)found->kind;
+    it.rank = found->rank;
+    return it;
+}
+
+code derrimas_finalizers_registrations(const derrimas_finalizers *finalizers, uint64_t *from, derrimas_finalizers_registration_at *buffer, size_t room,
+                                       size_t *count)
+{
+    derrimas_finalizers copy = copied(finalizers);
+    fz_machine_some_registrations some;
+    size_t filled = 0;
+    code it;
+
+    do {
+        it = fz_machine_registrations(&copy, *from + filled, &some);
+        for (uint64_t i = 0; it == DERRIMAS_FINALIZERS_OK && i < some.count && filled < room; i++)
+            buffer[filled++] = shown(&some.registrations[i]);
+    } while (it == DERRIMAS_FINALIZERS_OK && filled < room);
+    return walked(it, filled, from, count);
+}
+
+code derrimas_finalizers_links(const derrimas_finalizers *finalizers, derrimas_finalizers_link_kind kind, uint64_t *from,
+                               derrimas_finalizers_link_at *buffer, size_t room, size_t *count)
+{
+    derrimas_finalizers copy = copied(finalizers);
+    fz_machine_some_links some;
+    size_t filled = 0;
+    code it;
+
+    if (!is_links(kind))
+        return DERRIMAS_FINALIZERS_BAD_KIND;
+    do {
+        it = fz_machine_links(&copy, kind == DERRIMAS_FINALIZERS_LONG, *from + filled, &some);
+        for (uint64_t i = 0; it == DERRIMAS_FINALIZERS_OK && i < some.count && filled < room; i++)
+            buffer[filled++] = some.links[i];
+    } while (it == DERRIMAS_FINALIZERS_OK && filled < room);
+    return walked(it, filled, from, count);
+}
+
+code derrimas_finalizers_registration(const derrimas_finalizers *finalizers, uint64_t object, derrimas_finalizers_registration_at *registration)
+{
+    derrimas_finalizers copy = copied(finalizers);
+    fz_machine_registration_at found;
+    code it = fz_machine_registration(&copy, object, &found);
+
+    if (it == DERRIMAS_FINALIZERS_OK)
+        *registration = shown(&found);
+    return it;
+}
+
+code derrimas_finalizers_target(const derrimas_finalizers *finalizers, derrimas_finalizers_link_kind kind, uint64_t word, uint64_t *target)
+{
+    derrimas_finalizers copy = copied(finalizers);
+
+    return is_links(kind) ? (code)fz_machine_target(&copy, kind == DERRIMAS_FINALIZERS_LONG, word, target) : DERRIMAS_FINALIZERS_BAD_KIND;
 }
 
 code derrimas_finalizers_count(const derrimas_finalizers *finalizers, derrimas_finalizers_counts *counts)
@@ -275,28 +364,4 @@ code derrimas_finalizers_count(const derrimas_finalizers *finalizers, derrimas_f
     derrimas_finalizers copy = copied(finalizers);
 
     return fz_machine_count(&copy, counts);
-}
-
-code derrimas_finalizers_next_registration(const derrimas_finalizers *finalizers, uint64_t from, derrimas_finalizers_registration *registration)
-{
-    derrimas_finalizers copy = copied(finalizers);
-    fz_machine_registration found;
-    code it = fz_machine_next_registration(&copy, from, &found);
-
-    if (it != DERRIMAS_FINALIZERS_OK)
-        return it;
-    registration->object = found.object;
-    registration->number = found.number;
-    registration->proc = found.proc;
-    registration->cd = found.cd;
-    registration->kind = (derrimas_finalizers_kind)found.kind;
-    registration->rank = found.rank;
-    return it;
-}
-
-code derrimas_finalizers_next_link(const derrimas_finalizers *finalizers, derrimas_finalizers_links kind, uint64_t from, derrimas_finalizers_link_at *link)
-{
-    derrimas_finalizers copy = copied(finalizers);
-
-    return is_links(kind) ? (code)fz_machine_next_link(&copy, kind == DERRIMAS_FINALIZERS_LONG, from, link) : DERRIMAS_FINALIZERS_BAD_KIND;
 }

@@ -6,14 +6,15 @@
 #include <pthread.h>
 #include <sys/mman.h>
 
-enum { HEAD = 16, ROOM = 1 << 26 };
+enum { HEAD = 16, ROOM = 1 << 28 };
 
 /* What an allocator's `data` points to. */
 typedef struct heap {
     unsigned char *memory;    /* all of it: what is given back isn't given again */
     size_t used;              /* of it */
     long granted;             /* how many allocations are granted yet; none is refused where it is negative */
-    unsigned asked, standing; /* how often the three were called; how much isn't given back */
+    unsigned asked, standing; /* how often the three were called; how many blocks aren't given back */
+    size_t live;              /* the bytes of those */
     unsigned strange;         /* how often something came that wasn't given here */
     void (*within)(void);     /* called by each, if it isn't NULL */
 } heap;
@@ -36,12 +37,14 @@ static void *allocate(void *data, size_t size)
     memcpy(it->memory + it->used, &size, sizeof size);
     it->used += HEAD + (size + 15) / 16 * 16;
     it->standing++;
+    it->live += size;
     return it->memory + it->used - (size + 15) / 16 * 16;
 }
 
 static void release(void *data, void *at)
 {
     heap *it = data;
+    size_t size;
 
     it->asked++;
     if (it->within)
@@ -52,7 +55,9 @@ static void release(void *data, void *at)
         it->strange++;
         return;
     }
+    memcpy(&size, (unsigned char *)at - HEAD, sizeof size);
     it->standing--;
+    it->live -= size;
     memset((unsigned char *)at - HEAD, 0xee, HEAD);
 }
 
@@ -83,7 +88,7 @@ static derrimas_finalizers_counts counted(void)
 static void closes(void)
 {
     derrimas_finalizers_destroy(&finalizers);
-    IS(first.standing == 0 && first.strange == 0, true);
+    IS(first.standing == 0 && first.live == 0 && first.strange == 0, true);
     first.used = 0;
 }
 
@@ -153,19 +158,19 @@ static void refusals(void)
 /* In the place of one of another kind: where that is refused, the old one stands. */
 static void replacing(derrimas_finalizers_kind kind, derrimas_finalizers_kind other)
 {
-    derrimas_finalizers_registration before, after;
+    derrimas_finalizers_registration_at before, after;
     derrimas_finalizers_old old = {0, 0, false};
     derrimas_finalizers_code code;
     long few = 0;
 
     OK(derrimas_finalizers_open(&finalizers, &options));
     OK(derrimas_finalizers_register(&finalizers, 8, kind, 1, 2, 3, NULL, NULL));
-    OK(derrimas_finalizers_next_registration(&finalizers, 0, &before));
+    OK(derrimas_finalizers_registration(&finalizers, 8, &before));
     do {
         first.granted = few++;
         code = derrimas_finalizers_register(&finalizers, 8, other, 4, 5, 6, NULL, &old);
         first.granted = -1;
-        OK(derrimas_finalizers_next_registration(&finalizers, 0, &after));
+        OK(derrimas_finalizers_registration(&finalizers, 8, &after));
         IS(code == DERRIMAS_FINALIZERS_OK || code == DERRIMAS_FINALIZERS_NO_MEMORY, true);
         IS(after.kind, code == DERRIMAS_FINALIZERS_OK ? other : kind);
         IS(after.number == before.number && after.proc == 1 && after.cd == 2 && after.rank == 3, code != DERRIMAS_FINALIZERS_OK);
@@ -211,6 +216,56 @@ static void reserved(void)
     closes();
 }
 
+static bool finds(uint64_t object)
+{
+    derrimas_finalizers_registration_at it;
+    uint64_t target;
+    bool is_found = derrimas_finalizers_registration(&finalizers, object, &it) == DERRIMAS_FINALIZERS_OK;
+
+    IS(derrimas_finalizers_target(&finalizers, DERRIMAS_FINALIZERS_SHORT, object, &target) == DERRIMAS_FINALIZERS_OK, is_found);
+    return is_found;
+}
+
+/* After a peak a shrink gives back all but what is needed: as much as a fresh handle takes, and half of that. Where it is refused memory, things stay as they are. */
+static uint64_t of_peak(uint64_t peak, uint64_t left, bool shrinks)
+{
+    uint64_t live;
+
+    OK(derrimas_finalizers_open(&finalizers, &options));
+    for (uint64_t n = 1; n <= peak; n++) {
+        OK(derrimas_finalizers_register(&finalizers, 8 * n, (derrimas_finalizers_kind)(n % 4), n, n, 0, NULL, NULL));
+        OK(derrimas_finalizers_link(&finalizers, DERRIMAS_FINALIZERS_SHORT, 8 * n, n, NULL));
+        OK(derrimas_finalizers_link(&finalizers, DERRIMAS_FINALIZERS_LONG, 8 * n, n, NULL));
+    }
+    for (uint64_t n = left + 1; n <= peak; n++) {
+        OK(derrimas_finalizers_unregister(&finalizers, 8 * n, NULL));
+        OK(derrimas_finalizers_unlink(&finalizers, DERRIMAS_FINALIZERS_SHORT, 8 * n, NULL));
+        OK(derrimas_finalizers_unlink(&finalizers, DERRIMAS_FINALIZERS_LONG, 8 * n, NULL));
+    }
+    if (shrinks) {
+        first.granted = 0;
+        OK(derrimas_finalizers_shrink(&finalizers));
+        first.granted = -1;
+        IS(counted().registrations == left && counted().short_links == left && counted().long_links == left, true);
+        OK(derrimas_finalizers_shrink(&finalizers));
+        IS(counted().registrations == left && counted().short_links == left && counted().long_links == left, true);
+    }
+    live = first.live;
+    for (uint64_t n = 1; n <= peak; n++)
+        IS(finds(8 * n) == (n <= left), true);
+    closes();
+    return live;
+}
+
+static void shrinks(void)
+{
+    for (uint64_t left = 0; left <= 5000; left = 3 * left + 100) {
+        uint64_t fresh = of_peak(left, left, false);
+        IS(of_peak(20000, left, false) > 2 * fresh, true);
+        IS(of_peak(20000, left, true) * 2 <= 3 * fresh, true);
+    }
+}
+
 static void fill(void)
 {
     memset(&all, 0, sizeof all);
@@ -233,6 +288,9 @@ static void others(void)
     fill();
     before = first.asked;
     first.granted = 0;
+    mark_all(&all, &finalizers);
+    OK(derrimas_finalizers_begin(&finalizers));
+    OK(derrimas_finalizers_abandon(&finalizers));
     IS(collect(&all, &finalizers).picked > 100, true);
     for (size_t n = 0; n < OBJECTS; n += 2) {
         OK(derrimas_finalizers_move_link(&finalizers, DERRIMAS_FINALIZERS_SHORT, word_of(&objects[n], 1), word_of(&objects[n], 3), NULL));
@@ -253,19 +311,21 @@ static void others(void)
 /* Calls that change nothing, while the memory can't be written to. */
 static void reads(void)
 {
-    derrimas_finalizers_registration registration = {0, 0, 0, 0, DERRIMAS_FINALIZERS_NORMAL, 0};
-    derrimas_finalizers_link_at at = {0, 0};
+    derrimas_finalizers_registration_at registrations[70];
+    derrimas_finalizers_link_at links[70];
     derrimas_finalizers_counts counts;
-    uint64_t buffer[100], from;
+    uint64_t buffer[100], from, target;
     size_t count, seen = 0;
 
     IS(mprotect(first.memory, ROOM, PROT_READ), 0);
     OK(derrimas_finalizers_count(&finalizers, &counts));
-    while (derrimas_finalizers_next_registration(&finalizers, registration.object + 1, &registration) == DERRIMAS_FINALIZERS_OK)
-        seen++;
-    for (int kind = DERRIMAS_FINALIZERS_SHORT; kind <= DERRIMAS_FINALIZERS_LONG; kind++, at.word = 0)
-        while (derrimas_finalizers_next_link(&finalizers, (derrimas_finalizers_links)kind, at.word + 1, &at) == DERRIMAS_FINALIZERS_OK)
-            seen++;
+    for (from = 0; derrimas_finalizers_registrations(&finalizers, &from, registrations, 70, &count) == DERRIMAS_FINALIZERS_OK; seen += count)
+        OK(derrimas_finalizers_registration(&finalizers, registrations[count - 1].object, registrations));
+    for (int kind = DERRIMAS_FINALIZERS_SHORT; kind <= DERRIMAS_FINALIZERS_LONG; kind++) {
+        derrimas_finalizers_link_kind of = (derrimas_finalizers_link_kind)kind;
+        for (from = 0; derrimas_finalizers_links(&finalizers, of, &from, links, 70, &count) == DERRIMAS_FINALIZERS_OK; seen += count)
+            OK(derrimas_finalizers_target(&finalizers, of, links[count - 1].word, &target));
+    }
     for (int sort = DERRIMAS_FINALIZERS_HELD_OBJECTS; sort <= DERRIMAS_FINALIZERS_REGISTERED_DATA; sort++)
         for (from = 0; derrimas_finalizers_roots(&finalizers, (derrimas_finalizers_root)sort, &from, buffer, 100, &count) == DERRIMAS_FINALIZERS_OK;)
             seen += count;
@@ -397,6 +457,7 @@ int main(void)
         replacing((derrimas_finalizers_kind)(kind / 4), (derrimas_finalizers_kind)(kind % 4));
     too_much();
     reserved();
+    shrinks();
     others();
     constant();
     in_turn();

@@ -27,9 +27,10 @@ class Finalizers:
     crates, refusals = ['fz_machine_c'], 'crates/fz_machine_c/src/codes.rt'
     prefix, own = 'derrimas_finalizers_', 11
     refused = range(11)
-    types = {'Handle': 'derrimas_finalizers', 'Linked': 'derrimas_finalizers_link_at',
-             **{name: f'fz_machine_{name.lower()}' for name in ('Registered', 'Question', 'Words', 'Registration')}}
-    alone = ['derrimas_finalizers', 'derrimas_finalizers_registration', 'derrimas_question', 'derrimas_host', 'derrimas_allocator',
+    types = {'Handle': 'derrimas_finalizers', 'Linked': 'derrimas_finalizers_link_at', 'Registration': 'fz_machine_registration_at',
+             **{name: f'fz_machine_some_{name.lower()}' for name in ('Registrations', 'Links')},
+             **{name: f'fz_machine_{name.lower()}' for name in ('Registered', 'Question', 'Words')}}
+    alone = ['derrimas_finalizers', 'derrimas_finalizers_registration_at', 'derrimas_question', 'derrimas_host', 'derrimas_allocator',
              'derrimas_finalizers_options']
 
 
