@@ -42,8 +42,8 @@ def documented(lines):
 
 
 def said(comment):
-    """A comment as one paragraph."""
-    return ' '.join(line for line in comment if line)
+    """A comment as one paragraph, in which a link to an item of the sources is its name alone."""
+    return re.sub(r'\[(`[^`]+`)\](?:\([\w:]+\))?', r'\1', ' '.join(line for line in comment if line))
 
 
 def in_short(comment):
