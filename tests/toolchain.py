@@ -1,6 +1,6 @@
 """What the tools of tests/ take of the program rt: its rules, how it checks a crate, and the libraries that it built. So they go with the toolchain that the
 README names."""
-import importlib.machinery, importlib.util, os, shutil, sys, tempfile
+import functools, importlib.machinery, importlib.util, os, re, shutil, subprocess, sys, tempfile
 
 
 def load():
@@ -19,6 +19,13 @@ def load():
 rt = load()
 # What `rt.must_fail` returns first of an edit that the prover refuses: a word, or in some versions of the toolchain that it does.
 REFUSED = getattr(rt, 'REFUSED', True)
+
+
+@functools.lru_cache(maxsize=None)
+def logic():
+    """The sum of the prover's logic, on which verdicts rest: two kits with the same one prove the same."""
+    said = subprocess.run(['rt', 'version'], stdout=subprocess.PIPE, text=True, check=True).stdout
+    return ''.join(re.findall(r'\blogic (\w+)', said)) or said
 
 
 def take_libraries(crates, folder):
