@@ -1,4 +1,4 @@
-//! What no clause says of finalizers: that calls succeed, and that thousands of rounds leave as little as one.
+//! What no clause states of finalizers: that calls succeed, and that thousands of rounds leave no more memory in use than one.
 
 use crate::equal::must_be;
 use fz_finalizers::{
@@ -7,7 +7,7 @@ use fz_finalizers::{
 use std::alloc::Global;
 use std::process::Abort;
 
-/// A finalizer of a kind, whose procedure and client data are the object plus 1 and plus 2.
+/// A finalizer of this kind, whose procedure and client data are the object's address plus 1 and plus 2.
 fn finalizer(kind: Kind, object: Addr, rank: u8) -> Finalizer {
     Finalizer {
         kind,
