@@ -1,7 +1,7 @@
 //! What a run of questions and answers makes.
 
 ghost use Rattle.fz_machine.specs.Heard.{PassesAreCalls, PassesEnd};
-ghost use Rattle.fz_machine.specs.Runs.{RunsPass};
+ghost use Rattle.fz_machine.specs.Runs.{AsksRightly, RunsPass};
 
 /// A run whose answers are a graph's makes the model's pass, just as `Finalizers::pass` does, and asks nothing that it may not.
 ///
@@ -22,4 +22,11 @@ pub fn passes_end()
 /// holds after each question.
 pub fn passes_are_calls()
     ensures { PassesAreCalls }
+{}
+
+/// Whoever answers for a graph is asked only what he may be: where he is asked to mark, of an object of the graph, and while what marked objects lead to is
+/// marked.
+pub fn questions_may_be_asked()
+    ensures exact { AsksRightly (Unit {0}) }
+    ensures more { AsksRightly ⊥ }
 {}
