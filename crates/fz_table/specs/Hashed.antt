@@ -8,7 +8,7 @@ use Rattle.fz_table.specs.declared.hasher.AddressHasher.{AddressHasher}
 abbrev pub hash_of : ℕ → ℕ
 hash_of word =
     let mixed = bit_xor (bit_xor word (word / 2 ^ 7)) (word / 2 ^ 18) in
-    bit_xor (mixed / 2 ^ 3) ((mixed * 2 ^ 24) % 2 ^ 64)
+    bit_xor (mixed / 2 ^ 2) ((mixed * 2 ^ 24) % 2 ^ 64)
 
 -- the hasher after a write; only the eight bytes of a word count
 abbrev pub written : AddressHasher → List ℕ → AddressHasher
