@@ -44,7 +44,7 @@ impl Model for Links {
 
     ghost coded = { linked_code };
 
-    ghost view = { λ l. record { links = from_entries l.entries.entries; room = spare l.entries } };
+    ghost view = { λ l. record { links = from_entries l.entries.entries; room = spare l.entries; order = l.entries.entries } };
 
     ghost invariant = { λ l. len (from_entries {R = nat_cmp} l.entries.entries) ≤ MOST_ENTRIES };
 }
@@ -216,12 +216,13 @@ impl Links {
         self.entries.is_empty()
     }
 
-    /// All links with their targets, each once, in no order that callers may count on.
+    /// All links with their targets, each once, in an order that stays as long as nothing changes.
     pub fn iter(&self) -> Pairs<'_, Addr, Addr>
         ensures all { from_entries result ≡ self.now.links }
         ensures once { IsDistinct nat_eq (keys_of result) }
         ensures count { length result ≡ len self.now.links }
         ensures limit { length result ≤ MOST_ENTRIES }
+        ensures order { result ≡ self.now.order }
     {
         Pairs::of(self.entries.iter())
     }

@@ -1,4 +1,4 @@
--- Whoever answers for a graph is asked only what he may be.
+-- A host that answers for a graph is asked only what it may be asked.
 use Rattle.std.proofs.Common.{◌≡◌, ◌⊎◌, ◌∷◌, [], ℕ, List, refl, sym, ap, subst, inl, inr, is_some, not, IsTrue}
 use Rattle.fz_model.specs.declared.kinds.RegKind.{RegKind}
 use Rattle.fz_model.specs.declared.kinds.RegKind.TheVariants as table

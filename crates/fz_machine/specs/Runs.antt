@@ -45,7 +45,7 @@ AreAskable Exact phase (item ∷ items) g =
     MayBeAsked (asks phase item) (subject phase item) g
     × ((answer : Bool) (between : Graph) → IsHonest Exact (asks phase item) (subject phase item) g answer between → AreAskable Exact phase items between)
 
--- whoever answers for a graph is asked only what he may be
+-- a host that answers for a graph is asked only what it may be asked
 abbrev pub AsksRightly : Type 0 → Type 0
 AsksRightly Exact = (old begun new : Machine) (past : Past) (before after : Graph) (phase : Phase)
     → IsReached old.finalizers.state past → IsBegun old begun → MayBegin old.finalizers.state before → Runs Exact begun before new after → new.phase ≡ Some phase

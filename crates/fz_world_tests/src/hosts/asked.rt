@@ -311,3 +311,38 @@ fn lists_are_longer_than_questions(rt: HostRuntime) {
         forty_are_picked(&rt, rt.alloc(), &answers[..*count]);
     }
 }
+
+/// Twenty objects, whose pass is abandoned once it has told so many questions: what it has queued waits, and the next pass queues the others.
+fn twenty_are_picked_by_two_passes(rt: &impl Abort, alloc: Global, questions: u64) {
+    let mut machine = Machine::new(alloc);
+    for object in 1..=20 {
+        let finalizer = Finalizer {
+            kind: Kind::Normal,
+            procedure: object,
+            client_data: 0,
+            rank: 0,
+        };
+        machine.register(object, finalizer).expect(rt, "memory");
+    }
+    machine.begin().expect(rt, "no other pass");
+    for _ in 0..questions {
+        let next = machine.next(&[false; BATCH]).expect(rt, "an open pass");
+        must_be(rt, matches!(next, Next::Asks(_)), true, "a question");
+    }
+    machine.abandon().expect(rt, "an open pass");
+    must_be(rt, machine.abandon().is_err(), true, "none is open");
+    let left = machine.finalizers().registrations();
+    must_be(rt, machine.finalizers().waiting() + left, 20, "all stay");
+    let passed = pass_of_unmarked(rt, &mut machine, &[false; BATCH]);
+    must_be(rt, passed.picked, left, "the others are picked");
+    for object in 1..=20 {
+        take_of(rt, &mut machine, object);
+    }
+}
+
+#[test]
+fn a_pass_is_abandoned_at_each_question(rt: HostRuntime) {
+    for questions in 0..=8 {
+        twenty_are_picked_by_two_passes(&rt, rt.alloc(), questions);
+    }
+}
