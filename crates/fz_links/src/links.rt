@@ -71,6 +71,14 @@ impl Links {
         Ok(())
     }
 
+    /// Gives back the memory that the links and their moves don't need. What can't be made smaller for want of memory stays as it is.
+    pub fn shrink(&mut self)
+        ensures same { self.new.links ≡ self.old.links }
+    {
+        let len = self.entries.len();
+        self.entries.shrink_to(len + spare_for(len));
+    }
+
     /// Registers a link, or gives a registered one a new target.
     ///
     /// Refuses a new link alone: with `TableFull` when 65,536 others are registered, then with `NoMemory` when there is no room left and none can be had.
@@ -258,6 +266,14 @@ impl Links {
     {
         self.len() as u64 >= TABLE_LIMIT && self.get(link).is_none()
     }
+}
+
+/// How many places a table of so many links keeps for their moves: a sixteenth of all.
+fn spare_for(links: usize) -> usize
+    ensures few { result ≤ links }
+    ensures some { 0 < links → 0 < result }
+{
+    links.div_ceil(15)
 }
 
 /// The answer to the registering of a link.

@@ -11,6 +11,8 @@ mod equal;
 #[cfg(test)]
 mod finalizers;
 #[cfg(test)]
+mod hash;
+#[cfg(test)]
 mod heap;
 #[cfg(test)]
 mod line;
