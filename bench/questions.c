@@ -103,7 +103,7 @@ int main(int count, char **words)
         if (!strcmp(tests[i].name, words[1])) {
             double least = INFINITY;
             for (int turn = 0; turn < TURNS; turn++) {
-                must(derrimas_finalizers_open(&finalizers));
+                must(derrimas_finalizers_open(&finalizers, NULL));
                 least = fmin(least, tests[i].turn(n));
                 derrimas_finalizers_destroy(&finalizers);
             }

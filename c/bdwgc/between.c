@@ -65,26 +65,26 @@ code __wrap_derrimas_finalizers_unregister(handle *finalizers, uint64_t object, 
 
 /* ---- links */
 
-code __real_derrimas_finalizers_link(handle *finalizers, derrimas_finalizers_links kind, uint64_t word, uint64_t target,
+code __real_derrimas_finalizers_link(handle *finalizers, derrimas_finalizers_link_kind kind, uint64_t word, uint64_t target,
                                      derrimas_finalizers_linked *answer);
 
-code __wrap_derrimas_finalizers_link(handle *finalizers, derrimas_finalizers_links kind, uint64_t word, uint64_t target,
+code __wrap_derrimas_finalizers_link(handle *finalizers, derrimas_finalizers_link_kind kind, uint64_t word, uint64_t target,
                                      derrimas_finalizers_linked *answer)
 {
     return __real_derrimas_finalizers_link(finalizers, kind, word, target, answer);
 }
 
-code __real_derrimas_finalizers_unlink(handle *finalizers, derrimas_finalizers_links kind, uint64_t word, bool *was);
+code __real_derrimas_finalizers_unlink(handle *finalizers, derrimas_finalizers_link_kind kind, uint64_t word, bool *was);
 
-code __wrap_derrimas_finalizers_unlink(handle *finalizers, derrimas_finalizers_links kind, uint64_t word, bool *was)
+code __wrap_derrimas_finalizers_unlink(handle *finalizers, derrimas_finalizers_link_kind kind, uint64_t word, bool *was)
 {
     return __real_derrimas_finalizers_unlink(finalizers, kind, word, was);
 }
 
-code __real_derrimas_finalizers_move_link(handle *finalizers, derrimas_finalizers_links kind, uint64_t word, uint64_t to,
+code __real_derrimas_finalizers_move_link(handle *finalizers, derrimas_finalizers_link_kind kind, uint64_t word, uint64_t to,
                                           derrimas_finalizers_linked *answer);
 
-code __wrap_derrimas_finalizers_move_link(handle *finalizers, derrimas_finalizers_links kind, uint64_t word, uint64_t to,
+code __wrap_derrimas_finalizers_move_link(handle *finalizers, derrimas_finalizers_link_kind kind, uint64_t word, uint64_t to,
                                           derrimas_finalizers_linked *answer)
 {
     return __real_derrimas_finalizers_move_link(finalizers, kind, word, to, answer);

@@ -140,10 +140,11 @@ static unsigned class_of(size_t size)
     return at;
 }
 
-void *derrimas_malloc(size_t size)
+static void *allocate(void *nothing, size_t size)
 {
     union block *block;
 
+    (void)nothing;
     if (size > SIZE_MAX / 2)
         return NULL;
     block = size <= SMALL ? small_block(class_of(size)) : (union block *)pages(HEAD + size);
@@ -153,11 +154,12 @@ void *derrimas_malloc(size_t size)
     return (char *)block + HEAD;
 }
 
-void derrimas_free(void *memory)
+static void release(void *nothing, void *memory)
 {
     union block *block;
     size_t size;
 
+    (void)nothing;
     if (!memory)
         return;
     block = (union block *)(void *)((char *)memory - HEAD);
@@ -183,7 +185,7 @@ static void *moved_pages(void *memory, size_t had, size_t size)
 }
 #endif
 
-void *derrimas_realloc(void *memory, size_t size)
+static void *reallocate(void *nothing, void *memory, size_t size)
 {
     size_t had = memory ? ((union block *)(void *)((char *)memory - HEAD))->size : 0;
     void *other;
@@ -192,12 +194,12 @@ void *derrimas_realloc(void *memory, size_t size)
     if (had > SMALL && size > SMALL && size <= SIZE_MAX / 2)
         return moved_pages(memory, had, size);
 #endif
-    other = derrimas_malloc(size);
+    other = allocate(nothing, size);
     if (!other)
         return NULL;
     if (memory)
         memcpy(other, memory, had < size ? had : size);
-    derrimas_free(memory);
+    release(nothing, memory);
     return other;
 }
 
@@ -211,10 +213,11 @@ static derrimas_finalizers finalizers; /* opened by the first registration or li
 
 static GC_bool is_open(void)
 {
+    static const derrimas_finalizers_options options = {sizeof options, {allocate, reallocate, release, NULL}};
     static GC_bool opened;
 
     if (!opened)
-        opened = derrimas_finalizers_open(&finalizers) == DERRIMAS_FINALIZERS_OK;
+        opened = derrimas_finalizers_open(&finalizers, &options) == DERRIMAS_FINALIZERS_OK;
     return opened;
 }
 
@@ -251,17 +254,14 @@ static GC_bool found_memory(size_t size)
 /* ---- registrations */
 
 /* Registers or removes, under the lock. FALSE: there was no memory. */
-static GC_bool change(void *object, GC_finalization_proc proc, void *cd, derrimas_finalizers_kind kind, derrimas_finalizers_old *old)
+static GC_bool change(uint64_t object, GC_finalization_proc proc, uint64_t cd, derrimas_finalizers_kind kind, derrimas_finalizers_old *old)
 {
     if (proc == 0) {
-        (void)derrimas_finalizers_unregister(&finalizers, HIDE(object), old);
+        (void)derrimas_finalizers_unregister(&finalizers, object, old);
         GC_fo_entries -= old->was;
         return TRUE;
     }
-    if (HDR(object) == 0)
-        return TRUE; /* no object of the heap: it is never collected */
-    if (!is_open()
-        || derrimas_finalizers_register(&finalizers, HIDE(object), kind, (uint64_t)(word)proc, HIDE(cd), 0, NULL, old) != DERRIMAS_FINALIZERS_OK)
+    if (!is_open() || derrimas_finalizers_register(&finalizers, object, kind, (uint64_t)(word)proc, cd, 0, NULL, old) != DERRIMAS_FINALIZERS_OK)
         return FALSE;
     GC_fo_entries += !old->was;
     return TRUE;
@@ -269,6 +269,7 @@ static GC_bool change(void *object, GC_finalization_proc proc, void *cd, derrima
 
 static void register_kind(void *object, GC_finalization_proc proc, void *cd, GC_finalization_proc *old_proc, void **old_cd, derrimas_finalizers_kind kind)
 {
+    const uint64_t hidden = HIDE(object), data = HIDE(cd);
     derrimas_finalizers_old old = {0, 0, false};
     GC_bool done;
     DCL_LOCK_STATE;
@@ -276,7 +277,9 @@ static void register_kind(void *object, GC_finalization_proc proc, void *cd, GC_
     if (EXPECT(GC_find_leak, FALSE))
         return;
     LOCK();
-    done = change(object, proc, cd, kind, &old) || (found_memory(sizeof(derrimas_finalizers_registration)) && change(object, proc, cd, kind, &old));
+    done = (proc != 0 && HDR(object) == 0) /* no object of the heap: it is never collected */
+           || change(hidden, proc, data, kind, &old)
+           || (found_memory(sizeof(derrimas_finalizers_registration_at)) && change(hidden, proc, data, kind, &old));
     if (done && old_cd)
         *old_cd = old.was ? (void *)SHOW(old.cd) : NULL;
     if (done && old_proc)
@@ -311,8 +314,9 @@ GC_API void GC_CALL GC_register_finalizer_unreachable(void *object, GC_finalizat
 
 static GC_bool is_word(void *link) { return ((word)link & (ALIGNMENT - 1)) == 0; }
 
-static int make_link(derrimas_finalizers_links kind, void **link, const void *target)
+static int make_link(derrimas_finalizers_link_kind kind, void **link, const void *target)
 {
+    const uint64_t place = HIDE(link), hidden = HIDE(target);
     derrimas_finalizers_linked answer = DERRIMAS_FINALIZERS_LINKED;
     GC_bool done;
     DCL_LOCK_STATE;
@@ -323,16 +327,16 @@ static int make_link(derrimas_finalizers_links kind, void **link, const void *ta
         return GC_UNIMPLEMENTED;
     LOCK();
     GC_ASSERT(target != NULL && GC_base_C(target) == target);
-    done = is_open() && derrimas_finalizers_link(&finalizers, kind, HIDE(link), HIDE(target), &answer) == DERRIMAS_FINALIZERS_OK;
+    done = is_open() && derrimas_finalizers_link(&finalizers, kind, place, hidden, &answer) == DERRIMAS_FINALIZERS_OK;
     if (!done && found_memory(sizeof(derrimas_finalizers_link_at)))
-        done = is_open() && derrimas_finalizers_link(&finalizers, kind, HIDE(link), HIDE(target), &answer) == DERRIMAS_FINALIZERS_OK;
+        done = is_open() && derrimas_finalizers_link(&finalizers, kind, place, hidden, &answer) == DERRIMAS_FINALIZERS_OK;
     GC_reachable_here(link);
     GC_reachable_here(target);
     UNLOCK();
-    return done ? (int)answer : GC_NO_MEMORY;
+    return done ? DERRIMAS_FINALIZERS_GC_ANSWER(answer) : GC_NO_MEMORY;
 }
 
-static int remove_link(derrimas_finalizers_links kind, void **link)
+static int remove_link(derrimas_finalizers_link_kind kind, void **link)
 {
     bool was = false;
     DCL_LOCK_STATE;
@@ -345,7 +349,7 @@ static int remove_link(derrimas_finalizers_links kind, void **link)
     return was;
 }
 
-static int move_link(derrimas_finalizers_links kind, void **link, void **to)
+static int move_link(derrimas_finalizers_link_kind kind, void **link, void **to)
 {
     derrimas_finalizers_linked answer = DERRIMAS_FINALIZERS_NOT_FOUND;
     DCL_LOCK_STATE;
@@ -357,7 +361,7 @@ static int move_link(derrimas_finalizers_links kind, void **link, void **to)
     LOCK();
     (void)derrimas_finalizers_move_link(&finalizers, kind, HIDE(link), HIDE(to), &answer);
     UNLOCK();
-    return (int)answer;
+    return DERRIMAS_FINALIZERS_GC_ANSWER(answer);
 }
 
 GC_API int GC_CALL GC_register_disappearing_link(void **link)
@@ -566,31 +570,38 @@ GC_API void GC_CALL GC_finalize_all(void)
 /* ---- what stands, for people */
 
 #ifndef NO_DEBUGGING
-static void dump_links(derrimas_finalizers_links kind)
-{
-    derrimas_finalizers_link_at link;
-    uint64_t from = 0;
+enum { PART = 64 }; /* of a walk */
 
-    while (derrimas_finalizers_next_link(&finalizers, kind, from, &link) == DERRIMAS_FINALIZERS_OK) {
-        GC_printf("word %p leads to %p\n", (void *)SHOW(link.word), (void *)SHOW(link.target));
-        from = link.word + 1;
-    }
+static void dump_links(derrimas_finalizers_link_kind kind)
+{
+    derrimas_finalizers_link_at links[PART];
+    uint64_t from = 0;
+    size_t count, i;
+
+    while (derrimas_finalizers_links(&finalizers, kind, &from, links, PART, &count) == DERRIMAS_FINALIZERS_OK)
+        for (i = 0; i < count; i++)
+            GC_printf("word %p leads to %p\n", (void *)SHOW(links[i].word), (void *)SHOW(links[i].target));
+}
+
+static void dump_registrations(void)
+{
+    derrimas_finalizers_registration_at registrations[PART];
+    uint64_t from = 0;
+    size_t count, i;
+
+    while (derrimas_finalizers_registrations(&finalizers, &from, registrations, PART, &count) == DERRIMAS_FINALIZERS_OK)
+        for (i = 0; i < count; i++)
+            GC_printf("%p\n", (void *)SHOW(registrations[i].object));
 }
 
 GC_API void GC_CALL GC_dump_finalization(void)
 {
-    derrimas_finalizers_registration it;
-    uint64_t from = 0;
-
     GC_printf("short links:\n");
     dump_links(DERRIMAS_FINALIZERS_SHORT);
     GC_printf("long links:\n");
     dump_links(DERRIMAS_FINALIZERS_LONG);
     GC_printf("objects with finalizers:\n");
-    while (derrimas_finalizers_next_registration(&finalizers, from, &it) == DERRIMAS_FINALIZERS_OK) {
-        GC_printf("%p\n", (void *)SHOW(it.object));
-        from = it.object + 1;
-    }
+    dump_registrations();
 }
 #endif
 

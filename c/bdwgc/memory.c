@@ -1,14 +1,14 @@
-/* memory: the library is refused memory, over its own bdwgc alone, by the linker's --wrap. The collector's procedure for that is asked once a call, and
- * what it gives is given back; then the call is made again. Without that a call changes nothing.
+/* memory: the library is refused memory, over its own bdwgc alone, by the linker's --wrap of its opening. The collector's procedure for that is asked once a
+ * call, and what it gives is given back; then the call is made again. Without that a call changes nothing. And bdwgc's allocator, by itself.
  */
+#include "derrimas_finalizers.h"
 #include "graph.h"
+#include <sys/mman.h>
 
 enum { OBJECTS = 5000 };
 
-void *__real_derrimas_malloc(size_t size);
-void *__real_derrimas_realloc(void *memory, size_t size);
-void *__wrap_derrimas_malloc(size_t size);
-void *__wrap_derrimas_realloc(void *memory, size_t size);
+derrimas_finalizers_code __real_derrimas_finalizers_open(derrimas_finalizers *finalizers, const derrimas_finalizers_options *options);
+derrimas_finalizers_code __wrap_derrimas_finalizers_open(derrimas_finalizers *finalizers, const derrimas_finalizers_options *options);
 
 static unsigned refusals, asked, wrong, ran, unregistered, unlinked;
 static bool gives, is_refused;
@@ -20,8 +20,20 @@ static bool refused(void)
     return is_refused;
 }
 
-void *__wrap_derrimas_malloc(size_t size) { return refused() ? NULL : __real_derrimas_malloc(size); }
-void *__wrap_derrimas_realloc(void *memory, size_t size) { return refused() ? NULL : __real_derrimas_realloc(memory, size); }
+static derrimas_allocator own; /* bdwgc's */
+
+static void *allocate(void *data, size_t size) { return refused() ? NULL : own.allocate(data, size); }
+static void *reallocate(void *data, void *memory, size_t size) { return refused() ? NULL : own.reallocate(data, memory, size); }
+
+derrimas_finalizers_code __wrap_derrimas_finalizers_open(derrimas_finalizers *finalizers, const derrimas_finalizers_options *options)
+{
+    derrimas_finalizers_options between = *options;
+
+    own = options->allocator;
+    between.allocator.allocate = allocate;
+    between.allocator.reallocate = reallocate;
+    return __real_derrimas_finalizers_open(finalizers, &between);
+}
 
 static void *find(size_t size)
 {
@@ -82,6 +94,136 @@ static void play(void)
            unlinked ? "not all" : "all", ran + unregistered + 10 >= OBJECTS ? "those ran" : "too few ran", wrong);
 }
 
+/* ---- the procedure for memory collects: what the call was given is retained until then */
+
+enum { TURNS = 60 };
+
+static struct { unsigned turn, tried, lost; } *of_all; /* shared by processes, in each of which the first call asks for memory */
+
+static void *find_by_collecting(size_t size)
+{
+    asked++;
+    collect();
+    return GC_malloc(size);
+}
+
+/* An object to which nothing leads, with a long link that tells of its loss. */
+APART static void *fresh(void **aux)
+{
+    *aux = GC_MALLOC(16);
+    GC_register_long_link(aux, *aux);
+    refusals = 1;
+    return *aux;
+}
+
+APART static int link_fresh(void **aux, void **link) { return GC_general_register_disappearing_link(link, fresh(aux)); }
+APART static int link_in_fresh(void **aux, void *object) { return GC_general_register_disappearing_link(fresh(aux), object); }
+APART static void register_fresh(void **aux) { GC_register_finalizer(fresh(aux), note, 0, 0, 0); }
+APART static void register_data(void **aux, void *object) { GC_register_finalizer(object, note, fresh(aux), 0, 0); }
+
+/* Each kind of call in a process of its own, whose last collection is within the call. */
+static void lose(void)
+{
+    void **words = calloc(2, sizeof *words), *object = GC_MALLOC_UNCOLLECTABLE(16);
+
+    GC_set_oom_fn(find_by_collecting);
+    switch (of_all->turn % 4) {
+    case 0: (void)link_fresh(&words[0], &words[1]); break;
+    case 1: (void)link_in_fresh(&words[0], object); break;
+    case 2: register_fresh(&words[0]); break;
+    default: register_data(&words[0], object);
+    }
+    of_all->tried += asked;
+    of_all->lost += !words[0];
+}
+
+static void lose_none(void)
+{
+    of_all = mmap(NULL, sizeof *of_all, PROT_READ | PROT_WRITE, MAP_SHARED | MAP_ANONYMOUS, -1, 0);
+    for (; of_all->turn < TURNS; of_all->turn++)
+        in_a_process(lose);
+    printf("a collection in between: %s, wrong %u\n", of_all->tried == TURNS ? "tried" : "too few", of_all->lost);
+}
+
+/* ---- bdwgc's own allocator */
+
+enum { BLOCKS = 600, SMALL = 2048, MOST = 5000, CHANGES = 100000, PAGE = 4096 };
+
+static struct block {
+    unsigned char *at, with;
+    size_t size;
+} blocks[BLOCKS];
+static bool is_guarded;
+
+void *__real_mmap(void *at, size_t size, int access, int flags, int file, off_t from);
+void *__wrap_mmap(void *at, size_t size, int access, int flags, int file, off_t from);
+
+/* With a page behind it that can't be read. */
+void *__wrap_mmap(void *at, size_t size, int access, int flags, int file, off_t from)
+{
+    size_t whole = (size + PAGE - 1) / PAGE * PAGE;
+    char *memory = __real_mmap(at, is_guarded ? whole + PAGE : size, access, flags, file, from);
+
+    if (is_guarded && memory != MAP_FAILED && mprotect(memory + whole, PAGE, PROT_NONE) != 0)
+        fail("a guard");
+    return memory;
+}
+
+static void fill(struct block *it, void *at, size_t size)
+{
+    *it = (struct block){at, (unsigned char)chance(256), size};
+    memset(at, it->with, size);
+    expect((uintptr_t)at % 16 == 0);
+}
+
+static bool has(const struct block *it, size_t size)
+{
+    for (size_t n = 0; n < size; n++)
+        if (it->at[n] != it->with)
+            return false;
+    return true;
+}
+
+/* A block that is given back is the next one of its size. */
+static void give_back(struct block *it)
+{
+    void *again;
+
+    own.release(own.data, it->at);
+    again = own.allocate(own.data, it->size);
+    expect(it->size > SMALL || again == (void *)it->at);
+    own.release(own.data, again);
+    *it = (struct block){0};
+}
+
+static void change(struct block *it)
+{
+    size_t size = 1 + chance(chance(4) ? 200 : MOST);
+
+    expect(has(it, it->size));
+    if (!it->at) {
+        fill(it, own.allocate(own.data, size), size);
+    } else if (chance(2)) {
+        it->at = own.reallocate(own.data, it->at, size);
+        expect(has(it, it->size < size ? it->size : size));
+        fill(it, it->at, size);
+    } else {
+        give_back(it);
+    }
+}
+
+static void allocate_all(void)
+{
+    void *object = GC_MALLOC(16);
+
+    is_guarded = true;
+    GC_register_finalizer(object, note, 0, 0, 0); /* opens the library */
+    for (unsigned turn = 0; turn < CHANGES; turn++)
+        change(&blocks[chance(BLOCKS)]);
+    own.release(own.data, NULL);
+    printf("the allocator: wrong %u\n", wrong);
+}
+
 int main(void)
 {
     GC_INIT();
@@ -91,5 +233,8 @@ int main(void)
     GC_disable();
     for (way = ways; way < ways + sizeof ways / sizeof *ways; way++)
         in_a_process(play);
+    lose_none();
+    seed = 1;
+    in_a_process(allocate_all);
     return 0;
 }

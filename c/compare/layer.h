@@ -209,14 +209,14 @@ static inline void finalize(int at, int kind, finalizer f, uint64_t cd)
 static inline void unfinalize(int at) { MUST(derrimas_finalizers_unregister(&heap.finalizers, roots[at], NULL)); }
 static inline void hold(int at) { roots[at] = current; }
 
-static derrimas_finalizers_links kind_of(bool is_long) { return is_long ? DERRIMAS_FINALIZERS_LONG : DERRIMAS_FINALIZERS_SHORT; }
+static derrimas_finalizers_link_kind kind_of(bool is_long) { return is_long ? DERRIMAS_FINALIZERS_LONG : DERRIMAS_FINALIZERS_SHORT; }
 
 static inline int make_link(bool is_long, int at, uint64_t offset, int target)
 {
     derrimas_finalizers_linked answer;
 
     MUST(derrimas_finalizers_link(&heap.finalizers, kind_of(is_long), own_heap_word(words_in(at), offset), roots[target], &answer));
-    return (int)answer;
+    return DERRIMAS_FINALIZERS_GC_ANSWER(answer);
 }
 
 static inline int remove_link(bool is_long, int at, uint64_t offset)
@@ -233,7 +233,7 @@ static inline int move_link(bool is_long, int at, uint64_t offset, uint64_t to)
     uint64_t word = own_heap_word(words_in(at), offset), other = own_heap_word(words_in(at), to);
 
     MUST(derrimas_finalizers_move_link(&heap.finalizers, kind_of(is_long), word, other, &answer));
-    return (int)answer;
+    return DERRIMAS_FINALIZERS_GC_ANSWER(answer);
 }
 
 static void collect(void) { (void)own_heap_collect(&heap); }

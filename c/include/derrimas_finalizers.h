@@ -3,29 +3,39 @@
  *
  * A derrimas_finalizers holds registrations of objects, short and long disappearing links, and the entries of finalizers
  * that are ready. Objects, words, procedures and client data are numbers of 64 bits, which are compared and handed back,
- * and never followed: pointers, or pointers that are hidden by a map that keeps their order. 0 is no object and no word.
- * A host whose marker takes what looks like an address for one hides them, since questions and entries lie on its stack:
- * objects, words and targets all by the same map, and client data too.
+ * and never followed. An object is any number but 0 by which the host finds it: its address, an address that is hidden by
+ * a map that keeps the order, or an index. A link's word is, too: its address, or an object's number and an offset. A host
+ * whose marker takes what looks like an address for one hides them, since questions and entries lie on its stack: objects,
+ * words and targets all by the same map, and client data too.
  *
- * The host has the heap. It marks what its roots lead to, and what derrimas_finalizers_roots yields. Then it runs a pass,
- * in which it is asked questions: is this object marked, mark what it leads to, write zero to this word. What isn't
- * marked at the pass's end is the host's to reclaim.
+ * The host has the heap. It marks what its roots reach, and what derrimas_finalizers_roots yields. Then it runs a pass, in
+ * which it is asked questions: is this object marked, mark what it reaches, write zero to this word. What isn't marked at
+ * the pass's end is the host's to reclaim.
  *
- * A call that can be refused answers a derrimas_finalizers_code. A refused call changes nothing, and leaves the places
- * for its results as they were. Where several causes stand, it answers the first in the order of the call's comment.
+ * A call that can be refused returns a derrimas_finalizers_code. A refused call changes nothing, and leaves the places for
+ * its results as they were. If several causes apply, it returns the first in the order of the call's comment.
  *
  * What the host owes, since nothing checks C:
  * - A pointer points to a value of its type, which no other thread uses meanwhile. It may be NULL only where the call's
- *   comment says so.
+ *   comment says so; DERRIMAS_FINALIZERS_NONNULL marks the others.
  * - A derrimas_finalizers starts as {0}, changes by these calls alone, and isn't copied.
  * - One thread at a time uses it, as behind one lock; of a collector, that of its allocator. Calls that take a const
  *   handle change nothing, and may be made by several threads at once, where no other call is made meanwhile.
  *   derrimas_finalizers_has_waiting alone may be called at any time.
+ * - A signal handler calls derrimas_finalizers_has_waiting alone. A forked child has a copy of each handle: it may use one
+ *   if no other thread was in a call on it at the fork, as where the fork comes under the host's lock.
+ * - Before the host frees, reuses or moves the memory of a link's word, it unlinks or moves the link. A pass writes to the
+ *   word of each link that it clears, also where no object has the word.
  *
- * Memory is wanted by derrimas_finalizers_open, .._reserve, and by a new registration and a new link alone, through
- * derrimas_malloc and derrimas_realloc; and it is freed by those and by .._destroy alone. All other calls may be made
- * while other threads are stopped at any place. By .._reserve memory comes beforehand. A registration is new, too, where
- * one of kind UNREACHABLE takes the place of one of another kind, or the other way round. */
+ * Memory is taken by derrimas_finalizers_open, .._reserve, .._shrink, and by a new registration and a new link alone, by the
+ * handle's allocator; and it is freed by those and by .._destroy alone. All other calls may be made while other threads are stopped
+ * at any place. By .._reserve memory comes beforehand. A registration is new, too, where one of kind UNREACHABLE takes the
+ * place of one of another kind, or the other way round. Each new registration takes room for its entry, so that a pass, a
+ * take and a move of a link never lack memory. Where the list of a pass has no room left, .._register and .._link make it
+ * grow, even if they replace what there is or are refused.
+ *
+ * Unless a comment says otherwise a call takes constant time: .._register and .._link amortized over the growth of tables,
+ * .._move_link over as many moves as there are links of its kind. */
 #ifndef DERRIMAS_FINALIZERS_H
 #define DERRIMAS_FINALIZERS_H
 
@@ -37,59 +47,86 @@
 extern "C" {
 #endif
 
+/* DERRIMAS_FINALIZERS_NONNULL: which arguments aren't NULL. DERRIMAS_FINALIZERS_CHECKED: the result has to be looked at. */
 #if defined(__GNUC__)
+#define DERRIMAS_FINALIZERS_NONNULL(...) __attribute__((nonnull(__VA_ARGS__)))
 #define DERRIMAS_FINALIZERS_CHECKED __attribute__((warn_unused_result))
 #else
+#define DERRIMAS_FINALIZERS_NONNULL(...)
 #define DERRIMAS_FINALIZERS_CHECKED
 #endif
 
 /* ---- codes and kinds */
 
-/* What a call answers. */
+/* What a call returns. */
 typedef enum derrimas_finalizers_code {
     DERRIMAS_FINALIZERS_OK = 0,        /* the call was accepted */
     DERRIMAS_FINALIZERS_ZERO = 1,      /* the object or the word is 0 */
     DERRIMAS_FINALIZERS_EXHAUSTED = 2, /* 2^48 registrations have been numbered */
     DERRIMAS_FINALIZERS_FULL = 3,      /* there are 2^32 of this kind already */
-    DERRIMAS_FINALIZERS_NO_MEMORY = 4, /* derrimas_malloc or derrimas_realloc failed */
+    DERRIMAS_FINALIZERS_NO_MEMORY = 4, /* the handle's allocator returned NULL */
     DERRIMAS_FINALIZERS_NOT_HELD = 5,  /* no entry that is held is the same in all fields */
     DERRIMAS_FINALIZERS_PASS_OPEN = 6, /* a pass is open: .._begin came, and its last question didn't */
     DERRIMAS_FINALIZERS_NO_PASS = 7,   /* no pass is open */
     DERRIMAS_FINALIZERS_NOT_OPEN = 8,  /* the handle isn't open: it never was, or it is destroyed */
     DERRIMAS_FINALIZERS_IS_OPEN = 9,   /* the handle is open already */
     DERRIMAS_FINALIZERS_EMPTY = 10,    /* there is none, or no further one, of what was asked for */
-    DERRIMAS_FINALIZERS_BAD_KIND = 11  /* the kind is none of its enum */
+    DERRIMAS_FINALIZERS_BAD_KIND = 11, /* the kind is none of its enum */
+    DERRIMAS_FINALIZERS_BAD_OPTIONS = 12 /* the options' size isn't known here, or the allocator lacks a function */
 } derrimas_finalizers_code;
 
 /* When the finalizer of an unreachable object is ready: GC_register_finalizer, .._ignore_self, .._no_order, and
- * .._unreachable. */
+ * .._unreachable. No pass queues an object that reaches itself: by any path, of kind NORMAL or UNREACHABLE; by a path
+ * through another object, of kind IGNORE_SELF. */
 typedef enum derrimas_finalizers_kind {
-    DERRIMAS_FINALIZERS_NORMAL = 0,      /* no other unreachable registered object leads to it, nor it to itself */
+    DERRIMAS_FINALIZERS_NORMAL = 0,      /* no unreachable registered object reaches it, not even itself */
     DERRIMAS_FINALIZERS_IGNORE_SELF = 1, /* the same, but words of the object that point to itself don't count */
-    DERRIMAS_FINALIZERS_NO_ORDER = 2,    /* the object leads nowhere; others that lead to it still come first */
-    DERRIMAS_FINALIZERS_UNREACHABLE = 3  /* no other unreachable registered object leads to it, in whichever kind */
+    DERRIMAS_FINALIZERS_NO_ORDER = 2,    /* the object counts as one without references; others that reach it come first */
+    DERRIMAS_FINALIZERS_UNREACHABLE = 3  /* as NORMAL, but the references of NO_ORDER objects count too */
 } derrimas_finalizers_kind;
 
-/* Links whose words are cleared when nothing leads to the target, and when not even a finalizer keeps it any more:
+/* Links whose words are cleared when the target is unreachable, and when not even a finalizer retains it any more:
  * GC_general_register_disappearing_link and GC_register_long_link. */
-typedef enum derrimas_finalizers_links { DERRIMAS_FINALIZERS_SHORT = 0, DERRIMAS_FINALIZERS_LONG = 1 } derrimas_finalizers_links;
+typedef enum derrimas_finalizers_link_kind { DERRIMAS_FINALIZERS_SHORT = 0, DERRIMAS_FINALIZERS_LONG = 1 } derrimas_finalizers_link_kind;
 
-/* The answers about links: GC_SUCCESS, GC_DUPLICATE and GC_NOT_FOUND. */
+/* What became of a link. The numbers are no codes; DERRIMAS_FINALIZERS_GC_ANSWER makes gc.h's of them: GC_SUCCESS,
+ * GC_DUPLICATE and GC_NOT_FOUND. */
 typedef enum derrimas_finalizers_linked {
-    DERRIMAS_FINALIZERS_LINKED = 0,    /* the link was made, or moved */
-    DERRIMAS_FINALIZERS_DUPLICATE = 1, /* a link of this kind stood at the word */
-    DERRIMAS_FINALIZERS_NOT_FOUND = 4  /* there was no link to move */
+    DERRIMAS_FINALIZERS_LINKED = 128,    /* the link was made, or moved */
+    DERRIMAS_FINALIZERS_DUPLICATE = 129, /* a link of this kind stood at the word */
+    DERRIMAS_FINALIZERS_NOT_FOUND = 130  /* there was no link to move */
 } derrimas_finalizers_linked;
+
+#define DERRIMAS_FINALIZERS_GC_ANSWER(answer)                                                                              \
+    ((answer) == DERRIMAS_FINALIZERS_LINKED ? 0 : (answer) == DERRIMAS_FINALIZERS_DUPLICATE ? 1 : 4)
 
 #define DERRIMAS_FINALIZERS_BATCH 16 /* the most objects or words of a question */
 
 /* ---- types */
 
-/* The handle. Start it as {0}. There may be any number of them. `waiting` is how many entries wait, for
- * derrimas_finalizers_has_waiting alone. */
+/* An allocator of the host's: as malloc, realloc and free, each with `data` before its arguments. They are called by the
+ * thread whose call takes or frees memory, within it. They make no call on the same handle, and return. `reallocate` and
+ * `release` are given what `allocate` or `reallocate` returned for this handle, or NULL. */
+typedef struct derrimas_allocator {
+    void *(*allocate)(void *data, size_t size);
+    void *(*reallocate)(void *data, void *memory, size_t size);
+    void (*release)(void *data, void *memory);
+    void *data;
+} derrimas_allocator;
+
+/* What a handle is opened with. `size` is sizeof(derrimas_finalizers_options), by which the library knows which fields
+ * there are. All three functions of the allocator are given. */
+typedef struct derrimas_finalizers_options {
+    size_t size;
+    derrimas_allocator allocator;
+} derrimas_finalizers_options;
+
+/* The handle. Start it as {0}. There may be any number of them, each with its own memory. `waiting` is how many entries
+ * wait, for derrimas_finalizers_has_waiting alone. */
 typedef struct derrimas_finalizers {
     void *inside;
     uint64_t waiting;
+    derrimas_allocator allocator;
 } derrimas_finalizers;
 
 /* The procedure and the client data of a registration that went away, and whether there was one: else both are 0. */
@@ -104,19 +141,20 @@ typedef struct derrimas_finalizers_entry {
     uint64_t seq, pass, reg, obj, proc, cd;
 } derrimas_finalizers_entry;
 
-/* A registration that stands: its object, its number, procedure and client data, its kind and rank. */
-typedef struct derrimas_finalizers_registration {
+/* A registration: its object, its number, procedure and client data, its kind and rank. */
+typedef struct derrimas_finalizers_registration_at {
     uint64_t object, number, proc, cd;
     derrimas_finalizers_kind kind;
     uint8_t rank;
-} derrimas_finalizers_registration;
+} derrimas_finalizers_registration_at;
 
-/* A link that stands: its word and its target. */
+/* A link: its word and its target. */
 typedef struct derrimas_finalizers_link_at {
     uint64_t word, target;
 } derrimas_finalizers_link_at;
 
-/* How much stands: registrations and links; entries that wait, and those that are held; entries that ever came; passes. */
+/* How many registrations, links, entries that wait and entries that are held there are; how many entries and passes there
+ * ever were. */
 typedef struct derrimas_finalizers_counts {
     uint64_t registrations, short_links, long_links, waiting, held, queued, passes;
 } derrimas_finalizers_counts;
@@ -133,12 +171,13 @@ typedef enum derrimas_ask {
     DERRIMAS_ASK_MARK_OTHERS = 3,      /* the same, but not what words lead to that point to the object itself */
     DERRIMAS_ASK_MARK = 4,             /* mark the object and all that it leads to: it has an entry from now on */
     DERRIMAS_ASK_MARK_ALONE = 5,       /* mark the object, where all else that it leads to is marked: it has an entry */
-    DERRIMAS_ASK_CLEAR = 6,            /* write zero to the word */
-    DERRIMAS_ASK_HOLDER_IS_MARKED = 7  /* is the object that has the word marked, or has no object the word? */
+    DERRIMAS_ASK_CLEAR = 6,            /* write zero to the word; its link goes */
+    DERRIMAS_ASK_HOLDER_IS_MARKED = 7  /* is the object that has the word marked, or has no object the word? else its link
+                                        * goes, and the word stays as it is */
 } derrimas_ask;
 
 /* A question about `count` objects or words, 1 to DERRIMAS_FINALIZERS_BATCH, to be answered or carried out one after
- * another; what stands behind them is undefined. Of IS_MARKED and HOLDER_IS_MARKED bit i of the answers, from the lowest
+ * another; what is behind them is undefined. Of IS_MARKED and HOLDER_IS_MARKED bit i of the answers, from the lowest
  * on, is the answer about what[i]; of the others answers don't count. */
 typedef struct derrimas_question {
     uint64_t what[DERRIMAS_FINALIZERS_BATCH];
@@ -148,91 +187,120 @@ typedef struct derrimas_question {
 
 /* ---- opening */
 
-/* Opens a handle: nothing is registered. It wants memory.
- * Refused: IS_OPEN, NO_MEMORY. */
-DERRIMAS_FINALIZERS_CHECKED derrimas_finalizers_code derrimas_finalizers_open(derrimas_finalizers *finalizers);
+/* Opens a handle: nothing is registered. The options may be NULL: then memory is the C library's, by malloc, realloc and
+ * free. They are copied. It takes memory.
+ * Refused: BAD_OPTIONS, IS_OPEN, NO_MEMORY. */
+DERRIMAS_FINALIZERS_CHECKED derrimas_finalizers_code derrimas_finalizers_open(derrimas_finalizers *finalizers,
+                                                                              const derrimas_finalizers_options *options)
+    DERRIMAS_FINALIZERS_NONNULL(1);
 
-/* Frees all that the handle has, and leaves it as {0}. Does nothing where it isn't open. */
-void derrimas_finalizers_destroy(derrimas_finalizers *finalizers);
+/* Frees all that the handle has, by its allocator, and leaves it as {0}. Does nothing where it isn't open. */
+void derrimas_finalizers_destroy(derrimas_finalizers *finalizers) DERRIMAS_FINALIZERS_NONNULL(1);
 
 /* Makes room for so many further registrations of the kinds but UNREACHABLE, and for so many further links of each kind:
- * up to there no call wants memory. It wants memory itself.
+ * up to there no call takes memory, as long as no registration of kind UNREACHABLE comes, which uses up room of the
+ * others. It takes memory itself, and time by what it makes room for.
  * Refused: NOT_OPEN, PASS_OPEN, NO_MEMORY. */
 DERRIMAS_FINALIZERS_CHECKED derrimas_finalizers_code derrimas_finalizers_reserve(derrimas_finalizers *finalizers,
                                                                                  uint64_t registrations, uint64_t shorts,
-                                                                                 uint64_t longs);
+                                                                                 uint64_t longs)
+    DERRIMAS_FINALIZERS_NONNULL(1);
+
+/* Gives back the memory that isn't needed for what is registered, linked, waits or is held; also what was reserved. Where
+ * the allocator has no memory to make something smaller, that stays as it is. No other call does this but .._destroy. Takes
+ * time by what there is.
+ * Refused: NOT_OPEN, PASS_OPEN. */
+derrimas_finalizers_code derrimas_finalizers_shrink(derrimas_finalizers *finalizers) DERRIMAS_FINALIZERS_NONNULL(1);
 
 /* ---- registrations and links */
 
-/* Registers a finalizer of the object, in the place of the one that it has, of whichever kind. `proc` is any number, and
- * so is `cd`; both come back in the entry. Of what one pass queues, lower ranks come first, and within a rank lower
- * objects. *number, which may be NULL, is the number of the registration, which no other has; *old, which may be NULL,
- * what it replaced.
+/* Registers a finalizer of the object, in the place of the one that it has, of whichever kind. An object has one: for
+ * several, let the client data be a list that the procedure goes over. `proc` is any number, and so is `cd`; both come
+ * back in the entry. Of what one pass queues, those of kind UNREACHABLE come last; among these and among the others lower
+ * ranks come first, and within a rank lower objects. *number, which may be NULL, is the number of the registration, which
+ * no other has; *old, which may be NULL, what it replaced.
  * Refused: BAD_KIND, NOT_OPEN, PASS_OPEN, ZERO, EXHAUSTED, FULL, NO_MEMORY. */
 DERRIMAS_FINALIZERS_CHECKED derrimas_finalizers_code
 derrimas_finalizers_register(derrimas_finalizers *finalizers, uint64_t object, derrimas_finalizers_kind kind, uint64_t proc,
-                             uint64_t cd, uint8_t rank, uint64_t *number, derrimas_finalizers_old *old);
+                             uint64_t cd, uint8_t rank, uint64_t *number, derrimas_finalizers_old *old)
+    DERRIMAS_FINALIZERS_NONNULL(1);
 
 /* Removes the finalizer of the object, if it has one, and tells in *old, which may be NULL, what it was.
  * Refused: NOT_OPEN, PASS_OPEN. */
 derrimas_finalizers_code derrimas_finalizers_unregister(derrimas_finalizers *finalizers, uint64_t object,
-                                                        derrimas_finalizers_old *old);
+                                                        derrimas_finalizers_old *old) DERRIMAS_FINALIZERS_NONNULL(1);
 
 /* Makes a link from the word to the target. Where the word has one of this kind, its target is replaced, and *answer is
- * DUPLICATE, else LINKED; it may be NULL.
+ * DUPLICATE, else LINKED; it may be NULL. A pass clears the word once the target is unreachable, and the link goes. It also
+ * goes, its word untouched, once the object that has the word isn't marked.
  * Refused: BAD_KIND, NOT_OPEN, PASS_OPEN, ZERO, FULL, NO_MEMORY. */
 DERRIMAS_FINALIZERS_CHECKED derrimas_finalizers_code derrimas_finalizers_link(derrimas_finalizers *finalizers,
-                                                                              derrimas_finalizers_links kind, uint64_t word,
+                                                                              derrimas_finalizers_link_kind kind, uint64_t word,
                                                                               uint64_t target,
-                                                                              derrimas_finalizers_linked *answer);
+                                                                              derrimas_finalizers_linked *answer)
+    DERRIMAS_FINALIZERS_NONNULL(1);
 
 /* Removes the link of this kind at the word, and tells in *was, which may be NULL, whether there was one.
  * Refused: BAD_KIND, NOT_OPEN, PASS_OPEN. */
-derrimas_finalizers_code derrimas_finalizers_unlink(derrimas_finalizers *finalizers, derrimas_finalizers_links kind,
-                                                    uint64_t word, bool *was);
+derrimas_finalizers_code derrimas_finalizers_unlink(derrimas_finalizers *finalizers, derrimas_finalizers_link_kind kind,
+                                                    uint64_t word, bool *was) DERRIMAS_FINALIZERS_NONNULL(1);
 
 /* Moves the link of this kind from the word to the word `to`. *answer, which may be NULL, is LINKED, also where both are
- * the same; or, and then nothing changed, NOT_FOUND or DUPLICATE. It wants no memory.
+ * the same; or, and then nothing changed, NOT_FOUND or DUPLICATE. It takes no memory. A single move may build the table
+ * anew, in the memory that it has: time by the links of the kind.
  * Refused: BAD_KIND, NOT_OPEN, PASS_OPEN, ZERO (of `to`). */
-derrimas_finalizers_code derrimas_finalizers_move_link(derrimas_finalizers *finalizers, derrimas_finalizers_links kind,
-                                                       uint64_t word, uint64_t to, derrimas_finalizers_linked *answer);
+derrimas_finalizers_code derrimas_finalizers_move_link(derrimas_finalizers *finalizers, derrimas_finalizers_link_kind kind,
+                                                       uint64_t word, uint64_t to, derrimas_finalizers_linked *answer)
+    DERRIMAS_FINALIZERS_NONNULL(1);
 
 /* ---- a pass, by questions and answers */
 
-/* Opens a pass, once the host's marking is done. Until its end all changes are refused PASS_OPEN.
+/* Opens a pass, once the host's marking is done. Until its end all changes are refused PASS_OPEN. Takes time by the links.
  * Refused: NOT_OPEN, PASS_OPEN. */
-derrimas_finalizers_code derrimas_finalizers_begin(derrimas_finalizers *finalizers);
+derrimas_finalizers_code derrimas_finalizers_begin(derrimas_finalizers *finalizers) DERRIMAS_FINALIZERS_NONNULL(1);
 
 /* Takes the answers to the question before (at first any), and puts the next question into *question. EMPTY: there is
- * none, and the pass has ended; what it did is in *passed, which may be NULL.
+ * none, and the pass has ended; what it did is in *passed, which may be NULL. A pass takes time by the registrations and
+ * the links, and to sort the unmarked objects; a single call may take as much, where it goes on to another list.
  * Refused: NOT_OPEN, NO_PASS; EMPTY. */
 derrimas_finalizers_code derrimas_finalizers_next(derrimas_finalizers *finalizers, uint64_t answers,
-                                                  derrimas_question *question, derrimas_finalizers_passed *passed);
+                                                  derrimas_question *question, derrimas_finalizers_passed *passed)
+    DERRIMAS_FINALIZERS_NONNULL(1, 3);
+
+/* Ends the open pass before its last question. What it has queued stays queued. A link stays whose CLEAR wasn't answered,
+ * and so does the registration of an object that wasn't queued. Objects may be marked by then that nothing reaches: so the
+ * host reclaims nothing before its next pass has ended.
+ * Refused: NOT_OPEN, NO_PASS. */
+derrimas_finalizers_code derrimas_finalizers_abandon(derrimas_finalizers *finalizers) DERRIMAS_FINALIZERS_NONNULL(1);
 
 /* ---- the entries of finalizers that are ready */
 
 /* Queues all that is registered, by rank, then object, whatever is marked, those of kind UNREACHABLE after the others:
- * GC_finalize_all. *queued, which may be NULL, is how many.
+ * GC_finalize_all. *queued, which may be NULL, is how many. Links stay. Takes time by the registrations, which it sorts.
  * Refused: NOT_OPEN, PASS_OPEN. */
-derrimas_finalizers_code derrimas_finalizers_queue_all(derrimas_finalizers *finalizers, uint64_t *queued);
+derrimas_finalizers_code derrimas_finalizers_queue_all(derrimas_finalizers *finalizers, uint64_t *queued)
+    DERRIMAS_FINALIZERS_NONNULL(1);
 
 /* Takes the first entry that waits. It is held, with its object and its client data, until .._finish.
  * Refused: NOT_OPEN, PASS_OPEN, EMPTY. */
-derrimas_finalizers_code derrimas_finalizers_take(derrimas_finalizers *finalizers, derrimas_finalizers_entry *entry);
+derrimas_finalizers_code derrimas_finalizers_take(derrimas_finalizers *finalizers, derrimas_finalizers_entry *entry)
+    DERRIMAS_FINALIZERS_NONNULL(1, 2);
 
-/* Takes the first entry that waits, as finished: for a procedure that may never return. Nothing here keeps its object and
- * its client data any more: until the procedure has them, the host does.
+/* Takes the first entry that waits, as finished: for a procedure that may never return. Its object and its client data
+ * aren't yielded as roots any more: the host retains them until the procedure has them.
  * Refused: NOT_OPEN, PASS_OPEN, EMPTY. */
-derrimas_finalizers_code derrimas_finalizers_take_finished(derrimas_finalizers *finalizers, derrimas_finalizers_entry *entry);
+derrimas_finalizers_code derrimas_finalizers_take_finished(derrimas_finalizers *finalizers, derrimas_finalizers_entry *entry)
+    DERRIMAS_FINALIZERS_NONNULL(1, 2);
 
 /* Ends the holding of an entry.
  * Refused: NOT_OPEN, PASS_OPEN, NOT_HELD. */
-derrimas_finalizers_code derrimas_finalizers_finish(derrimas_finalizers *finalizers, const derrimas_finalizers_entry *entry);
+derrimas_finalizers_code derrimas_finalizers_finish(derrimas_finalizers *finalizers, const derrimas_finalizers_entry *entry)
+    DERRIMAS_FINALIZERS_NONNULL(1, 2);
 
 /* Whether entries wait, without the lock: a hint, GC_should_invoke_finalizers. */
-bool derrimas_finalizers_has_waiting(const derrimas_finalizers *finalizers);
+bool derrimas_finalizers_has_waiting(const derrimas_finalizers *finalizers) DERRIMAS_FINALIZERS_NONNULL(1);
 
-/* ---- what stands; nothing changes by it, and a pass may be open */
+/* ---- what a handle has; nothing changes by it, and a pass may be open */
 
 /* The roots: what a host marks from before a pass, and keeps. */
 typedef enum derrimas_finalizers_root {
@@ -243,29 +311,48 @@ typedef enum derrimas_finalizers_root {
 
 /* Copies roots of the sort into the buffer, which has `room` words: those from the place *from on, which is 0 at first,
  * and goes on to where the next call starts. *count is how many were copied. As long as only calls that take a const
- * handle come between, the parts are one walk, which has each root once. A part costs the same wherever it starts.
- * Refused: BAD_KIND, NOT_OPEN; EMPTY where no root is left. */
+ * handle come between, the parts are one walk, which has each root once. A call takes time by the roots that it copies,
+ * wherever it starts. The buffer may be NULL where `room` is 0.
+ * Refused: BAD_KIND, NOT_OPEN; EMPTY where no root is left, or `room` is 0. */
 derrimas_finalizers_code derrimas_finalizers_roots(const derrimas_finalizers *finalizers, derrimas_finalizers_root sort,
-                                                   uint64_t *from, uint64_t *buffer, size_t room, size_t *count);
+                                                   uint64_t *from, uint64_t *buffer, size_t room, size_t *count)
+    DERRIMAS_FINALIZERS_NONNULL(1, 3, 6);
 
-/* Refused: NOT_OPEN. */
-derrimas_finalizers_code derrimas_finalizers_count(const derrimas_finalizers *finalizers, derrimas_finalizers_counts *counts);
+/* Tells how much there is.
+ * Refused: NOT_OPEN. */
+derrimas_finalizers_code derrimas_finalizers_count(const derrimas_finalizers *finalizers, derrimas_finalizers_counts *counts)
+    DERRIMAS_FINALIZERS_NONNULL(1, 2);
 
-/* The registration of the first registered object at `from` or after it; it goes over all of them.
- * Refused: NOT_OPEN, EMPTY. */
-derrimas_finalizers_code derrimas_finalizers_next_registration(const derrimas_finalizers *finalizers, uint64_t from,
-                                                               derrimas_finalizers_registration *registration);
+/* The registration of an object.
+ * Refused: NOT_OPEN; EMPTY where it has none. */
+derrimas_finalizers_code derrimas_finalizers_registration(const derrimas_finalizers *finalizers, uint64_t object,
+                                                          derrimas_finalizers_registration_at *registration)
+    DERRIMAS_FINALIZERS_NONNULL(1, 3);
 
-/* The first link of this kind whose word is at `from` or after it; it goes over all of them.
- * Refused: BAD_KIND, NOT_OPEN, EMPTY. */
-derrimas_finalizers_code derrimas_finalizers_next_link(const derrimas_finalizers *finalizers, derrimas_finalizers_links kind,
-                                                       uint64_t from, derrimas_finalizers_link_at *link);
+/* The target of the link of this kind at the word.
+ * Refused: BAD_KIND, NOT_OPEN; EMPTY where there is no link. */
+derrimas_finalizers_code derrimas_finalizers_target(const derrimas_finalizers *finalizers,
+                                                    derrimas_finalizers_link_kind kind, uint64_t word, uint64_t *target)
+    DERRIMAS_FINALIZERS_NONNULL(1, 4);
+
+/* Copies registrations into the buffer, which has `room` places, as derrimas_finalizers_roots copies roots: from the place
+ * *from on, in no order that a host may rely on. A call takes time by what it copies, wherever it starts.
+ * Refused: NOT_OPEN; EMPTY where none is left, or `room` is 0. */
+derrimas_finalizers_code derrimas_finalizers_registrations(const derrimas_finalizers *finalizers, uint64_t *from,
+                                                           derrimas_finalizers_registration_at *buffer, size_t room,
+                                                           size_t *count) DERRIMAS_FINALIZERS_NONNULL(1, 2, 5);
+
+/* The same of the links of a kind.
+ * Refused: BAD_KIND, NOT_OPEN; EMPTY where none is left, or `room` is 0. */
+derrimas_finalizers_code derrimas_finalizers_links(const derrimas_finalizers *finalizers, derrimas_finalizers_link_kind kind,
+                                                   uint64_t *from, derrimas_finalizers_link_at *buffer, size_t room,
+                                                   size_t *count) DERRIMAS_FINALIZERS_NONNULL(1, 3, 6);
 
 /* ---- a host's procedures, and a pass that they drive */
 
 /* A host: what it does for each question. For what is promised of a pass, there have to be a graph and a set of marked
  * objects such that is_marked tells whether the object is in the set, the three marks add to it what the questions say,
- * or more, and nothing else changes it in the pass; and the set has all to which its objects lead, at the beginning and
+ * or more, and nothing else changes it in the pass; and the set has all that its objects reach, at the beginning and
  * after each mark. */
 typedef struct derrimas_host {
     bool (*is_marked)(void *data, uint64_t object);
@@ -299,6 +386,7 @@ static inline uint64_t derrimas_host_answers(const derrimas_host *host, void *da
 }
 
 /* A whole pass, driven by the procedures of a host. They may make the calls that take a const handle, and must return.
+ * *passed, which may be NULL, is what it did.
  * Refused: NOT_OPEN, PASS_OPEN. */
 static inline derrimas_finalizers_code derrimas_finalizers_pass(derrimas_finalizers *finalizers, const derrimas_host *host,
                                                                 void *data, derrimas_finalizers_passed *passed)
@@ -313,14 +401,6 @@ static inline derrimas_finalizers_code derrimas_finalizers_pass(derrimas_finaliz
         answers = derrimas_host_answers(host, data, &question);
     return code == DERRIMAS_FINALIZERS_EMPTY ? DERRIMAS_FINALIZERS_OK : code;
 }
-
-/* ---- memory
- *
- * The library takes memory through these three alone. libderrimas_finalizers.a has them by malloc, realloc and free, in
- * a member of its own: a host that defines all three, with external linkage, has its own used. */
-void *derrimas_malloc(size_t size);
-void *derrimas_realloc(void *memory, size_t size);
-void derrimas_free(void *memory);
 
 #ifdef __cplusplus
 }

@@ -259,12 +259,13 @@ class World:
 
     def finalize_all(self, slot: At) -> int:
         """For the end: runs the entries that wait, and then the finalizer of each registered object, by rank, then address, as no pass would. The slot keeps
-        an object meanwhile. What a procedure raises is raised here, once all have run. Returns how many ran."""
+        an object meanwhile. Entries are copies, which a procedure may keep. What it raises is raised here, once all have run. Returns how many ran."""
         raised = []
 
         def run(_: Any, entry: Any, __: Any) -> None:
+            own = Entry.from_buffer_copy(entry.contents)  # C's lies on its stack
             try:
-                self.procedures.get(entry.contents.proc, lambda world, entry: None)(self, entry.contents)
+                self.procedures.get(own.proc, lambda world, entry: None)(self, own)
             except Exception as why:  # nothing may be raised through C
                 raised.append(why)
         count = max(self.procedures, default=-1) + 1

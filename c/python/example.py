@@ -4,6 +4,7 @@ from derrimas import Kind, Refused, Samples, Words, World, sample
 
 NAMES, FIRST, SECOND, FOUND = (0, 0), (0, 1), (0, 2), (0, 3)
 owned = {1: "first", 2: "second"}
+kept = []
 
 with World(blocks=4) as world:
     world.finalizer(0, lambda _, entry: print("finalized", owned.pop(entry.cd), "of birth", entry.birth))
@@ -36,7 +37,12 @@ with World(blocks=4) as world:
             world.store(ring, 0, ring)
             world.register(ring, proc=0, cd=3, kind=Kind.NORMAL)
     print(world.collect())
+    world.finalizer(1, lambda _, entry: kept.append(entry))
+    for key, slot in ((4, (0, 4)), (5, (0, 5))):
+        world.alloc(slot, 1)
+        world.register(slot, proc=1, cd=key)
     print("at the end ran", world.finalize_all(FOUND), "owned", owned)
+    print("kept:", *kept)
 
     for refused in (lambda: world.alloc(FIRST, 5000), lambda: world.set((9, 9), 0), lambda: world.finish(world.queued(0)), lambda: world.register(FIRST, 0)):
         try:

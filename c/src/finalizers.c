@@ -1,18 +1,19 @@
-/* derrimas_finalizers.h over the proved exports: their C types, places for results that nobody wants, kinds that are checked, roots in the host's buffer,
- * and how many entries wait, for who asks without the lock. Nothing here is proved; c/tests runs each line of it.
+/* derrimas_finalizers.h over the proved exports: their C types, places for results that nobody reads, kinds and options that are checked, each handle's
+ * allocator, roots in the host's buffer, and how many entries wait, which is read without the lock. Nothing here is proved; c/tests runs each line of it.
  */
 #include "finalizers_exports.h"
+#include <stdlib.h>
 
 typedef derrimas_finalizers_code code;
 
 static bool is_kind(derrimas_finalizers_kind kind) { return (unsigned)kind <= DERRIMAS_FINALIZERS_UNREACHABLE; }
-static bool is_links(derrimas_finalizers_links kind) { return (unsigned)kind <= DERRIMAS_FINALIZERS_LONG; }
+static bool is_links(derrimas_finalizers_link_kind kind) { return (unsigned)kind <= DERRIMAS_FINALIZERS_LONG; }
 static bool is_root(derrimas_finalizers_root sort) { return (unsigned)sort <= DERRIMAS_FINALIZERS_REGISTERED_DATA; }
 
 /* A handle for calls that change nothing. */
 static derrimas_finalizers copied(const derrimas_finalizers *finalizers)
 {
-    derrimas_finalizers copy = {finalizers->inside, 0};
+    derrimas_finalizers copy = {finalizers->inside, 0, {NULL, NULL, NULL, NULL}};
 
     return copy;
 }
@@ -20,19 +21,94 @@ static derrimas_finalizers copied(const derrimas_finalizers *finalizers)
 /* Under the lock alone is this changed, and without it read. */
 static void set_waiting(derrimas_finalizers *finalizers, uint64_t waiting) { __atomic_store_n(&finalizers->waiting, waiting, __ATOMIC_RELAXED); }
 
+/* ---- memory */
+
+/* The allocator of the handle whose call this thread makes. The model "initial-exec" reads it without a call: others may allocate in their first access,
+ * by malloc, which may be a collector's own. */
+static __thread const derrimas_allocator *current __attribute__((tls_model("initial-exec")));
+
+void *derrimas_malloc(size_t size) { return current->allocate(current->data, size); }
+void *derrimas_realloc(void *memory, size_t size) { return current->reallocate(current->data, memory, size); }
+void derrimas_free(void *memory) { current->release(current->data, memory); }
+
+static void *allocate_by_libc(void *data, size_t size)
+{
+    (void)data;
+    return malloc(size);
+}
+
+static void *reallocate_by_libc(void *data, void *memory, size_t size)
+{
+    (void)data;
+    return realloc(memory, size);
+}
+
+static void release_by_libc(void *data, void *memory)
+{
+    (void)data;
+    free(memory);
+}
+
+static const derrimas_allocator libc = {allocate_by_libc, reallocate_by_libc, release_by_libc, NULL};
+
+/* Names the allocator from now on. Returns the one before, for .._left: an allocator's function may make calls on another handle. */
+static const derrimas_allocator *entered(const derrimas_allocator *allocator)
+{
+    const derrimas_allocator *before = current;
+
+    current = allocator;
+    return before;
+}
+
+static code left(const derrimas_allocator *before, code it)
+{
+    current = before;
+    return it;
+}
+
 /* ---- opening */
 
-code derrimas_finalizers_open(derrimas_finalizers *finalizers) { return fz_machine_open(finalizers); }
+static bool is_known(const derrimas_finalizers_options *options)
+{
+    return options->size == sizeof *options && options->allocator.allocate && options->allocator.reallocate && options->allocator.release;
+}
+
+code derrimas_finalizers_open(derrimas_finalizers *finalizers, const derrimas_finalizers_options *options)
+{
+    const derrimas_allocator *allocator = options ? &options->allocator : &libc, *before;
+    code it;
+
+    if (options && !is_known(options))
+        return DERRIMAS_FINALIZERS_BAD_OPTIONS;
+    before = entered(allocator);
+    it = left(before, fz_machine_open(finalizers));
+    if (it == DERRIMAS_FINALIZERS_OK)
+        finalizers->allocator = *allocator;
+    return it;
+}
 
 void derrimas_finalizers_destroy(derrimas_finalizers *finalizers)
 {
+    const derrimas_allocator *before = entered(&finalizers->allocator), none = {NULL, NULL, NULL, NULL};
+
     fz_machine_destroy(finalizers);
+    current = before;
+    finalizers->allocator = none;
     set_waiting(finalizers, 0);
 }
 
 code derrimas_finalizers_reserve(derrimas_finalizers *finalizers, uint64_t registrations, uint64_t shorts, uint64_t longs)
 {
-    return fz_machine_reserve(finalizers, registrations, shorts, longs);
+    const derrimas_allocator *before = entered(&finalizers->allocator);
+
+    return left(before, fz_machine_reserve(finalizers, registrations, shorts, longs));
+}
+
+code derrimas_finalizers_shrink(derrimas_finalizers *finalizers)
+{
+    const derrimas_allocator *before = entered(&finalizers->allocator);
+
+    return left(before, fz_machine_shrink(finalizers));
 }
 
 /* ---- registrations and links */
@@ -40,12 +116,14 @@ code derrimas_finalizers_reserve(derrimas_finalizers *finalizers, uint64_t regis
 code derrimas_finalizers_register(derrimas_finalizers *finalizers, uint64_t object, derrimas_finalizers_kind kind, uint64_t proc, uint64_t cd,
                                   uint8_t rank, uint64_t *number, derrimas_finalizers_old *old)
 {
+    const derrimas_allocator *before;
     fz_machine_registered registered;
     code it;
 
     if (!is_kind(kind))
         return DERRIMAS_FINALIZERS_BAD_KIND;
-    it = fz_machine_register(finalizers, object, (uint8_t)kind, proc, cd, rank, &registered);
+    before = entered(&finalizers->allocator);
+    it = left(before, fz_machine_register(finalizers, object, (uint8_t)kind, proc, cd, rank, &registered));
     if (it == DERRIMAS_FINALIZERS_OK && number)
         *number = registered.number;
     if (it == DERRIMAS_FINALIZERS_OK && old) { /* word by word, as the export wrote them: a processor waits where two are read as one */
@@ -63,27 +141,29 @@ code derrimas_finalizers_unregister(derrimas_finalizers *finalizers, uint64_t ob
     return fz_machine_unregister(finalizers, object, old ? old : &unwanted);
 }
 
-/* Tells an answer about links, if the call was accepted and someone wants it. */
+/* Writes an answer about links, of which an export returns gc.h's number, if the call was accepted and it has a place. */
 static code answered(code it, uint8_t found, derrimas_finalizers_linked *answer)
 {
     if (it == DERRIMAS_FINALIZERS_OK && answer)
-        *answer = (derrimas_finalizers_linked)found;
+        *answer = found == 0 ? DERRIMAS_FINALIZERS_LINKED : found == 1 ? DERRIMAS_FINALIZERS_DUPLICATE : DERRIMAS_FINALIZERS_NOT_FOUND;
     return it;
 }
 
-code derrimas_finalizers_link(derrimas_finalizers *finalizers, derrimas_finalizers_links kind, uint64_t word, uint64_t target,
+code derrimas_finalizers_link(derrimas_finalizers *finalizers, derrimas_finalizers_link_kind kind, uint64_t word, uint64_t target,
                               derrimas_finalizers_linked *answer)
 {
+    const derrimas_allocator *before;
     uint8_t found = 0;
     code it;
 
     if (!is_links(kind))
         return DERRIMAS_FINALIZERS_BAD_KIND;
-    it = fz_machine_link(finalizers, kind == DERRIMAS_FINALIZERS_LONG, word, target, &found);
+    before = entered(&finalizers->allocator);
+    it = left(before, fz_machine_link(finalizers, kind == DERRIMAS_FINALIZERS_LONG, word, target, &found));
     return answered(it, found, answer);
 }
 
-code derrimas_finalizers_unlink(derrimas_finalizers *finalizers, derrimas_finalizers_links kind, uint64_t word, bool *was)
+code derrimas_finalizers_unlink(derrimas_finalizers *finalizers, derrimas_finalizers_link_kind kind, uint64_t word, bool *was)
 {
     bool unwanted;
 
@@ -92,7 +172,7 @@ code derrimas_finalizers_unlink(derrimas_finalizers *finalizers, derrimas_finali
     return fz_machine_unlink(finalizers, kind == DERRIMAS_FINALIZERS_LONG, word, was ? was : &unwanted);
 }
 
-code derrimas_finalizers_move_link(derrimas_finalizers *finalizers, derrimas_finalizers_links kind, uint64_t word, uint64_t to,
+code derrimas_finalizers_move_link(derrimas_finalizers *finalizers, derrimas_finalizers_link_kind kind, uint64_t word, uint64_t to,
                                    derrimas_finalizers_linked *answer)
 {
     uint8_t found = 0;
@@ -130,6 +210,16 @@ code derrimas_finalizers_next(derrimas_finalizers *finalizers, uint64_t answers,
         question->what[i] = asked.what[i];
     question->count = asked.count;
     question->ask = (derrimas_ask)asked.ask;
+    return it;
+}
+
+code derrimas_finalizers_abandon(derrimas_finalizers *finalizers)
+{
+    derrimas_finalizers_counts counts;
+    code it = fz_machine_abandon(finalizers);
+
+    if (it == DERRIMAS_FINALIZERS_OK && fz_machine_count(finalizers, &counts) == DERRIMAS_FINALIZERS_OK)
+        set_waiting(finalizers, counts.waiting); /* with those that the pass had queued */
     return it;
 }
 
@@ -173,7 +263,17 @@ code derrimas_finalizers_finish(derrimas_finalizers *finalizers, const derrimas_
 
 bool derrimas_finalizers_has_waiting(const derrimas_finalizers *finalizers) { return __atomic_load_n(&finalizers->waiting, __ATOMIC_RELAXED) != 0; }
 
-/* ---- what stands */
+/* ---- what is registered and linked, and roots */
+
+/* What a part of a walk returns, of which so many were copied: the next part begins behind them. */
+static code walked(code it, size_t filled, uint64_t *from, size_t *count)
+{
+    if (filled == 0)
+        return it == DERRIMAS_FINALIZERS_OK ? DERRIMAS_FINALIZERS_EMPTY : it; /* OK: the buffer has no room */
+    *from += filled;
+    *count = filled;
+    return DERRIMAS_FINALIZERS_OK;
+}
 
 code derrimas_finalizers_roots(const derrimas_finalizers *finalizers, derrimas_finalizers_root sort, uint64_t *from, uint64_t *buffer, size_t room,
                                size_t *count)
@@ -190,11 +290,73 @@ code derrimas_finalizers_roots(const derrimas_finalizers *finalizers, derrimas_f
         for (uint64_t i = 0; it == DERRIMAS_FINALIZERS_OK && i < some.count && filled < room; i++)
             buffer[filled++] = some.words[i];
     } while (it == DERRIMAS_FINALIZERS_OK && filled < room);
-    if (it != DERRIMAS_FINALIZERS_OK && filled == 0)
-        return it;
-    *from += filled;
-    *count = filled;
-    return DERRIMAS_FINALIZERS_OK;
+    return walked(it, filled, from, count);
+}
+
+/* A registration with its kind as C has it. */
+static derrimas_finalizers_registration_at shown(const fz_machine_registration_at *found)
+{
+    derrimas_finalizers_registration_at it;
+
+    it.object = found->object;
+    it.number = found->number;
+    it.proc = found->proc;
+    it.cd = found->cd;
+    it.kind = (derrimas_finalizers_kind)found->kind;
+    it.rank = found->rank;
+    return it;
+}
+
+code derrimas_finalizers_registrations(const derrimas_finalizers *finalizers, uint64_t *from, derrimas_finalizers_registration_at *buffer, size_t room,
+                                       size_t *count)
+{
+    derrimas_finalizers copy = copied(finalizers);
+    fz_machine_some_registrations some;
+    size_t filled = 0;
+    code it;
+
+    do {
+        it = fz_machine_registrations(&copy, *from + filled, &some);
+        for (uint64_t i = 0; it == DERRIMAS_FINALIZERS_OK && i < some.count && filled < room; i++)
+            buffer[filled++] = shown(&some.registrations[i]);
+    } while (it == DERRIMAS_FINALIZERS_OK && filled < room);
+    return walked(it, filled, from, count);
+}
+
+code derrimas_finalizers_links(const derrimas_finalizers *finalizers, derrimas_finalizers_link_kind kind, uint64_t *from,
+                               derrimas_finalizers_link_at *buffer, size_t room, size_t *count)
+{
+    derrimas_finalizers copy = copied(finalizers);
+    fz_machine_some_links some;
+    size_t filled = 0;
+    code it;
+
+    if (!is_links(kind))
+        return DERRIMAS_FINALIZERS_BAD_KIND;
+    do {
+        it = fz_machine_links(&copy, kind == DERRIMAS_FINALIZERS_LONG, *from + filled, &some);
+        for (uint64_t i = 0; it == DERRIMAS_FINALIZERS_OK && i < some.count && filled < room; i++)
+            buffer[filled++] = some.links[i];
+    } while (it == DERRIMAS_FINALIZERS_OK && filled < room);
+    return walked(it, filled, from, count);
+}
+
+code derrimas_finalizers_registration(const derrimas_finalizers *finalizers, uint64_t object, derrimas_finalizers_registration_at *registration)
+{
+    derrimas_finalizers copy = copied(finalizers);
+    fz_machine_registration_at found;
+    code it = fz_machine_registration(&copy, object, &found);
+
+    if (it == DERRIMAS_FINALIZERS_OK)
+        *registration = shown(&found);
+    return it;
+}
+
+code derrimas_finalizers_target(const derrimas_finalizers *finalizers, derrimas_finalizers_link_kind kind, uint64_t word, uint64_t *target)
+{
+    derrimas_finalizers copy = copied(finalizers);
+
+    return is_links(kind) ? (code)fz_machine_target(&copy, kind == DERRIMAS_FINALIZERS_LONG, word, target) : DERRIMAS_FINALIZERS_BAD_KIND;
 }
 
 code derrimas_finalizers_count(const derrimas_finalizers *finalizers, derrimas_finalizers_counts *counts)
@@ -202,28 +364,4 @@ code derrimas_finalizers_count(const derrimas_finalizers *finalizers, derrimas_f
     derrimas_finalizers copy = copied(finalizers);
 
     return fz_machine_count(&copy, counts);
-}
-
-code derrimas_finalizers_next_registration(const derrimas_finalizers *finalizers, uint64_t from, derrimas_finalizers_registration *registration)
-{
-    derrimas_finalizers copy = copied(finalizers);
-    fz_machine_registration found;
-    code it = fz_machine_next_registration(&copy, from, &found);
-
-    if (it != DERRIMAS_FINALIZERS_OK)
-        return it;
-    registration->object = found.object;
-    registration->number = found.number;
-    registration->proc = found.proc;
-    registration->cd = found.cd;
-    registration->kind = (derrimas_finalizers_kind)found.kind;
-    registration->rank = found.rank;
-    return it;
-}
-
-code derrimas_finalizers_next_link(const derrimas_finalizers *finalizers, derrimas_finalizers_links kind, uint64_t from, derrimas_finalizers_link_at *link)
-{
-    derrimas_finalizers copy = copied(finalizers);
-
-    return is_links(kind) ? (code)fz_machine_next_link(&copy, kind == DERRIMAS_FINALIZERS_LONG, from, link) : DERRIMAS_FINALIZERS_BAD_KIND;
 }

@@ -1,11 +1,12 @@
 /* The exports of crates/fz_machine_c, which are proved. finalizers.c alone calls them, and c/build hides their names. c/tests/header.py compares these
- * declarations with the crate's own. Of a handle they use `inside` alone. */
+ * declarations with the crate's own. Of a handle they use `inside` alone. They take memory by the three calls at the end, which finalizers.c has. */
 #ifndef DERRIMAS_FINALIZERS_EXPORTS_H
 #define DERRIMAS_FINALIZERS_EXPORTS_H
 
 #include "derrimas_finalizers.h"
 
 #define FZ_MACHINE_WORDS 512 /* the most roots of a call */
+#define FZ_MACHINE_PART 64   /* the most registrations or links of a call */
 
 typedef struct fz_machine_registered {
     uint64_t number;
@@ -23,14 +24,25 @@ typedef struct fz_machine_words {
     uint64_t count;
 } fz_machine_words;
 
-typedef struct fz_machine_registration {
+typedef struct fz_machine_registration_at {
     uint64_t object, number, proc, cd;
     uint8_t kind, rank;
-} fz_machine_registration;
+} fz_machine_registration_at;
+
+typedef struct fz_machine_some_registrations {
+    fz_machine_registration_at registrations[FZ_MACHINE_PART];
+    uint64_t count;
+} fz_machine_some_registrations;
+
+typedef struct fz_machine_some_links {
+    derrimas_finalizers_link_at links[FZ_MACHINE_PART];
+    uint64_t count;
+} fz_machine_some_links;
 
 uint8_t fz_machine_open(derrimas_finalizers *finalizers);
 void fz_machine_destroy(derrimas_finalizers *finalizers);
 uint8_t fz_machine_reserve(derrimas_finalizers *finalizers, uint64_t registrations, uint64_t shorts, uint64_t longs);
+uint8_t fz_machine_shrink(derrimas_finalizers *finalizers);
 uint8_t fz_machine_register(derrimas_finalizers *finalizers, uint64_t object, uint8_t kind, uint64_t proc, uint64_t cd, uint8_t rank,
                             fz_machine_registered *registered);
 uint8_t fz_machine_unregister(derrimas_finalizers *finalizers, uint64_t object, derrimas_finalizers_old *old);
@@ -39,13 +51,21 @@ uint8_t fz_machine_unlink(derrimas_finalizers *finalizers, bool is_long, uint64_
 uint8_t fz_machine_move_link(derrimas_finalizers *finalizers, bool is_long, uint64_t word, uint64_t to, uint8_t *answer);
 uint8_t fz_machine_begin(derrimas_finalizers *finalizers);
 uint8_t fz_machine_next(derrimas_finalizers *finalizers, uint64_t answers, fz_machine_question *question, derrimas_finalizers_passed *passed);
+uint8_t fz_machine_abandon(derrimas_finalizers *finalizers);
 uint8_t fz_machine_queue_all(derrimas_finalizers *finalizers, uint64_t *queued);
 uint8_t fz_machine_take(derrimas_finalizers *finalizers, derrimas_finalizers_entry *entry);
 uint8_t fz_machine_take_finished(derrimas_finalizers *finalizers, derrimas_finalizers_entry *entry);
 uint8_t fz_machine_finish(derrimas_finalizers *finalizers, const derrimas_finalizers_entry *entry);
 uint8_t fz_machine_roots(derrimas_finalizers *finalizers, uint8_t sort, uint64_t from, fz_machine_words *words);
 uint8_t fz_machine_count(derrimas_finalizers *finalizers, derrimas_finalizers_counts *counts);
-uint8_t fz_machine_next_registration(derrimas_finalizers *finalizers, uint64_t from, fz_machine_registration *registration);
-uint8_t fz_machine_next_link(derrimas_finalizers *finalizers, bool is_long, uint64_t from, derrimas_finalizers_link_at *link);
+uint8_t fz_machine_registrations(derrimas_finalizers *finalizers, uint64_t from, fz_machine_some_registrations *registrations);
+uint8_t fz_machine_links(derrimas_finalizers *finalizers, bool is_long, uint64_t from, fz_machine_some_links *links);
+uint8_t fz_machine_registration(derrimas_finalizers *finalizers, uint64_t object, fz_machine_registration_at *registration);
+uint8_t fz_machine_target(derrimas_finalizers *finalizers, bool is_long, uint64_t word, uint64_t *target);
+
+/* What c/build names in the place of malloc, realloc and free: the allocator of the handle whose call this thread makes. */
+void *derrimas_malloc(size_t size);
+void *derrimas_realloc(void *memory, size_t size);
+void derrimas_free(void *memory);
 
 #endif

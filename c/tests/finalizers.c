@@ -14,7 +14,7 @@ static void registers(const object *it, derrimas_finalizers_kind kind, uint64_t 
 }
 
 /* Writes the target into the word of the object, and makes the link. */
-static void links(derrimas_finalizers_links kind, object *it, size_t word, const object *target)
+static void links(derrimas_finalizers_link_kind kind, object *it, size_t word, const object *target)
 {
     it->words[word] = number_of(target);
     OK(derrimas_finalizers_link(&finalizers, kind, word_of(it, word), number_of(target), NULL));
@@ -23,13 +23,15 @@ static void links(derrimas_finalizers_links kind, object *it, size_t word, const
 static void opens(void)
 {
     memset(&all, 0, sizeof all);
-    OK(derrimas_finalizers_open(&finalizers));
+    OK(derrimas_finalizers_open(&finalizers, NULL));
 }
 
 static void closes(void)
 {
+    const derrimas_finalizers none = {0};
+
     derrimas_finalizers_destroy(&finalizers);
-    IS(finalizers.inside == NULL && finalizers.waiting == 0, true);
+    IS(memcmp(&finalizers, &none, sizeof none), 0);
 }
 
 static derrimas_finalizers_counts counted(void)
@@ -115,12 +117,13 @@ static void changes_are_refused(derrimas_finalizers_code code)
     bool was;
 
     IS(derrimas_finalizers_reserve(&finalizers, 1, 1, 1), code);
+    IS(derrimas_finalizers_shrink(&finalizers), code);
     REFUSED(code, number, derrimas_finalizers_register(&finalizers, 0, DERRIMAS_FINALIZERS_NORMAL, 1, 1, 1, &number, NULL));
     REFUSED(code, old, derrimas_finalizers_register(&finalizers, 16, DERRIMAS_FINALIZERS_NORMAL, 1, 1, 1, NULL, &old));
     REFUSED(code, old, derrimas_finalizers_unregister(&finalizers, 16, &old));
     IS(derrimas_finalizers_unregister(&finalizers, 16, NULL), code);
     for (int kind = DERRIMAS_FINALIZERS_SHORT; kind <= DERRIMAS_FINALIZERS_LONG; kind++) {
-        derrimas_finalizers_links of = (derrimas_finalizers_links)kind;
+        derrimas_finalizers_link_kind of = (derrimas_finalizers_link_kind)kind;
         REFUSED(code, answer, derrimas_finalizers_link(&finalizers, of, 0, 0, &answer));
         IS(derrimas_finalizers_link(&finalizers, of, 16, 16, NULL), code);
         REFUSED(code, was, derrimas_finalizers_unlink(&finalizers, of, 16, &was));
@@ -139,18 +142,18 @@ static void changes_are_refused(derrimas_finalizers_code code)
 /* A kind that is none comes before all other causes. */
 static void kinds_are_refused(void)
 {
-    derrimas_finalizers_link_at at;
     derrimas_finalizers_linked answer;
-    uint64_t buffer[2] = {0, 0}, from = 0, number;
+    uint64_t buffer[2] = {0, 0}, from = 0, number, target;
     size_t count;
     bool was;
 
     for (int bad = 2; bad < 600; bad += 251) {
-        derrimas_finalizers_links kind = (derrimas_finalizers_links)bad;
+        derrimas_finalizers_link_kind kind = (derrimas_finalizers_link_kind)bad;
         REFUSED(DERRIMAS_FINALIZERS_BAD_KIND, answer, derrimas_finalizers_link(&finalizers, kind, 0, 0, &answer));
         REFUSED(DERRIMAS_FINALIZERS_BAD_KIND, was, derrimas_finalizers_unlink(&finalizers, kind, 8, &was));
         REFUSED(DERRIMAS_FINALIZERS_BAD_KIND, answer, derrimas_finalizers_move_link(&finalizers, kind, 8, 0, &answer));
-        REFUSED(DERRIMAS_FINALIZERS_BAD_KIND, at, derrimas_finalizers_next_link(&finalizers, kind, 0, &at));
+        REFUSED(DERRIMAS_FINALIZERS_BAD_KIND, target, derrimas_finalizers_target(&finalizers, kind, 8, &target));
+        REFUSED(DERRIMAS_FINALIZERS_BAD_KIND, count, derrimas_finalizers_links(&finalizers, kind, &from, NULL, 0, &count));
     }
     for (int bad = 4; bad < 600; bad += 252) {
         derrimas_finalizers_kind kind = (derrimas_finalizers_kind)bad;
@@ -160,18 +163,48 @@ static void kinds_are_refused(void)
         REFUSED(DERRIMAS_FINALIZERS_BAD_KIND, count, derrimas_finalizers_roots(&finalizers, (derrimas_finalizers_root)bad, &from, buffer, 2, &count));
 }
 
+static void *allocates(void *data, size_t size) { return size ? data : NULL; }
+static void *reallocates(void *data, void *memory, size_t size) { return memory && size ? data : NULL; }
+static void releases(void *data, void *memory) { (void)(data && memory); }
+
+/* Options of an unknown size, or whose allocator lacks a function, come before all other causes, and are no further read. */
+static void options_are_refused(void)
+{
+    const derrimas_finalizers before = finalizers;
+    const derrimas_allocator whole = {allocates, reallocates, releases, NULL};
+    const size_t sizes[] = {0, 1, sizeof(size_t), sizeof(derrimas_finalizers_options) - 1, sizeof(derrimas_finalizers_options) + 1, SIZE_MAX};
+    derrimas_finalizers_options options = {sizeof options, whole};
+
+    for (unsigned given = 0; given < 7; given++) {
+        options.allocator.allocate = given & 1 ? allocates : NULL;
+        options.allocator.reallocate = given & 2 ? reallocates : NULL;
+        options.allocator.release = given & 4 ? releases : NULL;
+        IS(derrimas_finalizers_open(&finalizers, &options), DERRIMAS_FINALIZERS_BAD_OPTIONS);
+    }
+    options.allocator = whole;
+    for (size_t n = 0; n < sizeof sizes / sizeof *sizes; n++) {
+        options.size = sizes[n];
+        IS(derrimas_finalizers_open(&finalizers, &options), DERRIMAS_FINALIZERS_BAD_OPTIONS);
+        IS(derrimas_finalizers_open(&finalizers, (const derrimas_finalizers_options *)(const void *)&sizes[n]), DERRIMAS_FINALIZERS_BAD_OPTIONS);
+    }
+    options.size = sizeof options; /* its memory is refused; but an open handle is so first */
+    IS(derrimas_finalizers_open(&finalizers, &options), before.inside ? DERRIMAS_FINALIZERS_IS_OPEN : DERRIMAS_FINALIZERS_NO_MEMORY);
+    IS(memcmp(&finalizers, &before, sizeof before), 0);
+}
+
 /* Calls on a handle that isn't open. */
 static void closed(void)
 {
-    derrimas_finalizers_registration registration;
+    derrimas_finalizers_registration_at registration;
     derrimas_finalizers_counts counts;
     derrimas_finalizers_link_at at;
     derrimas_finalizers_passed passed;
     derrimas_question question;
-    uint64_t buffer[2] = {1, 2}, from = 0;
+    uint64_t buffer[2] = {1, 2}, from = 0, target;
     size_t count;
 
     closes();
+    options_are_refused();
     changes_are_refused(DERRIMAS_FINALIZERS_NOT_OPEN);
     kinds_are_refused();
     REFUSED(DERRIMAS_FINALIZERS_NOT_OPEN, question, derrimas_finalizers_next(&finalizers, 0, &question, NULL));
@@ -182,9 +215,15 @@ static void closed(void)
         REFUSED(DERRIMAS_FINALIZERS_NOT_OPEN, count, derrimas_finalizers_roots(&finalizers, (derrimas_finalizers_root)sort, &from, buffer, 2, &count));
     IS(from == 0 && buffer[0] == 1 && buffer[1] == 2, true);
     REFUSED(DERRIMAS_FINALIZERS_NOT_OPEN, counts, derrimas_finalizers_count(&finalizers, &counts));
-    REFUSED(DERRIMAS_FINALIZERS_NOT_OPEN, registration, derrimas_finalizers_next_registration(&finalizers, 0, &registration));
-    REFUSED(DERRIMAS_FINALIZERS_NOT_OPEN, at, derrimas_finalizers_next_link(&finalizers, DERRIMAS_FINALIZERS_SHORT, 0, &at));
-    REFUSED(DERRIMAS_FINALIZERS_NOT_OPEN, at, derrimas_finalizers_next_link(&finalizers, DERRIMAS_FINALIZERS_LONG, 0, &at));
+    IS(derrimas_finalizers_abandon(&finalizers), DERRIMAS_FINALIZERS_NOT_OPEN);
+    REFUSED(DERRIMAS_FINALIZERS_NOT_OPEN, registration, derrimas_finalizers_registration(&finalizers, 8, &registration));
+    REFUSED(DERRIMAS_FINALIZERS_NOT_OPEN, count, derrimas_finalizers_registrations(&finalizers, &from, &registration, 1, &count));
+    for (int kind = DERRIMAS_FINALIZERS_SHORT; kind <= DERRIMAS_FINALIZERS_LONG; kind++) {
+        derrimas_finalizers_link_kind of = (derrimas_finalizers_link_kind)kind;
+        REFUSED(DERRIMAS_FINALIZERS_NOT_OPEN, target, derrimas_finalizers_target(&finalizers, of, 8, &target));
+        REFUSED(DERRIMAS_FINALIZERS_NOT_OPEN, count, derrimas_finalizers_links(&finalizers, of, &from, &at, 1, &count));
+    }
+    IS(from, 0);
     closes();
 }
 
@@ -192,13 +231,14 @@ static void closed(void)
 
 static void opening(void)
 {
-    derrimas_finalizers other = {NULL, 0};
+    derrimas_finalizers other = {0};
 
     opens();
-    IS(derrimas_finalizers_open(&finalizers), DERRIMAS_FINALIZERS_IS_OPEN);
+    IS(derrimas_finalizers_open(&finalizers, NULL), DERRIMAS_FINALIZERS_IS_OPEN);
+    options_are_refused();
     kinds_are_refused();
     OK(derrimas_finalizers_reserve(&finalizers, 0, 0, 0));
-    OK(derrimas_finalizers_open(&other));
+    OK(derrimas_finalizers_open(&other, NULL));
     registers(&objects[0], DERRIMAS_FINALIZERS_NORMAL, 1, 0);
     OK(derrimas_finalizers_register(&other, number_of(&objects[0]), DERRIMAS_FINALIZERS_NORMAL, 2, 3, 0, NULL, NULL));
     OK(derrimas_finalizers_queue_all(&other, NULL));
@@ -206,7 +246,7 @@ static void opening(void)
     IS(derrimas_finalizers_has_waiting(&finalizers), false);
     IS(counted().registrations, 1);
     derrimas_finalizers_destroy(&other);
-    IS(other.inside == NULL && other.waiting == 0, true);
+    IS(other.inside == NULL && other.waiting == 0 && !other.allocator.allocate, true);
     closes();
     opens();
     IS(counted().registrations, 0);
@@ -246,12 +286,12 @@ static void registering(void)
     closes();
 }
 
-static void linking(derrimas_finalizers_links kind)
+static void linking(derrimas_finalizers_link_kind kind)
 {
     const bool is_long = kind == DERRIMAS_FINALIZERS_LONG;
-    const derrimas_finalizers_links other = is_long ? DERRIMAS_FINALIZERS_SHORT : DERRIMAS_FINALIZERS_LONG;
+    const derrimas_finalizers_link_kind other = is_long ? DERRIMAS_FINALIZERS_SHORT : DERRIMAS_FINALIZERS_LONG;
     derrimas_finalizers_linked answer;
-    derrimas_finalizers_link_at at;
+    uint64_t target;
     bool was;
 
     opens();
@@ -264,8 +304,8 @@ static void linking(derrimas_finalizers_links kind)
     OK(derrimas_finalizers_link(&finalizers, other, 8, 48, &answer));
     IS(answer, DERRIMAS_FINALIZERS_LINKED);
     IS(counted().short_links == 1 && counted().long_links == 1, true);
-    OK(derrimas_finalizers_next_link(&finalizers, kind, 0, &at));
-    IS(at.word == 8 && at.target == 32, true);
+    OK(derrimas_finalizers_target(&finalizers, kind, 8, &target));
+    IS(target, 32);
     OK(derrimas_finalizers_unlink(&finalizers, other, 8, &was));
     IS(was, true);
     OK(derrimas_finalizers_unlink(&finalizers, other, 8, &was));
@@ -279,10 +319,10 @@ static void linking(derrimas_finalizers_links kind)
     closes();
 }
 
-static void moving(derrimas_finalizers_links kind)
+static void moving(derrimas_finalizers_link_kind kind)
 {
     derrimas_finalizers_linked answer;
-    derrimas_finalizers_link_at at;
+    uint64_t target;
 
     opens();
     OK(derrimas_finalizers_link(&finalizers, kind, 8, 16, NULL));
@@ -299,12 +339,12 @@ static void moving(derrimas_finalizers_links kind)
     OK(derrimas_finalizers_move_link(&finalizers, kind, 8, 48, &answer));
     IS(answer, DERRIMAS_FINALIZERS_LINKED);
     OK(derrimas_finalizers_move_link(&finalizers, kind, 24, 8, NULL));
-    OK(derrimas_finalizers_next_link(&finalizers, kind, 0, &at));
-    IS(at.word == 8 && at.target == 32, true);
-    OK(derrimas_finalizers_next_link(&finalizers, kind, 9, &at));
-    IS(at.word == 48 && at.target == 16, true);
-    REFUSED(DERRIMAS_FINALIZERS_EMPTY, at, derrimas_finalizers_next_link(&finalizers, kind, 49, &at));
-    REFUSED(DERRIMAS_FINALIZERS_EMPTY, at, derrimas_finalizers_next_link(&finalizers, kind, UINT64_MAX, &at));
+    OK(derrimas_finalizers_target(&finalizers, kind, 8, &target));
+    IS(target, 32);
+    OK(derrimas_finalizers_target(&finalizers, kind, 48, &target));
+    IS(target, 16);
+    REFUSED(DERRIMAS_FINALIZERS_EMPTY, target, derrimas_finalizers_target(&finalizers, kind, 24, &target));
+    REFUSED(DERRIMAS_FINALIZERS_EMPTY, target, derrimas_finalizers_target(&finalizers, kind, 0, &target));
     closes();
 }
 
@@ -396,13 +436,14 @@ static void open_pass(void)
 
     opens();
     REFUSED(DERRIMAS_FINALIZERS_NO_PASS, question, derrimas_finalizers_next(&finalizers, 0, &question, NULL));
+    IS(derrimas_finalizers_abandon(&finalizers), DERRIMAS_FINALIZERS_NO_PASS);
     for (size_t n = 0; n < 100; n++)
         registers(&objects[n], (derrimas_finalizers_kind)(n % 4), 8 * n + 8, 0);
     OK(derrimas_finalizers_begin(&finalizers));
     for (;;) {
         changes_are_refused(DERRIMAS_FINALIZERS_PASS_OPEN);
-        IS(derrimas_finalizers_open(&finalizers), DERRIMAS_FINALIZERS_IS_OPEN);
-        OK(derrimas_finalizers_roots(&finalizers, DERRIMAS_FINALIZERS_REGISTERED_DATA, &(uint64_t){0}, &word, 0, &count));
+        IS(derrimas_finalizers_open(&finalizers, NULL), DERRIMAS_FINALIZERS_IS_OPEN);
+        IS(derrimas_finalizers_roots(&finalizers, DERRIMAS_FINALIZERS_REGISTERED_DATA, &(uint64_t){0}, &word, 0, &count), DERRIMAS_FINALIZERS_EMPTY);
         IS(counted().waiting + counted().registrations, 100);
         walked(DERRIMAS_FINALIZERS_HELD_OBJECTS, counted().waiting);
         walked(DERRIMAS_FINALIZERS_HELD_DATA, counted().waiting);
@@ -446,6 +487,114 @@ static void endings(void)
     IS(derrimas_finalizers_next(&finalizers, UINT64_MAX, &question, NULL), DERRIMAS_FINALIZERS_EMPTY);
     IS(counted().passes, 2);
     closes();
+}
+
+/* ---- abandoned passes */
+
+enum { SMALL = 48 };
+
+/* A graph of chance, of few objects: references, roots, registrations, and links in words and outside of them. */
+static void chance_graph(uint64_t seed)
+{
+    memset(&all, 0, sizeof all);
+    for (size_t n = 0; n < SMALL; n++) {
+        const uint64_t some = (n + 1) * (seed | 1) * UINT64_C(0x9e3779b97f4a7c15) >> 20;
+        objects[n].is_root = some % 5 == 0;
+        objects[n].words[0] = some / 5 % 3 ? 0 : number_of(&objects[some / 15 % SMALL]);
+        objects[n].words[1] = number_of(&objects[some / 31 % SMALL]) | (some / 7 % 4 ? UINT64_C(1) << 63 : 0); /* mostly none */
+        if (some / 11 % 4)
+            registers(&objects[n], (derrimas_finalizers_kind)(some / 13 % 4), n + 1, (uint8_t)(some / 17 % 3));
+        for (int kind = DERRIMAS_FINALIZERS_SHORT; kind <= DERRIMAS_FINALIZERS_LONG; kind++)
+            OK(derrimas_finalizers_link(&finalizers, (derrimas_finalizers_link_kind)kind, word_of(&objects[n], 2 + (size_t)kind),
+                                        number_of(&objects[some / 19 % SMALL]), NULL));
+    }
+}
+
+/* What a pass did by its answers so far: entries, by MARK and MARK_ALONE, and links that went, by CLEAR and where the holder isn't marked. */
+struct done {
+    uint64_t queued, links;
+};
+
+static struct done answered_with(const derrimas_question *question, uint64_t answers)
+{
+    struct done done = {0, 0};
+
+    if (question->ask == DERRIMAS_ASK_MARK || question->ask == DERRIMAS_ASK_MARK_ALONE)
+        done.queued = question->count;
+    if (question->ask == DERRIMAS_ASK_CLEAR)
+        done.links = question->count;
+    for (uint64_t i = 0; question->ask == DERRIMAS_ASK_HOLDER_IS_MARKED && i < question->count; i++)
+        done.links += !(answers >> i & 1);
+    return done;
+}
+
+/* Abandons a pass after so many questions, the last of which isn't answered. False where it has no so many. */
+static bool abandoned_after(uint64_t seed, uint64_t questions)
+{
+    derrimas_finalizers_counts before, after;
+    derrimas_question question;
+    struct done all_done = {0, 0}, done;
+    uint64_t answers = 0;
+
+    opens();
+    chance_graph(seed);
+    before = counted();
+    mark_all(&all, &finalizers);
+    OK(derrimas_finalizers_begin(&finalizers));
+    for (uint64_t n = 0; n < questions; n++) {
+        if (derrimas_finalizers_next(&finalizers, answers, &question, NULL) != DERRIMAS_FINALIZERS_OK) {
+            closes();
+            return false;
+        }
+        if (n + 1 == questions)
+            break;
+        answers = derrimas_host_answers(&procedures, &all, &question);
+        done = answered_with(&question, answers);
+        all_done.queued += done.queued;
+        all_done.links += done.links;
+    }
+    OK(derrimas_finalizers_abandon(&finalizers));
+    IS(derrimas_finalizers_abandon(&finalizers), DERRIMAS_FINALIZERS_NO_PASS);
+    after = counted();
+    IS(after.waiting, all_done.queued);
+    IS(derrimas_finalizers_has_waiting(&finalizers), after.waiting > 0);
+    IS(finalizers.waiting, after.waiting);
+    IS(after.registrations, before.registrations - all_done.queued);
+    IS(after.short_links + after.long_links, before.short_links + before.long_links - all_done.links);
+    IS(all.asked[DERRIMAS_ASK_CLEAR] <= all_done.links, true);
+    return true;
+}
+
+/* Collections, and entries that are taken and finished, until nothing comes any more: how often the procedure of each object came. */
+static void end_all(uint64_t *came)
+{
+    derrimas_finalizers_entry entry;
+    bool goes_on = true;
+
+    memset(came, 0, (SMALL + 1) * sizeof *came);
+    while (goes_on) {
+        goes_on = collect(&all, &finalizers).picked > 0;
+        for (; derrimas_finalizers_take_finished(&finalizers, &entry) == DERRIMAS_FINALIZERS_OK; goes_on = true)
+            came[entry.proc]++;
+    }
+    closes();
+}
+
+/* A pass is abandoned at each of its questions. The passes after it end what it left: in all each procedure comes as often as without it. */
+static void abandoned(void)
+{
+    uint64_t wanted[SMALL + 1], came[SMALL + 1], questions;
+
+    for (uint64_t seed = 1; seed <= 60; seed++) {
+        opens();
+        chance_graph(seed);
+        end_all(wanted);
+        for (questions = 0; abandoned_after(seed, questions); questions++) {
+            end_all(came);
+            IS(memcmp(wanted, came, sizeof wanted), 0);
+        }
+        IS(questions > 10, true);
+    }
 }
 
 /* ---- entries */
@@ -526,7 +675,7 @@ static void roots(void)
     closes();
 }
 
-/* A buffer without room gets nothing, as long as roots are left. */
+/* A walk with a buffer without room ends. */
 static void no_room(void)
 {
     uint64_t from = 0, word = 1;
@@ -535,41 +684,124 @@ static void no_room(void)
     opens();
     REFUSED(DERRIMAS_FINALIZERS_EMPTY, count, derrimas_finalizers_roots(&finalizers, DERRIMAS_FINALIZERS_REGISTERED_DATA, &from, &word, 0, &count));
     registers(&objects[0], DERRIMAS_FINALIZERS_NORMAL, 1, 0);
-    OK(derrimas_finalizers_roots(&finalizers, DERRIMAS_FINALIZERS_REGISTERED_DATA, &from, &word, 0, &count));
-    IS(count == 0 && from == 0 && word == 1, true);
+    REFUSED(DERRIMAS_FINALIZERS_EMPTY, count, derrimas_finalizers_roots(&finalizers, DERRIMAS_FINALIZERS_REGISTERED_DATA, &from, &word, 0, &count));
+    REFUSED(DERRIMAS_FINALIZERS_EMPTY, count, derrimas_finalizers_roots(&finalizers, DERRIMAS_FINALIZERS_REGISTERED_DATA, &from, NULL, 0, &count));
+    IS(from == 0 && word == 1, true);
     from = UINT64_MAX;
     REFUSED(DERRIMAS_FINALIZERS_EMPTY, count, derrimas_finalizers_roots(&finalizers, DERRIMAS_FINALIZERS_REGISTERED_DATA, &from, &word, 1, &count));
     IS(from, UINT64_MAX);
     closes();
 }
 
+enum { WALKED = 200 };
+
+/* The walks of registrations and links in parts of so many, put together; and that each part begins where the one before ended. */
+static derrimas_finalizers_registration_at registered[WALKED];
+static derrimas_finalizers_link_at linked[2][WALKED];
+
+static void walk_registrations(size_t room)
+{
+    uint64_t from = 0, before = 0;
+    size_t count;
+
+    memset(registered, 0, sizeof registered);
+    for (; derrimas_finalizers_registrations(&finalizers, &from, registered + before, room, &count) == DERRIMAS_FINALIZERS_OK; before = from)
+        IS(count >= 1 && count <= room && from == before + count && from <= WALKED, true);
+    REFUSED(DERRIMAS_FINALIZERS_EMPTY, count, derrimas_finalizers_registrations(&finalizers, &from, registered, room, &count));
+    IS(from, counted().registrations);
+}
+
+static void walk_links(derrimas_finalizers_link_kind kind, size_t room)
+{
+    uint64_t from = 0, before = 0;
+    size_t count;
+
+    memset(linked[kind], 0, sizeof linked[kind]);
+    for (; derrimas_finalizers_links(&finalizers, kind, &from, linked[kind] + before, room, &count) == DERRIMAS_FINALIZERS_OK; before = from)
+        IS(count >= 1 && count <= room && from == before + count && from <= WALKED, true);
+    REFUSED(DERRIMAS_FINALIZERS_EMPTY, count, derrimas_finalizers_links(&finalizers, kind, &from, linked[kind], room, &count));
+    IS(from, kind == DERRIMAS_FINALIZERS_LONG ? counted().long_links : counted().short_links);
+}
+
+/* Each is there once, as it was made: of the n-th the object or the word is 8 * n + 8. */
+static void each_once(uint64_t sum_of_registered, uint64_t sum_of_shorts, uint64_t sum_of_longs)
+{
+    uint64_t sums[3] = {0, 0, 0};
+    bool seen[3][WALKED] = {{false}};
+
+    for (size_t n = 0; n < WALKED; n++) {
+        const derrimas_finalizers_registration_at *it = &registered[n];
+        const uint64_t at = it->object / 8 - 1;
+        if (it->object) {
+            IS(at < WALKED && !seen[2][at] && it->proc == at && it->cd == 2 * at && (uint64_t)it->kind == at % 4 && it->rank == (uint8_t)(at + 200), true);
+            seen[2][at] = true;
+            sums[2] += at;
+        }
+        for (size_t kind = 0; kind < 2; kind++) {
+            const uint64_t word = linked[kind][n].word / 8 - 1;
+            if (!linked[kind][n].word)
+                continue;
+            IS(word < WALKED && !seen[kind][word] && linked[kind][n].target == word + 1 + kind, true);
+            seen[kind][word] = true;
+            sums[kind] += word;
+        }
+    }
+    IS(sums[2] == sum_of_registered && sums[0] == sum_of_shorts && sums[1] == sum_of_longs, true);
+}
+
+/* Looks up each, whether it is there or not. */
+static void look_up_all(uint64_t first, uint64_t after)
+{
+    for (uint64_t n = 0; n < WALKED; n++) {
+        const bool is = n >= first && n < after;
+        derrimas_finalizers_registration_at it;
+        uint64_t target;
+        memset(&it, 1, sizeof it);
+        IS(derrimas_finalizers_registration(&finalizers, 8 * n + 8, &it), is ? DERRIMAS_FINALIZERS_OK : DERRIMAS_FINALIZERS_EMPTY);
+        IS(is ? it.object == 8 * n + 8 && it.proc == n && (uint64_t)it.kind == n % 4 : is_filled(&it, sizeof it), true);
+        for (int kind = DERRIMAS_FINALIZERS_SHORT; kind <= DERRIMAS_FINALIZERS_LONG; kind++) {
+            memset(&target, 1, sizeof target);
+            IS(derrimas_finalizers_target(&finalizers, (derrimas_finalizers_link_kind)kind, 8 * n + 8, &target),
+               is ? DERRIMAS_FINALIZERS_OK : DERRIMAS_FINALIZERS_EMPTY);
+            IS(is ? target == n + 1 + (uint64_t)kind : is_filled(&target, sizeof target), true);
+        }
+    }
+}
+
+static void walk_all(void)
+{
+    static const size_t rooms[] = {1, 7, 63, 64, 65, WALKED};
+
+    for (size_t n = 0; n < sizeof rooms / sizeof *rooms; n++) {
+        walk_registrations(rooms[n]);
+        walk_links(DERRIMAS_FINALIZERS_SHORT, rooms[n]);
+        walk_links(DERRIMAS_FINALIZERS_LONG, rooms[n]);
+        each_once(WALKED * (WALKED - 1) / 2, WALKED * (WALKED - 1) / 2, WALKED * (WALKED - 1) / 2);
+    }
+}
+
 static void walks(void)
 {
-    derrimas_finalizers_registration it;
-    derrimas_finalizers_link_at at;
-    uint64_t from = 0, number = UINT64_MAX;
+    uint64_t from = UINT64_MAX;
+    size_t count;
 
     opens();
-    for (size_t n = 20; n-- > 0;) {
+    for (uint64_t n = WALKED; n-- > 0;) {
         OK(derrimas_finalizers_register(&finalizers, 8 * n + 8, (derrimas_finalizers_kind)(n % 4), n, 2 * n, (uint8_t)(n + 200), NULL, NULL));
         OK(derrimas_finalizers_link(&finalizers, DERRIMAS_FINALIZERS_SHORT, 8 * n + 8, n + 1, NULL));
         OK(derrimas_finalizers_link(&finalizers, DERRIMAS_FINALIZERS_LONG, 8 * n + 8, n + 2, NULL));
     }
-    for (uint64_t n = 0; n < 20; n++) {
-        OK(derrimas_finalizers_next_registration(&finalizers, from, &it));
-        IS(it.object == 8 * n + 8 && it.proc == n && it.cd == 2 * n && (uint64_t)it.kind == n % 4 && it.rank == n + 200, true);
-        IS(it.number < number, true);
-        number = it.number;
-        OK(derrimas_finalizers_next_link(&finalizers, DERRIMAS_FINALIZERS_SHORT, from, &at));
-        IS(at.word == 8 * n + 8 && at.target == n + 1, true);
-        OK(derrimas_finalizers_next_link(&finalizers, DERRIMAS_FINALIZERS_LONG, from, &at));
-        IS(at.word == 8 * n + 8 && at.target == n + 2, true);
-        from = it.object + 1;
+    walk_all();
+    look_up_all(0, WALKED);
+    REFUSED(DERRIMAS_FINALIZERS_EMPTY, count, derrimas_finalizers_registrations(&finalizers, &from, registered, WALKED, &count));
+    REFUSED(DERRIMAS_FINALIZERS_EMPTY, count, derrimas_finalizers_links(&finalizers, DERRIMAS_FINALIZERS_LONG, &from, linked[1], WALKED, &count));
+    for (from = 0; from == 0; from++) {
+        REFUSED(DERRIMAS_FINALIZERS_EMPTY, count, derrimas_finalizers_registrations(&finalizers, &from, NULL, 0, &count));
+        REFUSED(DERRIMAS_FINALIZERS_EMPTY, count, derrimas_finalizers_links(&finalizers, DERRIMAS_FINALIZERS_SHORT, &from, NULL, 0, &count));
     }
-    REFUSED(DERRIMAS_FINALIZERS_EMPTY, it, derrimas_finalizers_next_registration(&finalizers, from, &it));
-    REFUSED(DERRIMAS_FINALIZERS_EMPTY, it, derrimas_finalizers_next_registration(&finalizers, UINT64_MAX, &it));
-    REFUSED(DERRIMAS_FINALIZERS_EMPTY, at, derrimas_finalizers_next_link(&finalizers, DERRIMAS_FINALIZERS_SHORT, from, &at));
-    REFUSED(DERRIMAS_FINALIZERS_EMPTY, at, derrimas_finalizers_next_link(&finalizers, DERRIMAS_FINALIZERS_LONG, from, &at));
+    OK(derrimas_finalizers_begin(&finalizers)); /* a pass may be open */
+    walk_all();
+    look_up_all(0, WALKED);
     closes();
 }
 
@@ -587,6 +819,7 @@ int main(void)
     weak();
     open_pass();
     endings();
+    abandoned();
     entries();
     held();
     roots();

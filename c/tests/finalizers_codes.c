@@ -5,6 +5,7 @@
 #include "check.h"
 
 static uint8_t answer;       /* what each export answers */
+static uint8_t link_answer;  /* what became of a link, by gc.h's number */
 static uint64_t given[8];    /* what the last one was given */
 static unsigned calls;       /* how many were called */
 static derrimas_finalizers finalizers;
@@ -24,6 +25,8 @@ static uint8_t noted(void *place, size_t size, uint64_t a, uint64_t b, uint64_t 
 uint8_t fz_machine_open(derrimas_finalizers *f) { return noted(NULL, 0, f == &finalizers, 0, 0, 0, 0); }
 void fz_machine_destroy(derrimas_finalizers *f) { (void)noted(NULL, 0, f == &finalizers, 0, 0, 0, 0); }
 uint8_t fz_machine_reserve(derrimas_finalizers *f, uint64_t a, uint64_t b, uint64_t c) { return noted(NULL, 0, f == &finalizers, a, b, c, 0); }
+uint8_t fz_machine_shrink(derrimas_finalizers *f) { return noted(NULL, 0, f == &finalizers, 46, 0, 0, 0); }
+uint8_t fz_machine_abandon(derrimas_finalizers *f) { return noted(NULL, 0, f == &finalizers, 47, 0, 0, 0); }
 
 uint8_t fz_machine_register(derrimas_finalizers *f, uint64_t object, uint8_t kind, uint64_t proc, uint64_t cd, uint8_t rank, fz_machine_registered *place)
 {
@@ -39,9 +42,17 @@ uint8_t fz_machine_unregister(derrimas_finalizers *f, uint64_t object, derrimas_
     return noted(old, sizeof *old, f == &finalizers, object, 0, 0, 0);
 }
 
+/* gc.h's number of what became of a link, if the call was accepted. */
+static uint8_t told_link(uint8_t code, uint8_t *place)
+{
+    if (code == DERRIMAS_FINALIZERS_OK)
+        *place = link_answer;
+    return code;
+}
+
 uint8_t fz_machine_link(derrimas_finalizers *f, bool is_long, uint64_t word, uint64_t target, uint8_t *place)
 {
-    return noted(place, sizeof *place, f == &finalizers, is_long, word, target, 0);
+    return told_link(noted(place, sizeof *place, f == &finalizers, is_long, word, target, 0), place);
 }
 
 uint8_t fz_machine_unlink(derrimas_finalizers *f, bool is_long, uint64_t word, bool *was)
@@ -51,7 +62,7 @@ uint8_t fz_machine_unlink(derrimas_finalizers *f, bool is_long, uint64_t word, b
 
 uint8_t fz_machine_move_link(derrimas_finalizers *f, bool is_long, uint64_t word, uint64_t to, uint8_t *place)
 {
-    return noted(place, sizeof *place, f == &finalizers, is_long, word, to, 0);
+    return told_link(noted(place, sizeof *place, f == &finalizers, is_long, word, to, 0), place);
 }
 
 uint8_t fz_machine_begin(derrimas_finalizers *f) { return noted(NULL, 0, f == &finalizers, 0, 0, 0, 0); }
@@ -98,20 +109,50 @@ uint8_t fz_machine_roots(derrimas_finalizers *f, uint8_t sort, uint64_t from, fz
     return code;
 }
 
-uint8_t fz_machine_count(derrimas_finalizers *f, derrimas_finalizers_counts *counts) { return noted(counts, sizeof *counts, is_copy(f), 0, 0, 0, 0); }
-
-uint8_t fz_machine_next_registration(derrimas_finalizers *f, uint64_t from, fz_machine_registration *place)
+uint8_t fz_machine_count(derrimas_finalizers *f, derrimas_finalizers_counts *counts)
 {
-    uint8_t code = noted(place, sizeof *place, is_copy(f), from, 0, 0, 0);
+    uint8_t code = noted(counts, sizeof *counts, is_copy(f), 0, 0, 0, 0);
 
     if (code == DERRIMAS_FINALIZERS_OK)
-        *place = (fz_machine_registration){41, 42, 43, 44, DERRIMAS_FINALIZERS_UNREACHABLE, 45};
+        counts->waiting = 48;
     return code;
 }
 
-uint8_t fz_machine_next_link(derrimas_finalizers *f, bool is_long, uint64_t from, derrimas_finalizers_link_at *place)
+/* As long as a place is below 1,000 there are more, in parts that are full but for the last. */
+static uint64_t part_from(uint64_t from) { return from < 1000 - FZ_MACHINE_PART ? FZ_MACHINE_PART : 1000 - from; }
+
+uint8_t fz_machine_registrations(derrimas_finalizers *f, uint64_t from, fz_machine_some_registrations *place)
 {
-    return noted(place, sizeof *place, is_copy(f), is_long, from, 0, 0);
+    uint8_t code = from < 1000 ? noted(place, sizeof *place, is_copy(f), from, 0, 0, 0) : DERRIMAS_FINALIZERS_EMPTY;
+
+    if (code == DERRIMAS_FINALIZERS_OK)
+        for (place->count = part_from(from); given[2] < place->count; given[2]++)
+            place->registrations[given[2]] = (fz_machine_registration_at){from + given[2], 42, 43, 44, DERRIMAS_FINALIZERS_UNREACHABLE, 45};
+    return code;
+}
+
+uint8_t fz_machine_links(derrimas_finalizers *f, bool is_long, uint64_t from, fz_machine_some_links *place)
+{
+    uint8_t code = from < 1000 ? noted(place, sizeof *place, is_copy(f), is_long, from, 0, 0) : DERRIMAS_FINALIZERS_EMPTY;
+
+    if (code == DERRIMAS_FINALIZERS_OK)
+        for (place->count = part_from(from); given[3] < place->count; given[3]++)
+            place->links[given[3]] = (derrimas_finalizers_link_at){from + given[3], 2 * (from + given[3])};
+    return code;
+}
+
+uint8_t fz_machine_registration(derrimas_finalizers *f, uint64_t object, fz_machine_registration_at *place)
+{
+    uint8_t code = noted(place, sizeof *place, is_copy(f), object, 0, 0, 0);
+
+    if (code == DERRIMAS_FINALIZERS_OK)
+        *place = (fz_machine_registration_at){41, 42, 43, 44, DERRIMAS_FINALIZERS_UNREACHABLE, 45};
+    return code;
+}
+
+uint8_t fz_machine_target(derrimas_finalizers *f, bool is_long, uint64_t word, uint64_t *target)
+{
+    return noted(target, sizeof *target, is_copy(f), is_long, word, 0, 0);
 }
 
 /* ---- checks */
@@ -133,6 +174,26 @@ static derrimas_finalizers_linked linked;
 static uint64_t number;
 static bool was;
 
+/* gc.h's numbers, which the exports return, get numbers that are no codes, and back. */
+static void answers_of_links(void)
+{
+    static const derrimas_finalizers_linked all[] = {DERRIMAS_FINALIZERS_LINKED, DERRIMAS_FINALIZERS_DUPLICATE, DERRIMAS_FINALIZERS_NOT_FOUND};
+    static const uint8_t numbers[] = {0, 1, 4};
+
+    for (size_t n = 0; answer == DERRIMAS_FINALIZERS_OK && n < 3; n++) {
+        link_answer = numbers[n];
+        OK(derrimas_finalizers_move_link(&finalizers, DERRIMAS_FINALIZERS_LONG, 8, 9, &linked));
+        IS(linked, all[n]);
+        IS(linked, 128 + n);
+        IS(DERRIMAS_FINALIZERS_GC_ANSWER(linked), numbers[n]);
+        if (n == 2)
+            continue;
+        OK(derrimas_finalizers_link(&finalizers, DERRIMAS_FINALIZERS_LONG, 8, 9, &linked));
+        IS(linked, all[n]);
+    }
+    link_answer = 0;
+}
+
 static void changes(void)
 {
     THROUGH(number, derrimas_finalizers_register(&finalizers, 3, DERRIMAS_FINALIZERS_UNREACHABLE, 4, 5, 6, &number, NULL), 3, 3, 4, 5, 6);
@@ -142,15 +203,19 @@ static void changes(void)
     THROUGH(old, derrimas_finalizers_unregister(&finalizers, 7, &old), 1, 7);
     THROUGH(linked, derrimas_finalizers_link(&finalizers, DERRIMAS_FINALIZERS_LONG, 8, 9, &linked), 1, 1, 8, 9);
     THROUGH(linked, derrimas_finalizers_move_link(&finalizers, DERRIMAS_FINALIZERS_SHORT, 8, 9, &linked), 1, 0, 8, 9);
+    answers_of_links();
     THROUGH(was, derrimas_finalizers_unlink(&finalizers, DERRIMAS_FINALIZERS_LONG, 8, &was), 1, 1, 8);
     IS(derrimas_finalizers_unregister(&finalizers, 7, NULL), answer);
     IS(derrimas_finalizers_link(&finalizers, DERRIMAS_FINALIZERS_SHORT, 8, 9, NULL), answer);
     IS(derrimas_finalizers_move_link(&finalizers, DERRIMAS_FINALIZERS_LONG, 8, 9, NULL), answer);
     IS(derrimas_finalizers_unlink(&finalizers, DERRIMAS_FINALIZERS_SHORT, 8, NULL), answer);
     IS(derrimas_finalizers_register(&finalizers, 3, DERRIMAS_FINALIZERS_NORMAL, 4, 5, 6, NULL, NULL), answer);
-    IS(derrimas_finalizers_open(&finalizers), answer);
+    IS(derrimas_finalizers_open(&finalizers, NULL), answer);
+    IS(derrimas_finalizers_open(&finalizers, &(derrimas_finalizers_options){sizeof(derrimas_finalizers_options), libc}), answer);
     IS(derrimas_finalizers_reserve(&finalizers, 11, 12, 13), answer);
     IS(given[1] == 11 && given[2] == 12 && given[3] == 13, true);
+    IS(derrimas_finalizers_shrink(&finalizers), answer);
+    IS(given[0] == 1 && given[1] == 46, true);
     IS(derrimas_finalizers_begin(&finalizers), answer);
 }
 
@@ -178,25 +243,58 @@ static void waiting(void)
     THROUGH(entry, derrimas_finalizers_take(&finalizers, &entry), 1, 1);
     THROUGH(entry, derrimas_finalizers_take_finished(&finalizers, &entry), 1, 2);
     IS(finalizers.waiting, is_ok ? 8 : has_ended ? 68 : 0);
+    calls = 0;
+    IS(derrimas_finalizers_abandon(&finalizers), answer); /* how many wait then is read anew */
+    IS(calls, is_ok ? 2 : 1);
+    IS(finalizers.waiting, is_ok ? 48 : has_ended ? 68 : 0);
     entry.reg = 15;
     IS(derrimas_finalizers_finish(&finalizers, &entry), answer);
     IS(given[1], 15);
 }
 
-static void shown(void)
+static bool is_shown(const derrimas_finalizers_registration_at *it, uint64_t object)
 {
-    derrimas_finalizers_registration registration;
+    return it->object == object && it->number == 42 && it->proc == 43 && it->cd == 44 && it->kind == DERRIMAS_FINALIZERS_UNREACHABLE && it->rank == 45;
+}
+
+/* Parts of each size are one walk, and begin at their place. */
+static void walks(size_t room)
+{
+    static derrimas_finalizers_registration_at registrations[1000];
+    static derrimas_finalizers_link_at links[1000];
+    const uint8_t ends = answer == DERRIMAS_FINALIZERS_OK ? DERRIMAS_FINALIZERS_EMPTY : answer; /* a part without room */
+    uint64_t from = 100, of_links = 100;
+    size_t count;
+
+    REFUSED(ends, count, derrimas_finalizers_registrations(&finalizers, &from, registrations, 0, &count));
+    REFUSED(ends, count, derrimas_finalizers_links(&finalizers, DERRIMAS_FINALIZERS_LONG, &of_links, links, 0, &count));
+    IS(from == 100 && of_links == 100, true);
+    for (uint64_t before = 100; derrimas_finalizers_registrations(&finalizers, &from, registrations, room, &count) == DERRIMAS_FINALIZERS_OK; before = from) {
+        IS(count >= 1 && count <= room && from == before + count && from <= 1000, true);
+        for (size_t n = 0; n < count; n++)
+            IS(is_shown(&registrations[n], before + n), true);
+    }
+    while (derrimas_finalizers_links(&finalizers, DERRIMAS_FINALIZERS_SHORT, &of_links, links, room, &count) == DERRIMAS_FINALIZERS_OK)
+        for (size_t n = 0; n < count; n++)
+            IS(links[n].word == of_links - count + n && links[n].target == 2 * links[n].word, true);
+    IS(from == of_links && from == (answer == DERRIMAS_FINALIZERS_OK ? 1000 : 100), true);
+}
+
+static void reads(void)
+{
+    derrimas_finalizers_registration_at registration;
     derrimas_finalizers_counts counts;
-    derrimas_finalizers_link_at at;
     uint64_t buffer[1100], from = 100;
     size_t count;
 
-    THROUGH(counts, derrimas_finalizers_count(&finalizers, &counts), 1);
-    THROUGH(registration, derrimas_finalizers_next_registration(&finalizers, 16, &registration), 1, 16);
-    IS(answer != DERRIMAS_FINALIZERS_OK || (registration.object == 41 && registration.number == 42 && registration.proc == 43 && registration.cd == 44), true);
-    IS(answer != DERRIMAS_FINALIZERS_OK || (registration.kind == DERRIMAS_FINALIZERS_UNREACHABLE && registration.rank == 45), true);
-    THROUGH(at, derrimas_finalizers_next_link(&finalizers, DERRIMAS_FINALIZERS_LONG, 17, &at), 1, 1, 17);
-    THROUGH(at, derrimas_finalizers_next_link(&finalizers, DERRIMAS_FINALIZERS_SHORT, 17, &at), 1, 0, 17);
+    memset(&counts, 1, sizeof counts);
+    IS(derrimas_finalizers_count(&finalizers, &counts), answer);
+    IS(given[0], true);
+    IS(is_filled(&counts, sizeof counts), answer != DERRIMAS_FINALIZERS_OK);
+    THROUGH(registration, derrimas_finalizers_registration(&finalizers, 16, &registration), 1, 16);
+    IS(answer != DERRIMAS_FINALIZERS_OK || is_shown(&registration, 41), true);
+    THROUGH(number, derrimas_finalizers_target(&finalizers, DERRIMAS_FINALIZERS_LONG, 17, &number), 1, 1, 17);
+    THROUGH(number, derrimas_finalizers_target(&finalizers, DERRIMAS_FINALIZERS_SHORT, 17, &number), 1, 0, 17);
     THROUGH(count, derrimas_finalizers_roots(&finalizers, DERRIMAS_FINALIZERS_HELD_DATA, &from, buffer, 10, &count), 1, 1, 100);
     IS(from, answer == DERRIMAS_FINALIZERS_OK ? 110 : 100);
     IS(derrimas_finalizers_roots(&finalizers, DERRIMAS_FINALIZERS_REGISTERED_DATA, &from, buffer, 1100, &count), answer);
@@ -208,9 +306,8 @@ static void shown(void)
 /* A kind that is none goes to no export. */
 static void bad_kinds(void)
 {
-    const derrimas_finalizers_links kind = (derrimas_finalizers_links)257;
-    derrimas_finalizers_link_at at;
-    uint64_t from = 0;
+    const derrimas_finalizers_link_kind kind = (derrimas_finalizers_link_kind)257;
+    uint64_t from = 0, target;
     size_t count;
 
     calls = 0;
@@ -218,7 +315,8 @@ static void bad_kinds(void)
     IS(derrimas_finalizers_link(&finalizers, kind, 8, 9, NULL), DERRIMAS_FINALIZERS_BAD_KIND);
     IS(derrimas_finalizers_unlink(&finalizers, kind, 8, NULL), DERRIMAS_FINALIZERS_BAD_KIND);
     IS(derrimas_finalizers_move_link(&finalizers, kind, 8, 9, NULL), DERRIMAS_FINALIZERS_BAD_KIND);
-    IS(derrimas_finalizers_next_link(&finalizers, kind, 8, &at), DERRIMAS_FINALIZERS_BAD_KIND);
+    IS(derrimas_finalizers_target(&finalizers, kind, 8, &target), DERRIMAS_FINALIZERS_BAD_KIND);
+    IS(derrimas_finalizers_links(&finalizers, kind, &from, NULL, 0, &count), DERRIMAS_FINALIZERS_BAD_KIND);
     IS(derrimas_finalizers_roots(&finalizers, (derrimas_finalizers_root)258, &from, NULL, 0, &count), DERRIMAS_FINALIZERS_BAD_KIND);
     IS(calls, 0);
 }
@@ -226,10 +324,12 @@ static void bad_kinds(void)
 int main(void)
 {
     finalizers.inside = &finalizers;
-    for (answer = DERRIMAS_FINALIZERS_OK; answer <= DERRIMAS_FINALIZERS_BAD_KIND; answer++) {
+    for (answer = DERRIMAS_FINALIZERS_OK; answer <= DERRIMAS_FINALIZERS_BAD_OPTIONS; answer++) {
         changes();
         waiting();
-        shown();
+        reads();
+        for (size_t room = 1; room < 1000; room += room)
+            walks(room);
         bad_kinds();
     }
     derrimas_finalizers_destroy(&finalizers);

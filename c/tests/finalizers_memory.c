@@ -1,54 +1,81 @@
-/* Memory of a host's own. Each allocation is refused once, after which nothing has changed; no call but those that derrimas_finalizers.h names asks for memory
- * or gives any back; and calls that take a const handle write to none of it, which is then read-only.
+/* Memory of a host's own, by its options. Each allocation is refused once, after which nothing has changed; no call but those that derrimas_finalizers.h names
+ * asks for memory or gives any back; calls that take a const handle write to none of it, which is then read-only; and each handle has its own.
  */
 #define _DEFAULT_SOURCE /* for MAP_ANONYMOUS */
 #include "finalizers_host.h"
+#include <pthread.h>
 #include <sys/mman.h>
 
-enum { HEAD = 16, ROOM = 1 << 26 };
+enum { HEAD = 16, ROOM = 1 << 28 };
 
-static unsigned char *memory;    /* all of it: what is given back isn't given again */
-static size_t used;              /* of it */
-static long granted = -1;        /* how many allocations are granted yet; none is refused where it is negative */
-static unsigned asked, standing; /* how often the three were called; how much isn't given back */
+/* What an allocator's `data` points to. */
+typedef struct heap {
+    unsigned char *memory;    /* all of it: what is given back isn't given again */
+    size_t used;              /* of it */
+    long granted;             /* how many allocations are granted yet; none is refused where it is negative */
+    unsigned asked, standing; /* how often the three were called; how many blocks aren't given back */
+    size_t live;              /* the bytes of those */
+    unsigned strange;         /* how often something came that wasn't given here */
+    void (*within)(void);     /* called by each, if it isn't NULL */
+} heap;
 
+static heap first = {.granted = -1}, second = {.granted = -1};
 static derrimas_finalizers finalizers;
 static host all;
 static object *const objects = all.objects;
 
-void *derrimas_malloc(size_t size)
+static void *allocate(void *data, size_t size)
 {
-    asked++;
-    if (granted == 0 || size == 0 || size > ROOM - HEAD - used)
+    heap *it = data;
+
+    it->asked++;
+    if (it->within)
+        it->within();
+    if (it->granted == 0 || size == 0 || size > ROOM - HEAD - it->used)
         return NULL;
-    granted -= granted > 0;
-    memcpy(memory + used, &size, sizeof size);
-    used += HEAD + (size + 15) / 16 * 16;
-    standing++;
-    return memory + used - (size + 15) / 16 * 16;
+    it->granted -= it->granted > 0;
+    memcpy(it->memory + it->used, &size, sizeof size);
+    it->used += HEAD + (size + 15) / 16 * 16;
+    it->standing++;
+    it->live += size;
+    return it->memory + it->used - (size + 15) / 16 * 16;
 }
 
-void derrimas_free(void *at)
+static void release(void *data, void *at)
 {
-    asked++;
+    heap *it = data;
+    size_t size;
+
+    it->asked++;
+    if (it->within)
+        it->within();
     if (!at)
         return;
-    standing--;
+    if ((unsigned char *)at < it->memory + HEAD || (unsigned char *)at >= it->memory + it->used) {
+        it->strange++;
+        return;
+    }
+    memcpy(&size, (unsigned char *)at - HEAD, sizeof size);
+    it->standing--;
+    it->live -= size;
     memset((unsigned char *)at - HEAD, 0xee, HEAD);
 }
 
-void *derrimas_realloc(void *at, size_t size)
+static void *reallocate(void *data, void *at, size_t size)
 {
-    void *other = derrimas_malloc(size);
+    void *other = allocate(data, size);
     size_t had;
 
     if (!other || !at)
         return other;
     memcpy(&had, (unsigned char *)at - HEAD, sizeof had);
     memcpy(other, at, had < size ? had : size);
-    derrimas_free(at);
+    release(data, at);
     return other;
 }
+
+static const derrimas_finalizers_options options = {sizeof options, {allocate, reallocate, release, &first}};
+static const derrimas_finalizers_options other_options = {sizeof other_options, {allocate, reallocate, release, &second}};
 
 static derrimas_finalizers_counts counted(void)
 {
@@ -61,8 +88,8 @@ static derrimas_finalizers_counts counted(void)
 static void closes(void)
 {
     derrimas_finalizers_destroy(&finalizers);
-    IS(standing, 0);
-    used = 0;
+    IS(first.standing == 0 && first.live == 0 && first.strange == 0, true);
+    first.used = 0;
 }
 
 /* Makes a call with none, one, two, .. allocations granted, up to where it is accepted: else it is refused, and nothing has changed. Adds to *refusals. */
@@ -71,10 +98,10 @@ static void closes(void)
         derrimas_finalizers_counts before = counted(), after;                                                          \
         derrimas_finalizers_code code;                                                                                 \
         for (long few = 0;; few++) {                                                                                   \
-            granted = few;                                                                                             \
+            first.granted = few;                                                                                       \
             memset(&(place), 1, sizeof(place));                                                                        \
             code = call;                                                                                               \
-            granted = -1;                                                                                              \
+            first.granted = -1;                                                                                        \
             if (code == DERRIMAS_FINALIZERS_OK)                                                                        \
                 break;                                                                                                 \
             after = counted();                                                                                         \
@@ -91,13 +118,13 @@ static void opening(void)
 
     for (;; few++) {
         derrimas_finalizers_code code;
-        granted = few;
-        code = derrimas_finalizers_open(&finalizers);
-        granted = -1;
+        first.granted = few;
+        code = derrimas_finalizers_open(&finalizers, &options);
+        first.granted = -1;
         if (code == DERRIMAS_FINALIZERS_OK)
             break;
         IS(code, DERRIMAS_FINALIZERS_NO_MEMORY);
-        IS(finalizers.inside == NULL && standing == 0, true);
+        IS(finalizers.inside == NULL && first.standing == 0, true);
     }
     IS(few > 0, true);
     closes();
@@ -111,7 +138,7 @@ static void refusals(void)
     derrimas_finalizers_old old;
     uint64_t number;
 
-    OK(derrimas_finalizers_open(&finalizers));
+    OK(derrimas_finalizers_open(&finalizers, &options));
     for (size_t n = 0; n < 300; n++) {
         const uint64_t object = number_of(&objects[n]), word = word_of(&objects[n], 0);
         WITHIN(registering, number, derrimas_finalizers_register(&finalizers, object, (derrimas_finalizers_kind)(n % 4), n, n, 0, &number, NULL));
@@ -131,19 +158,19 @@ static void refusals(void)
 /* In the place of one of another kind: where that is refused, the old one stands. */
 static void replacing(derrimas_finalizers_kind kind, derrimas_finalizers_kind other)
 {
-    derrimas_finalizers_registration before, after;
+    derrimas_finalizers_registration_at before, after;
     derrimas_finalizers_old old = {0, 0, false};
     derrimas_finalizers_code code;
     long few = 0;
 
-    OK(derrimas_finalizers_open(&finalizers));
+    OK(derrimas_finalizers_open(&finalizers, &options));
     OK(derrimas_finalizers_register(&finalizers, 8, kind, 1, 2, 3, NULL, NULL));
-    OK(derrimas_finalizers_next_registration(&finalizers, 0, &before));
+    OK(derrimas_finalizers_registration(&finalizers, 8, &before));
     do {
-        granted = few++;
+        first.granted = few++;
         code = derrimas_finalizers_register(&finalizers, 8, other, 4, 5, 6, NULL, &old);
-        granted = -1;
-        OK(derrimas_finalizers_next_registration(&finalizers, 0, &after));
+        first.granted = -1;
+        OK(derrimas_finalizers_registration(&finalizers, 8, &after));
         IS(code == DERRIMAS_FINALIZERS_OK || code == DERRIMAS_FINALIZERS_NO_MEMORY, true);
         IS(after.kind, code == DERRIMAS_FINALIZERS_OK ? other : kind);
         IS(after.number == before.number && after.proc == 1 && after.cd == 2 && after.rank == 3, code != DERRIMAS_FINALIZERS_OK);
@@ -157,7 +184,7 @@ static void replacing(derrimas_finalizers_kind kind, derrimas_finalizers_kind ot
 /* Where too much is asked for, nothing has changed either. */
 static void too_much(void)
 {
-    OK(derrimas_finalizers_open(&finalizers));
+    OK(derrimas_finalizers_open(&finalizers, &options));
     OK(derrimas_finalizers_register(&finalizers, 8, DERRIMAS_FINALIZERS_NORMAL, 1, 2, 0, NULL, NULL));
     IS(derrimas_finalizers_reserve(&finalizers, UINT64_MAX, 0, 0), DERRIMAS_FINALIZERS_NO_MEMORY);
     IS(derrimas_finalizers_reserve(&finalizers, 0, UINT64_MAX, 0), DERRIMAS_FINALIZERS_NO_MEMORY);
@@ -173,20 +200,70 @@ static void reserved(void)
     unsigned refused = 0, before;
     uint64_t unused;
 
-    OK(derrimas_finalizers_open(&finalizers));
+    OK(derrimas_finalizers_open(&finalizers, &options));
     WITHIN(refused, unused, derrimas_finalizers_reserve(&finalizers, 1000, 900, 1100));
     IS(refused > 0, true);
-    before = asked;
-    granted = 0;
+    before = first.asked;
+    first.granted = 0;
     for (size_t n = 0; n < 1000; n++)
         OK(derrimas_finalizers_register(&finalizers, number_of(&objects[n]), (derrimas_finalizers_kind)(n % 3), n, n, 0, NULL, NULL));
     for (size_t n = 0; n < 900; n++)
         OK(derrimas_finalizers_link(&finalizers, DERRIMAS_FINALIZERS_SHORT, word_of(&objects[n], 1), number_of(&objects[n + 1]), NULL));
     for (size_t n = 0; n < 1100; n++)
         OK(derrimas_finalizers_link(&finalizers, DERRIMAS_FINALIZERS_LONG, word_of(&objects[n], 2), number_of(&objects[n + 1]), NULL));
-    IS(asked, before);
-    granted = -1;
+    IS(first.asked, before);
+    first.granted = -1;
     closes();
+}
+
+static bool finds(uint64_t object)
+{
+    derrimas_finalizers_registration_at it;
+    uint64_t target;
+    bool is_found = derrimas_finalizers_registration(&finalizers, object, &it) == DERRIMAS_FINALIZERS_OK;
+
+    IS(derrimas_finalizers_target(&finalizers, DERRIMAS_FINALIZERS_SHORT, object, &target) == DERRIMAS_FINALIZERS_OK, is_found);
+    return is_found;
+}
+
+/* After a peak a shrink gives back all but what is needed: as much as a fresh handle takes, and half of that. Where it is refused memory, things stay as they are. */
+static uint64_t of_peak(uint64_t peak, uint64_t left, bool shrinks)
+{
+    uint64_t live;
+
+    OK(derrimas_finalizers_open(&finalizers, &options));
+    for (uint64_t n = 1; n <= peak; n++) {
+        OK(derrimas_finalizers_register(&finalizers, 8 * n, (derrimas_finalizers_kind)(n % 4), n, n, 0, NULL, NULL));
+        OK(derrimas_finalizers_link(&finalizers, DERRIMAS_FINALIZERS_SHORT, 8 * n, n, NULL));
+        OK(derrimas_finalizers_link(&finalizers, DERRIMAS_FINALIZERS_LONG, 8 * n, n, NULL));
+    }
+    for (uint64_t n = left + 1; n <= peak; n++) {
+        OK(derrimas_finalizers_unregister(&finalizers, 8 * n, NULL));
+        OK(derrimas_finalizers_unlink(&finalizers, DERRIMAS_FINALIZERS_SHORT, 8 * n, NULL));
+        OK(derrimas_finalizers_unlink(&finalizers, DERRIMAS_FINALIZERS_LONG, 8 * n, NULL));
+    }
+    if (shrinks) {
+        first.granted = 0;
+        OK(derrimas_finalizers_shrink(&finalizers));
+        first.granted = -1;
+        IS(counted().registrations == left && counted().short_links == left && counted().long_links == left, true);
+        OK(derrimas_finalizers_shrink(&finalizers));
+        IS(counted().registrations == left && counted().short_links == left && counted().long_links == left, true);
+    }
+    live = first.live;
+    for (uint64_t n = 1; n <= peak; n++)
+        IS(finds(8 * n) == (n <= left), true);
+    closes();
+    return live;
+}
+
+static void shrinks(void)
+{
+    for (uint64_t left = 0; left <= 5000; left = 3 * left + 100) {
+        uint64_t fresh = of_peak(left, left, false);
+        IS(of_peak(20000, left, false) > 2 * fresh, true);
+        IS(of_peak(20000, left, true) * 2 <= 3 * fresh, true);
+    }
 }
 
 static void fill(void)
@@ -207,10 +284,13 @@ static void others(void)
     derrimas_finalizers_entry entry;
     unsigned before;
 
-    OK(derrimas_finalizers_open(&finalizers));
+    OK(derrimas_finalizers_open(&finalizers, &options));
     fill();
-    before = asked;
-    granted = 0;
+    before = first.asked;
+    first.granted = 0;
+    mark_all(&all, &finalizers);
+    OK(derrimas_finalizers_begin(&finalizers));
+    OK(derrimas_finalizers_abandon(&finalizers));
     IS(collect(&all, &finalizers).picked > 100, true);
     for (size_t n = 0; n < OBJECTS; n += 2) {
         OK(derrimas_finalizers_move_link(&finalizers, DERRIMAS_FINALIZERS_SHORT, word_of(&objects[n], 1), word_of(&objects[n], 3), NULL));
@@ -223,32 +303,34 @@ static void others(void)
         IS(derrimas_finalizers_finish(&finalizers, &entry), n % 2 ? DERRIMAS_FINALIZERS_OK : DERRIMAS_FINALIZERS_NOT_HELD);
     }
     IS(collect(&all, &finalizers).picked, 0);
-    IS(asked, before);
-    granted = -1;
+    IS(first.asked, before);
+    first.granted = -1;
     closes();
 }
 
 /* Calls that change nothing, while the memory can't be written to. */
 static void reads(void)
 {
-    derrimas_finalizers_registration registration = {0, 0, 0, 0, DERRIMAS_FINALIZERS_NORMAL, 0};
-    derrimas_finalizers_link_at at = {0, 0};
+    derrimas_finalizers_registration_at registrations[70];
+    derrimas_finalizers_link_at links[70];
     derrimas_finalizers_counts counts;
-    uint64_t buffer[100], from;
+    uint64_t buffer[100], from, target;
     size_t count, seen = 0;
 
-    IS(mprotect(memory, ROOM, PROT_READ), 0);
+    IS(mprotect(first.memory, ROOM, PROT_READ), 0);
     OK(derrimas_finalizers_count(&finalizers, &counts));
-    while (derrimas_finalizers_next_registration(&finalizers, registration.object + 1, &registration) == DERRIMAS_FINALIZERS_OK)
-        seen++;
-    for (int kind = DERRIMAS_FINALIZERS_SHORT; kind <= DERRIMAS_FINALIZERS_LONG; kind++, at.word = 0)
-        while (derrimas_finalizers_next_link(&finalizers, (derrimas_finalizers_links)kind, at.word + 1, &at) == DERRIMAS_FINALIZERS_OK)
-            seen++;
+    for (from = 0; derrimas_finalizers_registrations(&finalizers, &from, registrations, 70, &count) == DERRIMAS_FINALIZERS_OK; seen += count)
+        OK(derrimas_finalizers_registration(&finalizers, registrations[count - 1].object, registrations));
+    for (int kind = DERRIMAS_FINALIZERS_SHORT; kind <= DERRIMAS_FINALIZERS_LONG; kind++) {
+        derrimas_finalizers_link_kind of = (derrimas_finalizers_link_kind)kind;
+        for (from = 0; derrimas_finalizers_links(&finalizers, of, &from, links, 70, &count) == DERRIMAS_FINALIZERS_OK; seen += count)
+            OK(derrimas_finalizers_target(&finalizers, of, links[count - 1].word, &target));
+    }
     for (int sort = DERRIMAS_FINALIZERS_HELD_OBJECTS; sort <= DERRIMAS_FINALIZERS_REGISTERED_DATA; sort++)
         for (from = 0; derrimas_finalizers_roots(&finalizers, (derrimas_finalizers_root)sort, &from, buffer, 100, &count) == DERRIMAS_FINALIZERS_OK;)
             seen += count;
     IS(seen, 2 * counts.registrations + counts.short_links + counts.long_links + 2 * (counts.waiting + counts.held));
-    IS(mprotect(memory, ROOM, PROT_READ | PROT_WRITE), 0);
+    IS(mprotect(first.memory, ROOM, PROT_READ | PROT_WRITE), 0);
 }
 
 /* Such calls before a pass, in it and after it, and with entries that are held. */
@@ -258,7 +340,7 @@ static void constant(void)
     derrimas_question question;
     uint64_t answers = 0, asks = 0;
 
-    OK(derrimas_finalizers_open(&finalizers));
+    OK(derrimas_finalizers_open(&finalizers, &options));
     fill();
     reads();
     mark_all(&all, &finalizers);
@@ -273,10 +355,101 @@ static void constant(void)
     closes();
 }
 
+/* ---- two hosts in one process */
+
+enum { EACH = 3000, TURNS = 20 };
+
+static derrimas_finalizers other;
+
+static void opens_both(void)
+{
+    OK(derrimas_finalizers_open(&finalizers, &options));
+    OK(derrimas_finalizers_open(&other, &other_options));
+}
+
+static void closes_both(void)
+{
+    derrimas_finalizers_destroy(&other);
+    IS(second.standing == 0 && second.strange == 0, true);
+    second.used = 0;
+    closes();
+}
+
+static void grows(derrimas_finalizers *it, uint64_t object)
+{
+    OK(derrimas_finalizers_register(it, object, (derrimas_finalizers_kind)(object / 8 % 4), object, 0, 0, NULL, NULL));
+    OK(derrimas_finalizers_link(it, DERRIMAS_FINALIZERS_SHORT, object, object, NULL));
+    OK(derrimas_finalizers_link(it, DERRIMAS_FINALIZERS_LONG, object, object, NULL));
+}
+
+/* Call by call in turn: each takes and gives back its own memory. */
+static void in_turn(void)
+{
+    opens_both();
+    for (uint64_t n = 1; n <= EACH; n++) {
+        grows(n % 3 ? &finalizers : &other, 8 * n);
+        if (n % 500 == 0)
+            OK(derrimas_finalizers_reserve(n % 1000 ? &finalizers : &other, n, n, n));
+    }
+    IS(first.standing > 0 && second.standing > 0, true);
+    closes_both();
+}
+
+/* An allocator makes calls on the other handle. */
+static void call_other(void)
+{
+    static uint64_t object;
+
+    grows(&other, object += 8);
+    OK(derrimas_finalizers_reserve(&other, object, object / 2, 0));
+}
+
+static void nested(void)
+{
+    opens_both();
+    first.within = call_other;
+    OK(derrimas_finalizers_reserve(&finalizers, 100, 100, 100));
+    for (uint64_t n = 1; n <= EACH / 10; n++)
+        grows(&finalizers, 8 * n);
+    OK(derrimas_finalizers_reserve(&finalizers, 1000, 1000, 1000));
+    first.within = NULL;
+    IS(second.asked > 100, true);
+    closes_both();
+}
+
+/* A thread for each, at the same time. Not by check.h, whose counts are one thread's. */
+static void *grow_alone(void *handle)
+{
+    derrimas_finalizers *it = handle;
+    uint64_t refused = 0;
+
+    for (uint64_t n = 1; n <= EACH; n++) {
+        refused += derrimas_finalizers_register(it, 8 * n, (derrimas_finalizers_kind)(n % 4), n, n, 0, NULL, NULL) != DERRIMAS_FINALIZERS_OK;
+        refused += derrimas_finalizers_link(it, DERRIMAS_FINALIZERS_SHORT, 8 * n, n, NULL) != DERRIMAS_FINALIZERS_OK;
+    }
+    return refused ? handle : NULL;
+}
+
+static void at_the_same_time(void)
+{
+    pthread_t thread;
+    void *refused;
+
+    for (int turn = 0; turn < TURNS; turn++) {
+        opens_both();
+        IS(pthread_create(&thread, NULL, grow_alone, &other), 0);
+        IS(grow_alone(&finalizers) == NULL, true);
+        IS(pthread_join(thread, &refused), 0);
+        IS(refused == NULL, true);
+        closes_both();
+    }
+}
+
 int main(void)
 {
-    memory = mmap(NULL, ROOM, PROT_READ | PROT_WRITE, MAP_PRIVATE | MAP_ANONYMOUS, -1, 0);
-    if (memory == MAP_FAILED)
+    first.memory = mmap(NULL, ROOM, PROT_READ | PROT_WRITE, MAP_PRIVATE | MAP_ANONYMOUS, -1, 0);
+    second.memory = mmap(NULL, ROOM, PROT_READ | PROT_WRITE, MAP_PRIVATE | MAP_ANONYMOUS, -1, 0);
+    if (first.memory == MAP_FAILED || second.memory == MAP_FAILED)
         return 2;
     opening();
     refusals();
@@ -284,7 +457,11 @@ int main(void)
         replacing((derrimas_finalizers_kind)(kind / 4), (derrimas_finalizers_kind)(kind % 4));
     too_much();
     reserved();
+    shrinks();
     others();
     constant();
+    in_turn();
+    nested();
+    at_the_same_time();
     return told();
 }

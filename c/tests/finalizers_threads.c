@@ -47,7 +47,7 @@ static void make(uint64_t at)
     other->is_root = false;
     other->words[0] = number_of(it);
     wants(accepts(derrimas_finalizers_register(&finalizers, number_of(it), (derrimas_finalizers_kind)(at % 4), at, 0, 0, NULL, NULL)));
-    wants(accepts(derrimas_finalizers_link(&finalizers, (derrimas_finalizers_links)(at % 2), word_of(other, 0), number_of(it), NULL)));
+    wants(accepts(derrimas_finalizers_link(&finalizers, (derrimas_finalizers_link_kind)(at % 2), word_of(other, 0), number_of(it), NULL)));
     if (at % 32 < THREADS) {
         mark_all(&all, &finalizers);
         wants(accepts(derrimas_finalizers_pass(&finalizers, &procedures, &all, &passed)));
@@ -76,12 +76,13 @@ static void *look(void *seen)
 /* Reads what stands, while others do so too. */
 static void *read_all(void *sum)
 {
-    derrimas_finalizers_registration it = {0, 0, 0, 0, DERRIMAS_FINALIZERS_NORMAL, 0};
+    derrimas_finalizers_registration_at registrations[33];
     uint64_t from = 0, buffer[33], *words = sum;
     size_t count;
 
-    while (derrimas_finalizers_next_registration(&finalizers, it.object + 1, &it) == DERRIMAS_FINALIZERS_OK)
-        words[0]++;
+    while (derrimas_finalizers_registrations(&finalizers, &from, registrations, 33, &count) == DERRIMAS_FINALIZERS_OK)
+        words[0] += count;
+    from = 0;
     while (derrimas_finalizers_roots(&finalizers, DERRIMAS_FINALIZERS_REGISTERED_DATA, &from, buffer, 33, &count) == DERRIMAS_FINALIZERS_OK)
         words[1] += count;
     return NULL;
@@ -104,7 +105,7 @@ static void round_of(unsigned number)
     pthread_t looking;
 
     memset(&all, 0, sizeof all);
-    OK(derrimas_finalizers_open(&finalizers));
+    OK(derrimas_finalizers_open(&finalizers, NULL));
     IS(pthread_create(&looking, NULL, look, &seen), 0);
     in_threads(work, (void *[]){(void *)0, (void *)1});
     in_threads(read_all, (void *[]){sums[0], sums[1]});

@@ -27,9 +27,11 @@ class Finalizers:
     crates, refusals = ['fz_machine_c'], 'crates/fz_machine_c/src/codes.rt'
     prefix, own = 'derrimas_finalizers_', 11
     refused = range(11)
-    types = {'Handle': 'derrimas_finalizers', 'Linked': 'derrimas_finalizers_link_at',
-             **{name: f'fz_machine_{name.lower()}' for name in ('Registered', 'Question', 'Words', 'Registration')}}
-    alone = ['derrimas_finalizers', 'derrimas_finalizers_registration', 'derrimas_question', 'derrimas_host']
+    types = {'Handle': 'derrimas_finalizers', 'Linked': 'derrimas_finalizers_link_at', 'Registration': 'fz_machine_registration_at',
+             **{name: f'fz_machine_some_{name.lower()}' for name in ('Registrations', 'Links')},
+             **{name: f'fz_machine_{name.lower()}' for name in ('Registered', 'Question', 'Words')}}
+    alone = ['derrimas_finalizers', 'derrimas_finalizers_registration_at', 'derrimas_question', 'derrimas_host', 'derrimas_allocator',
+             'derrimas_finalizers_options']
 
 
 def differ(what):
@@ -125,7 +127,7 @@ def compared(of):
     return (compare('export', declarations(declared), exports(crate, of)),
             compare('struct', structs_of_c(header + declared, of), structs_of_rust(constants + crate, of)),
             compare('code', codes_of_c(header, of), codes_of_rust(read(of.refusals), crate, of)),
-            compare('call', calls_of(header, of, r'(?:\s*DERRIMAS_NONNULL\([^)]*\))?;'), calls_of(side, of, r'\s*\{')))
+            compare('call', calls_of(header, of, r'(?:\s*DERRIMAS_(?:FINALIZERS_)?NONNULL\([^)]*\))?;'), calls_of(side, of, r'\s*\{')))
 
 
 def main():

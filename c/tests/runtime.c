@@ -303,6 +303,47 @@ static void finalized_all(void)
     derrimas_destroy(&w);
 }
 
+/* Registers an object of a higher rank and address, which is live, and one that the next collection finds; and that collection. */
+static void two_more(derrimas_world *world, const derrimas_entry *e, void *data)
+{
+    noted(world, e, data);
+    for (uint64_t n = 0; n < 2; n++) {
+        OK(derrimas_alloc(world, n ? B : C, 1, DERRIMAS_SCANNED, NULL));
+        OK(derrimas_register(world, n ? B : C, DERRIMAS_NORMAL, 0, 200 + n, 200, NULL));
+    }
+    OK(derrimas_set(world, B, 0));
+    OK(derrimas_collect(world, NULL));
+}
+
+/* Of those that were registered when it began each runs once, in whichever order they were registered; of what comes meanwhile what is queued, at the end. */
+static void finalized_meanwhile(void)
+{
+    derrimas_world w = {0};
+    const derrimas_proc procs[] = {noted, two_more};
+    static const uint64_t wanted[ORDER + 1] = {0, 1, 2, 3, 4, 5, 201};
+    derrimas_slot slots[ORDER];
+    uint64_t count;
+
+    OK(derrimas_open(&w, 16, 2));
+    for (uint64_t n = 0; n < ORDER; n++) {
+        slots[n] = derrimas_at(1, n);
+        OK(derrimas_alloc(&w, slots[n], 1, DERRIMAS_SCANNED, NULL));
+    }
+    for (uint64_t n = ORDER; n-- > 0;) /* the last address has the first number */
+        OK(derrimas_register(&w, slots[n], DERRIMAS_NORMAL, n == 0, n, 7, NULL));
+    ran = 0;
+    OK(derrimas_finalize_all(&w, A, procs, 2, NULL, &count));
+    IS(count, ORDER + 1);
+    IS(ran, ORDER + 1);
+    for (unsigned n = 0; n < ORDER + 1; n++)
+        IS(order[n], wanted[n]);
+    OK(derrimas_waiting(&w, &is));
+    IS(is, false);
+    OK(derrimas_unregister(&w, C, &old)); /* the live one stays registered */
+    IS(old.was && old.cd == 200, true);
+    derrimas_destroy(&w);
+}
+
 /* ---- a procedure that leaves by longjmp */
 
 static jmp_buf outside;
@@ -351,6 +392,7 @@ int main(void)
     scopes();
     texts();
     finalized_all();
+    finalized_meanwhile();
     left_by_longjmp();
     return told();
 }

@@ -18,7 +18,7 @@ static object *holder_of(uint64_t word) { return object_at(word & ((UINT64_C(1) 
 bool own_heap_open(own_heap *heap, size_t most, const uint64_t *roots, size_t root_count)
 {
     *heap = (own_heap){.roots = roots, .root_count = root_count, .most = most};
-    return derrimas_finalizers_open(&heap->finalizers) == DERRIMAS_FINALIZERS_OK;
+    return derrimas_finalizers_open(&heap->finalizers, NULL) == DERRIMAS_FINALIZERS_OK;
 }
 
 uint64_t *own_heap_alloc(own_heap *heap, size_t words, bool is_scanned)

@@ -1,0 +1,72 @@
+/* counters: what finalization tells bdwgc's pacing, over the replaced library alone: how many objects are registered, and how many bytes a collection queued.
+ * Bdwgc collects earlier by both. The program reads them from bdwgc's own variables.
+ */
+#include "private/gc_priv.h"
+#undef GC_MALLOC
+#include "graph.h"
+#include <gc/javaxfc.h>
+
+enum { OBJECTS = 900, SIZE = 64 };
+
+static unsigned wrong;
+static void **objects;
+
+static void note(void *object, void *cd)
+{
+    (void)object;
+    (void)cd;
+}
+
+static void tell(const char *what, size_t registered, size_t finalized)
+{
+    wrong += GC_fo_entries != registered || GC_bytes_finalized != finalized;
+    printf("%s: %s, %s, wrong %u\n", what, GC_fo_entries == registered ? "registered" : "other registrations",
+           GC_bytes_finalized == finalized ? "finalized" : "other bytes", wrong);
+}
+
+APART static void make_all(void)
+{
+    for (unsigned n = 0; n < OBJECTS; n++) {
+        objects[n] = GC_malloc(SIZE);
+        GC_register_finalizer(objects[n], note, 0, 0, 0);
+    }
+}
+
+APART static void drop(unsigned first, unsigned after)
+{
+    for (unsigned n = first; n < after; n++)
+        objects[n] = 0;
+}
+
+int main(void)
+{
+    size_t waited, size;
+
+    GC_INIT();
+    GC_set_finalize_on_demand(1);
+    GC_set_java_finalization(1);
+    GC_disable();
+    objects = GC_malloc_uncollectable(OBJECTS * sizeof *objects);
+    make_all();
+    size = GC_size(objects[0]); /* with what the debugging of a build adds */
+    tell("all", OBJECTS, 0);
+    for (unsigned n = 0; n < 100; n++)
+        GC_register_finalizer_no_order(objects[n], note, 0, 0, 0); /* in the place of the first */
+    tell("some again", OBJECTS, 0);
+    for (unsigned n = 0; n < 200; n++)
+        GC_register_finalizer(objects[n % 100], 0, 0, 0, 0); /* each twice */
+    tell("some removed", OBJECTS - 100, 0);
+    collect();
+    tell("none lost", OBJECTS - 100, 0);
+    drop(100, 600);
+    collect();
+    waited = (size_t)GC_invoke_finalizers();
+    wrong += waited > 500 || waited < 450;
+    tell("many lost", OBJECTS - 100 - waited, waited * size);
+    collect();
+    tell("no more", OBJECTS - 100 - waited, 0);
+    waited = OBJECTS - 100 - waited;
+    GC_finalize_all();
+    tell("all at the end", 0, GRANULES_TO_BYTES(waited));
+    return 0;
+}
