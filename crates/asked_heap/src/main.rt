@@ -55,7 +55,12 @@ fn main(rt: HostRuntime) -> Result<()> {
             heap.set_root(0);
         }
         let passed = collect(&mut heap, &mut machine)?;
-        println!(rt; "pass {}: {} objects, weak word {}", passed.pass, heap.live(), heap.weak())?;
+        println!(rt;
+            "pass {}: {} objects, weak word {}",
+            passed.pass,
+            heap.live(),
+            heap.weak()
+        )?;
         for _ in 0..machine.finalizers().waiting() {
             let Some(entry) = machine.take()? else {
                 break;
