@@ -1,8 +1,9 @@
 -- What contracts see of the links of a kind: the targets by the words of the links, and how many more links fit before memory is asked for.
-use Rattle.std.specs.Prelude.{ℕ, refl}
+use Rattle.std.specs.Prelude.{ℕ, ◌≤◌, refl}
 use Rattle.std.specs.Coded.{Coded, code_by, coded×, coded_ℕ}
 use Rattle.std.specs.FinMap as map
 use Rattle.fz_model.specs.State.{Map}
+use Rattle.fz_table.specs.declared.limits.TheConstants.{MOST_ENTRIES}
 
 pub record Linked : Type 0 where
   pub links : Map ℕ
@@ -11,3 +12,8 @@ pub record Linked : Type 0 where
 abbrev pub linked_code : Coded Linked
 linked_code =
     code_by (Map ℕ × ℕ) (coded× (map.code coded_ℕ coded_ℕ) coded_ℕ) (λ l. (l.links, l.room)) (λ p. record { links = p.0; room = p.1 }) (λ _. refl)
+
+-- there are no more links than there can be, and the room is spare
+pub record IsWithin (links : Map ℕ) (room spare : ℕ) : Type 0 where
+  pub few : map.len links ≤ MOST_ENTRIES
+  pub spared : room ≤ spare
