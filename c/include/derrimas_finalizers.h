@@ -60,19 +60,19 @@ extern "C" {
 
 /* What a call returns. */
 typedef enum derrimas_finalizers_code {
-    DERRIMAS_FINALIZERS_OK = 0,        /* the call was accepted */
-    DERRIMAS_FINALIZERS_ZERO = 1,      /* the object or the word is 0 */
-    DERRIMAS_FINALIZERS_EXHAUSTED = 2, /* 2^48 registrations have been numbered */
-    DERRIMAS_FINALIZERS_FULL = 3,      /* there are 2^32 of this kind already */
-    DERRIMAS_FINALIZERS_NO_MEMORY = 4, /* the handle's allocator returned NULL */
-    DERRIMAS_FINALIZERS_NOT_HELD = 5,  /* no entry that is held is the same in all fields */
-    DERRIMAS_FINALIZERS_PASS_OPEN = 6, /* a pass is open: .._begin came, and its last question didn't */
-    DERRIMAS_FINALIZERS_NO_PASS = 7,   /* no pass is open */
-    DERRIMAS_FINALIZERS_NOT_OPEN = 8,  /* the handle isn't open: it never was, or it is destroyed */
-    DERRIMAS_FINALIZERS_IS_OPEN = 9,   /* the handle is open already */
-    DERRIMAS_FINALIZERS_EMPTY = 10,    /* there is none, or no further one, of what was asked for */
-    DERRIMAS_FINALIZERS_BAD_KIND = 11, /* the kind is none of its enum */
-    DERRIMAS_FINALIZERS_BAD_OPTIONS = 12 /* the options' size isn't known here, or the allocator lacks a function */
+    DERRIMAS_FINALIZERS_OK = 0,           /* the call was accepted */
+    DERRIMAS_FINALIZERS_ZERO = 1,         /* the object or the word is 0 */
+    DERRIMAS_FINALIZERS_EXHAUSTED = 2,    /* 2^48 registrations have been numbered */
+    DERRIMAS_FINALIZERS_FULL = 3,         /* there are 2^32 of this kind already */
+    DERRIMAS_FINALIZERS_NO_MEMORY = 4,    /* the handle's allocator returned NULL */
+    DERRIMAS_FINALIZERS_NOT_HELD = 5,     /* no entry that is held is the same in all fields */
+    DERRIMAS_FINALIZERS_PASS_OPEN = 6,    /* a pass is open: .._begin came, and its last question didn't */
+    DERRIMAS_FINALIZERS_NO_PASS = 7,      /* no pass is open */
+    DERRIMAS_FINALIZERS_NOT_OPEN = 8,     /* the handle isn't open: it never was, or it is destroyed */
+    DERRIMAS_FINALIZERS_IS_OPEN = 9,      /* the handle is open already */
+    DERRIMAS_FINALIZERS_EMPTY = 10,       /* there is none, or no further one, of what was asked for */
+    DERRIMAS_FINALIZERS_BAD_KIND = 11,    /* the kind is none of its enum */
+    DERRIMAS_FINALIZERS_BAD_OPTIONS = 12  /* the options' size isn't known here, or the allocator lacks a function */
 } derrimas_finalizers_code;
 
 /* When the finalizer of an unreachable object is ready: GC_register_finalizer, .._ignore_self, .._no_order, and
