@@ -1,11 +1,11 @@
-"""The page of calls, docs/CALLS.md, as the sources have it: signatures, comments, lines of use, and the fields of answers."""
+"""The page of calls, docs/reference/CALLS.md, as the sources have it: of each public call its signature, what it does, its errors and its cost; and the fields
+of what calls take and return."""
 import glob, re, textwrap
 
-PAGE = 'docs/CALLS.md'
-# The types whose calls it has, each with its crate, and how other crates name a value of it. A trait, which they give, has no name.
-TYPES = [('World', 'fz_world', 'world'), ('Service', 'fz_service', 'service'), ('Locked', 'fz_service', r'locked|service\.enter\(rt\)'),
-         ('Seat', 'fz_service', 'seat'), ('Duty', 'fz_service', 'duty'), ('Proc', 'fz_service', None), ('Gate', 'fz_service', None), ('Program', 'fz_service', None),
-         ('Finalizers', 'fz_finalizers', 'finalizers'), ('Host', 'fz_pass', None), ('Machine', 'fz_machine', 'machine')]
+PAGE = 'docs/reference/CALLS.md'
+# The types whose calls it has, each with its crate.
+TYPES = [('World', 'fz_world'), ('Service', 'fz_service'), ('Locked', 'fz_service'), ('Seat', 'fz_service'), ('Duty', 'fz_service'), ('Proc', 'fz_service'),
+         ('Gate', 'fz_service'), ('Program', 'fz_service'), ('Finalizers', 'fz_finalizers'), ('Host', 'fz_pass'), ('Machine', 'fz_machine')]
 # Where the types of answers stand, but for those of a crate itself.
 SHARED = 'fz_model'
 # What begins a block of calls in a source, a call, and a type with fields or variants.
@@ -14,21 +14,17 @@ CALL = re.compile(r' {4}(pub )?(?:const )?fn (\w+)')
 DATA = re.compile(r'pub (struct|enum) (\w+)(?:<.*?>)? \{')
 # A variant with fields, each on a line of its own.
 FIELDS = re.compile(r'^( {4}\w+ \{)\n((?: {8}.*\n)+) {4}\},', re.M)
-# The layers of crates.txt from which lines of use come first: the examples, then the tests.
-FIRST = ['7. Examples', '8. Tests, benches, tools']
-# How a statement begins that takes the answer of the call after it, and what goes on after a call: its answer's own calls and fields.
-TAKES = re.compile(r'(?:(?:if |while )?let (?!_)[^=]+ =|for [^=]+ in|if|while|match) ')
-GOES_ON = re.compile(r'\?|\.\w+')
+# How a sentence begins that says when a call is refused, or what it costs. Of a comment the first sentence counts too.
+TOLD = re.compile(r'(?:Refus|Fails with|Returns an error|Errors|Takes (?:time|constant|no memory|memory|the time)|It takes|Costs|May block|Blocks|O\()')
 OPENING = '''# The calls
 
-`tests/documents --write` writes this page from the sources, and the gate compares the two. A head leaves out `self`. Refusals stand in their order. A refused
-call changes nothing.
+An index of the public calls of the libraries for programs: what each does, when it fails, and what it costs. The whole text is the comment of the call in its
+source. `tests/documents --write` writes this page from the sources, and the gate compares the two.
 
-A call takes constant time, or the logarithm of what it searches, where its text names no other. The growth of a table counts for the calls that filled it.
-`Addr` and `Word` are `u64`. The [last part](#answers) has the fields of what calls take and return.
-
-Under each call stands a use of it, from the crate that is named there, which the gate proves and runs; `..` is a block that is left out. For a trait it is a
-function of a type that has it.
+- A signature leaves out `self`.
+- Errors are listed in the order in which they are tested. Unless its text says otherwise, a call that returns an error has no effect.
+- Unless stated otherwise a call takes O(log n) time, amortized over the growth of tables.
+- `Addr` and `Word` are `u64`. The [last part](#answers) has the fields of what calls take and return.
 
 '''
 
@@ -46,8 +42,14 @@ def documented(lines):
 
 
 def said(comment):
-    """A comment as one paragraph."""
-    return ' '.join(line for line in comment if line)
+    """A comment as one paragraph, in which a link to an item of the sources is its name alone."""
+    return re.sub(r'\[(`[^`]+`)\](?:\([\w:]+\))?', r'\1', ' '.join(line for line in comment if line))
+
+
+def in_short(comment):
+    """The first sentence of a comment, and those that say when a call is refused and what it costs."""
+    first, *others = re.split(r'(?<=[.])\s+(?=[A-Z`])', said(comment)) or ['']
+    return ' '.join([first, *filter(TOLD.match, others)])
 
 
 def signature(lines, number):
@@ -76,53 +78,7 @@ def calls_of(name, crate):
             if block or line.startswith('}'):
                 owner, is_trait = block and block[1], line.startswith('pub trait')
             if not block and call and owner == name and (call[1] or is_trait):
-                yield signature(lines, number), said(comment)
-
-
-def users():
-    """The crates, those of examples and tests first: each with what it uses, and the text of its sources on one line, without comments."""
-    sections = re.split(r'^# (\d\. .*)\n', open('crates.txt').read(), flags=re.M)[1:]
-    listed = dict(zip(sections[::2], sections[1::2]))
-    for section in [*FIRST, *(title for title in listed if title not in FIRST)]:
-        for name, used in re.findall(r'^(\w+)[^:\n]*:(.*)', listed[section], re.M):
-            lines = [line.strip() for file in sorted(glob.glob(f'crates/{name}/src/**/*.rt', recursive=True)) for line in open(file)]
-            text = re.sub(r' (?=\.\w)', '', ' '.join(line for line in lines if line and not line.startswith('//')))
-            yield FIRST.index(section) if section in FIRST else len(FIRST), name, used.split(), re.sub(r'(?<=[(\[]) |,? (?=[)\]])', '', text)
-
-
-def closing(text, place):
-    """Where the bracket ends that begins at the place."""
-    depth = 0
-    for at in range(place, len(text)):
-        depth += (text[at] in '([{') - (text[at] in ')]}')
-        if not depth:
-            return at + 1
-
-
-def uses_of(text, name, value, call, has_answer):
-    """The uses of a call in a text: each with 0 if it takes the answer, and as a line. A trait is used where its function is given."""
-    if not value:
-        for found in re.finditer(rf'\bfn {call}(?:<[^(]*>)?\(&?(?:mut )?self\b[^{{]*', text):
-            if re.match(rf'impl(<.*?>)? {name}(<.*?>)? for', text[text.rfind('impl', 0, found.start()):]):
-                yield 0, text[found.start():closing(text, found.end())]
-        return
-    for found in re.finditer(rf'(?<![\w.:])(?:\w+\.)*?((?:(?:{value})\.|{name}(?:::<\w+>)?::){call})\(', text):
-        end = closing(text, found.end() - 1)
-        while more := GOES_ON.match(text, end):
-            end = closing(text, more.end()) if text[more.end()] == '(' else more.end()
-        line, before = text[found.start(1):end], re.split(r'[;{}] ', text[:found.start()][-200:])[-1]
-        after = re.match(r';|(?: else)? \{', text[end:])
-        if after and (TAKES.fullmatch(before) or not before):
-            yield int(has_answer and not before), before + line + after[0] + (' .. }' if after[0] != ';' else '')
-        else:
-            yield 1, line
-
-
-def use_of(crates, name, crate, value, head):
-    """The crate and the line of the best use, if there is one: the first that takes the answer, in an example if one does."""
-    call, has_answer = re.match(r'\w+', head)[0], '->' in head and '-> Result<(),' not in head
-    found = [(lacks, layer, user, line) for layer, user, used, text in crates if crate in used for lacks, line in uses_of(text, name, value, call, has_answer)]
-    return min(found, key=lambda use: (*use[:2], not use[3].endswith('?;')))[2:] if found else None
+                yield signature(lines, number), in_short(comment)
 
 
 def parts_of(lines, number):
@@ -164,16 +120,15 @@ def item(text, depth=0):
 
 def page():
     """The whole page."""
-    text, heads, crates = OPENING, '', list(users())
-    for name, crate, value in TYPES:
+    text, heads = OPENING, ''
+    for name, crate in TYPES:
         text += f'## {name}\n\nIn `{crate}`:\n\n'
-        for head, comment in calls_of(name, crate):
+        for head, told in calls_of(name, crate):
             heads += head + '\n'
-            use = use_of(crates, name, crate, value, head)
-            text += item(f'`{head}`: {comment}') + item(f'`{use[0]}`: `{use[1]}`' if use else f'no use outside of `{crate}`', 1)
+            text += item(f'`{head}`: {told}')
         text += '\n'
     text += '## Answers\n\n'
-    for name, crate, comment, parts in answers([SHARED, *dict.fromkeys(crate for _, crate, _ in TYPES)], heads):
+    for name, crate, comment, parts in answers([SHARED, *dict.fromkeys(crate for _, crate in TYPES)], heads):
         text += item(f'`{name}` in `{crate}`: {comment}')
         for part, about in parts:
             text += item(f'`{part}`: {about}' if about else f'`{part}`', 1)

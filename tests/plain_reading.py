@@ -1,6 +1,6 @@
 """A second, plain reading of what scripts mean, for tests/random-scripts. It proves nothing.
 
-It was made from docs/SCRIPT.md and docs/MODEL.md, and not from the crates' code: sets are sets here, and what is reachable is computed anew after
+It was made from docs/reference/SCRIPT.md and docs/reference/MODEL.md, and not from the crates' code: sets are sets here, and what is reachable is computed anew after
 each step of a cycle. A script can't come to the end of births, numbers and passes, so the refusal 13 isn't read. 12 is no answer here: memory is
 ample."""
 import collections, copy, re

@@ -8,7 +8,7 @@ use fz_world::World;
 use std::alloc::Global;
 use std::sync::{Arc, Mutex, Wait};
 
-/// The procedure of objects that own a file, whose number is the client data.
+/// The finalizer of objects that own a file. The file's number is the client data.
 #[derive(Drop)]
 pub(crate) struct CloseFile<R: Wait> {
     pub(crate) files: Arc<Mutex<OpenFiles>, Global>,
@@ -16,13 +16,13 @@ pub(crate) struct CloseFile<R: Wait> {
 }
 
 impl<R: Wait + Drop> Proc for CloseFile<R> {
-    /// Closes the file. The heap isn't locked meanwhile.
+    /// Closes the file. This runs without the heap's lock.
     fn work(&mut self, entry: &Entry) {
         let file = self.files.lock(&self.rt).remove(entry.cd);
         drop(file);
     }
 
-    /// Notes in the heap that the file is closed.
+    /// Records in the heap that the file is closed.
     fn run(&mut self, entry: &Entry, world: &mut World) {
         owners::note_closed(world, entry.cd);
     }

@@ -3,9 +3,9 @@
 use std::alloc::{AllocError, Global};
 use std::fs::File;
 
-/// Open files, each under a number.
+/// Open files, by number.
 ///
-/// A file leaves the table once: `File` can't be copied, and `remove` leaves nothing behind. It is closed where it is dropped.
+/// A file leaves the table only once: `File` can't be copied, and `remove` leaves an empty place. It is closed when it is dropped.
 #[derive(Drop)]
 pub(crate) struct OpenFiles {
     places: Vec<Option<File>>,
@@ -18,14 +18,14 @@ impl OpenFiles {
         }
     }
 
-    /// Puts the file under the next number, which is returned.
+    /// Adds the file under the next number, and returns that number.
     pub(crate) fn insert(&mut self, file: File) -> Result<u64, AllocError> {
         let number = self.places.len() as u64;
         self.places.push(Some(file))?;
         Ok(number)
     }
 
-    /// Takes the file with this number out of the table, if it is there.
+    /// Removes the file with this number, if it exists.
     pub(crate) fn remove(&mut self, number: u64) -> Option<File> {
         if number < self.places.len() as u64 {
             self.places[number as usize].take()
@@ -34,7 +34,7 @@ impl OpenFiles {
         }
     }
 
-    /// The file with this number, if it is there.
+    /// The file with this number, if it exists.
     pub(crate) fn get(&self, number: u64) -> Option<&File> {
         self.places.get(number as usize)?.as_ref()
     }

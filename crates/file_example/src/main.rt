@@ -1,8 +1,9 @@
 //! file_example FILE..: objects of a garbage-collected heap own open files, and their finalizers close them.
 //!
-//! One thread plays the program: it opens each file, makes an object that owns it, and puts the object into a list that keeps it and into a weak
-//! cache. Then it lets go of objects and collects. Workers run beside it: each file whose object became unreachable is closed, once, while those of
-//! all other objects can still be read. The program prints what it opened and what the cache has after each collection, and in the end the totals.
+//! One thread is the mutator: it opens each file, allocates an object that owns it, and stores the object in a list that retains it and in a weak cache. Then
+//! it drops objects and collects. Workers run concurrently: each file whose object became unreachable is closed, once, while the files of all other objects
+//! stay readable. The program prints what it opened, what the cache contains after each collection, and the totals at the end. The file `stdout` beside `src`
+//! has its output.
 #![tactic(auto)]
 
 mod close;

@@ -1,4 +1,4 @@
-//! The program that the heap belongs to.
+//! The mutator.
 
 use crate::files::OpenFiles;
 use crate::owners;
@@ -10,7 +10,7 @@ use std::fs::{File, OpenFile};
 use std::rt::Files;
 use std::sync::{Mutex, Wait};
 
-/// Opens the files, lets go of every second one, collects, lets go of the others, and collects again.
+/// Opens the files, drops every second owner, collects, drops the others, and collects again.
 pub(crate) fn mutate<O: Opening, R: Files<File = File> + Print + Wait>(
     rt: &R,
     service: &Service<O>,
@@ -41,7 +41,7 @@ pub(crate) fn mutate<O: Opening, R: Files<File = File> + Print + Wait>(
     Ok(())
 }
 
-/// Opens a file, and makes an object that owns it.
+/// Opens a file, and allocates an object that owns it.
 fn open_file<O: Opening, R: Files<File = File> + Print + Wait>(
     rt: &R,
     service: &Service<O>,
@@ -57,7 +57,7 @@ fn open_file<O: Opening, R: Files<File = File> + Print + Wait>(
     Ok(())
 }
 
-/// Prints what the cache has of each file.
+/// Prints the cache's content for each file.
 fn show<O: Opening, R: Print + Wait>(
     rt: &R,
     service: &Service<O>,

@@ -1,6 +1,6 @@
-//! What lies in the heap: objects that own files, and three lists with a word for each file.
+//! The content of the heap: objects that own files, and three lists with one word for each file.
 //!
-//! Each function makes calls of the world alone, so a finalizer's procedure may call it, and so may who holds the service's lock.
+//! These functions only make calls to the world, so both a finalizer's procedure and a holder of the service's lock may call them.
 #![tactic(auto, using(fz_service::proofs::Running::runs_calls))]
 
 ghost use Rattle.std.specs.Prelude.{◌≤◌, IfOk};
@@ -12,25 +12,25 @@ use fz_model::Refusal;
 use fz_model::RegKind::Normal;
 use fz_world::World;
 
-/// The place of `CloseFile` in each worker's list of procedures.
+/// The index of `CloseFile` in each worker's list of procedures.
 const CLOSE: u64 = 0;
 
-/// The slot of the list that keeps objects alive.
+/// The slot of the list that retains objects.
 const KEPT: u64 = 0;
 
-/// The slot of the weak cache. The list is atomic, so it keeps nothing, and each of its words is a short link.
+/// The slot of the weak cache. This list is pointer-free, so it retains nothing, and each of its words has a short link.
 pub(crate) const CACHE: u64 = 1;
 
-/// The slot of the list of closed files, whose words are 1 where the file is closed.
+/// The slot of the list of closed files. A word is 1 if its file is closed.
 pub(crate) const CLOSED: u64 = 2;
 
 /// The slot with the word 1.
 const ONE: u64 = 3;
 
-/// The slot of the object in hand, which is zero between two calls.
+/// The slot of the current object, which is zero between calls.
 const HAND: u64 = 4;
 
-/// Makes the lists.
+/// Allocates the lists.
 pub(crate) fn make_lists(world: &mut World, files: u64) -> Result<(), Refusal>
     ensures { RunsCalls world.old world.new }
 {
@@ -40,7 +40,7 @@ pub(crate) fn make_lists(world: &mut World, files: u64) -> Result<(), Refusal>
     world.set(0, ONE, 1)
 }
 
-/// Makes an object that owns the file with this number, keeps it, and caches it.
+/// Allocates an object that owns the file with this number, retains it, and caches it.
 pub(crate) fn make_owner(world: &mut World, file: u64) -> Result<(), Refusal>
     ensures { RunsCalls world.old world.new }
 {
@@ -52,14 +52,14 @@ pub(crate) fn make_owner(world: &mut World, file: u64) -> Result<(), Refusal>
     world.set(0, HAND, 0)
 }
 
-/// Lets go of the object that owns this file.
+/// Drops the object that owns this file.
 pub(crate) fn let_go(world: &mut World, file: u64) -> Result<(), Refusal>
     ensures { RunsCalls world.old world.new }
 {
     world.store(0, KEPT, file, 0, HAND)
 }
 
-/// Whether the list in the slot has a word for the file.
+/// Whether the list in the slot has a nonzero word for the file.
 pub(crate) fn has(world: &mut World, list: u64, file: u64) -> Result<bool, Refusal>
     ensures { RunsCalls world.old world.new }
 {
@@ -68,7 +68,7 @@ pub(crate) fn has(world: &mut World, list: u64, file: u64) -> Result<bool, Refus
     Ok(word != 0)
 }
 
-/// For how many of the files the list in the slot has a word.
+/// For how many files the list in the slot has a nonzero word.
 pub(crate) fn count(world: &mut World, list: u64, files: u64) -> Result<u64, Refusal>
     ensures calls { RunsCalls world.old world.new }
     ensures within { IfOk result (λ count. count ≤ files) }
@@ -82,7 +82,7 @@ pub(crate) fn count(world: &mut World, list: u64, files: u64) -> Result<u64, Ref
     Ok(count)
 }
 
-/// Notes that a file is closed.
+/// Records that a file is closed.
 pub(crate) fn note_closed(world: &mut World, file: u64)
     ensures { RunsCalls world.old world.new }
 {

@@ -16,7 +16,7 @@ use std::thread::Threads;
 /// A list of procedures for each worker.
 type Procs = Vec<Vec<Box<dyn Proc + Send>>>;
 
-/// Opens the service, lets the mutator and the workers run beside each other, ends it, and prints the totals.
+/// Opens the service, runs the mutator and the workers concurrently, ends the service, and prints the totals.
 pub(crate) fn run<O: Opening + Send + Sync, R: Files<File = File> + Print + Threads + Wait + Sync>(
     rt: &R,
     prepared: Prepared,
@@ -36,7 +36,7 @@ pub(crate) fn run<O: Opening + Send + Sync, R: Files<File = File> + Print + Thre
     print_end(rt, &end?)
 }
 
-/// Collects what the finished entries held, and prints what became of the files.
+/// Collects what the finished entries retained, and prints what became of the files.
 fn print_files<O: Opening, R: Print + Wait>(
     rt: &R,
     service: &Service<O>,

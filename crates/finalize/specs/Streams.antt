@@ -1,7 +1,8 @@
--- What a stream makes of its writer's replies.
+-- How a stream interprets its writer's results.
+-- code: finalize/src/stream.rt
 use Rattle.std.specs.Prelude.{ℕ, zero, suc, Option, Some, None}
 
--- where no byte was taken the write failed
+-- a write that takes no byte has failed
 abbrev pub taken_of : Option ℕ → Option ℕ
 taken_of None = None
 taken_of (Some zero) = None

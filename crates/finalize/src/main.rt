@@ -1,4 +1,4 @@
-//! finalize: runs a script or a threads file over the finalization service, and reports.
+//! finalize: runs a script or a threads file over the finalization service, and writes a report.
 #![tactic(auto)]
 
 ghost use Rattle.std.specs.Prelude.{◌≡◌, IfOk, IsErr, map};
@@ -38,8 +38,7 @@ fn main(rt: HostRuntime) -> ExitCode {
     )
 }
 
-/// Hands the program's words and its standard streams to `execute`. Each stream's failures are
-/// counted in a ledger of its own.
+/// Passes the arguments and the standard streams to `execute`. The failures of each stream are counted in a ledger of its own.
 fn with_streams<
     O: Ledger,
     E: Ledger,
@@ -73,8 +72,8 @@ fn with_streams<
     }
 }
 
-/// Makes each worker's list of procedures, and hands words, streams and lists to `execute`. An error says that there was no memory for the
-/// lists; then nothing was done.
+/// Makes each worker's list of procedures, and passes arguments, streams and lists to `execute`. Fails if the lists can't be allocated; then nothing was
+/// done.
 fn with_procedures<F: Shelf, R: AllocGlobal + Threads + Wait + Sync, S: AsStr, O: Sink, E: Sink>(
     files: &F,
     rt: &R,

@@ -1,4 +1,4 @@
-//! The program, over its words and two writers.
+//! The program, given its arguments and two writers.
 
 ghost use Rattle.std.specs.Prelude.{◌≡◌, map};
 ghost use Rattle.fz_text.specs.Devices.{Says};
@@ -20,7 +20,7 @@ use std::sync::Wait;
 use std::sync::ledger::{Blank, Ledger};
 use std::thread::Threads;
 
-/// Writes the line, whether or not that succeeds; returns the status.
+/// Writes the line, ignoring failures. Returns the status.
 fn say<E: Sink>(err: &mut E, line: &[u8], status: u8) -> u8
     ensures status { result ≡ status }
     ensures line { Says (E.log err.old) line.now (E.log err.new) }
@@ -29,7 +29,7 @@ fn say<E: Sink>(err: &mut E, line: &[u8], status: u8) -> u8
     status
 }
 
-/// Says that the words are wrong; returns the status.
+/// Reports wrong arguments. Returns the status.
 pub(crate) fn wrong_words<E: Sink>(err: &mut E) -> u8
     ensures status { result ≡ 2 }
     ensures line { Says (E.log err.old) want_line (E.log err.new) }
@@ -37,7 +37,7 @@ pub(crate) fn wrong_words<E: Sink>(err: &mut E) -> u8
     say(err, b"finalize: want run FILE or threads FILE\n", 2)
 }
 
-/// Says that memory is short; returns the status.
+/// Reports that memory ran out. Returns the status.
 pub(crate) fn out_of_memory<E: Sink>(err: &mut E) -> u8
     ensures status { result ≡ 1 }
     ensures line { Says (E.log err.old) memory_line (E.log err.new) }
@@ -45,9 +45,8 @@ pub(crate) fn out_of_memory<E: Sink>(err: &mut E) -> u8
     say(err, b"finalize: out of memory\n", 1)
 }
 
-/// Carries out the words; returns the exit status: 0 where a script or a threads file was carried
-/// out to its end, 2 where the words are wrong, and 1 for every other fault. The worker at each
-/// place has the list of procedures at that place.
+/// Carries out the arguments and returns the exit status: 0 if a script or a threads file was run to its end, 2 if the arguments are wrong, and 1 for every
+/// other fault. Each worker has the list of procedures at its index.
 pub(crate) fn execute<F: Shelf, R: AllocGlobal + Threads + Wait + Sync, S: AsStr, O: Sink, E: Sink>(
     files: &F,
     rt: &R,
@@ -95,7 +94,7 @@ fn run_file<F: Shelf, R: AllocGlobal + Threads + Wait + Sync, O: Sink, E: Sink>(
     }
 }
 
-/// Runs the script that stands in the input. Counts of its failures stand in the ledger.
+/// Runs the script in the input. The ledger counts its failures.
 fn run_script<I: Read + Drop, O: Sink, E: Sink, L: Ledger>(
     alloc: Global,
     input: I,
@@ -114,7 +113,7 @@ fn run_script<I: Read + Drop, O: Sink, E: Sink, L: Ledger>(
     }
 }
 
-/// Runs the threads file that stands in the input. Counts of its failures stand in the ledger.
+/// Runs the threads file in the input. The ledger counts its failures.
 fn run_threads<I: Read + Drop, O: Sink, E: Sink, R: AllocGlobal + Threads + Wait + Sync, L: Ledger>(
     rt: &R,
     input: I,
@@ -135,7 +134,7 @@ fn run_threads<I: Read + Drop, O: Sink, E: Sink, R: AllocGlobal + Threads + Wait
     0
 }
 
-/// Writes why a run ended early, where what it wrote doesn't say so.
+/// Reports why a run ended early, unless its output says so already.
 fn explain<E: Sink>(err: &mut E, fault: DriveFault) -> u8
     ensures status { result ≡ 1 }
     ensures line { Says (E.log err.old) (fault_line fault.refusal) (E.log err.new) }

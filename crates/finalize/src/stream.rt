@@ -9,21 +9,21 @@ use fz_text::{Failures, Sink, Source};
 use std::io;
 use std::sync::ledger::Ledger;
 
-/// A writer, each of whose calls contracts can name.
+/// A writer whose calls contracts can refer to.
 pub(crate) trait Outlet {
-    /// The bytes that it holds, if it can tell.
+    /// The bytes that it contains, if known.
     ghost contents: { Self → Option (List ℕ) };
-    /// Whether a call with these bytes can reply so, and leave it so.
+    /// Whether a call with these bytes may return this and leave the writer in this state.
     ghost replies: { Self → List ℕ → Option ℕ → Self → Type 0 };
 
-    /// Writes some of the bytes from the front; returns how many. `None` says that the write failed.
+    /// Writes a prefix of the bytes, and returns its length. `None` means that the write failed.
     fn put(&mut self, bytes: &[u8]) -> Option<usize>
         ensures bound { (unwrap_or result 0) ≤ length bytes.now }
         ensures bytes { Appends (contents self.old) (contents self.new) (take (unwrap_or result 0) bytes.now) }
         ensures reply { replies self.old bytes.now result self.new };
 }
 
-// Of what a call of such a writer comes to nothing is known.
+// Contracts know nothing about what such a call does.
 impl<W: io::Write> Outlet for W {
     ghost contents = { λ w. W.contents w };
 
@@ -34,7 +34,7 @@ impl<W: io::Write> Outlet for W {
     }
 }
 
-/// A stream, whose failed calls are counted.
+/// A stream that counts its failed calls.
 #[derive(Drop)]
 pub(crate) struct Stream<S, L: Ledger> {
     inner: S,
@@ -70,7 +70,7 @@ impl<S: Outlet, L: Ledger> Sink for Stream<S, L> {
         ensures bound { unwrap_or result 0 ≤ length bytes.now }
         ensures bytes { Appends (S.contents self.old.inner) (S.contents self.new.inner) (take (unwrap_or result 0) bytes.now) }
         ensures failures { self.new.failures ≡ self.old.failures + write_failures (length bytes.now) result }
-        // It fails only where the writer, asked to write these bytes, failed or took none of them.
+        // It fails only if the writer failed or took none of these bytes.
         ensures asked { 0 < length bytes.now → (reply : Option ℕ) × S.replies self.old.inner bytes.now reply self.new.inner × (result ≡ taken_of reply) }
     {
         if bytes.is_empty() {

@@ -1,4 +1,4 @@
-//! Whole calls of the program.
+//! Tests of whole runs of the program.
 
 mod streams;
 
@@ -57,7 +57,7 @@ fn say_counted<O: Ledger, E: Ledger, R: Files + AllocGlobal + Threads + Wait + S
     Ok(Said { status, out, err })
 }
 
-/// Runs the program over a writer that takes a byte in a call, and fails after this many calls.
+/// Runs the program over a writer that takes one byte per call, and fails after this many calls.
 fn say_within<R: Files + AllocGlobal + Threads + Wait + Sync>(
     rt: &R,
     words: &[&str],
@@ -94,15 +94,14 @@ fn say_within_counted<O: Ledger, E: Ledger, R: Files + AllocGlobal + Threads + W
     })
 }
 
-/// Stops the test where the program ends otherwise, or writes something else. The asserts stand here alone, since each is proved again at each place
-/// where it stands.
+/// Fails the test if the status or an output differs. The asserts are in a function of their own, because each is proved again wherever it occurs.
 fn must_say(rt: &impl Abort, case: usize, said: &Said, status: u8, out: &[u8], err: &[u8]) {
     assert_eq!(rt; said.status, status, "status of {case}");
     assert_eq!(rt; said.out.as_slice(), out, "output of {case}");
     assert_eq!(rt; said.err.as_slice(), err, "errors of {case}");
 }
 
-/// Runs the program of this name over a file of these bytes, which is there for that time.
+/// Runs the program over a file with this content, which exists only for that time.
 fn say_of<R: Files + AllocGlobal + Threads + Wait + Sync>(
     rt: &R,
     program: &str,
@@ -152,7 +151,7 @@ fn other_words_are_wrong(rt: HostRuntime) -> Result<(), Fail> {
 const MISSING_NAME: &str =
     "012345678901234567890123456789012345678901234567890123456789012345678901234567890123456789012345678901234567890123456789";
 
-/// 255 bytes, as many as the name of a file can have.
+/// 255 bytes, the longest file name that the system allows.
 const LONG_NAME: &str =
     "abcdefghijabcdefghijabcdefghijabcdefghijabcdefghijabcdefghijabcdefghijabcdefghijabcdefghijabcdefghijabcdefghijabcdefghijabcdefghijabcdefghijabcdefghijabcdefghijabcdefghijabcdefghijabcdefghijabcdefghijabcdefghijabcdefghijabcdefghijabcdefghijabcdefghijabcde";
 
@@ -170,7 +169,7 @@ fn files_that_cannot_be_opened(rt: HostRuntime) -> Result<(), Fail> {
     Ok(())
 }
 
-/// A directory can be opened, and its first read fails.
+/// A directory can be opened, but its first read fails.
 #[test]
 fn files_that_cannot_be_read(rt: HostRuntime) -> Result<(), Fail> {
     for (case, name) in NAMES.iter().enumerate() {
@@ -180,8 +179,7 @@ fn files_that_cannot_be_read(rt: HostRuntime) -> Result<(), Fail> {
     Ok(())
 }
 
-/// A program, the bytes of its file, and how its run ends: its status, and what it writes to standard output. Of none of these is anything written
-/// to standard error.
+/// A program, the content of its file, its exit status, and its standard output. In all these cases standard error stays empty.
 const RUNS: [(&str, &[u8], u8, &[u8]); 8] = [
     ("run", SCRIPT, 0, REPORT),
     (
@@ -256,7 +254,7 @@ fn files_have_long_names(rt: HostRuntime) -> Result<(), Fail> {
     Ok(())
 }
 
-/// A comment of 200 bytes is a line, and one of 201 is malformed.
+/// A comment of 200 bytes is accepted, and one of 201 is malformed.
 #[test]
 fn a_file_has_a_long_line(rt: HostRuntime) -> Result<(), Fail> {
     for (case, length) in [200, 201].iter().enumerate() {
@@ -277,7 +275,7 @@ fn a_file_has_a_long_line(rt: HostRuntime) -> Result<(), Fail> {
     Ok(())
 }
 
-/// Runs the program over a file of these bytes, where each write of its text fails in turn.
+/// Runs the program over a file with this content, with each write of its text failing in turn.
 fn fails_to_write<R: Files + AllocGlobal + Threads + Wait + Sync + Abort>(
     rt: &R,
     program: &str,

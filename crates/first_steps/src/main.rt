@@ -1,4 +1,4 @@
-//! first_steps: one object with a finalizer, in a world, from its making to its end.
+//! first_steps: one object with a finalizer in a world, from its allocation to its end.
 #![tactic(auto)]
 
 use anyhow::Result;
@@ -12,10 +12,10 @@ fn main(rt: HostRuntime) -> Result<()> {
         frames: 1,
     };
     let mut world = World::open(rt.alloc(), config)?;
-    // One word, in slot 0 of frame 0. Its finalizer is procedure 5, with client data 7 and rank 0.
+    // One word, whose address goes into slot 0 of frame 0. Its finalizer is procedure 5, with client data 7 and rank 0.
     world.alloc(0, 0, 1, Scanned)?;
     world.register(0, 0, Normal, 5, 7, 0)?;
-    // Only the slot led to it.
+    // The object was reachable only from this slot.
     world.set(0, 0, 0)?;
     let passed = world.collect()?;
     for _ in 0..passed.picked {

@@ -1,4 +1,4 @@
-//! A set of numbers, a bit for each.
+//! A bitmap: a set of numbers with one bit for each.
 
 ghost use Rattle.std.specs.Prelude.{◌≡◌, ◌≤◌, ◌<◌, ◌+◌, ◌*◌, ◌==◌, ◌&&◌, ◌^◌, not, max, min, slice_index, filter, ℕ, IsTrue, IsFalse, IfOk, IfErr, OnOk, OnErr, IfSome, MatchOption};
 ghost use Rattle.std.specs.List.{range_with_len};
@@ -14,9 +14,9 @@ use std::marker::Model;
 /// The bits of a word.
 const BITS: u64 = 64;
 
-/// A set of numbers from `FIRST` on, a bit for each, 64 in a word. `new` and `extend_to` take its memory, and no other call takes any.
+/// A bitmap of numbers from `FIRST` on, 64 to a word. Only `new` and `extend_to` allocate.
 ///
-/// With `FIRST` at the heap's start it is a set of addresses, and each of its words has the addresses of one block.
+/// If `FIRST` is the heap's first address, this is a set of addresses, and each word covers one block.
 #[derive(Drop)]
 pub struct Flags<const FIRST: u64> {
     words: Vec<u64>,
@@ -36,7 +36,7 @@ impl<const FIRST: u64> Model for Flags<FIRST> {
 }
 
 impl<const FIRST: u64> Flags<FIRST> {
-    /// The empty set, with room for 64 numbers a word. `NoMemory` when the memory for its words can't be had.
+    /// The empty set, with room for 64 numbers per word. Fails with `NoMemory` if the words can't be allocated.
     pub fn new(alloc: Global, words: u64) -> Result<Flags<FIRST>, Refusal>
         requires fits { FIRST + 64 * words ≤ 2 ^ 64 }
         ensures refused { IfErr result (λ r. r ≡ Refusal.NoMemory) }
@@ -46,7 +46,7 @@ impl<const FIRST: u64> Flags<FIRST> {
         Ok(Flags { words })
     }
 
-    /// Makes room for 64 numbers a word, where there is less. `NoMemory` when the memory for them can't be had; nothing has changed then.
+    /// Makes room for 64 numbers per word, if there is less. If it fails with `NoMemory`, nothing has changed.
     pub fn extend_to(&mut self, words: u64) -> Result<(), Refusal>
         requires fits { FIRST + 64 * words ≤ 2 ^ 64 }
         ensures refused { IfErr result (λ r. r ≡ Refusal.NoMemory) }
@@ -63,7 +63,7 @@ impl<const FIRST: u64> Flags<FIRST> {
         Ok(())
     }
 
-    /// Gives up the room for numbers past 64 a word, none of which may be a member.
+    /// Gives back the memory for numbers beyond these words. None of them may be a member.
     pub fn shrink_to(&mut self, words: u64)
         requires { (n : ℕ) → IsTrue (contains self.old.members n) → n < FIRST + 64 * words }
         ensures members { self.new.members ≡ self.old.members }
@@ -82,7 +82,7 @@ impl<const FIRST: u64> Flags<FIRST> {
         number >= FIRST && word >> (place % BITS) & 1 == 1
     }
 
-    /// Puts a number in, and returns whether it is new.
+    /// Adds a number, and returns whether it is new.
     pub fn insert(&mut self, number: u64) -> bool
         requires { (FIRST ≤ number) × (number < FIRST + self.old.size) }
         ensures new { result ≡ not (contains self.old.members number) }
@@ -97,7 +97,7 @@ impl<const FIRST: u64> Flags<FIRST> {
         is_new
     }
 
-    /// Takes a number out, and returns whether it was in the set.
+    /// Removes a number, and returns whether it was a member.
     pub fn remove(&mut self, number: u64) -> bool
         ensures found { result ≡ contains self.old.members number }
         ensures removed { self.new ≡ record self.old { members = remove self.old.members number } }
@@ -105,13 +105,13 @@ impl<const FIRST: u64> Flags<FIRST> {
         if !self.contains(number) {
             return false;
         }
-        // A member is at least FIRST.
+        // `FIRST` is the lowest number that can be a member.
         let place = number.saturating_sub(FIRST);
         self.words[(place / BITS) as usize] &= !(1 << (place % BITS));
         true
     }
 
-    /// The least member from a number on.
+    /// The lowest member that is at least `from`.
     pub fn next(&self, from: u64) -> Option<u64>
         ensures next { MatchOption result ((n : ℕ) → from ≤ n → IsFalse (contains self.now.members n)) (λ next. IsNext self.now.members from next) }
         ensures within { IfSome result (λ next. next < FIRST + self.now.size) }
@@ -127,7 +127,7 @@ impl<const FIRST: u64> Flags<FIRST> {
         Some(FIRST + BITS * index + u64::from(rest.trailing_zeros()))
     }
 
-    /// The least member from a number on, among the 64 numbers of its word.
+    /// The lowest member that is at least `from`, among the 64 numbers of the same word.
     pub fn next_in_word(&self, from: u64) -> Option<u64>
         ensures next { MatchOption result ((n : ℕ) → from ≤ n → word_of FIRST n ≡ word_of FIRST from → IsFalse (contains self.now.members n)) (λ next. IsNext self.now.members from next) }
         ensures within { IfSome result (λ next. next < FIRST + self.now.size) }
@@ -142,28 +142,28 @@ impl<const FIRST: u64> Flags<FIRST> {
         Some(FIRST + BITS * index + u64::from(rest.trailing_zeros()))
     }
 
-    /// The members, by rising number.
+    /// An iterator over the members, in ascending order.
     pub fn iter(&self) -> Members<'_, FIRST>
         ensures { result ≡ filter (contains self.now.members) (range_with_len FIRST self.now.size) }
     {
         Members::of(self)
     }
 
-    /// The members among the 64 numbers of a word, the least number's bit lowest.
+    /// The members among the 64 numbers of a word, as bits; the lowest number has the lowest bit.
     pub fn word(&self, index: u64) -> u64
         ensures { (place : ℕ) → place < 64 → has_bit result place ≡ contains self.now.members (FIRST + 64 * index + place) }
     {
         word_at(&self.words, index)
     }
 
-    /// How many words it has.
+    /// The length of the bitmap, in words.
     pub fn words(&self) -> u64
         ensures size { self.now.size ≡ 64 * result }
     {
         self.words.len() as u64
     }
 
-    /// Takes out the 64 numbers of a word.
+    /// Removes all 64 numbers of a word.
     pub fn clear_word(&mut self, index: u64)
         requires { 64 * index < self.old.size }
         ensures size { self.new.size ≡ self.old.size }
@@ -173,7 +173,7 @@ impl<const FIRST: u64> Flags<FIRST> {
         self.words[index as usize] = 0;
     }
 
-    /// Makes it the same set as another with as much room.
+    /// Makes it equal to another set with the same room.
     pub fn copy_from(&mut self, other: &Flags<FIRST>)
         requires { self.old.size ≡ other.now.size }
         ensures copied { self.new ≡ other.now }
@@ -189,7 +189,7 @@ impl<const FIRST: u64> Flags<FIRST> {
         self.words.fill(0);
     }
 
-    /// The word that has a number's bit, without the bits of smaller numbers.
+    /// The word that contains the number's bit, without the bits of lower numbers.
     fn word_from(&self, number: u64) -> u64
         ensures rest { IsRest FIRST self.now.members number (word_of FIRST number) result }
         ensures room { HasRoom FIRST self.now }
@@ -200,7 +200,7 @@ impl<const FIRST: u64> Flags<FIRST> {
     }
 }
 
-/// The word at an index, and 0 past the end.
+/// The word at an index; 0 past the end.
 fn word_at(words: &[u64], index: u64) -> u64
     ensures { result ≡ slice_index words.now index }
 {

@@ -1,4 +1,4 @@
-//! Sets of numbers, a bit for each.
+//! Bitmaps: sets of numbers with one bit for each.
 #![tactic(auto)]
 
 mod flags;

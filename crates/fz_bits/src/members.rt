@@ -1,4 +1,4 @@
-//! The members of a set, in order.
+//! The members of a set, in ascending order.
 
 ghost use Rattle.std.specs.Prelude.{◌≡◌};
 ghost use Rattle.std.specs.Iterator.{YieldsFirst, item_count};
@@ -6,7 +6,7 @@ ghost use Rattle.std.specs.Iterator.{YieldsFirst, item_count};
 use crate::flags::Flags;
 use std::marker::Model;
 
-/// The members of a set, by rising number. A contract sees the list of those that are left.
+/// An iterator over the members of a set, in ascending order. Its model is the list of the remaining members.
 #[derive(Drop)]
 pub struct Members<'a, const FIRST: u64> {
     flags: &'a Flags<FIRST>,
@@ -25,7 +25,7 @@ impl<'a, const FIRST: u64> Model for Members<'a, FIRST> {
 impl<'a, const FIRST: u64> Members<'a, FIRST> {
     ghost use Rattle.fz_bits.specs.Flags.{members_from};
 
-    /// All members of a set.
+    /// An iterator over all members of a set.
     pub(crate) fn of(flags: &'a Flags<FIRST>) -> Members<'a, FIRST>
         ensures { result ≡ members_from FIRST flags.now FIRST }
     {

@@ -1,4 +1,4 @@
-//! A set of numbers below 4,096 of which few are members.
+//! A sparse set of numbers below 4,096.
 
 ghost use Rattle.std.specs.Prelude.{◌≡◌, ◌≤◌, ◌<◌, ◌+◌, ◌*◌, not, ℕ, IsTrue, IsFalse, IfOk, IfErr, IfSome, MatchOption};
 ghost use Rattle.std.specs.FinSet.{contains, insert, remove, empty};
@@ -11,16 +11,16 @@ use fz_model::Refusal;
 use std::alloc::Global;
 use std::marker::Model;
 
-/// The numbers whose bits stand in one word.
+/// The number of bits of a word.
 const BITS: u64 = 64;
 
-/// A set of numbers from 0 to at most 4,095, in two levels of bits as `SparseFlags` has them, of which the second is one word.
+/// A set of numbers from 0 to at most 4,095. Like `SparseFlags` it has two levels of bits, of which the second fits into one word.
 ///
-/// So a look for the next member reads three words at most. `new` takes its memory, in one piece, and no other call takes any.
+/// Finding the next member reads at most three words. Only `new` allocates, once.
 #[derive(Drop)]
 pub struct SmallFlags {
     flags: Flags<0>,
-    /// The words of `flags` that have members.
+    /// Which words of `flags` aren't zero.
     words: WordFlags,
 }
 
@@ -38,7 +38,7 @@ impl Model for SmallFlags {
 }
 
 impl SmallFlags {
-    /// The empty set, with room for 64 numbers a word. `NoMemory` when the memory for its words can't be had.
+    /// The empty set, with room for 64 numbers per word. Fails with `NoMemory` if the words can't be allocated.
     pub fn new(alloc: Global, words: u64) -> Result<SmallFlags, Refusal>
         requires few { words ≤ 64 }
         ensures refused { IfErr result (λ r. r ≡ Refusal.NoMemory) }
@@ -51,7 +51,7 @@ impl SmallFlags {
         })
     }
 
-    /// How many words it has, for 64 numbers each. No member lies past them.
+    /// The length of the first level, in words of 64 numbers. Every member lies within it.
     pub fn words(&self) -> u64
         ensures size { self.now.size ≡ 64 * result }
         ensures within { (n : ℕ) → IsTrue (contains self.now.members n) → n < self.now.size }
@@ -60,14 +60,14 @@ impl SmallFlags {
         self.flags.words()
     }
 
-    /// The members among the 64 numbers of a word, the least number's bit lowest.
+    /// The members among the 64 numbers of a word, as bits; the lowest number has the lowest bit.
     pub fn word(&self, index: u64) -> u64
         ensures { (place : ℕ) → place < 64 → has_bit result place ≡ contains self.now.members (64 * index + place) }
     {
         self.flags.word(index)
     }
 
-    /// Puts a number in, and returns whether it is new.
+    /// Adds a number, and returns whether it is new.
     pub fn insert(&mut self, number: u64) -> bool
         requires { number < self.old.size }
         ensures new { result ≡ not (contains self.old.members number) }
@@ -77,7 +77,7 @@ impl SmallFlags {
         self.flags.insert(number)
     }
 
-    /// Takes a number out, and returns whether it was in the set.
+    /// Removes a number, and returns whether it was a member.
     pub fn remove(&mut self, number: u64) -> bool
         ensures found { result ≡ contains self.old.members number }
         ensures removed { self.new ≡ record self.old { members = remove self.old.members number } }
@@ -92,7 +92,7 @@ impl SmallFlags {
         true
     }
 
-    /// The least member from a number on.
+    /// The lowest member that is at least `from`.
     pub fn next(&self, from: u64) -> Option<u64>
         ensures next { MatchOption result ((n : ℕ) → from ≤ n → IsFalse (contains self.now.members n)) (λ next. IsNext self.now.members from next) }
         ensures within { IfSome result (λ next. next < self.now.size) }

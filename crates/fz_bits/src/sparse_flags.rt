@@ -1,4 +1,4 @@
-//! A set of numbers of which few, far apart, are members.
+//! A sparse set of numbers, whose members may be far apart.
 
 ghost use Rattle.std.specs.Prelude.{◌≡◌, ◌≤◌, ◌<◌, ◌+◌, ◌*◌, ◌^◌, not, min, ℕ, IsTrue, IsFalse, IfOk, IfErr, OnOk, OnErr, IfSome, MatchOption};
 ghost use Rattle.std.specs.FinSet.{contains, insert, remove, empty};
@@ -9,16 +9,16 @@ use fz_model::Refusal;
 use std::alloc::Global;
 use std::marker::Model;
 
-/// The numbers whose bits stand in one word.
+/// The number of bits of a word.
 const BITS: u64 = 64;
 
-/// A set of numbers from 0 on, in two levels of bits: one for each number, and one for each word of these that isn't empty.
+/// A set of numbers from 0 on, in two levels of bits: one bit for each number, and one for each word of the first level that isn't zero.
 ///
-/// So a look for the next member passes over 4,096 numbers a step. `new` and `extend_to` take its memory, and no other call takes any.
+/// Finding the next member skips 4,096 numbers in each step. Only `new` and `extend_to` allocate.
 #[derive(Drop)]
 pub struct SparseFlags {
     flags: Flags<0>,
-    /// The words of `flags` that have members.
+    /// Which words of `flags` aren't zero.
     words: Flags<0>,
 }
 
@@ -35,7 +35,7 @@ impl Model for SparseFlags {
 }
 
 impl SparseFlags {
-    /// The empty set, with room for 64 numbers a word. `NoMemory` when the memory for its words can't be had.
+    /// The empty set, with room for 64 numbers per word. Fails with `NoMemory` if the words can't be allocated.
     pub fn new(alloc: Global, words: u64) -> Result<SparseFlags, Refusal>
         requires fits { 64 * words ≤ 2 ^ 64 }
         ensures refused { IfErr result (λ r. r ≡ Refusal.NoMemory) }
@@ -46,7 +46,7 @@ impl SparseFlags {
         Ok(SparseFlags { flags, words })
     }
 
-    /// Makes room for 64 numbers a word, where there is less. `NoMemory` when the memory for them can't be had; the set and its room have not changed then.
+    /// Makes room for 64 numbers per word, if there is less. If it fails with `NoMemory`, nothing has changed.
     pub fn extend_to(&mut self, words: u64) -> Result<(), Refusal>
         requires fits { 64 * words ≤ 2 ^ 64 }
         ensures refused { IfErr result (λ r. r ≡ Refusal.NoMemory) }
@@ -60,7 +60,7 @@ impl SparseFlags {
         self.flags.extend_to(words)
     }
 
-    /// Gives up the room for numbers past 64 a word, none of which may be a member.
+    /// Gives back the memory for numbers beyond these words. None of them may be a member.
     pub fn shrink_to(&mut self, words: u64)
         requires { (n : ℕ) → IsTrue (contains self.old.members n) → n < 64 * words }
         ensures members { self.new.members ≡ self.old.members }
@@ -77,7 +77,7 @@ impl SparseFlags {
         self.flags.contains(number)
     }
 
-    /// Puts a number in, and returns whether it is new.
+    /// Adds a number, and returns whether it is new.
     pub fn insert(&mut self, number: u64) -> bool
         requires { number < self.old.size }
         ensures new { result ≡ not (contains self.old.members number) }
@@ -87,7 +87,7 @@ impl SparseFlags {
         self.flags.insert(number)
     }
 
-    /// Takes a number out, and returns whether it was in the set.
+    /// Removes a number, and returns whether it was a member.
     pub fn remove(&mut self, number: u64) -> bool
         ensures found { result ≡ contains self.old.members number }
         ensures removed { self.new ≡ record self.old { members = remove self.old.members number } }
@@ -100,7 +100,7 @@ impl SparseFlags {
         is_member
     }
 
-    /// The least member from a number on.
+    /// The lowest member that is at least `from`.
     pub fn next(&self, from: u64) -> Option<u64>
         ensures next { MatchOption result ((n : ℕ) → from ≤ n → IsFalse (contains self.now.members n)) (λ next. IsNext self.now.members from next) }
         ensures within { IfSome result (λ next. next < self.now.size) }

@@ -6,10 +6,10 @@ ghost use Rattle.fz_bits.specs.Flags.{IsNext};
 
 use std::marker::Model;
 
-/// The bits of a word.
+/// The number of bits of a word.
 const BITS: u64 = 64;
 
-/// A set of numbers below 64, a bit for each, in one word. It takes no memory.
+/// A set of numbers below 64, as the bits of one word. It allocates nothing.
 #[derive(Drop)]
 pub(crate) struct WordFlags {
     bits: u64,
@@ -34,7 +34,7 @@ impl WordFlags {
         WordFlags { bits: 0 }
     }
 
-    /// Puts a number in.
+    /// Adds a number.
     pub(crate) fn insert(&mut self, number: u64)
         requires { number < 64 }
         ensures { self.new ≡ record self.old { members = insert self.old.members number } }
@@ -42,7 +42,7 @@ impl WordFlags {
         self.bits |= 1 << number;
     }
 
-    /// Takes a number out.
+    /// Removes a number.
     pub(crate) fn remove(&mut self, number: u64)
         requires { number < 64 }
         ensures { self.new ≡ record self.old { members = remove self.old.members number } }
@@ -50,7 +50,7 @@ impl WordFlags {
         self.bits &= !(1 << number);
     }
 
-    /// The least member from a number on.
+    /// The lowest member that is at least `from`.
     pub(crate) fn next(&self, from: u64) -> Option<u64>
         ensures { MatchOption result ((n : ℕ) → from ≤ n → IsFalse (contains self.now.members n)) (λ next. IsNext self.now.members from next) }
     {

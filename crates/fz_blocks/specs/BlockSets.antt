@@ -1,4 +1,5 @@
 -- Sets of block numbers, and runs of them.
+-- code: fz_blocks/src/block_set.rt
 use Rattle.std.specs.Prelude.{ℕ, ◌+◌, ◌-◌, nat_lt, nat_le, ◌<◌, Option, Some, None, Bool, if◌then◌else◌, List, slice_index_or, IsTrue, IsFalse}
 use Rattle.std.specs.FinSet.{empty, contains}
 use Rattle.fz_model.specs.Bits.{has_bit}
@@ -17,12 +18,12 @@ members_at sets class = (slice_index_or sets class no_room).members
 abbrev pub room_at : List Flagged → ℕ → ℕ
 room_at sets class = (slice_index_or sets class no_room).size
 
--- the least member
+-- the lowest member
 pub record IsLeast (blocks : BlockNumbers) (least : ℕ) : Type 0 where
   pub member : IsTrue (contains blocks least)
   pub before : (b : ℕ) → b < least → IsFalse (contains blocks b)
 
--- a number is the least member, if there is one
+-- the number is the lowest member, if there is one
 abbrev pub IsLeastOf : BlockNumbers → Option ℕ → Type 0
 IsLeastOf blocks None = (b : ℕ) → IsFalse (contains blocks b)
 IsLeastOf blocks (Some b) = IsLeast blocks b
@@ -31,16 +32,16 @@ abbrev pub lesser : Option ℕ → ℕ → ℕ
 lesser None block = block
 lesser (Some least) block = if nat_le least block then least else block
 
--- the bit at a place of two words, one after the other
+-- the bit at an index of two words, one after the other
 abbrev pub has_pair_bit : ℕ → ℕ → ℕ → Bool
 has_pair_bit word next place = if nat_lt place 64 then has_bit word place else has_bit next (place - 64)
 
--- the bits of a word are the places at which a run of `count` set bits begins in two words, one after the other
+-- the bits of `runs` are the indices at which `count` successive set bits begin in two words, one after the other
 pub record AreRunsOf (runs word next count : ℕ) : Type 0 where
   pub all : (place k : ℕ) → place < 64 → IsTrue (has_bit runs place) → k < count → IsTrue (has_pair_bit word next (place + k))
   pub each : (place : ℕ) → place < 64 → ((k : ℕ) → k < count → IsTrue (has_pair_bit word next (place + k))) → IsTrue (has_bit runs place)
 
--- a set has `count` numbers from one on; and the least number from which on it has them
+-- the set contains `count` successive numbers from b on; and the lowest such b
 abbrev pub HasRun : BlockNumbers → ℕ → ℕ → Type 0
 HasRun blocks count b = (k : ℕ) → k < count → IsTrue (contains blocks (b + k))
 

@@ -1,4 +1,5 @@
--- What contracts see of a block map: its number of blocks, the extents of the objects in them, and where condemned cells start.
+-- The model of a block map: its number of blocks, the extents of its objects, and the addresses of dead, unswept cells.
+-- code: fz_blocks/src/block_map.rt
 use Rattle.std.specs.Prelude.{ℕ, refl, [], ◌∷◌, IsTrue, IsFalse}
 use Rattle.std.specs.Coded.{Coded, code_by, coded×, coded_ℕ}
 use Rattle.std.specs.FinMap as map
@@ -25,10 +26,10 @@ claimed_code =
     code_by (ℕ × (Map Extent × Addresses)) (coded× coded_ℕ (coded× (map.code coded_ℕ extent_code) (sets.code coded_ℕ))) (λ c. (c.blocks, (c.extents, c.condemned)))
     (λ p. record { blocks = p.0; extents = p.1.0; condemned = p.1.1 }) (λ _. refl)
 
--- no object starts where a condemned cell does
+-- no object has the address of a dead cell
 abbrev pub AreGone : Claimed → Type 0
 AreGone claimed = (a : ℕ) → IsTrue (contains claimed.condemned a) → IsFalse (contains_key claimed.extents a)
 
--- a new object: why it is refused
+-- the causes for which a claim is refused
 abbrev pub claim_causes : Claimed → ℕ → ObjKind → Causes
 claim_causes claimed size kind = bad_size size ∷ no_space claimed.extents claimed.blocks size kind ∷ []

@@ -1,4 +1,5 @@
--- What a claim leaves in the blocks, and what is left where objects are condemned.
+-- How claiming a cell and removing objects change the blocks.
+-- code: fz_blocks/src/claims.rt, blocks.rt
 use Rattle.std.specs.Prelude.{◌≡◌, ℕ, ◌+◌, ◌&&◌, ◌||◌, not, List, length, slice_get, slice_set, Some}
 use Rattle.std.specs.FinMap as maps
 use Rattle.std.specs.FinMap.{insert, retain_keys, contains_key}
@@ -18,7 +19,7 @@ pub record IsClaimed (old new : List Block) (size : ℕ) (kind : ObjKind) (start
   pub extents : extents_in new ≡ insert (extents_in old) start (record { size = size; kind = kind })
   pub swept : condemned_in new ≡ swept (condemned_in old) (block_of start) (blocks_for size)
 
--- the objects that start in a block at some of these places are condemned, and no other changes
+-- the objects that start in a block at some of these words became dead cells, and nothing else has changed
 pub record IsCondemned (old new : List Block) (b places many : ℕ) : Type 0 where
   pub long : length new ≡ length old
   pub extents : extents_in new ≡ retain_keys (extents_in old) (λ a. not (stands_at b places a))
@@ -26,7 +27,7 @@ pub record IsCondemned (old new : List Block) (b places many : ℕ) : Type 0 whe
   pub count : len (condemned_in new) ≡ len (condemned_in old) + many
   pub fewer : maps.len (extents_in new) + many ≡ maps.len (extents_in old)
 
--- the least free cell of one block of the list is claimed, and no other changes
+-- the lowest free cell of one block of the list was claimed, and nothing else has changed
 pub record ClaimsIn (old new : List Block) (b place : ℕ) : Type 0 where
   pub was : Block
   pub now : Block
@@ -34,7 +35,7 @@ pub record ClaimsIn (old new : List Block) (b place : ℕ) : Type 0 where
   pub claims : Claims was now place
   pub new_is : new ≡ slice_set old b now
 
--- one block of the list loses its objects at some of these places, and no other changes
+-- one block of the list lost its objects at some of these words, and nothing else has changed
 pub record CondemnsIn (old new : List Block) (b places many : ℕ) : Type 0 where
   pub was : Block
   pub left : Block

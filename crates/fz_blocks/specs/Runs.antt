@@ -1,14 +1,15 @@
--- A run: neighbouring blocks that one object takes, and what its claim leaves.
+-- A run: neighbouring blocks that one object takes, and what claiming one changes.
+-- code: fz_blocks/src/claims.rt
 use Rattle.std.specs.Prelude.{◌≡◌, ℕ, ◌+◌, ◌*◌, ◌<◌, ◌≤◌, ◌⊎◌, ◌==◌, List, length, Some, slice_get, IsTrue}
 use Rattle.fz_model.specs.declared.limits.TheConstants.{BLOCK_WORDS}
 use Rattle.fz_blocks.specs.declared.block.Block.{Block}
 use Rattle.fz_blocks.specs.Blocks.{starts_at, is_bare, Detaches}
 
--- `count` neighbouring blocks that no object meets
+-- `count` neighbouring empty blocks
 abbrev pub IsRun : List Block → ℕ → ℕ → Type 0
 IsRun blocks count b = (k : ℕ) → k < count → (block : Block) × (slice_get blocks (b + k) ≡ Some block) × IsTrue (is_bare block)
 
--- `count` blocks that no object met hold one object now, from the start of the first; all others are as they were
+-- `count` empty blocks now contain one object, which starts in the first; all other blocks are unchanged
 pub record TakesRun (old new : List Block) (b count : ℕ) (first : Block) : Type 0 where
   pub long : length new ≡ length old
   pub bare : IsRun old count b
@@ -20,7 +21,7 @@ pub record TakesRun (old new : List Block) (b count : ℕ) (first : Block) : Typ
   pub later : (k : ℕ) → 0 < k → k < count → (block : Block) × (slice_get new (b + k) ≡ Some block) × (block.back ≡ k) × (block.condemned ≡ 0)
   pub others : (c : ℕ) → (c < b) ⊎ (b + count ≤ c) → slice_get new c ≡ slice_get old c
 
--- the first `count` blocks of a run are written
+-- the `count` blocks of a run are written
 pub record WritesRun (old new : List Block) (b count : ℕ) (first : Block) : Type 0 where
   pub long : length new ≡ length old
   pub here : slice_get new b ≡ Some first
@@ -31,7 +32,7 @@ pub record IsFirstRun (blocks : List Block) (count b : ℕ) : Type 0 where
   pub run : IsRun blocks count b
   pub before : (c : ℕ) → c < b → IsRun blocks count c → ⊥
 
--- the later ones of `count` blocks are part of no run; all others are as they were
+-- all but the first of `count` blocks are no longer part of a run; all others are unchanged
 pub record FreesLater (old new : List Block) (b count : ℕ) : Type 0 where
   pub long : length new ≡ length old
   pub later : (k : ℕ) → 0 < k → k < count → (was : Block) × (now : Block) × (slice_get old (b + k) ≡ Some was) × (slice_get new (b + k) ≡ Some now) × Detaches was now

@@ -1,4 +1,5 @@
--- The starts of the objects in a list of blocks, from an address on.
+-- The addresses of the objects in a list of blocks, from an address on.
+-- code: fz_blocks/src/starts.rt
 use Rattle.std.specs.Prelude.{ℕ, ◌-◌, ◌<◌, ◌≤◌, List, length, filter, is_some, IsTrue, IsFalse}
 use Rattle.std.specs.List.{range_with_len}
 use Rattle.fz_model.specs.declared.limits.TheConstants.{BLOCK_WORDS}
@@ -7,7 +8,7 @@ use Rattle.fz_blocks.specs.declared.block.Block.{Block}
 use Rattle.fz_blocks.specs.Blocks.{starts_at}
 use Rattle.fz_blocks.specs.Layout.{extent_at}
 
--- the least place from one on where an object starts
+-- the lowest word, from one on, at which an object starts
 pub record IsFirstStart (block : Block) (from first : ℕ) : Type 0 where
   pub after : from ≤ first
   pub within : first < BLOCK_WORDS

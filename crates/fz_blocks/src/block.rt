@@ -1,4 +1,4 @@
-//! One block: in which of its cells objects start.
+//! One block, and at which of its cells objects start.
 
 ghost use Rattle.std.specs.Prelude.{◌≡◌, ◌≤◌, ◌<◌, ◌+◌, ℕ, IsTrue, IsFalse, MatchOption};
 ghost use Rattle.fz_model.specs.declared.limits.TheConstants.{BLOCK_WORDS, MAX_OBJECT_WORDS};
@@ -7,21 +7,21 @@ ghost use Rattle.fz_blocks.specs.Cells.{AreCells, AreAmong, AreSeparate};
 
 use fz_model::{BLOCK_WORDS, Extent, MAX_OBJECT_WORDS, ObjKind};
 
-/// The most blocks that an object meets.
+/// The largest number of blocks in which one object lies.
 pub(crate) const MAX_SPAN: u64 = (MAX_OBJECT_WORDS - 1) / BLOCK_WORDS + 1;
 
-/// A block of 64 words, whose cells have one size and one kind. Size and kind say nothing while no object starts in it.
+/// A block of 64 words, divided into cells of one size and kind. While no object starts in it, its size and kind have no meaning.
 #[derive(Clone, Copy)]
 pub(crate) struct Block {
-    /// A bit at each place where an object starts.
+    /// A bit for each word at which an object starts.
     pub(crate) objects: u64,
-    /// A bit at each place where a condemned cell starts: its object is gone, and it waits to be swept.
+    /// A bit for each word at which a dead, unswept cell starts.
     pub(crate) condemned: u64,
-    /// A bit at each place where a cell starts.
+    /// A bit for each word at which a cell starts.
     pub(crate) cells: u64,
-    /// The words of a cell.
+    /// The size of a cell, in words.
     pub(crate) size: u32,
-    /// How many blocks before this one the object starts that reaches into it; 0 where none does.
+    /// If an object from an earlier block continues into this one: how many blocks earlier it starts. Otherwise 0.
     pub(crate) back: u16,
     pub(crate) kind: ObjKind,
     pub(crate) ghost sized: { 1 ≤ size },
@@ -39,7 +39,7 @@ impl Block {
     ghost use Rattle.fz_model.specs.Bits.{has_bit};
     ghost use Rattle.std.specs.Int.Count.{ones};
 
-    /// A block without objects, ready for this size and kind.
+    /// A block without objects, with cells of this size and kind.
     pub(crate) fn of(size: u64, kind: ObjKind) -> Block
         requires sized { 1 ≤ size }
         requires small { size ≤ MAX_OBJECT_WORDS }
@@ -63,7 +63,7 @@ impl Block {
         }
     }
 
-    /// A block into which an object reaches that starts `back` blocks before.
+    /// A block into which an object continues that starts `back` blocks earlier.
     pub(crate) fn later(back: u64) -> Block
         requires some { 1 ≤ back }
         requires few { back < MAX_SPAN }
@@ -74,7 +74,7 @@ impl Block {
         block
     }
 
-    /// The extent of an object that starts in it.
+    /// The size and kind of an object that starts in the block.
     pub(crate) fn extent(&self) -> Extent
         ensures { result ≡ extent_of self.now }
     {
@@ -84,28 +84,28 @@ impl Block {
         }
     }
 
-    /// Whether no object meets the block.
+    /// Whether no object has a word in the block.
     pub(crate) fn is_bare(&self) -> bool
         ensures { result ≡ is_bare self.now }
     {
         self.objects == 0 && self.back == 0
     }
 
-    /// Whether an object starts in each cell.
+    /// Whether every cell contains an object.
     pub(crate) fn is_full(&self) -> bool
         ensures { result ≡ is_full self.now }
     {
         self.objects == self.cells
     }
 
-    /// Whether objects start in it, and one of its cells is free.
+    /// Whether objects start in the block and a cell is free.
     pub(crate) fn has_room(&self) -> bool
         ensures { result ≡ has_free_cell self.now }
     {
         self.objects != 0 && !self.is_full() && u64::from(self.size) <= BLOCK_WORDS
     }
 
-    /// Whether it stands in the sets of the same classes as another block.
+    /// Whether both blocks belong to the same set of blocks with free cells, or neither belongs to any.
     pub(crate) fn has_same_room(&self, other: &Block) -> bool
         ensures { result ≡ has_same_room self.now other.now }
     {
@@ -113,7 +113,7 @@ impl Block {
         room == other.has_room() && (!room || self.size == other.size && self.kind == other.kind)
     }
 
-    /// Whether an object starts at this place.
+    /// Whether an object starts at this word of the block.
     pub(crate) fn starts_at(&self, place: u64) -> bool
         requires { place < BLOCK_WORDS }
         ensures { result ≡ starts_at self.now place }
@@ -121,7 +121,7 @@ impl Block {
         self.objects >> place & 1 == 1
     }
 
-    /// Whether a cell is free beside the least that is.
+    /// Whether at least two cells are free.
     pub(crate) fn has_two_free(&self) -> bool
         requires room { IsFalse (is_full self.now) }
         ensures { IsTrue result → (new : Block) (place : ℕ) → Claims self.now new place → IsFalse (is_full new) }
@@ -130,7 +130,7 @@ impl Block {
         self.objects | 1 << least != self.cells
     }
 
-    /// Sweeps the block, claims the least cell at which no object starts, and returns its place.
+    /// Sweeps the block, claims the lowest cell without an object, and returns the index of its first word.
     pub(crate) fn claim_least(&mut self) -> u64
         requires own { self.old.back ≡ 0 }
         requires room { IsFalse (is_full self.old) }
@@ -142,7 +142,8 @@ impl Block {
         u64::from(place)
     }
 
-    /// Whether it isn't full, objects start at some of these places, and others start elsewhere: without those it stands in the same sets.
+    /// Whether the block isn't full, and objects start both at some of these words and elsewhere. If so, losing those objects changes none of the sets that
+    /// the block is in.
     pub(crate) fn stays_alike_without(&self, places: u64) -> bool
         ensures unfull { IsTrue result → IsFalse (is_full self.now) }
         ensures gone { IsTrue result → (place : ℕ) × IsTrue (starts_at self.now place) × IsTrue (has_bit places place) }
@@ -151,7 +152,7 @@ impl Block {
         !self.is_full() && self.objects & places != 0 && self.objects & !places != 0
     }
 
-    /// Condemns the cells at these places at which objects start; returns their number.
+    /// Makes the objects that start at these words dead, unswept cells. Returns their number.
     pub(crate) fn condemn(&mut self, places: u64) -> u64
         ensures condemns { CondemnsAll self.old self.new places }
         ensures count { ones self.new.condemned ≡ ones self.old.condemned + result }
@@ -164,14 +165,14 @@ impl Block {
         u64::from(gone.count_ones())
     }
 
-    /// How many blocks an object that starts in it takes.
+    /// How many blocks an object that starts here takes.
     pub(crate) fn span(&self) -> u64
         ensures { result ≡ blocks_for self.now.size }
     {
         (u64::from(self.size) - 1) / BLOCK_WORDS + 1
     }
 
-    /// The number of condemned cells.
+    /// The number of dead, unswept cells.
     pub(crate) fn waiting(&self) -> u64
         ensures { result ≡ ones self.now.condemned }
     {
@@ -185,7 +186,7 @@ impl Block {
         self.back = 0;
     }
 
-    /// Frees the condemned cells.
+    /// Frees the dead cells.
     pub(crate) fn sweep(&mut self)
         ensures alike { IsAlike self.old self.new }
         ensures objects { self.new.objects ≡ self.old.objects }
@@ -194,7 +195,7 @@ impl Block {
         self.condemned = 0;
     }
 
-    /// The place where the object starts that starts in this block and has the word at this place, if one does.
+    /// The first word of the object that starts in this block and contains the given word, if there is one.
     pub(crate) fn cell_start(&self, place: u64) -> Option<u64>
         requires { place < BLOCK_WORDS }
         ensures { MatchOption result ((start : ℕ) → IsTrue (starts_at self.now start) → start ≤ place → start + self.now.size ≤ place) (λ start. IsCellOf self.now place start) }
@@ -210,7 +211,7 @@ impl Block {
         Some(start)
     }
 
-    /// The least place from this one on where an object starts.
+    /// The lowest word, from this one on, at which an object starts.
     pub(crate) fn first_start(&self, place: u64) -> Option<u64>
         requires { place < BLOCK_WORDS }
         ensures { MatchOption result ((p : ℕ) → place ≤ p → p < BLOCK_WORDS → IsFalse (starts_at self.now p)) (λ first. IsFirstStart self.now place first) }

@@ -9,17 +9,17 @@ use fz_model::{
 use std::alloc::Global;
 use std::marker::Model;
 
-/// Up to 4,096 blocks of 64 words each, from address 65,536 on, and the extents of the objects in them.
+/// The map of a heap of up to 4,096 blocks of 64 words, beginning at address 65,536, and the extents of its objects.
 ///
-/// It takes all its memory at `new`, and no other call takes or frees any: 32 bytes for each block, and 129 sets by which a place is
-/// found, each of 48 bytes and 8 for every 64 blocks begun. So a map of one block takes some 7 KB, and one of 4,096 blocks 203 KB.
+/// Only `new` allocates: 32 bytes for each block, and 129 sets for finding a free cell, each of 48 bytes and 8 more for every 64 blocks begun. So the map of
+/// one block takes about 7 KB, and the map of 4,096 blocks 203 KB.
 ///
-/// An object that is condemned is out of the map; its cell stays condemned until it is swept, or claimed again.
+/// A condemned object is dead: it is no longer in the map. Its cell stays dead until it is swept or claimed again.
 pub struct BlockMap {
     blocks: Blocks,
 }
 
-// Written out: who owns a map then drops it by one call that is proved here, not field by field at each way out of a function.
+// Written by hand, so that the owner drops it by one proved call, not field by field at each exit of a function.
 impl Drop for BlockMap {
     fn drop(self) {
         let BlockMap { blocks: _ } = self;
@@ -53,9 +53,9 @@ impl BlockMap {
     ghost use Rattle.fz_model.specs.Bits.{has_bit};
     ghost use Rattle.fz_blocks.specs.Claimed.{claim_causes, stands_at, swept, AreGone};
 
-    /// A map of 1 to 4,096 blocks without objects. It makes all the room that other calls need.
+    /// A map of 1 to 4,096 blocks without objects. It allocates all the memory that other calls need.
     ///
-    /// `BadCount` for any other number of blocks, and `NoMemory` where an allocation failed.
+    /// Fails with `BadCount` for any other number of blocks, and with `NoMemory` if an allocation fails.
     pub fn new(alloc: Global, blocks: u64) -> Result<BlockMap, Refusal>
         ensures judged { IsJudgedOrLacks (bad_count MAX_BLOCKS blocks ∷ []) result }
         ensures opened { IfOk result (λ map. map ≡ record { blocks = blocks; extents = empty; condemned = sets.empty }) }
@@ -77,10 +77,10 @@ impl BlockMap {
         self.blocks.as_slice().len() as u64
     }
 
-    /// Claims the least free cell of the blocks of this size (1 to 1,024 words) and kind, or else the least run of blocks that no
-    /// object meets, one for each 64 words begun; returns the start. The blocks of the new object are swept.
+    /// Claims the lowest free cell among the blocks of this size (1 to 1,024 words) and kind. If there is none, it claims the lowest run of empty blocks, one
+    /// for each 64 words begun. Returns the address. The blocks of the new object are swept.
     ///
-    /// `BadSize` for any other size, and `NoSpace` where there is no such place. It takes no memory, and a refused claim changes nothing.
+    /// Fails with `BadSize` for any other size, and with `NoSpace` if there is no such place. It allocates nothing, and a failed claim changes nothing.
     pub fn claim(&mut self, size: u64, kind: ObjKind) -> Result<Addr, Refusal>
         ensures judged { IsJudgedBy (claim_causes self.old size kind) result }
         ensures unchanged { OnErr result (self.new ≡ self.old) }
@@ -95,7 +95,7 @@ impl BlockMap {
         claim_place(&mut self.blocks, size, kind).ok_or(Refusal::NoSpace)
     }
 
-    /// Takes an object out of the map; its cell, or its whole run, waits to be swept. Asked only of a start.
+    /// Removes a dead object from the map. Its cell or run waits to be swept. Requires the address of an object.
     pub fn condemn(&mut self, start: Addr)
         requires { IsTrue (contains_key self.old.extents start) }
         ensures { self.new ≡ record self.old { extents = remove self.old.extents start; condemned = sets.insert self.old.condemned start } }
@@ -105,8 +105,8 @@ impl BlockMap {
         condemn_at(blocks, offset / BLOCK_WORDS, 1 << (offset % BLOCK_WORDS));
     }
 
-    /// Condemns each object that starts in a block at one of these places, a bit each, the first place's lowest; returns their
-    /// number. Asked only of a block of the heap.
+    /// Removes each object that starts in the block at one of these words, given as bits; the lowest bit is the block's first word. Their cells wait to be
+    /// swept. Returns their number. Requires a block of the heap.
     pub fn condemn_in(&mut self, block: u64, places: u64) -> u64
         requires { block < self.old.blocks }
         ensures blocks { self.new.blocks ≡ self.old.blocks }
@@ -118,7 +118,7 @@ impl BlockMap {
         condemn_at(&mut self.blocks, block, places)
     }
 
-    /// Frees the condemned cells of a block, or the condemned run that starts there. Asked only of a block of the heap.
+    /// Frees the dead cells of a block, or the dead run that starts there. Requires a block of the heap.
     pub fn sweep(&mut self, block: u64)
         requires { block < self.old.blocks }
         ensures { self.new ≡ record self.old { condemned = swept self.old.condemned block 1 } }
@@ -128,7 +128,7 @@ impl BlockMap {
         self.blocks.put_alike(block, clean);
     }
 
-    /// The number of condemned cells, a run counted once.
+    /// The number of dead, unswept cells. A run counts once.
     pub fn condemned(&self) -> u64
         ensures count { result ≡ sets.len self.now.condemned }
         ensures gone { AreGone self.now }
@@ -137,7 +137,7 @@ impl BlockMap {
         self.blocks.condemned()
     }
 
-    /// The start and the extent of the object in which the word lies, interior words included, if it lies in one.
+    /// The address and the extent of the object in which the word lies, if there is one. Interior pointers count.
     pub fn cell_of(&self, word: Word) -> Option<(Addr, Extent)>
         ensures { MatchOption result (points_in self.now.extents word ≡ None) (λ found. (points_in self.now.extents word ≡ Some found.0) × (get self.now.extents found.0 ≡ Some found.1)) }
     {
@@ -165,7 +165,7 @@ impl BlockMap {
         Some((start, first.extent()))
     }
 
-    /// The extent of the object that starts at the word, if one starts there.
+    /// The extent of the object with this address, if there is one.
     pub fn extent_at(&self, start: Word) -> Option<Extent>
         ensures { result ≡ get self.now.extents start }
     {
@@ -178,7 +178,7 @@ impl BlockMap {
         Some(block.extent())
     }
 
-    /// The places of a block where objects start, a bit each, the first place's lowest. Asked only of a block of the heap.
+    /// The words of a block at which objects start, as bits; the lowest bit is the block's first word. Requires a block of the heap.
     pub fn starts_in(&self, block: u64) -> u64
         requires { block < self.now.blocks }
         ensures { (place : ℕ) → place < BLOCK_WORDS → has_bit result place ≡ contains_key self.now.extents (block_start block + place) }
@@ -186,7 +186,7 @@ impl BlockMap {
         self.blocks.get(block).objects
     }
 
-    /// The words of each object that starts in a block. Asked only of a block of the heap.
+    /// The size, in words, of each object that starts in a block. Requires a block of the heap.
     pub fn size_in(&self, block: u64) -> u64
         requires { block < self.now.blocks }
         ensures { (a : ℕ) (x : Extent) → get self.now.extents a ≡ Some x → block_of a ≡ block → x.size ≡ result }
@@ -194,7 +194,7 @@ impl BlockMap {
         u64::from(self.blocks.block(block).size)
     }
 
-    /// The starts of all objects, by rising address.
+    /// The addresses of all objects, in ascending order.
     pub fn starts(&self) -> Starts<'_>
         ensures { result ≡ keys self.now.extents }
     {

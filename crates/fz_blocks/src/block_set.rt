@@ -1,4 +1,4 @@
-//! A set of block numbers that knows its least member.
+//! A set of block numbers that caches its lowest member.
 
 ghost use Rattle.std.specs.Prelude.{◌==◌, if◌then◌else◌, false, ◌≡◌, ◌<◌, ◌≤◌, ℕ, IfOk, IfErr, MatchOption};
 ghost use Rattle.std.specs.Option.{option_map_or};
@@ -12,18 +12,18 @@ use fz_model::Refusal;
 use std::alloc::Global;
 use std::marker::Model;
 
-/// The bits of a word.
+/// The number of bits of a word.
 const BITS: u64 = 64;
 
 /// A set of block numbers.
 #[derive(Drop)]
 pub(crate) struct BlockSet {
     blocks: SmallFlags,
-    /// The least of them, for which most claims ask.
+    /// The lowest member, which most claims ask for.
     least: Option<u64>,
 }
 
-/// The lesser of a number that may be there and another.
+/// The lower of a number that may be missing and another.
 fn lesser(least: Option<u64>, block: u64) -> u64
     ensures { result ≡ lesser least block }
 {
@@ -33,7 +33,7 @@ fn lesser(least: Option<u64>, block: u64) -> u64
     }
 }
 
-/// Whether the number is there, and this block.
+/// Whether the number exists and is this block.
 fn is_it(least: Option<u64>, block: u64) -> bool
     ensures { result ≡ option_map_or (λ b. b == block) least false }
 {
@@ -43,7 +43,7 @@ fn is_it(least: Option<u64>, block: u64) -> bool
     }
 }
 
-/// The places of a word at which a run of `count` set bits begins, running on into the next word.
+/// The bits of `word` at which `count` successive set bits begin. They may continue into `next`.
 pub(crate) fn runs_of(word: u64, next: u64, count: u64) -> u64
     requires some { 1 ≤ count }
     requires few { count ≤ BITS }
@@ -73,7 +73,7 @@ impl Model for BlockSet {
 }
 
 impl BlockSet {
-    /// The empty set, with room for the blocks below a number.
+    /// The empty set, with room for the blocks below this number.
     pub(crate) fn new(alloc: Global, blocks: u64) -> Result<BlockSet, Refusal>
         requires { blocks ≤ MAX_BLOCKS }
         ensures refused { IfErr result (λ r. r ≡ Refusal.NoMemory) }
@@ -86,14 +86,14 @@ impl BlockSet {
         })
     }
 
-    /// The least member.
+    /// The lowest member.
     pub(crate) fn first(&self) -> Option<u64>
         ensures { MatchOption result (self.now.members ≡ empty) (λ b. IsLeast self.now.members b) }
     {
         self.least
     }
 
-    /// The least number at which a run of `count` members begins.
+    /// The lowest number at which `count` successive members begin.
     pub(crate) fn first_run(&self, count: u64) -> Option<u64>
         requires some { 1 ≤ count }
         requires few { count ≤ BITS }
@@ -110,7 +110,7 @@ impl BlockSet {
         None
     }
 
-    /// Puts a block in, or takes it out.
+    /// Adds or removes a block.
     pub(crate) fn set(&mut self, block: u64, member: bool)
         requires { block < self.old.size }
         ensures size { self.new.size ≡ self.old.size }
@@ -123,7 +123,7 @@ impl BlockSet {
         }
     }
 
-    /// Puts a block in.
+    /// Adds a block.
     pub(crate) fn insert(&mut self, block: u64)
         requires { block < self.old.size }
         ensures { self.new ≡ record self.old { members = insert self.old.members block } }
@@ -132,7 +132,7 @@ impl BlockSet {
         self.least = Some(lesser(self.least, block));
     }
 
-    /// Takes a block out.
+    /// Removes a block.
     pub(crate) fn remove(&mut self, block: u64)
         ensures { self.new ≡ record self.old { members = remove self.old.members block } }
     {

@@ -1,4 +1,4 @@
-//! A list of blocks, and the sets by which the least bare one and the least with room are found.
+//! A list of blocks, with sets for finding the lowest empty block and the lowest block with a free cell.
 
 ghost use Rattle.std.specs.Prelude.{◌≡◌, ◌≤◌, ◌<◌, ◌*◌, ◌==◌, if◌then◌else◌, ℕ, true, false, nat_lt, length, All, IfOk, IfErr};
 ghost use Rattle.std.specs.FinSet.{contains};
@@ -15,15 +15,15 @@ use fz_model::{BLOCK_WORDS, ObjKind, Refusal};
 use std::alloc::Global;
 use std::marker::Model;
 
-/// Blocks that a contract sees as a list: the sets follow each change.
+/// Blocks, whose model is a list. The sets are updated with each change.
 #[derive(Drop)]
 pub(crate) struct Blocks {
     blocks: Vec<Block>,
-    /// The blocks that no object meets.
+    /// The empty blocks, in which no object has a word.
     bare: BlockSet,
-    /// For each size and kind, the blocks that have cells of it and a free one.
+    /// For each size and kind, the blocks that contain such objects and have a free cell.
     rooms: Vec<BlockSet>,
-    /// The number of condemned cells.
+    /// The number of dead, unswept cells.
     condemned: u64,
 }
 
@@ -41,7 +41,7 @@ fn all_blocks(alloc: Global, blocks: u64) -> Result<BlockSet, Refusal>
     Ok(all)
 }
 
-/// An empty set for each class, with room for the blocks below a number.
+/// An empty set for each class, with room for the blocks below this number.
 fn no_rooms(alloc: Global, blocks: u64) -> Result<Vec<BlockSet>, Refusal>
     requires { blocks ≤ MAX_BLOCKS }
     ensures refused { IfErr result (λ r. r ≡ Refusal.NoMemory) }
@@ -56,7 +56,7 @@ fn no_rooms(alloc: Global, blocks: u64) -> Result<Vec<BlockSet>, Refusal>
     Ok(rooms)
 }
 
-/// A block leaves the set of its class, if it is in one.
+/// Removes a block from the set of its class, if it is in one.
 fn leave(rooms: &mut [BlockSet], block: &Block, at: u64)
     requires classes { length rooms.old ≡ CLASSES }
     ensures { Leaves rooms.old rooms.new block.now at }
@@ -66,7 +66,7 @@ fn leave(rooms: &mut [BlockSet], block: &Block, at: u64)
     }
 }
 
-/// A block joins the set of its class, if it has room.
+/// Adds a block to the set of its class, if it has a free cell.
 fn join(rooms: &mut [BlockSet], block: &Block, at: u64)
     requires classes { length rooms.old ≡ CLASSES }
     requires room { (class : ℕ) → class < CLASSES → at < room_at rooms.old class }
@@ -77,7 +77,7 @@ fn join(rooms: &mut [BlockSet], block: &Block, at: u64)
     }
 }
 
-/// A block that becomes another leaves the set of its class and joins the other's, where these differ.
+/// Moves a block that changes from the set of its old class to that of its new class, if these differ.
 fn change_room(rooms: &mut [BlockSet], old: &Block, block: &Block, at: u64)
     requires classes { length rooms.old ≡ CLASSES }
     requires room { (class : ℕ) → class < CLASSES → at < room_at rooms.old class }
@@ -91,7 +91,7 @@ fn change_room(rooms: &mut [BlockSet], old: &Block, block: &Block, at: u64)
     join(rooms, block, at);
 }
 
-/// A block joins the set of bare blocks or leaves it, where it was not what it is.
+/// Adds a block to the set of empty blocks or removes it, if that has changed.
 fn change_bare(bare: &mut BlockSet, was: bool, is: bool, at: u64)
     requires room { at < bare.old.size }
     requires listed { contains bare.old.members at ≡ was }
@@ -131,7 +131,7 @@ impl Blocks {
     ghost use Rattle.fz_model.specs.declared.limits.TheConstants.{BLOCK_WORDS};
     ghost use Rattle.fz_blocks.specs.Listed.{IsFirst, IsListedAlike, AreNew, NonePasses};
 
-    /// So many blocks that no object meets.
+    /// A list of this many empty blocks.
     pub(crate) fn new(alloc: Global, blocks: u64) -> Result<Blocks, Refusal>
         requires { blocks ≤ MAX_BLOCKS }
         ensures refused { IfErr result (λ r. r ≡ Refusal.NoMemory) }
@@ -156,7 +156,7 @@ impl Blocks {
         &self.blocks
     }
 
-    /// The block at a place of the list, where it stands.
+    /// The block at an index, in place.
     pub(crate) fn block(&self, at: u64) -> &Block
         requires { at < length self.now }
         ensures { slice_get self.now at ≡ Some result.now }
@@ -164,7 +164,7 @@ impl Blocks {
         &self.blocks[at as usize]
     }
 
-    /// The block at a place of the list.
+    /// A copy of the block at an index.
     pub(crate) fn get(&self, at: u64) -> Block
         requires { at < length self.now }
         ensures { slice_get self.now at ≡ Some result }
@@ -172,14 +172,14 @@ impl Blocks {
         self.blocks[at as usize]
     }
 
-    /// The number of condemned cells.
+    /// The number of dead, unswept cells.
     pub(crate) fn condemned(&self) -> u64
         ensures { result ≡ waiting_in self.now }
     {
         self.condemned
     }
 
-    /// The first block of the least run of `count` blocks that no object meets.
+    /// The first block of the lowest run of `count` empty blocks.
     pub(crate) fn first_run(&self, count: u64) -> Option<u64>
         requires some { 1 ≤ count }
         requires few { count ≤ MAX_SPAN }
@@ -188,7 +188,7 @@ impl Blocks {
         self.bare.first_run(count)
     }
 
-    /// The least block with objects of this size and kind and a free cell. No block has cells of more than its own words.
+    /// The lowest block with objects of this size and kind and a free cell. There is none for objects larger than a block.
     pub(crate) fn first_room(&self, size: u64, kind: ObjKind) -> Option<u64>
         requires { 1 ≤ size }
         ensures { MatchOption result (size ≤ BLOCK_WORDS → NonePasses (has_room (class_of size kind)) self.now) (λ b. (size ≤ BLOCK_WORDS) × IsFirst (has_room (class_of size kind)) self.now b) }
@@ -199,7 +199,7 @@ impl Blocks {
         self.rooms[class_of(size, kind)].first()
     }
 
-    /// A block becomes another.
+    /// Replaces a block.
     pub(crate) fn put(&mut self, at: u64, block: Block)
         requires { at < length self.old }
         ensures { self.new ≡ slice_set self.old at block }
@@ -211,7 +211,7 @@ impl Blocks {
         self.blocks[at as usize] = block;
     }
 
-    /// A block becomes another that stands in the same sets.
+    /// Replaces a block by one that belongs to the same sets.
     pub(crate) fn put_alike(&mut self, at: u64, block: Block)
         requires within { at < length self.old }
         requires alike { IsListedAlike self.old at block }
@@ -222,8 +222,7 @@ impl Blocks {
         self.blocks[at as usize] = block;
     }
 
-    /// Claims, where it stands, the least free cell of a block, and sweeps the block; returns the cell's place. Asked only where the block then stands
-    /// in the same sets.
+    /// Sweeps a block and claims its lowest free cell, in place. Returns the index of the cell's first word. Requires that the block stays in the same sets.
     pub(crate) fn claim_alike(&mut self, at: u64) -> u64
         requires within { at < length self.old }
         requires own { (was : Block) → slice_get self.old at ≡ Some was → was.back ≡ 0 }
@@ -236,8 +235,7 @@ impl Blocks {
         block.claim_least()
     }
 
-    /// Condemns, where it stands, each object that starts in a block at one of these places; returns their number. Asked only where the block then
-    /// stands in the same sets.
+    /// Removes each object that starts in the block at one of these words, in place. Returns their number. Requires that the block stays in the same sets.
     pub(crate) fn condemn_alike(&mut self, at: u64, places: u64) -> u64
         requires within { at < length self.old }
         requires alike { (was left : Block) → slice_get self.old at ≡ Some was → CondemnsAll was left places → IsListedAlike self.old at left }

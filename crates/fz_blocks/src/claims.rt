@@ -1,4 +1,4 @@
-//! Where objects come and go.
+//! Claiming cells for new objects, and removing dead ones.
 
 ghost use Rattle.std.specs.Prelude.{◌≡◌, ◌≤◌, ◌<◌, ◌+◌, ℕ, Some, None, slice_get, length, IsTrue, IsFalse, MatchOption};
 ghost use Rattle.fz_model.specs.declared.limits.TheConstants.{BLOCK_WORDS, MAX_BLOCKS, MAX_OBJECT_WORDS};
@@ -15,7 +15,7 @@ use crate::block::Block;
 use crate::blocks::Blocks;
 use fz_model::{Addr, BLOCK_WORDS, HEAP_START, ObjKind};
 
-/// Claims the least free cell of the least block with room.
+/// Claims the lowest free cell of the lowest block that has one.
 fn claim_in_room(blocks: &mut Blocks, at: u64, size: u64, kind: ObjKind) -> Addr
     requires runs { AreRuns blocks.old }
     requires few { length blocks.old ≤ MAX_BLOCKS }
@@ -33,7 +33,7 @@ fn claim_in_room(blocks: &mut Blocks, at: u64, size: u64, kind: ObjKind) -> Addr
     HEAP_START + BLOCK_WORDS * at + place
 }
 
-/// Writes a run: its first block, and the later ones that lead back to it.
+/// Writes a run of blocks for one object: the first block, and later ones that say how far back the first is.
 fn write_run(blocks: &mut Blocks, at: u64, count: u64, first: Block)
     requires some { 1 ≤ count }
     requires few { count ≤ MAX_SPAN }
@@ -49,7 +49,7 @@ fn write_run(blocks: &mut Blocks, at: u64, count: u64, first: Block)
     }
 }
 
-/// Claims the least run of blocks that no object meets, from its start on.
+/// Claims the lowest run of empty blocks for an object that starts in the first of them.
 fn claim_run(blocks: &mut Blocks, at: u64, size: u64, kind: ObjKind) -> Addr
     requires runs { AreRuns blocks.old }
     requires few { length blocks.old ≤ MAX_BLOCKS }
@@ -80,7 +80,7 @@ pub(crate) fn claim_place(blocks: &mut Blocks, size: u64, kind: ObjKind) -> Opti
     Some(claim_run(blocks, at, size, kind))
 }
 
-/// Takes the later ones of `count` blocks out of their run.
+/// Takes all but the first of `count` blocks out of their run.
 fn free_later(blocks: &mut Blocks, at: u64, count: u64)
     requires some { 1 ≤ count }
     requires low { length blocks.old ≤ MAX_BLOCKS }
@@ -96,7 +96,7 @@ fn free_later(blocks: &mut Blocks, at: u64, count: u64)
     }
 }
 
-/// Condemns each object that starts in a block at one of these places; returns their number.
+/// Removes each object that starts in the block at one of these words. Returns their number.
 pub(crate) fn condemn_at(blocks: &mut Blocks, at: u64, places: u64) -> u64
     requires map { IsMap blocks.old }
     requires within { at < length blocks.old }

@@ -1,4 +1,4 @@
-//! The classes of cells: a size and a kind each.
+//! The classes of cells: one for each size and kind.
 
 ghost use Rattle.std.specs.Prelude.{◌≡◌, ◌≤◌};
 ghost use Rattle.fz_model.specs.declared.limits.TheConstants.{BLOCK_WORDS};
@@ -9,7 +9,7 @@ use fz_model::ObjKind;
 /// The number of classes.
 pub(crate) const CLASSES: usize = 128;
 
-/// The place of a size and kind among the classes.
+/// The index of a size and kind among the classes.
 pub(crate) fn class_of(size: u64, kind: ObjKind) -> usize
     requires sized { 1 ≤ size }
     requires small { size ≤ BLOCK_WORDS }

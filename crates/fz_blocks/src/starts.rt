@@ -1,4 +1,4 @@
-//! The starts of a map's objects, in order.
+//! The addresses of a map's objects, in ascending order.
 
 ghost use Rattle.std.specs.Prelude.{◌≡◌};
 ghost use Rattle.std.specs.Iterator.{YieldsFirst, item_count};
@@ -7,7 +7,7 @@ use crate::block::Block;
 use fz_model::{Addr, BLOCK_WORDS, HEAP_START};
 use std::marker::Model;
 
-/// An iterator over the starts of all objects, by rising address. A contract sees it as the list of those still to come.
+/// An iterator over the addresses of all objects, in ascending order. Its model is the list of the remaining addresses.
 #[derive(Drop)]
 pub struct Starts<'a> {
     blocks: &'a [Block],
@@ -34,7 +34,7 @@ impl<'a> Starts<'a> {
     ghost use Rattle.fz_model.specs.declared.limits.TheConstants.{HEAP_START, MAX_BLOCKS};
     ghost use Rattle.fz_blocks.specs.Starts.{starts_from};
 
-    /// The starts of the objects in these blocks.
+    /// The addresses of the objects in these blocks.
     pub(crate) fn of(blocks: &'a [Block]) -> Starts<'a>
         requires { length blocks.now ≤ MAX_BLOCKS }
         ensures { result ≡ starts_from blocks.now HEAP_START }

@@ -1,4 +1,5 @@
--- What forgetting does behind a handle: it changes no state that the world stands for, and tells how many entries went.
+-- What `forget` does through a handle: it changes no state of the model, and returns how many entries were forgotten.
+-- code: fz_c/src/entries.rt
 use Rattle.std.specs.Prelude.{◌≡◌, ◌+◌, ◌*◌, ◌≤◌, ℕ, Option, Some, None, length}
 use Rattle.fz_model.specs.State.{State}
 use Rattle.fz_world.specs.Does.{StandsFor}

@@ -1,4 +1,5 @@
--- The next entry to be taken: the first that is held, behind those that were taken.
+-- The next entry to be taken: the first held entry after those that were taken.
+-- code: fz_c/src/session.rt
 use Rattle.std.specs.Prelude.{◌≡◌, ◌+◌, ◌<◌, ◌≤◌, ◌⊎◌, ℕ, Bool, Option, Some, if◌then◌else◌, is_some, length, slice_get, IsTrue, IsFalse}
 use Rattle.std.specs.List.{list_any}
 use Rattle.fz_model.specs.declared.answers.Entry.{Entry}
@@ -8,14 +9,14 @@ use Rattle.fz_world.specs.World.{WorldView}
 abbrev pub is_held : WorldView → Entry → Bool
 is_held w e = list_any (same_entry e) w.held
 
--- from a place of the queue on, the first whose entry is held, or the queue's end
+-- the first index, from one on, whose entry is held, or else the end of the queue
 pub record IsNext (w : WorldView) (from place : ℕ) : Type 0 where
   pub after : from ≤ place
   pub within : (place ≤ from) ⊎ (place ≤ length w.queue)
   pub finished : (k : ℕ) (e : Entry) → from ≤ k → k < place → slice_get w.queue k ≡ Some e → IsFalse (is_held w e)
   pub held : (e : Entry) → slice_get w.queue place ≡ Some e → IsTrue (is_held w e)
 
--- the entry there is taken, if there is one
+-- the entry at that index is taken, if there is one
 pub record TakesNext (w : WorldView) (from : ℕ) (found : Option Entry) (taken : ℕ) : Type 0 where
   pub place : ℕ
   pub next : IsNext w from place

@@ -1,4 +1,5 @@
--- What the places of C have once an answer is told, and what C's values stand for.
+-- How results are stored in C's variables, and which values of the model C's structs represent.
+-- code: fz_c/src/objects.rt, finalizers.rt, links.rt, entries.rt, collections.rt
 use Rattle.std.specs.Prelude.{◌≡◌, ℕ, Bool, true, false, Option, Some, None}
 use Rattle.fz_model.specs.declared.kinds.ObjKind.{ObjKind}
 use Rattle.fz_model.specs.declared.kinds.ObjKind.TheVariants as objects

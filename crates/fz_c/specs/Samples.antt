@@ -1,4 +1,5 @@
--- One of each struct, with its fields numbered from 1 on.
+-- One value of each struct, with its fields numbered from 1 on.
+-- code: fz_c/src/samples.rt
 use Rattle.std.specs.Prelude.{true}
 use Rattle.fz_c.specs.declared.finalizers.Old.{Old}
 use Rattle.fz_c.specs.declared.samples.Samples.{Samples}

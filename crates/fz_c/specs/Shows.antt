@@ -1,4 +1,5 @@
--- What the readers of a world find, as its own contracts say it.
+-- What the readers of a world find, in terms of the world's own contracts.
+-- code: fz_c/src/shown.rt
 use Rattle.std.specs.Prelude.{◌≡◌, ◌+◌, ◌-◌, ◌<◌, ◌≤◌, ℕ, Option, Some, Result, IfOk, IfSome, MatchOption, Contains, IsFalse, length, slice_get, option_map}
 use Rattle.std.specs.List.{list_any}
 use Rattle.std.specs.FinMap.{get, contains_key, len}
@@ -45,13 +46,13 @@ IsNextLink w which from found =
 abbrev pub IsNextHeldEntry : WorldView → ℕ → Option Entry → Type 0
 IsNextHeldEntry w from found = MatchOption found ((e : Entry) → Contains w.held e → e.seq < from) (IsNextHeld w.held from)
 
--- the entry of the queue with a number: any from `forgotten` on, and before that those that aren't finished
+-- the entry of the queue with this number: any from `forgotten` on, and before that only entries that aren't finished
 abbrev pub IsQueuedEntry : WorldView → ℕ → Option Entry → Type 0
 IsQueuedEntry w number found =
     (w.forgotten ≤ number → found ≡ slice_get w.queue number)
     × MatchOption found ((e : Entry) → slice_get w.queue number ≡ Some e → IsFalse (list_any (same_entry e) w.held)) (λ e. slice_get w.queue number ≡ Some e)
 
--- `taken` counts the entries that were handed out
+-- `taken` is the number of entries that were taken
 pub record IsCounted (w : WorldView) (taken : ℕ) (counts : Counts) : Type 0 where
   pub passes : counts.passes ≡ w.passes
   pub reclaimed : counts.reclaimed ≡ w.next_birth - len w.objects

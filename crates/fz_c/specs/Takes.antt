@@ -1,4 +1,5 @@
--- The taking of entries: in the order of the queue, each once, and none that is finished.
+-- Taking entries: in queue order, each once, and none that is finished.
+-- code: fz_c/src/entries.rt, session.rt
 use Rattle.std.specs.Prelude.{◌≡◌, ℕ, Bool, Option, Some, None, length, nat_lt}
 use Rattle.fz_model.specs.declared.answers.Entry as answers
 use Rattle.fz_c.specs.declared.codes.TheConstants.{OK, NO_WORLD}
@@ -8,7 +9,7 @@ use Rattle.fz_c.specs.Owned.{Held}
 use Rattle.fz_c.specs.Told.{IsFound}
 use Rattle.fz_c.specs.Places.{TellsEntry}
 
--- the next entry is handed out, if there is one; the world stays as it is
+-- the next entry is returned, if there is one; the world is unchanged
 pub record Taken (old : Held) (new : Held) (code : ℕ) (entry : Entry) (kept : Type 0) : Type 0 where
   pub same : new.world ≡ old.world
   pub found : Option answers.Entry
@@ -21,7 +22,7 @@ Takes None None code entry kept = (code ≡ NO_WORLD) × kept
 Takes (Some old) None code entry kept = ⊥
 Takes None (Some new) code entry kept = ⊥
 
--- whether there is a next entry is told; what is finished is passed over, and the world stays as it is
+-- whether there is a next entry; finished entries are skipped, and the world is unchanged
 pub record Waited (old : Held) (new : Held) (code : ℕ) (waiting : Bool) : Type 0 where
   pub same : new.world ≡ old.world
   pub next : IsNext old.world old.taken new.taken

@@ -1,4 +1,5 @@
--- What C is told: the code, and what its places have then.
+-- What C gets: the code, and the content of its variables.
+-- code: fz_c/src/codes.rt
 use Rattle.std.specs.Prelude.{◌≡◌, ℕ, Option, Some, None, Result, Ok, Err, OnErr}
 use Rattle.fz_model.specs.declared.refusal.Refusal.{Refusal}
 use Rattle.fz_model.specs.Refusals.{code_of}
@@ -7,17 +8,17 @@ use Rattle.fz_world.specs.Does.{Does}
 use Rattle.fz_c.specs.declared.codes.TheConstants.{OK, NO_WORLD, EMPTY}
 use Rattle.fz_c.specs.Owned.{Held}
 
--- of a result: 0 and the answer, or the number of the refusal, and then C's places are as they were
+-- for a result: 0 and the value, or the number of the refusal, and then C's variables are unchanged
 abbrev pub IsTold : {X : Type 0} → Result X Refusal → ℕ → (X → Type 0) → Type 0 → Type 0
 IsTold (Ok x) code told kept = (code ≡ OK) × told x
 IsTold (Err r) code told kept = (code ≡ code_of r) × kept
 
--- of an option: 0 and the value, or that there is none
+-- for an option: 0 and the value, or the code for none
 abbrev pub IsFound : {X : Type 0} → Option X → ℕ → (X → Type 0) → Type 0 → Type 0
 IsFound (Some x) code told kept = (code ≡ OK) × told x
 IsFound None code told kept = (code ≡ EMPTY) × kept
 
--- the world of a session makes the step, of whose reply C is told; a refused call leaves it as it was, marks and noted pages too
+-- the session's world makes the step, and C gets its reply; a refused call changes nothing, not even marks or dirty pages
 pub record Called (old : Held) (e : Event) (new : Held) (code : ℕ) (told : Answer e → Type 0) (kept : Type 0) : Type 0 where
   pub reply : Result (Answer e) Refusal
   pub step : Does old.world e reply new.world
@@ -25,19 +26,19 @@ pub record Called (old : Held) (e : Event) (new : Held) (code : ℕ) (told : Ans
   pub taken : new.taken ≡ old.taken
   pub is_told : IsTold reply code told kept
 
--- a call through a handle; where it has no world, nothing happens but that C is told so
+-- a call through a handle; if the handle has no world, C gets that code and nothing changes
 unfoldable pub Calls : Option Held → (e : Event) → Option Held → ℕ → (Answer e → Type 0) → Type 0 → Type 0
 Calls (Some old) e (Some new) code told kept = Called old e new code told kept
 Calls None e None code told kept = (code ≡ NO_WORLD) × kept
 Calls (Some old) e None code told kept = ⊥
 Calls None e (Some new) code told kept = ⊥
 
--- a look through a handle, which changes nothing
+-- a reader's call through a handle, which changes nothing
 unfoldable pub Looks : Option Held → Option Held → ℕ → (Held → Type 0) → Type 0 → Type 0
 Looks (Some old) new code told kept = (new ≡ Some old) × told old
 Looks None new code told kept = (new ≡ None) × (code ≡ NO_WORLD) × kept
 
--- the same, where C is told a result of the session, or an option, of which so much is known
+-- the same, for a reader that returns a result or an option of the session
 unfoldable pub Reads : {X : Type 0} → Option Held → Option Held → ℕ → (Held → Result X Refusal → Type 0) → (X → Type 0) → Type 0 → Type 0
 Reads {X} (Some old) new code Is told kept = (new ≡ Some old) × ((reply : Result X Refusal) × Is old reply × IsTold reply code told kept)
 Reads None new code Is told kept = (new ≡ None) × (code ≡ NO_WORLD) × kept

@@ -1,4 +1,4 @@
-//! The codes that C is answered: 0, the number of a refusal, or one of the border's own.
+//! The codes that C gets: 0, the number of a refusal, or a code of the C interface itself.
 
 ghost use Rattle.std.specs.Prelude.{◌≡◌};
 ghost use Rattle.fz_c.specs.Told.{IsTold};
@@ -6,10 +6,10 @@ ghost use Rattle.fz_c.specs.Places.{TellsWord};
 
 use fz_model::{Refusal, Word};
 
-/// What an export answers. The border's own numbers begin at 64, so that refusals can grow.
+/// The return type of every export. The interface's own codes begin at 64, to leave room for further refusals.
 pub type Code = u8;
 
-/// The call was accepted, or the reader found what it was asked for.
+/// The call was accepted, or the reader found what was asked for.
 pub(crate) const OK: Code = 0;
 
 /// The handle has no world.
@@ -21,7 +21,7 @@ pub(crate) const HAS_WORLD: Code = 65;
 /// Nothing is left.
 pub(crate) const EMPTY: Code = 66;
 
-/// Tells a reply that has no more to say than that the call was accepted.
+/// The code of a reply without a value.
 pub(crate) fn tell(reply: Result<(), Refusal>) -> Code
     ensures { IsTold reply result (λ _. Unit {0}) (Unit {0}) }
 {
@@ -31,7 +31,7 @@ pub(crate) fn tell(reply: Result<(), Refusal>) -> Code
     }
 }
 
-/// Tells a word.
+/// The code of a reply with a word. An accepted call stores the word.
 pub(crate) fn tell_word(reply: Result<Word, Refusal>, word: &mut u64) -> Code
     ensures { IsTold reply result (TellsWord word.new) (word.new ≡ word.old) }
 {

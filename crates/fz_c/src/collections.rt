@@ -1,4 +1,4 @@
-//! Cycles and passes.
+//! Collection cycles and passes.
 
 ghost use Rattle.std.specs.Prelude.{◌≡◌};
 ghost use Rattle.fz_model.specs.declared.call.Call.TheVariants.{Begin, Mark, Pause, Collect};
@@ -11,7 +11,7 @@ use crate::handle::Handle;
 use fz_model::{Progress, Refusal};
 use std::alloc::Global;
 
-/// What a pass did: its number, from 1, how many entries it queued, and how many objects it reclaimed.
+/// What a pass has done: its number, counted from 1, how many entries it queued, and how many objects it reclaimed.
 #[repr(C)]
 #[derive(Clone, Copy)]
 pub struct Passed {

@@ -69,7 +69,7 @@ pub(crate) fn tell_entry(found: Option<fz_model::Entry>, entry: &mut Entry) -> C
     }
 }
 
-/// Hands out the next entry of the queue that isn't finished, which is taken then.
+/// Takes the next entry of the queue that isn't finished.
 #[unsafe(no_mangle)]
 pub extern "C" fn fz_take(alloc: Global, world: &mut Handle, entry: &mut Entry) -> Code
     ensures { Takes world.old.value world.new.value result entry.new (entry.new ≡ entry.old) }

@@ -14,7 +14,7 @@ use crate::slots::CSlot;
 use fz_model::{Refusal, RegAnswer, RegKind};
 use std::alloc::Global;
 
-/// A registration that went away, if there was one: else both words are 0.
+/// The registration that was replaced or removed. If there was none, both words are 0.
 #[repr(C)]
 #[derive(Clone, Copy)]
 pub struct Old {
@@ -23,7 +23,7 @@ pub struct Old {
     pub was: bool,
 }
 
-/// A new registration, and the one that it replaced. Where the word was zero or outside the heap, it isn't `made`.
+/// A new registration, and the one that it replaced. If the word was zero or outside the heap, `made` is false.
 #[repr(C)]
 #[derive(Clone, Copy)]
 pub struct Registered {

@@ -1,8 +1,8 @@
-//! The calls and readers of a world, for C. `c/include/derrimas.h` declares them.
+//! The calls and readers of a world as C exports. `c/include/derrimas.h` declares them.
 //!
-//! C holds a `Handle`, and each export takes its address. An export answers a code: 0, the number of the world's refusal, or one of the border's own.
-//! Where it doesn't answer 0, the places that C gave for its results are as they were. No export has a `requires`: what a C program owes beyond its
-//! types is in docs/PROOFS.md.
+//! C holds a `Handle`, and passes its address to each export. An export returns a code: 0, the number of the world's refusal, or a code of the C interface
+//! itself. Unless it returns 0, the variables that C passed for results are unchanged. No export has a `requires`; docs/reference/PROOFS.md states what a C
+//! program has to observe beyond its types.
 #![tactic(auto)]
 
 mod codes;

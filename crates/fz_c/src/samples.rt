@@ -1,4 +1,4 @@
-//! One of each struct, so that a program can compare its declarations with the library's.
+//! One value of each struct, so that a program can check its declarations against the library's.
 
 ghost use Rattle.std.specs.Prelude.{◌≡◌};
 ghost use Rattle.fz_c.specs.Samples.{sample};
@@ -10,7 +10,7 @@ use crate::objects::Made;
 use crate::shown::{Counts, Linked, Object, Registration};
 use crate::slots::CSlot;
 
-/// One of each struct.
+/// One value of each struct.
 #[repr(C)]
 #[derive(Clone, Copy)]
 pub struct Samples {
@@ -87,7 +87,7 @@ const SAMPLE: Samples = Samples {
     },
 };
 
-/// Numbers the fields of each struct from 1 on, in their order; a `bool` is true.
+/// Sets the fields of each struct to 1, 2 and so on, in order; a `bool` is set to true.
 #[unsafe(no_mangle)]
 pub extern "C" fn fz_sample(samples: &mut Samples)
     ensures { samples.new ≡ sample }

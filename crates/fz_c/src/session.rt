@@ -1,4 +1,4 @@
-//! What stands behind a handle.
+//! What a handle points to.
 
 ghost use Rattle.std.specs.Prelude.{◌≡◌, ◌≤◌, length, nat_lt, slice_get};
 ghost use Rattle.fz_model.specs.declared.limits.TheConstants.{COUNT_LIMIT};
@@ -9,7 +9,7 @@ use crate::shown::Counts;
 use fz_model::Entry;
 use fz_world::World;
 
-/// A world, and how many entries of its queue were taken, or passed over since they were finished before.
+/// A world, and how many entries at the front of its queue were taken or were finished before they were taken.
 #[derive(Drop)]
 pub struct Session {
     pub(crate) world: World,
@@ -17,7 +17,7 @@ pub struct Session {
 }
 
 impl Session {
-    /// Passes over entries that were finished before they were taken. Returns the one that it comes to.
+    /// Skips entries that were finished before they were taken. Returns the next entry.
     #[inline(always)]
     fn pass_finished(&mut self) -> Option<Entry>
         ensures world { self.new.world ≡ self.old.world }
@@ -33,7 +33,7 @@ impl Session {
         next
     }
 
-    /// The next entry of the queue that isn't finished, if there is one, which is taken then.
+    /// Takes the next entry of the queue that isn't finished, if there is one.
     pub(crate) fn next(&mut self) -> Option<Entry>
         ensures world { self.new.world ≡ self.old.world }
         ensures next { TakesNext self.old.world self.old.taken result self.new.taken }
@@ -52,14 +52,14 @@ impl Session {
         self.pass_finished().is_some()
     }
 
-    /// The entry of the queue with that number, if it isn't both finished and forgotten.
+    /// The entry of the queue with this number, unless it is both finished and forgotten.
     pub(crate) fn queued(&self, number: u64) -> Option<Entry>
         ensures { IsQueuedEntry self.now.world number result }
     {
         self.world.next(number)
     }
 
-    /// All that is counted.
+    /// All counters.
     pub(crate) fn counts(&self) -> Counts
         ensures { IsCounted self.now.world self.now.taken result }
     {

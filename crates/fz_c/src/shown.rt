@@ -1,4 +1,4 @@
-//! What a world shows: objects, registrations and links in order of address, entries in order of the queue, and counts.
+//! Readers of a world: objects, registrations and links in address order, entries in queue order, and counters.
 
 ghost use Rattle.std.specs.Prelude.{◌≡◌};
 ghost use Rattle.fz_c.specs.declared.codes.TheConstants as codes;
@@ -28,12 +28,12 @@ pub struct Object {
 #[repr(C)]
 #[derive(Clone, Copy)]
 pub struct Registration {
-    /// The start of the object.
+    /// The address of the object.
     pub object: u64,
     pub number: u64,
     pub proc: u64,
     pub cd: u64,
-    /// 0, 1 or 2, as `number_for` has them.
+    /// 0, 1 or 2, as in `number_for`.
     pub kind: u32,
     pub rank: u8,
 }
@@ -44,26 +44,26 @@ pub struct Registration {
 pub struct Linked {
     /// The address of its word.
     pub place: u64,
-    /// The start of its target.
+    /// The address of its target.
     pub target: u64,
 }
 
-/// What a world counts.
+/// The counters of a world.
 #[repr(C)]
 #[derive(Clone, Copy)]
 pub struct Counts {
     pub passes: u64,
-    /// Objects.
+    /// Reclaimed objects.
     pub reclaimed: u64,
-    /// Entries that were ever queued.
+    /// Entries ever queued.
     pub queued: u64,
     /// Entries that were taken.
     pub taken: u64,
     /// Entries that aren't finished.
     pub outstanding: u64,
-    /// Scans of objects, in the cycle begun last.
+    /// Scans of objects in the last cycle.
     pub scans: u64,
-    /// Pages that were noted, in the cycle begun last.
+    /// Dirty pages in the last cycle.
     pub noted: u64,
 }
 
@@ -222,7 +222,7 @@ pub extern "C" fn fz_next_held(
     tell_entry(found, entry)
 }
 
-/// The entry of the queue with that number, whether or not it was taken or finished, if it isn't both finished and forgotten.
+/// The entry of the queue with this number, taken or not, finished or not, unless it is both finished and forgotten.
 #[tactic(auto, using(crate::proofs::Looking::not_found, crate::proofs::Looking::finds, crate::proofs::Told::none_taken))]
 #[unsafe(no_mangle)]
 pub extern "C" fn fz_queued(alloc: Global, world: &mut Handle, seq: u64, entry: &mut Entry) -> Code
@@ -250,7 +250,7 @@ pub extern "C" fn fz_forgotten(alloc: Global, world: &mut Handle, number: &mut u
     OK
 }
 
-/// Tells all that the world counts.
+/// Returns all counters of the world.
 #[tactic(auto, using(crate::proofs::Looking::not_looked, crate::proofs::Looking::looked, crate::proofs::Told::none_taken))]
 #[unsafe(no_mangle)]
 pub extern "C" fn fz_count(alloc: Global, world: &mut Handle, counts: &mut Counts) -> Code

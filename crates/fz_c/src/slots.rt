@@ -1,4 +1,4 @@
-//! Slots, which are the roots that a program sets.
+//! Slots: the roots that a program sets.
 
 ghost use Rattle.std.specs.Prelude.{◌≡◌};
 ghost use Rattle.fz_model.specs.declared.call.Call.TheVariants.{Set, Copy};
@@ -12,7 +12,7 @@ use crate::codes::{Code, NO_WORLD, tell, tell_word};
 use crate::handle::Handle;
 use std::alloc::Global;
 
-/// A slot of a frame, both counted from 0: `fz_slot` of the header.
+/// A slot of a frame; both indices count from 0. It is `fz_slot` of the header.
 #[repr(C)]
 #[derive(Clone, Copy)]
 pub struct CSlot {

@@ -1,4 +1,4 @@
-//! Worlds come and go.
+//! Opening, closing and freeing worlds.
 
 ghost use Rattle.std.specs.Prelude.{◌≡◌, None, IfOk};
 ghost use Rattle.fz_model.specs.declared.call.Call.TheVariants.{Close};

@@ -1,4 +1,4 @@
-//! Readers and writers in memory, for tests: they hand over and take all at once or a byte at a time, and fail when they are told to.
+//! Readers and writers in memory, for tests. They transfer everything at once or one byte per call, and fail when the test says so.
 #![tactic(auto)]
 
 ghost use Rattle.std.specs.Prelude.{Some, ◌≡◌, ◌≤◌, ◌<◌, []};
@@ -7,17 +7,17 @@ use arrayvec::ArrayVec;
 use fz_text::{Failures, Sink, Source};
 use std::sync::ledger::Ledger;
 
-/// How much a device hands over or takes in one call.
+/// How many bytes a device transfers in one call.
 #[derive(Clone, Copy)]
 pub enum Pieces {
-    /// All that there is room for.
+    /// As many as there is room for.
     Whole,
     /// One byte.
     Single,
 }
 
 impl Pieces {
-    /// How many of these bytes go into a call.
+    /// How many of these bytes one call transfers.
     fn of(self, len: usize) -> usize
         ensures whole { self ≡ Pieces.Whole → result ≡ len }
         ensures single { self ≡ Pieces.Single → result ≤ 1 }
@@ -31,7 +31,7 @@ impl Pieces {
     }
 }
 
-/// How much the devices of a run hand over and take in a call, and after how many calls they fail.
+/// How many bytes the devices of a run transfer per call, and after how many calls they fail.
 #[derive(Clone, Copy)]
 pub struct Limits {
     pub pieces: Pieces,
@@ -39,14 +39,14 @@ pub struct Limits {
     pub writes: u64,
 }
 
-/// Devices that hand over and take all that they can, and don't fail.
+/// Devices that transfer as much as they can, and never fail.
 pub const WHOLE: Limits = Limits {
     pieces: Pieces::Whole,
     reads: u64::MAX,
     writes: u64::MAX,
 };
 
-/// Devices that hand over and take a byte in a call, and fail after a given number of calls.
+/// Devices that transfer one byte per call, and fail after the given number of calls.
 pub fn bytewise(reads: usize, writes: usize) -> Limits
     ensures { result ≡ record { pieces = Pieces.Single; reads = reads; writes = writes } }
 {
@@ -57,7 +57,7 @@ pub fn bytewise(reads: usize, writes: usize) -> Limits
     }
 }
 
-/// Hands over its bytes, in pieces of a given size, and fails after a given number of reads.
+/// A reader of its bytes, in pieces of the given size, which fails after the given number of reads.
 #[derive(Drop)]
 pub struct MemorySource<'a, L: Ledger> {
     rest: &'a [u8],
@@ -67,7 +67,7 @@ pub struct MemorySource<'a, L: Ledger> {
 }
 
 impl<'a, L: Ledger> MemorySource<'a, L> {
-    /// A reader of these bytes, whose read number `reads`, counted from 0, fails, and each after it.
+    /// A reader of these bytes. The read with number `reads`, counted from 0, fails, and so does each later one.
     pub fn new(
         bytes: &'a [u8],
         pieces: Pieces,
@@ -102,7 +102,7 @@ impl<L: Ledger> Source for MemorySource<'_, L> {
     }
 }
 
-/// Takes bytes, in pieces of a given size and up to 4,096 in all, and fails after a given number of writes.
+/// A writer of up to 4,096 bytes in all, in pieces of the given size, which fails after the given number of writes.
 #[derive(Drop)]
 pub struct MemorySink<L: Ledger> {
     bytes: ArrayVec<u8, 4096>,
@@ -112,7 +112,7 @@ pub struct MemorySink<L: Ledger> {
 }
 
 impl<L: Ledger> MemorySink<L> {
-    /// An empty writer, whose write number `writes`, counted from 0, fails, and each after it.
+    /// An empty writer. The write with number `writes`, counted from 0, fails, and so does each later one.
     pub fn new(pieces: Pieces, writes: u64, failures: Failures<L>) -> MemorySink<L>
         ensures { (result.bytes.items ≡ []) × (result.pieces ≡ pieces) × (result.writes ≡ writes) × (result.failures ≡ failures) }
     {

@@ -1,4 +1,4 @@
-//! The pages of a heap that were written.
+//! The dirty pages of a heap: those written since the set was last cleared.
 #![tactic(auto)]
 
 ghost use Rattle.std.specs.Prelude.{◌≡◌, ◌≤◌, ◌<◌, filter, ℕ, IsFalse, IfOk, IfErr, IfSome, MatchOption};
@@ -11,14 +11,14 @@ use fz_model::Refusal;
 use std::alloc::Global;
 use std::marker::Model;
 
-/// A set of pages, each by its number from 0: the dirty pages of Boehm, Demers and Shenker (1991). All its memory is taken by `new`.
+/// The set of dirty pages, each by its index from 0 (Boehm, Demers and Shenker 1991). Only `new` allocates.
 pub struct Dirty {
     noted: Flags<0>,
     pages: u64,
     count: u64,
 }
 
-// Written out: who owns pages then drops it by one call that is proved here, not field by field at each way out of a function.
+// Written by hand, so that the owner drops it by one proved call, not field by field at each exit of a function.
 impl Drop for Dirty {
     fn drop(self) {
         let Dirty {
@@ -42,7 +42,7 @@ impl Model for Dirty {
 }
 
 impl Dirty {
-    /// Makes pages, none of them noted. `NoMemory` where the allocation of their flags failed.
+    /// A set for this many pages, none of them dirty. Fails with `NoMemory` if its bits can't be allocated.
     pub fn new(alloc: Global, pages: u64) -> Result<Dirty, Refusal>
         ensures refused { IfErr result (λ r. r ≡ Refusal.NoMemory) }
         ensures made { IfOk result (λ d. d ≡ record { pages = pages; noted = empty }) }
@@ -55,7 +55,7 @@ impl Dirty {
         })
     }
 
-    /// Notes a page.
+    /// Marks a page as dirty.
     pub fn mark(&mut self, page: u64)
         requires { page < self.old.pages }
         ensures { self.new ≡ record self.old { noted = insert self.old.noted page } }
@@ -65,21 +65,21 @@ impl Dirty {
         }
     }
 
-    /// Whether the page is noted.
+    /// Whether the page is dirty.
     pub fn is(&self, page: u64) -> bool
         ensures { result ≡ contains self.now.noted page }
     {
         self.noted.contains(page)
     }
 
-    /// How many pages are noted.
+    /// How many pages are dirty.
     pub fn count(&self) -> u64
         ensures { result ≡ len self.now.noted }
     {
         self.count
     }
 
-    /// The least noted page from one on.
+    /// The lowest dirty page that is at least `from`.
     pub fn next(&self, from: u64) -> Option<u64>
         ensures next { MatchOption result ((n : ℕ) → from ≤ n → IsFalse (contains self.now.noted n)) (λ next. IsNext self.now.noted from next) }
         ensures within { IfSome result (λ page. page < self.now.pages) }
@@ -87,14 +87,14 @@ impl Dirty {
         self.noted.next(from)
     }
 
-    /// The noted pages, by rising number.
+    /// The dirty pages, in ascending order.
     pub fn iter(&self) -> Members<'_, 0>
         ensures { result ≡ filter (contains self.now.noted) (range_with_len 0 self.now.pages) }
     {
         self.noted.iter()
     }
 
-    /// Forgets all noted pages.
+    /// Makes all pages clean.
     pub fn take_all(&mut self)
         ensures { self.new ≡ record self.old { noted = empty } }
     {

@@ -1,4 +1,5 @@
--- What the driver's code keeps, and what each of its functions does to it. Means only: no public contract cites this file.
+-- The driver's state, and how each of its functions changes it. Means only: no public contract cites this file.
+-- code: fz_drive/src/machine.rt, answer.rt, run.rt
 use Rattle.std.specs.Prelude.{◌≡◌, ℕ, ◌+◌, ◌-◌, Bool, true, false, ◌⊎◌, List, [], length, map, count_by, Option, Some, None, is_some, is_err, Result, Ok, Err, IsTrue, IsFalse, MatchBool, nat_le}
 use Rattle.fz_model.specs.declared.refusal.Refusal.{Refusal}
 use Rattle.fz_model.specs.declared.refusal.Refusal.TheVariants.{BadLine, Output}
@@ -25,14 +26,14 @@ use Rattle.fz_drive.specs.Replies.{called_words, taken_words, reply_words, end_w
 use Rattle.fz_text.specs.Written.{text_line, done, refused_words, malformed_words}
 use Rattle.fz_drive.specs.Report.{Course, opening_causes, AsksFor, IsRefusedOpening, finishes, forfeits}
 
--- The machine is where the joint state is, and has forgotten nothing. What the workers took and forfeited is history, which it doesn't keep.
+-- The machine represents the joint state, and its world has forgotten no entry. It doesn't keep which entries the workers took and forfeited.
 pub record StandsForJoint (machine : Machine) (j : Joint) : Type 0 where
   pub world : StandsFor machine.world j.state
   pub shown : machine.world.forgotten ≡ 0
   pub line : machine.line ≡ j.taken
   pub hands : machine.hands.items ≡ map (λ (w : Worker). w.hand) j.workers
 
--- from each joint state in which the old machine is there is a step with this reply, to one in which the new machine is
+-- for each joint state that the old machine represents there is a step with this reply to one that the new machine represents
 abbrev pub JointDoes : Machine → (e : JointEvent) → Result (JointAnswer e) Refusal → Machine → Type 0
 JointDoes old e reply new = (j : Joint) → StandsForJoint old j → (t : Joint) × JointStep j e reply t × StandsForJoint new t
 
@@ -55,7 +56,7 @@ abbrev pub is_forfeit : Result StepReply Refusal → Bool
 is_forfeit (Ok Forfeited) = true
 is_forfeit _ = false
 
--- the result tells all of the reply that a report needs
+-- the result has everything of the reply that the report needs
 pub record Tells (e : JointEvent) (reply : Result (JointAnswer e) Refusal) (result : Result StepReply Refusal) : Type 0 where
   pub words : result_words result ≡ reply_words e reply
   pub refused : is_err result ≡ is_err reply
@@ -70,13 +71,13 @@ pub record StepDoes (old : Machine) (step : Step) (result : Result StepReply Ref
   pub does : JointDoes old event reply new
   pub tells : Tells event reply result
 
--- a step that may come does what it asks for; an opening, which may not, changes nothing
+-- a step that may come is carried out; an opening, which may not, changes nothing
 abbrev pub TakesStep : Machine → Step → Result (Option StepReply) Refusal → Machine → Type 0
 TakesStep old step (Ok (Some reply)) new = StepDoes old step (Ok reply) new
 TakesStep old step (Ok None) new = IsFalse (may_come true step) × (new ≡ old)
 TakesStep old step (Err refusal) new = StepDoes old step (Err refusal) new
 
--- what one line gives, before the opening and after it
+-- the outcome of one line, before and after the opening
 abbrev pub Gives : Option Machine → List ℕ → Answer → Option Machine → Type 0
 Gives old line Skipped new = (is_kept line ≡ false) × (new ≡ old)
 Gives old line Opened new =
@@ -87,12 +88,12 @@ Gives old line (Replied result) new =
 Gives old line (Ended refusal) new = (old ≡ None) × (new ≡ old) × IsRefusedOpening line refusal
 Gives old line Malformed new = (new ≡ old) × IsTrue (is_kept line) × ((step : Step) → Fits step → line ≡ spelling step → IsFalse (may_come (is_some old) step))
 
--- what the line with this number gives: one that is too long or comes too late is malformed
+-- the outcome of the line with this number; a line that is too long or comes too late is malformed
 abbrev pub Given : ℕ → Ending → Option Machine → List ℕ → Answer → Option Machine → Type 0
 Given number TooLong old line answer new = (answer ≡ Malformed) × (new ≡ old)
 Given number _ old line answer new = MatchBool (nat_le number max_lines) (Gives old line answer new) ((answer ≡ Malformed) × (new ≡ old))
 
--- the text that an answer gets
+-- the text that is written for an outcome
 abbrev pub answer_text : ℕ → Answer → List ℕ
 answer_text number Skipped = []
 answer_text number Opened = text_line done
@@ -104,7 +105,7 @@ abbrev pub is_told : Answer → Bool
 is_told Skipped = false
 is_told _ = true
 
--- why the run ends at this answer
+-- why the run ends with this outcome
 abbrev pub stop_of : Answer → Option Refusal
 stop_of Skipped = None
 stop_of Opened = None
@@ -112,7 +113,7 @@ stop_of (Replied result) = None
 stop_of (Ended refusal) = Some refusal
 stop_of Malformed = Some BadLine
 
--- the answer's text was written, and the run goes on or ends; or the writer failed in it
+-- the text of the outcome was written, and the run continues or ends; or the writer failed meanwhile
 abbrev pub TellsAnswer : ℕ → Answer → Log → Result (Unit {0}) DriveFault → Log → Type 0
 TellsAnswer number answer old (Ok x) new = (stop_of answer ≡ None) × Gains old (answer_text number answer) new
 TellsAnswer number answer old (Err fault) new =
@@ -120,7 +121,7 @@ TellsAnswer number answer old (Err fault) new =
     × (((fault.refusal ≡ Output) × IsTrue (is_told answer) × GainsPart old (answer_text number answer) new)
     ⊎ ((stop_of answer ≡ Some fault.refusal) × Gains old (answer_text number answer) new))
 
--- counts of the steps so far
+-- the counts of the steps so far
 abbrev pub no_counts : Counts
 no_counts = record { steps = 0; refused = 0; finished = 0; forfeited = 0 }
 
@@ -149,7 +150,7 @@ counts_of (Some course) =
       forfeited = count_by (λ (m : Move). forfeits m.event m.reply) course.moves;
     }
 
--- the numbers of the run that led to this machine
+-- the totals of the run that led to this machine
 abbrev pub summary_at : Machine → Counts → Summary
 summary_at machine counts =
     record {
@@ -162,7 +163,7 @@ summary_at machine counts =
       left = length machine.world.core.queue - machine.line;
     }
 
--- the words that end a report
+-- the words at the end of a report
 abbrev pub ending_words : ℕ → Option Machine → Counts → List Token
 ending_words number None counts = malformed_words number
 ending_words number (Some machine) counts = end_words (summary_at machine counts)

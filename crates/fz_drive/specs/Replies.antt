@@ -1,4 +1,5 @@
 -- What a report says of each step: the words of its reply.
+-- code: fz_drive/src/reply.rt
 use Rattle.std.specs.Prelude.{ℕ, Bool, true, false, List, [], ◌∷◌, codes, Option, Some, None, Result, Ok, Err}
 use Rattle.fz_model.specs.declared.answers.Entry.{Entry}
 use Rattle.fz_model.specs.declared.answers.Old.{Old}
@@ -72,7 +73,7 @@ called_words (replies.Marked progress) = marked_words progress
 called_words (replies.Passed passed) = passed_words passed
 called_words (replies.Outstanding count) = Text (codes "outstanding") ∷ Number count ∷ []
 
--- no step of a script asks for the queue
+-- no step of a script reads the queue
 abbrev pub event_words : (e : Event) → Answer e → List Token
 event_words (Make call) answer = called_words (reply_of call answer)
 event_words Queue answer = []
@@ -92,7 +93,7 @@ reply_words e (Err refusal) = refused_words refusal
 abbrev pub reply_line : Move → List ℕ
 reply_line m = text_line (reply_words m.event m.reply)
 
--- the last line of a whole report
+-- the last line of a complete report
 abbrev pub end_words : Summary → List Token
 end_words summary =
     Text (codes "end") ∷ Text (codes "enqueued") ∷ Number summary.enqueued ∷ Text (codes "finished") ∷ Number summary.finished

@@ -1,4 +1,5 @@
 -- The report of a script: the replies to its steps, which are those of a joint run, and how it ends.
+-- code: fz_drive/src/run.rt (drive)
 use Rattle.std.specs.Prelude.{◌≡◌, ◌≢◌, ℕ, ◌+◌, ◌-◌, ◌≤◌, Bool, true, false, ◌⊎◌, List, [], ◌∷◌, ◌++◌, length, map, flat_map, count_by, Option, Some, None, is_some, is_err, Result, Ok, Err, IsTrue}
 use Rattle.fz_model.specs.declared.refusal.Refusal.{Refusal}
 use Rattle.fz_model.specs.declared.refusal.Refusal.TheVariants.{BadLine, BadCount, NoMemory, Output, Input}
@@ -19,16 +20,16 @@ use Rattle.fz_text.specs.Lines.{Lines, AreLines, EndsAt, is_kept, max_line}
 use Rattle.fz_drive.specs.Replies.{reply_words, reply_line, end_words}
 use Rattle.fz_text.specs.Written.{text_line, done, refused_words, malformed_words}
 
--- the causes of refusal of an opening
+-- the causes for which an opening is refused
 abbrev pub opening_causes : ℕ → ℕ → ℕ → Causes
 opening_causes blocks frames workers = bad_count MAX_WORKERS workers ∷ open_causes blocks frames
 
--- the moves that were made since the opening, and the joint state after them
+-- the moves since the opening, and the joint state after them
 pub record Course : Type 0 where
   pub moves : List Move
   pub end : Joint
 
--- the lines ask for an opening and then for these moves, which are those of a joint run; the text is `ok` and the replies
+-- the lines spell an opening and then these moves, which are those of a joint run; the text is `ok` and the replies
 pub record HasRun (lines : List (List ℕ)) (text : List ℕ) (course : Course) : Type 0 where
   pub blocks : ℕ
   pub frames : ℕ
@@ -40,7 +41,7 @@ pub record HasRun (lines : List (List ℕ)) (text : List ℕ) (course : Course) 
   pub run : MovesTo (joint_opening blocks frames workers) course.moves course.end
   pub told : text ≡ text_line done ++ flat_map reply_line course.moves
 
--- the text is the report of these lines so far; as long as none of them asks for a step there is no course
+-- the text is the report of these lines; before the first step there is no course
 abbrev pub Reports : List (List ℕ) → List ℕ → Option Course → Type 0
 Reports lines text None = IsScript lines [] × (text ≡ [])
 Reports lines text (Some course) = HasRun lines text course
@@ -55,8 +56,8 @@ forfeits (Forfeit worker) (Ok answer) = true
 forfeits (Forfeit worker) (Err refusal) = false
 forfeits _ reply = false
 
--- the numbers of a run: its steps, with the opening, and the refused ones; the length of the queue; the accepted steps by which workers
--- finished and gave up their entries; the entries in hands; and those that the line hasn't given
+-- the totals of a run: its steps, including the opening, and the refused ones; the length of the queue; the entries that workers finished and abandoned; the
+-- entries in hand; and the entries not taken
 abbrev pub summary_of : Course → Summary
 summary_of course =
     record {
@@ -69,11 +70,11 @@ summary_of course =
       left = length course.end.state.queue - course.end.taken;
     }
 
--- all lines of the bytes were carried out; a further line would have this number
+-- all lines of the bytes were carried out; the next line would have this number
 abbrev pub AtEnd : List ℕ → ℕ → List ℕ → Option Course → Type 0
 AtEnd bytes number text course = AreLines (λ lines. Reports lines text course) bytes number
 
--- the text is the report of the whole script in these bytes, with the numbers of its run
+-- the text is the report of the whole script in these bytes, with the totals of its run
 pub record IsReport (bytes text : List ℕ) (summary : Summary) : Type 0 where
   pub number : ℕ
   pub before : List ℕ
@@ -89,27 +90,26 @@ AtLine bytes left number line text course = EndsAt (λ lines. Reports lines text
 abbrev pub AsksFor : List ℕ → Step → Type 0
 AsksFor line step = IsTrue (is_kept line) × Fits step × (line ≡ spelling step)
 
--- the line asks for an opening that is refused so
+-- the line spells an opening that is refused with this refusal
 abbrev pub IsRefusedOpening : List ℕ → Refusal → Type 0
 IsRefusedOpening line refusal =
     (blocks : ℕ) × (frames : ℕ) × (workers : ℕ) × AsksFor line (Open blocks frames workers) × IsRefusedFor (opening_causes blocks frames workers) true refusal
 
--- the words that the line with this number gets, after the course so far; a line past the last is malformed, whatever it asks for
+-- the words that are written for the line with this number, after the course so far; a line beyond the last number is malformed, whatever it is
 pub data IsDue (number : ℕ) (line : List ℕ) : Option Course → List Token → Type 0 where
   Opens : (blocks frames workers : ℕ) → number ≤ max_lines → AsksFor line (Open blocks frames workers) → first_cause (opening_causes blocks frames workers) ≡ None → IsDue number line None done
   OpensNot : (refusal : Refusal) → number ≤ max_lines → IsRefusedOpening line refusal → IsDue number line None (refused_words refusal)
   Replies : (course : Course) (step : Step) (m : Move) (new : Joint) → number ≤ max_lines → AsksFor line step → event_of step ≡ Some m.event → JointStep course.end m.event m.reply new → IsDue number line (Some course) (reply_words m.event m.reply)
   Malformed : (course : Option Course) → IsMalformed (is_some course) number line → IsDue number line course (malformed_words number)
 
--- the words of a report's end, after the last line: an input without an opening is malformed there
+-- the last words of a report; an input without an opening is malformed there
 abbrev pub closing_words : ℕ → Option Course → List Token
 closing_words number None = malformed_words number
 closing_words number (Some course) = end_words (summary_of course)
 
--- Why a run ended early, and at which line. These bytes were used, and `unread` was read beyond them; `left` is what the reader has left; and
--- the text was written.
+-- Why a run ended early, and at which line. `bytes` were consumed, `unread` was read beyond them, `left` is what the reader has left, and `text` was written.
 abbrev pub Explains : Refusal → ℕ → List ℕ → List ℕ → Option (List ℕ) → List ℕ → Type 0
--- the line is malformed, or the input has ended without an opening; all replies before it and its own were written
+-- the line is malformed, or the input ended without an opening; its reply and all replies before it were written
 Explains BadLine number bytes unread left text =
     (before : List ℕ) × (text ≡ before ++ text_line (malformed_words number))
     × (((line : List ℕ) × (course : Option Course) × AtLine bytes (prepend_known unread left) number line before course × IsMalformed (is_some course) number line) ⊎ (AtEnd bytes number before None × IsAtEnd (prepend_known unread left)))
@@ -118,17 +118,17 @@ Explains BadCount number bytes unread left text =
     (number ≤ max_lines) × (line : List ℕ) × AtLine bytes (prepend_known unread left) number line [] None × IsRefusedOpening line BadCount × (text ≡ text_line (refused_words BadCount))
 Explains NoMemory number bytes unread left text =
     (number ≤ max_lines) × (line : List ℕ) × AtLine bytes (prepend_known unread left) number line [] None × IsRefusedOpening line NoMemory × (text ≡ text_line (refused_words NoMemory))
--- what this line gets, or what ends the report, wasn't written whole; all replies before it were
+-- the output for this line, or for the end of the report, wasn't written completely; all replies before it were
 Explains Output number bytes unread left text =
     (before : List ℕ) × (part : List ℕ) × (rest : List ℕ) × (text ≡ before ++ part) × (rest ≢ [])
     × (((line : List ℕ) × (course : Option Course) × (words : List Token) × AtLine bytes (prepend_known unread left) number line before course × IsDue number line course words × (text_line words ≡ part ++ rest))
     ⊎ ((course : Option Course) × AtEnd bytes number before course × IsAtEnd (prepend_known unread left) × (text_line (closing_words number course) ≡ part ++ rest)))
--- the reader failed in this line; all whole lines before it were carried out, and their replies were written
+-- reading failed in this line; all complete lines before it were carried out, and their replies were written
 Explains Input number bytes unread left text =
     (unread ≡ []) × (lines : List (List ℕ)) × (line : List ℕ) × (course : Option Course) × Lines bytes lines line × (length line ≤ max_line) × (length lines + 1 ≡ number) × Reports lines text course
 Explains _ number bytes unread left text = ⊥
 
--- the whole input was read, and the report of its script was written; each entry is finished, given up, in a hand or left; and no device failed
+-- the whole input was read, and its report was written; each entry is finished, abandoned, in hand or not taken; and no device failed
 pub record Reported (input left : Feed) (before after : Log) (summary : Summary) : Type 0 where
   pub bytes : List ℕ
   pub text : List ℕ
@@ -143,7 +143,7 @@ pub record Reported (input left : Feed) (before after : Log) (summary : Summary)
 abbrev pub Stopped : Feed → Feed → Log → Log → DriveFault → Type 0
 Stopped input left before after fault = StoppedFor Explains input left before after fault
 
--- a script was run to its end, or until a fault
+-- the script was run to its end, or until a fault
 abbrev pub Drives : Feed → Log → Result Summary DriveFault → Feed → Log → Type 0
 Drives input before (Ok summary) left after = Reported input left before after summary
 Drives input before (Err fault) left after = Stopped input left before after fault

@@ -1,4 +1,4 @@
-//! What one line of a script gives.
+//! Carrying out one line of a script.
 
 ghost use Rattle.std.specs.Prelude.{◌≡◌, None, Some, true};
 ghost use Rattle.fz_text.specs.Lines.{is_kept};
@@ -11,13 +11,13 @@ use fz_script::{Step, step_of};
 use fz_text::{Ending, is_kept};
 use std::alloc::Global;
 
-/// A line with a greater number is malformed.
+/// A line with a larger number is malformed.
 const MAX_LINES: u64 = 4_294_967_296;
 
-/// What a line gives.
+/// The outcome of a line.
 #[derive(Clone, Copy, Debug, PartialEq, Eq)]
 pub(crate) enum Answer {
-    /// The line asks for nothing.
+    /// The line is empty or a comment.
     Skipped,
     /// The world is open.
     Opened,
@@ -25,11 +25,11 @@ pub(crate) enum Answer {
     Replied(Result<StepReply, Refusal>),
     /// The world could not be opened.
     Ended(Refusal),
-    /// The line breaks the rules.
+    /// The line is malformed.
     Malformed,
 }
 
-/// Carries out a line. There is no machine before the opening.
+/// Carries out a line. Before the opening there is no machine.
 fn answer_to(alloc: Global, machine: &mut Option<Machine>, line: &[u8]) -> Answer
     ensures { Gives machine.old line.now result machine.new }
 {
@@ -42,8 +42,8 @@ fn answer_to(alloc: Global, machine: &mut Option<Machine>, line: &[u8]) -> Answe
     }
 }
 
-// Apart from what the other lines ask for, since the room that an opening takes is cleared at each call.
-/// What the first line of a step gives.
+// A function of its own, never inlined: the stack space of an opening is cleared at each call.
+/// The outcome of the first step.
 #[inline(never)]
 fn first_answer(alloc: Global, machine: &mut Option<Machine>, line: &[u8]) -> Answer
     requires closed { machine.old ≡ None }
@@ -69,7 +69,7 @@ fn first_answer(alloc: Global, machine: &mut Option<Machine>, line: &[u8]) -> An
     }
 }
 
-/// What a line of a step gives once there is a machine.
+/// The outcome of a step after the opening.
 fn later_answer(machine: &mut Machine, line: &[u8]) -> Answer
     requires { is_kept line.now ≡ true }
     ensures { Gives (Some machine.old) line.now result (Some machine.new) }
@@ -84,7 +84,7 @@ fn later_answer(machine: &mut Machine, line: &[u8]) -> Answer
     }
 }
 
-/// What the line with this number gives, where lines are counted from 1.
+/// The outcome of the line with this number; lines are counted from 1.
 pub(crate) fn answer_at(
     alloc: Global,
     machine: &mut Option<Machine>,

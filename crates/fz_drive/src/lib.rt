@@ -1,4 +1,4 @@
-//! Runs of scripts: one world with its workers, step by step, and the report of what each step answers.
+//! Running scripts: one world with its workers, step by step, and a report of what each step returns.
 #![tactic(auto)]
 
 mod answer;

@@ -1,4 +1,4 @@
-//! A world with its workers: what a script's steps are carried out by.
+//! A world with its workers, which carries out the steps of a script.
 
 ghost use Rattle.std.specs.Prelude.{◌≡◌, ◌-◌, true, false, None, Some, IfOk, IfErr, OnOk, ◌<◌, slice_get, is_some, count_by, length, replicate, ◌≤◌};
 ghost use Rattle.fz_model.specs.declared.limits.TheConstants.{MAX_WORKERS};
@@ -15,10 +15,10 @@ use fz_script::Step;
 use fz_world::{Config, World};
 use std::alloc::Global;
 
-/// A hand for each worker that a world may have.
+/// One entry in hand for each worker that a world may have.
 const HANDS: usize = MAX_WORKERS as usize;
 
-/// A world, the line of its queue, and the entry in each worker's hand.
+/// A world, its ready queue, and the entry in each worker's hand.
 #[derive(Drop)]
 pub(crate) struct Machine {
     world: World,
@@ -27,7 +27,7 @@ pub(crate) struct Machine {
 }
 
 impl Machine {
-    /// Opens a world, whose workers have nothing in hand.
+    /// Opens a world whose workers have no entries.
     #[inline(never)]
     pub(crate) fn open(
         alloc: Global,
@@ -62,7 +62,7 @@ impl Machine {
         }
     }
 
-    /// The worker takes the next entry of the line, if there is one.
+    /// The worker takes the next entry of the queue, if there is one.
     fn take(&mut self, worker: u64) -> Result<Option<Entry>, Refusal>
         ensures { JointDoes self.old (Take worker) result self.new }
     {
@@ -75,7 +75,7 @@ impl Machine {
         Ok(entry)
     }
 
-    /// The object of the entry in the worker's hand goes into the slot.
+    /// Stores the address of the worker's object in the slot.
     fn hold(&mut self, worker: u64, slot: Slot) -> Result<(), Refusal>
         ensures { JointDoes self.old (HoldOwn worker slot) result self.new }
     {
@@ -85,7 +85,7 @@ impl Machine {
         self.world.hold(slot.frame, slot.slot, &entry)
     }
 
-    /// The worker has finished the entry in its hand. It keeps the entry where that is refused.
+    /// The worker finishes its entry. If that is refused, it keeps the entry.
     fn finish(&mut self, worker: u64) -> Result<(), Refusal>
         ensures { JointDoes self.old (FinishOwn worker) result self.new }
     {
@@ -97,7 +97,7 @@ impl Machine {
         Ok(())
     }
 
-    /// The worker gives up the entry in its hand.
+    /// The worker abandons its entry.
     fn forfeit(&mut self, worker: u64) -> Result<(), Refusal>
         ensures { JointDoes self.old (Forfeit worker) result self.new }
     {
@@ -108,7 +108,7 @@ impl Machine {
         Ok(())
     }
 
-    /// Carries out a step of an open world. `None`: it is an opening, which may not come again.
+    /// Carries out a step of an open world. Returns `None` for an opening, which may come only once.
     pub(crate) fn take_step(&mut self, step: Step) -> Result<Option<StepReply>, Refusal>
         ensures { TakesStep self.old step result self.new }
     {
@@ -138,7 +138,7 @@ impl Machine {
         self.world.queued()
     }
 
-    /// The number of entries that the line hasn't given.
+    /// The number of entries that no worker has taken.
     pub(crate) fn left(&self) -> u64
         ensures { result ≡ length self.now.world.queue - self.now.line }
     {

@@ -10,18 +10,18 @@ use crate::run::Summary;
 use fz_model::{Entry, LinkAnswer, MoveAnswer, Old, Passed, Progress, Refusal, RegAnswer, Reply};
 use fz_text::{Sink, Word, WriteFailed, write_all, write_line, write_refused};
 
-/// What an accepted step answers.
+/// What an accepted step returns.
 #[derive(Clone, Copy, Debug, PartialEq, Eq)]
 pub(crate) enum StepReply {
-    /// What the call of the world answers.
+    /// The result of the world's call.
     Called(Reply),
     /// The entry that the worker took, if there was one.
     Taken(Option<Entry>),
-    /// The object of the worker's entry stands in the slot.
+    /// The address of the worker's object is in the slot.
     Held,
     /// The worker has finished its entry.
     Finished,
-    /// The worker has given up its entry.
+    /// The worker has abandoned its entry.
     Forfeited,
 }
 

@@ -1,4 +1,4 @@
-//! A script from its first byte to its last.
+//! Running a whole script.
 
 ghost use Rattle.std.specs.Prelude.{None, ◌≡◌, ◌<◌, ◌^◌};
 ghost use Rattle.fz_drive.specs.Report.{Drives};
@@ -12,18 +12,18 @@ use fz_model::Refusal;
 use fz_text::{Chunk, DriveFault, Ending, Sink, Source, next_line, write_malformed, write_refused};
 use std::alloc::Global;
 
-/// The numbers of a run.
+/// The totals of a run.
 #[derive(Clone, Copy, Debug, PartialEq, Eq)]
 pub struct Summary {
-    /// The steps, with the opening.
+    /// The steps, including the opening.
     pub steps: u64,
     /// The steps that were refused.
     pub refused: u64,
-    /// The entries that passes put into the queue.
+    /// The entries that passes queued.
     pub enqueued: u64,
     /// The entries that workers finished.
     pub finished: u64,
-    /// The entries that workers gave up.
+    /// The entries that workers abandoned.
     pub forfeited: u64,
     /// The entries in workers' hands.
     pub in_hand: u64,
@@ -48,7 +48,7 @@ const NO_COUNTS: Counts = Counts {
 };
 
 impl Counts {
-    /// The counts after a line that gave this answer.
+    /// The counts after a line with this outcome.
     fn after(self, answer: Answer) -> Counts
         requires steps { self.steps < 2 ^ 32 }
         requires refused { self.refused < 2 ^ 32 }
@@ -77,7 +77,7 @@ impl Counts {
         counts
     }
 
-    /// The numbers of the run that led to this machine.
+    /// The totals of the run that led to this machine.
     fn summary(self, machine: &Machine) -> Summary
         ensures { result ≡ summary_at machine.now self }
     {
@@ -99,9 +99,9 @@ fn fault(refusal: Refusal, line: u64) -> DriveFault
     DriveFault { refusal, line }
 }
 
-/// Runs the script that the reader hands over, and writes its report.
+/// Runs the script that the reader delivers, and writes its report.
 ///
-/// A step that the world refuses is answered, and the run goes on.
+/// A step that the world refuses is reported, and the run continues.
 pub fn drive<R: Source, W: Sink>(
     alloc: Global,
     reader: &mut R,
@@ -133,7 +133,7 @@ pub fn drive<R: Source, W: Sink>(
     }
 }
 
-/// Writes what a line gives. The run goes on after `Ok`.
+/// Writes the outcome of a line. The run continues after `Ok`.
 fn tell<W: Sink>(writer: &mut W, number: u64, answer: Answer) -> Result<(), DriveFault>
     ensures { TellsAnswer number answer (W.log writer.old) result (W.log writer.new) }
 {
@@ -153,7 +153,7 @@ fn tell<W: Sink>(writer: &mut W, number: u64, answer: Answer) -> Result<(), Driv
     }
 }
 
-/// Ends the report, whose next line would have this number.
+/// Ends the report. The next line would have this number.
 fn finish<W: Sink>(
     writer: &mut W,
     number: u64,

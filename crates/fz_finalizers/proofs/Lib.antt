@@ -3,7 +3,6 @@ pub mod Fitting
 pub mod Following
 pub mod Joined
 pub mod Filled
-pub mod Nearer
 pub mod Queueing
 pub mod OneQueued
 pub mod Promised

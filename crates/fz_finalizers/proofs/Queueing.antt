@@ -1,7 +1,8 @@
 -- The picks of what is queued: of each registration one at most.
-use Rattle.std.proofs.Common.{◌≡◌, ◌≢◌, ◌<◌, ℕ, ◌+◌, List, length, ◌++◌, is_some, IsTrue, Option, Some, None, slice_get, refl, sym, ap, subst, ◌∙◌, ⊎_elim, arith}
+use Rattle.std.proofs.Common.{◌≡◌, ◌≢◌, ◌<◌, ℕ, ◌+◌, List, length, ◌++◌, is_some, IsTrue, Option, Some, None, ◌⊎◌, inl, inr, slice_get, refl, sym, ap, subst, ◌∙◌, ⊎_elim, arith}
 use Rattle.std.proofs.lemmas.Option.{none-some, get_or_from_slice_get, slice_get_within}
 use Rattle.std.specs.FinMap.{get, contains_key}
+use Rattle.std.specs.Option.{option_or}
 use Rattle.fz_model.specs.declared.answers.Pick.{Pick}
 use Rattle.fz_model.specs.declared.answers.Registration.{Registration}
 use Rattle.fz_model.specs.State.{Map}
@@ -11,7 +12,28 @@ use Rattle.fz_model.proofs.Sound.{left_back, left_other}
 use Rattle.fz_pass.specs.Late.{AreApart}
 use Rattle.fz_finalizers.specs.Follows.{ArePicksIn, Queues, IsOf}
 use Rattle.fz_finalizers.specs.States.{State, registered}
-use Rattle.fz_finalizers.proofs.Nearer.{in_table, in_late, in_either}
+
+-- ---- of two tables
+
+module _ (s : State) (apart : AreApart s.registrations s.late) where
+  in_table : (a : ℕ) (r : Registration) → get s.registrations a ≡ Some r → registered s a ≡ Some r
+  in_table a r here = ap (λ o. option_or o (get s.late a)) here
+
+  in_late : (a : ℕ) (r : Registration) → get s.late a ≡ Some r → registered s a ≡ Some r
+  in_late a r here = by (get s.registrations a) refl
+    where
+      by : (o : Option Registration) → get s.registrations a ≡ o → option_or o (get s.late a) ≡ Some r
+      by None at = here
+      by (Some q) at = absurd (apart a (ap is_some at) (ap is_some here))
+
+  in_either : (a : ℕ) (r : Registration) → registered s a ≡ Some r → (get s.registrations a ≡ Some r) ⊎ (get s.late a ≡ Some r)
+  in_either a r here = by (get s.registrations a) refl here
+    where
+      by : (o : Option Registration) → get s.registrations a ≡ o → option_or o (get s.late a) ≡ Some r → (get s.registrations a ≡ Some r) ⊎ (get s.late a ≡ Some r)
+      by None at h = inr h
+      by (Some q) at h = inl (at ∙ h)
+
+-- ---- of picks
 
 of_at : (table : Map Registration) (picks : List Pick) → ArePicksIn table picks → (k : ℕ) (p : Pick) → slice_get picks k ≡ Some p → IsOf table p
 of_at table picks are k p at = subst (IsOf table) (get_or_from_slice_get picks k p p at) (are.each k p (slice_get_within picks k p at))
@@ -28,8 +50,8 @@ module _ (pass : ℕ) (old new : State) (apart : AreApart old.registrations old.
   pub registered_at : (k : ℕ) (p : Pick) → slice_get picks k ≡ Some p → (r : Registration) × (registered old p.obj ≡ Some r) × (p.reg ≡ r.number)
   registered_at k p at =
       ⊎_elim
-      (λ (h : slice_get queues.picks k ≡ Some p). let of = of_at old.registrations queues.picks queues.picked k p h in (of.0, in_table old 0 apart p.obj of.0 of.1, of.2))
-      (λ (h : (i : ℕ) × (k ≡ length queues.picks + i) × (slice_get queues.late i ≡ Some p)). let of = of_at old.late queues.late queues.came_late h.0 p h.2 in (of.0, in_late old 0 apart p.obj of.0 of.1, of.2))
+      (λ (h : slice_get queues.picks k ≡ Some p). let of = of_at old.registrations queues.picks queues.picked k p h in (of.0, in_table old apart p.obj of.0 of.1, of.2))
+      (λ (h : (i : ℕ) × (k ≡ length queues.picks + i) × (slice_get queues.late i ≡ Some p)). let of = of_at old.late queues.late queues.came_late h.0 p h.2 in (of.0, in_late old apart p.obj of.0 of.1, of.2))
       (slice_get-cases queues.picks queues.late k p at)
 
   pub differ : (i j : ℕ) (p q : Pick) → i < j → slice_get picks i ≡ Some p → slice_get picks j ≡ Some q → p.obj ≢ q.obj
@@ -77,7 +99,7 @@ module _ (pass : ℕ) (old new : State) (apart : AreApart old.registrations old.
       ⊎_elim
       (λ (h : get new.registrations a ≡ Some r).
       let was = still_first a r h in (
-        in_table old 0 apart a r was,
+        in_table old apart a r was,
         λ k p at same.
             ⊎_elim (λ (b : slice_get queues.picks k ≡ Some p). left_other old.registrations queues.picks a r (left_first a r h) k p b same)
             (λ (b : (m : ℕ) × (k ≡ length queues.picks + m) × (slice_get queues.late m ≡ Some p)).
@@ -86,11 +108,11 @@ module _ (pass : ℕ) (old new : State) (apart : AreApart old.registrations old.
       ))
       (λ (h : get new.late a ≡ Some r).
       let was = still_second a r h in (
-        in_late old 0 apart a r was,
+        in_late old apart a r was,
         λ k p at same.
             ⊎_elim
             (λ (b : slice_get queues.picks k ≡ Some p). let of = of_at old.registrations queues.picks queues.picked k p b in apart a (ap is_some (ap (get old.registrations) same ∙ of.1)) (ap is_some was))
             (λ (b : (m : ℕ) × (k ≡ length queues.picks + m) × (slice_get queues.late m ≡ Some p)). left_other old.late queues.late a r (left_second a r h) b.0 p b.2 same)
             (slice_get-cases queues.picks queues.late k p at),
       ))
-      (in_either new 0 still_apart a r here)
+      (in_either new still_apart a r here)

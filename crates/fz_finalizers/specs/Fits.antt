@@ -48,5 +48,5 @@ rooms_of table late short long ready moves = record {
   long = min long.room (moves - len long.links);
 }
 
-abbrev pub order_of : Tabled → Tabled → Ready → Order
-order_of table late ready = record { registrations = table.order; late = late.order; held = ready.order }
+abbrev pub order_of : Tabled → Tabled → Linked → Linked → Ready → Order
+order_of table late short long ready = record { registrations = table.order; late = late.order; short = short.order; long = long.order; held = ready.order }

@@ -8,5 +8,4 @@ pub mod Fits
 pub mod Follows
 pub mod Passed
 pub mod Walks
-pub mod Nearest
 pub mod Promises

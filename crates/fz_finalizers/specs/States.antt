@@ -37,6 +37,8 @@ pub record Rooms : Type 0 where
 pub record Order : Type 0 where
   pub registrations : List (ℕ × Registration)
   pub late : List (ℕ × Registration)
+  pub short : List (ℕ × ℕ)
+  pub long : List (ℕ × ℕ)
   pub held : List (ℕ × Entry)
 
 pub record View : Type 0 where
@@ -70,9 +72,9 @@ rooms_code =
 
 abbrev order_code : Coded Order
 order_code =
-    code_by (List (ℕ × Registration) × (List (ℕ × Registration) × List (ℕ × Entry)))
-    (coded× (coded_list (coded× coded_ℕ registration_code)) (coded× (coded_list (coded× coded_ℕ registration_code)) (coded_list (coded× coded_ℕ entry_code))))
-    (λ o. (o.registrations, (o.late, o.held))) (λ p. record { registrations = p.0; late = p.1.0; held = p.1.1 }) (λ _. refl)
+    code_by ((List (ℕ × Registration) × List (ℕ × Registration)) × ((List (ℕ × ℕ) × List (ℕ × ℕ)) × List (ℕ × Entry)))
+    (coded× (coded× (coded_list (coded× coded_ℕ registration_code)) (coded_list (coded× coded_ℕ registration_code))) (coded× (coded× (coded_list (coded× coded_ℕ coded_ℕ)) (coded_list (coded× coded_ℕ coded_ℕ))) (coded_list (coded× coded_ℕ entry_code))))
+    (λ o. ((o.registrations, o.late), ((o.short, o.long), o.held))) (λ p. record { registrations = p.0.0; late = p.0.1; short = p.1.0.0; long = p.1.0.1; held = p.1.1 }) (λ _. refl)
 
 abbrev pub view_code : Coded View
 view_code =

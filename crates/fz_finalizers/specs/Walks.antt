@@ -1,14 +1,16 @@
 -- What walks yield.
-use Rattle.std.specs.Prelude.{◌≡◌, ℕ, ◌≤◌, ◌<◌, nat_eq, List, ◌++◌, map, Option, Some, None}
+use Rattle.std.specs.Prelude.{◌≡◌, ℕ, nat_eq, List, ◌++◌, map}
 use Rattle.std.specs.Ordering.{nat_cmp}
 use Rattle.std.specs.FinMap.{get, from_entries}
 use Rattle.std.specs.List.{IsDistinct}
 use Rattle.std.specs.Map.{keys_of}
 use Rattle.fz_model.specs.declared.answers.Entry.{Entry}
 use Rattle.fz_model.specs.declared.answers.Registration.{Registration}
+use Rattle.fz_model.specs.declared.kinds.LinkKind.{LinkKind}
+use Rattle.fz_model.specs.declared.kinds.LinkKind.TheVariants.{Short, Long}
 use Rattle.fz_finalizers.specs.declared.roots.Root.{Root}
 use Rattle.fz_finalizers.specs.declared.roots.Root.TheVariants.{HeldObject, HeldData, RegisteredData}
-use Rattle.fz_finalizers.specs.States.{State, View, registered}
+use Rattle.fz_finalizers.specs.States.{State, View, links_of, registered}
 
 -- the values of pairs
 abbrev pub values_of : {X : Type 0} → List (ℕ × X) → List X
@@ -28,21 +30,25 @@ AreEntries s entries = (held : List (ℕ × Entry)) × (from_entries held ≡ s.
 abbrev pub AreRegistrations : State → List (ℕ × Registration) → Type 0
 AreRegistrations s registrations = ((object : ℕ) → get (from_entries {R = nat_cmp} registrations) object ≡ registered s object) × IsDistinct nat_eq (keys_of registrations)
 
+-- these are the links of a kind, each once
+abbrev pub AreLinks : State → LinkKind → List (ℕ × ℕ) → Type 0
+AreLinks s kind links = (from_entries links ≡ links_of s kind) × IsDistinct nat_eq (keys_of links)
+
 -- what the walk over a sort of roots yields
 abbrev pub YieldsRoots : Root → State → List ℕ → Type 0
 YieldsRoots root s words = (entries : List Entry) × (registrations : List (ℕ × Registration)) × AreEntries s entries × AreRegistrations s registrations × (words ≡ words_left root entries registrations)
 
--- the order of a walk over entries, over registrations, and over the roots of a sort: one and the same as long as nothing changes
+-- the order of a walk over entries, over registrations, over the links of a kind, and over the roots of a sort: one and the same as long as nothing
+-- changes
 abbrev pub entries_in_order : View → List Entry
 entries_in_order v = v.waiting ++ values_of v.order.held
 
 abbrev pub registrations_in_order : View → List (ℕ × Registration)
 registrations_in_order v = v.order.registrations ++ v.order.late
 
+abbrev pub links_in_order : View → LinkKind → List (ℕ × ℕ)
+links_in_order v Short = v.order.short
+links_in_order v Long = v.order.long
+
 abbrev pub roots_of : Root → View → List ℕ
 roots_of root v = words_left root (entries_in_order v) (registrations_in_order v)
-
--- no object is registered as far as that, or it is the first that is
-abbrev pub IsFirstRegistered : State → ℕ → Option (ℕ × Registration) → Type 0
-IsFirstRegistered s from None = (a : ℕ) (r : Registration) → registered s a ≡ Some r → a < from
-IsFirstRegistered s from (Some e) = (registered s e.0 ≡ Some e.1) × (from ≤ e.0) × ((a : ℕ) (r : Registration) → registered s a ≡ Some r → from ≤ a → e.0 ≤ a)

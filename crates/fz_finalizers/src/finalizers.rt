@@ -57,7 +57,7 @@ impl Model for Finalizers {
     ghost view = { λ f. record {
       state = state_of f.table f.late f.short f.long f.ready f.passes;
       rooms = rooms_of f.table f.late f.short f.long f.ready (vec_capacity f.moves);
-      order = order_of f.table f.late f.ready;
+      order = order_of f.table f.late f.short f.long f.ready;
     } };
 
     ghost invariant = { λ f. Fits f.table.registered f.late.registered f.ready × HasMoves f.short f.long f.moves.items (vec_capacity f.moves) };

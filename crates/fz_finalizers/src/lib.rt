@@ -8,7 +8,6 @@ mod kinds;
 mod law;
 mod linking;
 mod links;
-mod nearest;
 mod passes;
 mod ready;
 mod refused;

@@ -7,13 +7,11 @@ ghost use Rattle.std.specs.Iterator.{YieldsFirst, UpTo, at_most, item_count};
 ghost use Rattle.std.specs.Iterator.SizeHint.{IsWithinCount};
 ghost use Rattle.std.specs.List.{IsDistinct};
 ghost use Rattle.std.specs.Map.{keys_of};
-ghost use Rattle.fz_finalizers.specs.States.{links_of, registered};
+ghost use Rattle.fz_finalizers.specs.States.{links_of};
 ghost use Rattle.fz_model.specs.declared.answers.Entry.{Entry};
-ghost use Rattle.fz_finalizers.specs.Nearest.{IsFirstFrom};
-ghost use Rattle.fz_finalizers.specs.Walks.{IsFirstRegistered, AreEntries, AreRegistrations, entries_in_order, registrations_in_order};
+ghost use Rattle.fz_finalizers.specs.Walks.{AreEntries, AreRegistrations, entries_in_order, links_in_order, registrations_in_order};
 
 use crate::finalizers::Finalizers;
-use crate::nearest::{first_from, nearer};
 use fz_model::{Addr, Entry, LinkKind, Registration};
 use fz_table::Pairs;
 use std::marker::Model;
@@ -111,7 +109,7 @@ impl<'a> Entries<'a> {
 }
 
 impl Finalizers {
-    /// All registrations with their objects, each once, in an order that stays as long as nothing changes.
+    /// All registrations with their objects, each once, in an order that stays as long as nothing changes: so a walk may go on later, from a place.
     pub fn iter(&self) -> Registrations<'_>
         ensures all { AreRegistrations self.now.state result }
         ensures count { length result ≡ len self.now.registrations + len self.now.late }
@@ -141,36 +139,16 @@ impl Finalizers {
         self.table.iter()
     }
 
-    /// All links of a kind with their targets, each once, in no order that callers may count on.
+    /// All links of a kind with their targets, each once, in an order that stays as long as nothing changes: so a walk may go on later, from a place.
     pub fn iter_links(&self, kind: LinkKind) -> Pairs<'_, Addr, Addr>
         ensures all { from_entries result ≡ links_of self.now.state kind }
         ensures once { IsDistinct nat_eq (keys_of result) }
         ensures count { length result ≡ len (links_of self.now.state kind) }
+        ensures order { result ≡ links_in_order self.now kind }
     {
         match kind {
             LinkKind::Short => self.short.iter(),
             LinkKind::Long => self.long.iter(),
-        }
-    }
-
-    /// The first registration whose object is at least `from`, with the object. It goes over all of them.
-    pub fn next_registration(&self, from: Addr) -> Option<(Addr, Registration)>
-        ensures { IsFirstRegistered self.now.state from result }
-    {
-        let found = first_from(self.table.iter(), from);
-        match first_from(self.late.iter(), from) {
-            Some(late) => nearer(found, from, late),
-            None => found,
-        }
-    }
-
-    /// The first link of a kind whose word is at least `from`, with its target. It goes over all of them.
-    pub fn next_link(&self, kind: LinkKind, from: Addr) -> Option<(Addr, Addr)>
-        ensures { IsFirstFrom (links_of self.now.state kind) from result }
-    {
-        match kind {
-            LinkKind::Short => first_from(self.short.iter(), from),
-            LinkKind::Long => first_from(self.long.iter(), from),
         }
     }
 

@@ -1,4 +1,5 @@
--- What a pointer owns: the box of its value, or nothing where its pointer is null.
+-- What a pointer owns: the box of its value, or nothing if it is null.
+-- code: fz_handle/src/pointer.rt
 use Rattle.std.specs.Prelude.{◌≡◌, Option, Some, None}
 use Rattle.std.specs.Box.Ownership.{box_owns}
 use Rattle.std.specs.Global.{Global}

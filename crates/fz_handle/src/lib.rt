@@ -1,4 +1,4 @@
-//! A box as its pointer, for what C holds of it.
+//! A box as a raw pointer that C can hold.
 #![tactic(auto)]
 
 mod parts;

@@ -1,4 +1,4 @@
-//! A box as its pointer, or null where there is none.
+//! A box as a raw pointer, which may be null.
 
 ghost use Rattle.std.specs.Prelude.{◌≡◌, Option, Some, None, MatchOption};
 ghost use Rattle.std.specs.Coded.{coded_option};
@@ -9,7 +9,7 @@ use std::alloc::Global;
 use std::marker::Model;
 use std::ptr::null_mut;
 
-/// A box as its pointer, or null where there is none.
+/// A box as a raw pointer. It is null if there is no box.
 #[derive(Drop)]
 pub struct Pointer<T> {
     pub at: *mut T,
@@ -21,11 +21,11 @@ impl<T> Model for Pointer<T> {
     ghost also_owns = { λ p. maybe_owns T.row p.alloc p.at p.value };
 }
 
-// What a pointer owns may go to another thread if its value may: `proofs/pointer/Pointer/TheSendSync/Send.antt`.
+// A pointer may be sent to another thread if its value may: `proofs/pointer/Pointer/TheSendSync/Send.antt`.
 unsafe impl<T: Send> Send for Pointer<T> {}
 
 impl<T> Pointer<T> {
-    /// Null, which owns nothing.
+    /// The null pointer, which owns nothing.
     pub fn null(alloc: Global) -> Pointer<T>
         ensures { result.value ≡ None }
     {
@@ -35,7 +35,7 @@ impl<T> Pointer<T> {
         }
     }
 
-    /// The pointer of a box.
+    /// The pointer to a box.
     pub fn of(boxed: Box<T, Global>) -> Pointer<T>
     where
         T: Drop,
@@ -44,7 +44,7 @@ impl<T> Pointer<T> {
         Pointer::of_parts(Parts::of(boxed))
     }
 
-    /// The box again, if the pointer isn't null.
+    /// The box, unless the pointer is null.
     pub fn into_box(self) -> Option<Box<T, Global>>
         ensures { MatchOption result (self.value ≡ None) (λ boxed. self.value ≡ Some boxed.value) }
     {

@@ -1,4 +1,5 @@
--- What contracts see of a heap: its size in blocks, its objects by their starts, where condemned cells start, and the next birth.
+-- The model of a heap: its size in blocks, its objects by address, the addresses of dead, unswept cells, and the next birth.
+-- code: fz_heap/src/heap.rt
 use Rattle.std.specs.Prelude.{ℕ, ◌+◌, List, [], if◌then◌else◌, length, refl, IsTrue, IsFalse}
 use Rattle.std.specs.List.{sum_by}
 use Rattle.std.specs.Coded.{Coded, code_by, coded×, coded_ℕ}
@@ -26,7 +27,7 @@ contents_code =
     code_by (ℕ × (Map Object × (Addresses × ℕ))) (coded× coded_ℕ (coded× (map.code coded_ℕ object_code) (coded× (sets.code coded_ℕ) coded_ℕ))) (λ c. (c.blocks, (c.objects, (c.condemned, c.next_birth))))
     (λ p. record { blocks = p.0; objects = p.1.0; condemned = p.1.1.0; next_birth = p.1.1.1 }) (λ _. refl)
 
--- with a new object at the start, whose blocks are swept
+-- with a new object at the address, whose blocks are swept
 abbrev pub with_made : Contents → ℕ → ℕ → ObjKind → Contents
 with_made heap start size kind = record heap {
   objects = map.insert heap.objects start (new_object kind heap.next_birth size);
@@ -34,14 +35,14 @@ with_made heap start size kind = record heap {
   next_birth = heap.next_birth + 1;
 }
 
--- no object starts where a condemned cell does
+-- no object has the address of a dead cell
 abbrev pub AreGone : Contents → Type 0
 AreGone heap = (a : ℕ) → IsTrue (contains heap.condemned a) → IsFalse (contains_key heap.objects a)
 
--- the words of the scanned object at a start, and none of an atomic one
+-- the words of the scanned object at an address; none for a pointer-free object
 abbrev pub pointers_of : Map Object → ℕ → List ℕ
 pointers_of objects start = option_map_or (λ (o : Object). if same_kind o.kind Scanned then o.words else []) (get objects start) []
 
--- how many words the objects have
+-- how many words the objects have together
 abbrev pub words_of : Map Object → ℕ
 words_of objects = sum_by (λ (o : Object). length o.words) (values objects)

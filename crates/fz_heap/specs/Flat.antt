@@ -1,4 +1,5 @@
--- Objects whose words stand flat, by address from the heap's first on, with a birth beside each word.
+-- Objects whose words lie in one array, in address order from the heap's first word on, with an array of births beside it.
+-- code: fz_heap/src/heap.rt, places.rt
 use Rattle.std.specs.Prelude.{◌≡◌, ℕ, zero, suc, ◌+◌, ◌-◌, ◌<◌, ◌≤◌, List, [], ◌∷◌, length, slice_index, Some, IsTrue}
 use Rattle.std.specs.FinMap.{get}
 use Rattle.fz_model.specs.declared.extent.Extent.{Extent}
@@ -6,7 +7,7 @@ use Rattle.fz_model.specs.declared.limits.TheConstants.{HEAP_START}
 use Rattle.fz_model.specs.State.{Map, Object}
 use Rattle.fz_model.specs.Extents.{mapped, covers}
 
--- the words from a place on, as many as are asked for
+-- this many words from an index on
 abbrev pub words_from : List ℕ → ℕ → ℕ → List ℕ
 words_from words first zero = []
 words_from words first (suc n) = slice_index words first ∷ words_from words (first + 1) n
@@ -18,7 +19,7 @@ object_at words births start extent =
 abbrev pub objects_of : Map Extent → List ℕ → List ℕ → Map Object
 objects_of extents words births = mapped (object_at words births) extents
 
--- word plus offset is the address of the word at this place, in the extent to which the word points
+-- `place` is the index of the address word + offset, which lies in the extent to which word points
 pub record IsPlace (extents : Map Extent) (word offset place : ℕ) : Type 0 where
   pub start : ℕ
   pub extent : Extent
@@ -26,7 +27,7 @@ pub record IsPlace (extents : Map Extent) (word offset place : ℕ) : Type 0 whe
   pub at : word + offset ≡ HEAP_START + place
   pub inside : IsTrue (covers (start, extent) (word + offset))
 
--- `size` words are zero from a place on, and all others are as they were
+-- `size` words from an index on are zero, and all others are unchanged
 pub record IsZeroedAt (old new : List ℕ) (first size : ℕ) : Type 0 where
   pub len : length new ≡ length old
   pub zeroed : (i : ℕ) → first ≤ i → i < first + size → slice_index new i ≡ 0

@@ -1,4 +1,5 @@
--- No two objects share a word, each lies in the heap, and each word of the heap has a place and a birth.
+-- Invariants of the layout: no two objects share a word, each lies in the heap, and each word of the heap has its place in both arrays.
+-- code: fz_heap/src/heap.rt
 use Rattle.std.specs.Prelude.{◌≡◌, ◌≤◌, ℕ, ◌*◌, List, length}
 use Rattle.std.specs.List.{sum_by}
 use Rattle.std.specs.FinMap.{len, values}
@@ -15,11 +16,11 @@ pub record IsHeap (map : Claimed) (words births : List ℕ) : Type 0 where
   pub words_len : length words ≡ BLOCK_WORDS * map.blocks
   pub births_len : length births ≡ BLOCK_WORDS * map.blocks
 
--- the words of all extents
+-- the number of words of all extents
 abbrev pub words_in : Map Extent → ℕ
 words_in extents = sum_by (λ (x : Extent). x.size) (values extents)
 
--- with the number of the objects, and that of their words
+-- the same, with the number of the objects and the number of their words
 pub record IsCounted (map : Claimed) (words births : List ℕ) (live used : ℕ) : Type 0 where
   pub heap : IsHeap map words births
   pub open heap use *

@@ -1,4 +1,4 @@
-//! The heap: where its objects lie, and their words and births.
+//! The heap: its objects, their words and their births.
 
 ghost use Rattle.std.specs.Prelude.{◌^◌, ◌∷◌, [], ◌≡◌, ◌≤◌, ◌<◌, ◌+◌, ◌*◌, ℕ, not, ◌&&◌, ◌||◌, All, IsTrue, IsSome, IfSome, IfOk, OnOk, OnErr, option_map, length, replicate};
 ghost use Rattle.std.specs.FinMap.{get, insert, remove, retain_keys, contains_key, keys, len, empty};
@@ -20,26 +20,25 @@ use fz_model::{
 use std::alloc::{AllocError, Global};
 use std::marker::Model;
 
-/// A heap of up to `MAX_BLOCKS` blocks of `BLOCK_WORDS` words each, which begins at the address `HEAP_START`.
+/// A heap of up to `MAX_BLOCKS` blocks of `BLOCK_WORDS` words each, beginning at the address `HEAP_START`.
 ///
-/// It takes all its memory at `new`; no other call takes or frees any. A word of the heap takes 16 bytes: eight for the word, and eight for the birth
-/// of an object that may start there. Objects have no header. The map of the blocks takes memory of its own (`fz_blocks::BlockMap`). After `new` each
-/// call costs the same however many objects there are, except that `alloc` also writes the words of the new object, and that `objects` walks over
-/// the heap.
+/// Only `new` allocates, and no call frees memory. Each word of the heap takes 16 bytes: eight for its content, and eight for the birth of an object that may
+/// start there. Objects have no header. The map of the blocks takes additional memory (`fz_blocks::BlockMap`). The cost of a call doesn't depend on the
+/// number of objects, with two exceptions: `alloc` clears the words of the new object, and `objects` walks over the heap.
 pub struct Heap {
     map: BlockMap,
-    /// By address, from the heap's first on. Words outside objects mean nothing.
+    /// The content of each word, from the heap's first address on. Words outside objects have no meaning.
     words: Vec<Word>,
-    /// By address too. Only a birth at the start of an object means anything.
+    /// The births, likewise. Only the birth at the first word of an object has a meaning.
     births: Vec<u64>,
     next_birth: u64,
-    /// How many objects there are.
+    /// The number of objects.
     live: u64,
-    /// How many words they have.
+    /// The number of their words.
     used: u64,
 }
 
-// Written out: who owns a heap then drops it by one call that is proved here, not field by field at each way out of a function.
+// Written by hand, so that the owner drops it by one proved call, not field by field at each exit of a function.
 impl Drop for Heap {
     fn drop(self) {
         let Heap {
@@ -53,7 +52,7 @@ impl Drop for Heap {
     }
 }
 
-/// So many words, all of them zero.
+/// This many words, all of them zero.
 fn zeros(alloc: Global, size: u64) -> Result<Vec<Word>, AllocError>
     ensures { IfOk result (λ words. words.items ≡ replicate size 0) }
 {
@@ -78,7 +77,7 @@ impl Model for Heap {
 impl Heap {
     /// A heap of 1 to `MAX_BLOCKS` blocks, without objects.
     ///
-    /// `BadCount` for any other number of blocks; `NoMemory` where an allocation fails.
+    /// Fails with `BadCount` for any other number of blocks, and with `NoMemory` if an allocation fails.
     pub fn new(alloc: Global, blocks: u64) -> Result<Heap, Refusal>
         ensures judged { IsJudgedOrLacks (bad_count MAX_BLOCKS blocks ∷ []) result }
         ensures opened { IfOk result (λ h. h ≡ record { blocks = blocks; objects = empty; condemned = sets.empty; next_birth = 0 }) }
@@ -105,12 +104,12 @@ impl Heap {
         self.map.blocks()
     }
 
-    /// Makes an object of 1 to `MAX_OBJECT_WORDS` words, all of them zero; returns its start and its birth. Births count the objects made,
-    /// from 0. An object of more than `BLOCK_WORDS` words takes whole neighbouring blocks, one for each `BLOCK_WORDS` words begun. The object's
-    /// blocks are swept, and no others.
+    /// Allocates an object of 1 to `MAX_OBJECT_WORDS` words, all of them zero. Returns its address and its birth; births count allocations from 0. An object
+    /// of more than `BLOCK_WORDS` words takes whole neighbouring blocks, one for each `BLOCK_WORDS` words begun. The object's blocks are swept, and no
+    /// others.
     ///
-    /// `BadSize` for any other size; then `Exhausted` once `COUNT_LIMIT` births are given out; then `NoSpace` where the heap has no place for an object of
-    /// this size and kind. A refused call changes nothing.
+    /// Fails with `BadSize` for any other size, then with `Exhausted` once `COUNT_LIMIT` births are used up, then with `NoSpace` if the heap has no room for
+    /// an object of this size and kind. A failed call changes nothing.
     pub fn alloc(&mut self, size: u64, kind: ObjKind) -> Result<(Addr, u64), Refusal>
         ensures judged { IsJudgedBy (alloc_causes self.old.objects self.old.blocks self.old.next_birth size kind) result }
         ensures unchanged { OnErr result (self.new ≡ self.old) }
@@ -136,7 +135,7 @@ impl Heap {
         Ok((start, birth))
     }
 
-    /// The start of the object to which the word points, interior words included, if it points to one.
+    /// The address of the object to which the word points, if there is one. Interior pointers count.
     pub fn resolve(&self, word: Word) -> Option<Addr>
         ensures points { result ≡ points self.now.objects word }
         ensures within { IfSome result (λ start. IsInHeap self.now.blocks start × IsTrue (contains_key self.now.objects start)) }
@@ -147,9 +146,10 @@ impl Heap {
         Some(start)
     }
 
-    /// The address at an offset, in words, from where `word` points into an object.
+    /// The address at `offset` words after `word`, which has to lie in the object to which `word` points.
     ///
-    /// `NotPointer` where `word` points to no object; `OutsideObject` where `word` plus `offset` lies outside the object to which `word` points.
+    /// Fails with `NotPointer` if `word` points to no object, and with `OutsideObject` if `word` plus `offset` lies outside the object to which `word`
+    /// points.
     pub fn place(&self, word: Word, offset: u64) -> Result<Addr, Refusal>
         ensures judged { IsJudgedBy (place_causes self.now.objects word offset) result }
         ensures place { IfOk result (λ place. place ≡ word + offset) }
@@ -158,9 +158,10 @@ impl Heap {
         Ok(HEAP_START + place as u64)
     }
 
-    /// Reads the word at an offset, in words, from where `word` points into an object.
+    /// Reads the word at `offset` words after `word`, in the object to which `word` points.
     ///
-    /// `NotPointer` where `word` points to no object; `OutsideObject` where `word` plus `offset` lies outside the object to which `word` points.
+    /// Fails with `NotPointer` if `word` points to no object, and with `OutsideObject` if `word` plus `offset` lies outside the object to which `word`
+    /// points.
     pub fn read(&self, word: Word, offset: u64) -> Result<Word, Refusal>
         ensures judged { IsJudgedBy (place_causes self.now.objects word offset) result }
         ensures read { IfOk result (λ read. read ≡ word_at self.now.objects (word + offset)) }
@@ -169,10 +170,10 @@ impl Heap {
         Ok(self.words[place])
     }
 
-    /// Writes the value at an offset, in words, from where `word` points into an object.
+    /// Writes the value at `offset` words after `word`, in the object to which `word` points.
     ///
-    /// `NotPointer` where `word` points to no object; `OutsideObject` where `word` plus `offset` lies outside the object to which `word` points. A refused
-    /// write changes nothing.
+    /// Fails with `NotPointer` if `word` points to no object, and with `OutsideObject` if `word` plus `offset` lies outside the object to which `word`
+    /// points. A failed write changes nothing.
     pub fn write(&mut self, word: Word, offset: u64, value: Word) -> Result<(), Refusal>
         ensures judged { IsJudgedBy (place_causes self.old.objects word offset) result }
         ensures unchanged { OnErr result (self.new ≡ self.old) }
@@ -185,7 +186,7 @@ impl Heap {
         Ok(())
     }
 
-    /// Takes the object at the start out of the heap. Its cell waits to be swept; of an object of several blocks, the whole run does. Asked only of a start.
+    /// Removes a dead object. Its cell waits to be swept; for an object of several blocks, the whole run does. Requires the address of an object.
     pub fn condemn(&mut self, start: Addr)
         requires { IsTrue (contains_key self.old.objects start) }
         ensures { self.new ≡ record self.old { objects = remove self.old.objects start; condemned = sets.insert self.old.condemned start } }
@@ -196,8 +197,8 @@ impl Heap {
         self.used -= size;
     }
 
-    /// Condemns each object that starts in the block at one of these places, a bit each, the first place's lowest; returns their number. Places
-    /// where no object starts don't count. Asked only of a block of the heap.
+    /// Removes each object that starts in the block at one of these words, given as bits; the lowest bit is the block's first word. Returns their number.
+    /// Bits of words at which no object starts are ignored. Requires a block of the heap.
     pub fn condemn_in(&mut self, block: u64, places: u64) -> u64
         requires { block < self.old.blocks }
         ensures rest { self.new ≡ record self.old { objects = self.new.objects; condemned = self.new.condemned } }
@@ -213,7 +214,7 @@ impl Heap {
         count
     }
 
-    /// Frees the condemned cells of a block, or the condemned run that begins there. Asked only of a block of the heap.
+    /// Frees the dead cells of a block, or the dead run that starts there. Requires a block of the heap.
     pub fn sweep(&mut self, block: u64)
         requires { block < self.old.blocks }
         ensures { self.new ≡ record self.old { condemned = swept self.old.condemned block 1 } }
@@ -221,7 +222,7 @@ impl Heap {
         self.map.sweep(block);
     }
 
-    /// Frees all condemned cells.
+    /// Frees all dead cells.
     pub fn sweep_all(&mut self)
         ensures { self.new ≡ record self.old { condemned = sets.empty } }
     {
@@ -233,7 +234,7 @@ impl Heap {
         }
     }
 
-    /// The number of condemned cells that aren't swept; a run counts as one.
+    /// The number of dead, unswept cells. A run counts once.
     pub fn condemned(&self) -> u64
         ensures count { result ≡ sets.len self.now.condemned }
         ensures gone { AreGone self.now }
@@ -243,7 +244,7 @@ impl Heap {
         self.map.condemned()
     }
 
-    /// The places of a block where objects start, a bit each, the first place's lowest. Asked only of a block of the heap.
+    /// The words of a block at which objects start, as bits; the lowest bit is the block's first word. Requires a block of the heap.
     pub fn starts_in(&self, block: u64) -> u64
         requires { block < self.now.blocks }
         ensures { (place : ℕ) → place < BLOCK_WORDS → has_bit result place ≡ contains_key self.now.objects (block_start block + place) }
@@ -251,7 +252,7 @@ impl Heap {
         self.map.starts_in(block)
     }
 
-    /// The number of objects that were ever made.
+    /// The number of objects ever allocated.
     pub fn births(&self) -> u64
         ensures { result ≡ self.now.next_birth }
     {
@@ -265,7 +266,7 @@ impl Heap {
         self.live
     }
 
-    /// The number of words that the objects have.
+    /// The number of words that the objects have together.
     pub fn used(&self) -> u64
         ensures used { result ≡ words_of self.now.objects }
         ensures within { result ≤ BLOCK_WORDS * self.now.blocks }
@@ -273,7 +274,7 @@ impl Heap {
         self.used
     }
 
-    /// The size in words, the kind and the birth of the object that starts at the address, if one starts there.
+    /// The size in words, the kind and the birth of the object with this address, if there is one.
     pub fn facts(&self, start: Addr) -> Option<(u64, ObjKind, u64)>
         ensures facts { result ≡ option_map (λ o. (length o.words, o.kind, o.birth)) (get self.now.objects start) }
         ensures within { IsSome result → IsInHeap self.now.blocks start }
@@ -285,7 +286,7 @@ impl Heap {
         Some((extent.size, extent.kind, birth))
     }
 
-    /// The words of the scanned object that starts at the address. Empty where an atomic object starts, or none.
+    /// The words of the scanned object with this address. Empty if the object is pointer-free, or if there is none.
     pub fn pointers(&self, start: Addr) -> &[Word]
         ensures { result.now ≡ pointers_of self.now.objects start }
     {
@@ -301,7 +302,7 @@ impl Heap {
         }
     }
 
-    /// The starts of all objects, by rising address.
+    /// The addresses of all objects, in ascending order.
     pub fn objects(&self) -> Starts<'_>
         ensures starts { result ≡ keys self.now.objects }
         ensures within { All (IsInHeap self.now.blocks) (keys self.now.objects) }

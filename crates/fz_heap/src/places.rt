@@ -1,4 +1,4 @@
-//! Where the words of objects stand among the flat words of a heap.
+//! Where the words of objects lie in the heap's array of words.
 
 ghost use Rattle.std.specs.Prelude.{◌≤◌, ◌<◌, ◌+◌, ◌*◌, IfOk, length};
 ghost use Rattle.fz_model.specs.declared.limits.TheConstants.{BLOCK_WORDS, MAX_BLOCKS};
@@ -9,7 +9,7 @@ ghost use Rattle.fz_heap.specs.Flat.{IsPlace, IsZeroedAt};
 use fz_blocks::BlockMap;
 use fz_model::{HEAP_START, Refusal, Word};
 
-/// The place of the word at an offset from where a word points into an object.
+/// The array index of the word at `offset` words after `word`, in the object to which `word` points.
 pub(crate) fn place_of(map: &BlockMap, word: Word, offset: u64) -> Result<usize, Refusal>
     requires few { map.now.blocks ≤ MAX_BLOCKS }
     requires within { AreWithin map.now.blocks map.now.extents }
@@ -25,7 +25,7 @@ pub(crate) fn place_of(map: &BlockMap, word: Word, offset: u64) -> Result<usize,
     Ok((word + offset - HEAP_START) as usize)
 }
 
-/// Makes `size` words zero, from a place on.
+/// Sets `size` words to zero, from an index on.
 pub(crate) fn zero(words: &mut [Word], first: usize, size: usize)
     requires { first + size ≤ length words.old }
     ensures { IsZeroedAt words.old words.new first size }

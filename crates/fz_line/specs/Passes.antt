@@ -1,4 +1,5 @@
--- What the owner's end of the deque and a seat's pass carry: means of the crate's own functions, which no public contract cites.
+-- What the owner's end of the deque and a seat's pass carry. Means only: no public contract cites them.
+-- code: fz_line/src/owner.rt, taker.rt
 use Rattle.std.specs.Prelude.{◌≡◌, ℕ, ◌-◌, ◌≤◌, List, [], length, replicate, true}
 use Rattle.crossbeam_deque.specs.Handles.{Pass, view, IsPassOf, worker_deque, worker_view, worker_flavor, worker_index, worker_capacity}
 use Rattle.crossbeam_deque.specs.declared.handles.Worker.{Worker}
@@ -18,19 +19,19 @@ module _ {A : Type 0} where
   IsSeatPass deque p = IsPassOf deque p × (view p ≡ seat_view (took_by p)) × Rises (took_by p) × (length (took_by p) ≤ sent_limit)
 
 module _ {A P : Type 0} where
-  -- a first-in first-out end, which was pushed to at most as often as entries were sent
+  -- a first-in first-out end, to which no more entries were pushed than were sent
   abbrev pub IsFifo : Worker Entry A View P → Type 0
   IsFifo w = (worker_flavor w ≡ 0) × (worker_index w ≤ length (worker_view w).sent)
 
-  -- it is the owner's, with the empty lists of the seats that didn't open
+  -- the owner's end, with the empty lists of the seats that weren't opened
   abbrev pub IsOwnerEnd : ℕ → Worker Entry A View P → Type 0
   IsOwnerEnd seats w = IsFifo w × (worker_view w ≡ view_of true (worker_view w).sent (worker_view w).popped (replicate (MAX_WORKERS - seats) [])) × (seats ≤ MAX_WORKERS)
 
-  -- it is the owner's, which has popped nothing
+  -- the owner's end, which has popped nothing
   abbrev pub HasPoppedNothing : Worker Entry A View P → Type 0
   HasPoppedNothing w = IsFifo w × (worker_view w ≡ view_of true (worker_view w).sent [] (worker_view w).lists)
 
-  -- the same end of the same deque, in no smaller a ring
+  -- the same end of the same deque, whose buffer has not become smaller
   abbrev pub IsKept : Worker Entry A View P → Worker Entry A View P → Type 0
   IsKept old new = (worker_deque new ≡ worker_deque old) × IsFifo new × (worker_capacity old ≤ worker_capacity new)
 

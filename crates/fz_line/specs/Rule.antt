@@ -1,5 +1,6 @@
--- The rule of the line, which every step of its owner and of its seats keeps. What was sent is what left the line, followed by what waits in it.
--- What left stands in the lists of eight seats and in what the owner popped: each entry in one of them, and once.
+-- The invariant of the line, which every step of its owner and of its seats preserves. What was sent is what left the line, followed by what waits in it.
+-- What left is in the lists of eight seats and in what the owner popped: each entry is in exactly one of them, once.
+-- code: fz_line/src/protocol.rt, owner.rt, seat.rt, duty.rt
 use Rattle.std.specs.Prelude.{◌≡◌, ℕ, ◌+◌, ◌<◌, ◌≤◌, List, [], ◌++◌, length, take, drop, true, false, All}
 use Rattle.std.specs.List.{AllByRecursion}
 use mathlib.Core.Option.{some}
@@ -10,15 +11,15 @@ use Rattle.fz_line.specs.Numbers.{AreNumberedFrom, Rises}
 use Rattle.fz_line.specs.Views.{total, sent_limit, view_of, seat_view, first_list}
 use Rattle.fz_model.specs.declared.limits.TheConstants.{MAX_WORKERS}
 
--- the entries that the view has, weighed: with weight 1 for one entry and 0 for all others, how often that one stands in the view
+-- the total weight of the view's entries: with weight 1 for one entry and 0 for all others, how often that entry occurs in the view
 abbrev pub weight_of : (Entry → ℕ) → View → ℕ
 weight_of weight v = total (total weight) v.lists + total weight v.popped
 
--- the list of a seat, once n entries have left the line
+-- the list of a seat, after n entries have left the line
 abbrev pub IsSeatList : ℕ → List Entry → Type 0
 IsSeatList n took = Rises took × AllByRecursion (λ e. e.seq < n) took × (length took ≤ n)
 
--- how one pass fits with what left and what waits: the writer alone is the owner and knows what was sent, and alone pops
+-- how one pass agrees with what left and what waits: only the writer is the owner, and only it knows what was sent and pops entries
 abbrev pub FitsLine : ℕ → List Entry → List Entry → ℕ → View → Type 0
 FitsLine writer left waiting port v =
     (v.owner ≡ true → (port ≡ writer) × (v.sent ≡ left ++ waiting))
@@ -39,7 +40,7 @@ pub record IsLine (waiting : List Entry) (views : List View) : Type 0 where
 abbrev pub GainsSent : View → List Entry → View → Type 0
 GainsSent old entries new = new ≡ view_of old.owner (old.sent ++ entries) old.popped old.lists
 
--- the numbers of the new entries are above all in the seat's list
+-- the numbers of the new entries exceed all numbers in the seat's list
 abbrev pub GainsTaken : View → List Entry → View → Type 0
 GainsTaken old entries new =
     let before = first_list old.lists in
@@ -48,7 +49,7 @@ GainsTaken old entries new =
     × Rises (before ++ entries)
     × (length (before ++ entries) ≤ sent_limit)
 
--- how many entries left the line, for the owner with the lists of all seats
+-- how many entries left the line, for an owner with the lists of all seats
 abbrev pub left_count : View → ℕ
 left_count v = total length v.lists + length v.popped
 
@@ -57,6 +58,6 @@ GainsPopped old entries new =
     (new ≡ view_of old.owner old.sent (old.popped ++ entries) old.lists)
     × (take (length entries) (drop (left_count old) old.sent) ≡ entries)
 
--- nothing waits, so the owner with the lists of all seats has all that was sent, each entry once
+-- nothing waits, so an owner with the lists of all seats has everything that was sent, each entry once
 abbrev pub KnowsAll : View → Type 0
 KnowsAll v = (left_count v ≡ length v.sent) × ((weight : Entry → ℕ) → weight_of weight v ≡ total weight v.sent)

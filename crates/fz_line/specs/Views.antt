@@ -1,16 +1,17 @@
--- What each side of the line knows, and how the owner shares out the lists of the seats. The owner begins with the lists of eight seats, all
--- empty; a seat that opens gets one of them, so that those of the seats that never open stay with the owner.
+-- What each side of the line knows, and how the owner distributes the lists of the seats. The owner begins with eight empty lists. A seat that is opened gets
+-- one of them; the lists of seats that are never opened stay with the owner.
+-- code: fz_line/src/protocol.rt, opening.rt, drain.rt
 use Rattle.std.specs.Prelude.{ℕ, ◌+◌, ◌^◌, List, [], ◌∷◌, ◌++◌, replicate, Bool, true, false}
 use Rattle.fz_model.specs.declared.answers.Entry.{Entry}
 use Rattle.fz_model.specs.declared.limits.TheConstants.{MAX_WORKERS}
 use Rattle.fz_line.specs.declared.protocol.View.{View}
 
--- f of each element, added up
+-- the sum of f over the list
 abbrev pub total : {X : Type 0} → (X → ℕ) → List X → ℕ
 total f [] = 0
 total f (x ∷ xs) = f x + total f xs
 
--- how many entries a line may be sent
+-- the largest number of entries that a line may be sent
 abbrev pub sent_limit : ℕ
 sent_limit = 2 ^ 62
 
@@ -21,11 +22,11 @@ view_of owner sent popped lists = record { owner = owner; sent = sent; popped = 
 abbrev pub first_view : View
 first_view = view_of true [] [] (replicate MAX_WORKERS [])
 
--- what knows nothing
+-- a view that knows nothing
 abbrev pub blank : View
 blank = view_of false [] [] []
 
--- a seat that took these entries
+-- the view of a seat that took these entries
 abbrev pub seat_view : List Entry → View
 seat_view took = view_of false [] [] (took ∷ [])
 
@@ -37,13 +38,13 @@ abbrev pub other_lists : List (List Entry) → List (List Entry)
 other_lists [] = []
 other_lists (list ∷ lists) = lists
 
--- the owner once it gave its first list to a seat, and the seat
+-- the owner after it gave its first list to a seat, and that seat
 abbrev pub without_first : View → View
 without_first v = view_of v.owner v.sent v.popped (other_lists v.lists)
 
 abbrev pub first_as_seat : View → View
 first_as_seat v = seat_view (first_list v.lists)
 
--- the owner once it took the lists of another pass in
+-- the owner after it took back the lists of another pass
 abbrev pub with_lists_of : View → View → View
 with_lists_of v other = view_of v.owner v.sent v.popped (other.lists ++ v.lists)

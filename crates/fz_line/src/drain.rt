@@ -1,4 +1,4 @@
-//! How a line is drained.
+//! Draining a line.
 
 ghost use Rattle.std.specs.Prelude.{◌≡◌, ◌+◌, ◌≤◌, ℕ, [], length, drop, vec_capacity};
 ghost use Rattle.std.specs.List.{AllByRecursion};
@@ -13,10 +13,10 @@ use crate::seat::Seat;
 use fz_model::Entry;
 use std::mem;
 
-/// Pops all, once the owner's end has the lists of these seats beside those that it has.
+/// Pops all entries, once the owner's end has the lists of these seats as well as those that it has already.
 ///
-/// Each level of the recursion lends one seat's list to the owner, and has it back in the end: so at the bottom the owner has the lists of
-/// all seats, and no seat has to remember its own.
+/// Each level of the recursion lends one seat's list to the owner and returns it at the end. So at the bottom the owner has the lists of all seats, and the
+/// code needs no array of borrowed lists.
 pub(crate) fn gather(worker: &mut LineWorker, seats: &mut [Seat], out: &mut Vec<Entry>)
     requires own { AllByRecursion (λ seat. seat.line ≡ (worker_deque worker.old).0) seats.old }
     requires once { HasPoppedNothing worker.old }
@@ -45,7 +45,7 @@ pub(crate) fn gather(worker: &mut LineWorker, seats: &mut [Seat], out: &mut Vec<
     drop(blank);
 }
 
-/// Pops all. The owner's end has the lists of all seats.
+/// Pops all entries. Requires that the owner's end has the lists of all seats.
 fn pop_all(worker: &mut LineWorker, out: &mut Vec<Entry>)
     requires once { HasPoppedNothing worker.old }
     requires all { length (worker_view worker.old).lists ≡ MAX_WORKERS }

@@ -1,4 +1,4 @@
-//! Duties: seats with an entry in hand.
+//! Duties: consumers with an entry in flight.
 
 ghost use Rattle.std.specs.Prelude.{◌≡◌, ◌+◌};
 
@@ -7,10 +7,10 @@ use crate::taker::Taker;
 use fz_model::Entry;
 use std::marker::Model;
 
-/// A seat with the entry that it took last.
+/// A consumer with the entry that it took last.
 ///
-/// A duty can't be copied, cloned or dropped, so that its entry isn't forgotten: it becomes a seat again by `done` or `forfeit`.
-/// A contract sees the seat, whose list ends with the entry, and the entry.
+/// A duty can't be copied, cloned or dropped, so its entry can't be lost: `done` or `forfeit` turns it back into a seat. Its model is the seat, whose list
+/// ends with the entry, and the entry.
 pub struct Duty {
     pub(crate) taker: Taker,
     pub(crate) entry: Entry,
@@ -28,14 +28,14 @@ impl Model for Duty {
 }
 
 impl Duty {
-    /// The entry in hand.
+    /// The entry in flight.
     pub fn entry(&self) -> &Entry
         ensures { result.now ≡ self.now.entry }
     {
         &self.entry
     }
 
-    /// Gives the entry up, which counts as forfeited.
+    /// Abandons the entry, which counts as forfeited.
     pub fn forfeit(self) -> Seat
         ensures { result ≡ record self.seat { forfeited = self.seat.forfeited + 1 } }
     {
@@ -47,7 +47,7 @@ impl Duty {
         Seat { taker }
     }
 
-    /// Puts the entry away with its work done, which counts as finished.
+    /// Reports that the entry's work is done, which counts as finished.
     pub fn done(self) -> Seat
         ensures { result ≡ record self.seat { finished = self.seat.finished + 1 } }
     {

@@ -1,7 +1,8 @@
-//! The ready line: its owner publishes entries, and seats take them in order, each entry once, without a lock and without waiting.
+//! The ready line is a queue with one producer and several consumers. The owner publishes entries; seats take them in order, each entry once, lock-free and
+//! without waiting.
 //!
-//! `line` makes a line with its seats. A seat that takes an entry becomes a `Duty`, which becomes a seat again by `done` or `forfeit`.
-//! `PlainLine` is the same order for one thread: a number of entries of a queue that were handed out.
+//! `line` makes a line with its seats (consumers). A seat that takes an entry becomes a `Duty`, and `done` or `forfeit` turns that into a seat again.
+//! `PlainLine` is the same order for a single thread: it counts how many entries of a queue were taken.
 #![tactic(auto)]
 
 mod drain;

@@ -1,4 +1,4 @@
-//! Seats, which take entries from the line.
+//! Seats: consumers that take entries from the line.
 
 ghost use Rattle.std.specs.Prelude.{◌≡◌, ◌+◌, length};
 ghost use Rattle.fz_line.specs.Takes.{MatchTake, GainsEntry, FitsSteal, AnswersSteal};
@@ -9,10 +9,10 @@ use crossbeam_deque::Steal;
 use fz_model::Entry;
 use std::marker::Model;
 
-/// A worker's seat at the line, with no entry in hand.
+/// A consumer of the line, with no entry in flight.
 ///
-/// A seat can't be copied, cloned or dropped, so that no entry that it took is forgotten: it ends by `retire` alone.
-/// A contract sees the list of all entries that it took, and that each of them was finished or forfeited.
+/// A seat can't be copied, cloned or dropped, so no entry that it took can be lost: only `retire` ends it. Its model is the list of all entries that it took,
+/// each of which was finished or forfeited.
 pub struct Seat {
     pub(crate) taker: Taker,
 }
@@ -30,15 +30,15 @@ impl Model for Seat {
 
 /// What a take returns.
 pub enum Take {
-    /// The first entry of the line, in the seat's hands.
+    /// The first entry of the line. The seat became a duty.
     Taken(Duty),
-    /// The line was empty at one moment of the call.
+    /// The line was empty at some moment during the call.
     Empty(Seat),
-    /// Another thread was in the way, and the take has to be tried again.
+    /// Another thread interfered. Try again.
     Busy(Seat),
 }
 
-/// What a take returns, by what its steal gave the seat.
+/// What a take returns, given the result of the deque's steal.
 fn answer(taker: Taker, stolen: Steal<Entry>) -> Take
     requires { FitsSteal stolen taker }
     ensures { AnswersSteal stolen taker result }
@@ -51,14 +51,14 @@ fn answer(taker: Taker, stolen: Steal<Entry>) -> Take
 }
 
 impl Seat {
-    /// Takes the first entry of the line: one steal, with no lock and no wait.
+    /// Takes the first entry of the line by one steal. It is lock-free and doesn't wait.
     pub fn take(self) -> Take
         ensures { MatchTake result (GainsEntry self) (λ seat. seat ≡ self) }
     {
         self.take_from(&mut Deque)
     }
 
-    /// A take from this front of the line: one steal.
+    /// Takes from this front of the line, by one steal.
     pub fn take_from<F: Front>(self, front: &mut F) -> Take
         ensures { MatchTake result (GainsEntry self) (λ seat. seat ≡ self) }
     {
@@ -67,7 +67,7 @@ impl Seat {
         answer(taker, stolen)
     }
 
-    /// Its number among the seats of its line, counted from 0.
+    /// Its index among the seats of its line, counted from 0.
     pub fn index(&self) -> usize
         ensures { result ≡ self.now.index }
     {
@@ -82,21 +82,21 @@ impl Seat {
         self.taker.finished + self.taker.forfeited
     }
 
-    /// The number of entries whose work it did.
+    /// The number of entries that it finished.
     pub fn finished(&self) -> u64
         ensures { result ≡ self.now.finished }
     {
         self.taker.finished
     }
 
-    /// The number of entries that it gave up.
+    /// The number of entries that it forfeited.
     pub fn forfeited(&self) -> u64
         ensures { result ≡ self.now.forfeited }
     {
         self.taker.forfeited
     }
 
-    /// Ends the seat for good. Its line can't be drained after that.
+    /// Ends the seat for good. Afterwards its line can't be drained.
     pub fn retire(self) {
         let Seat { taker } = self;
         let Taker {

@@ -1,4 +1,4 @@
-//! What a seat and a duty have in common, and the front of the line, where they take.
+//! What a seat and a duty have in common, and the front of the line from which they take.
 
 ghost use Rattle.fz_line.specs.Takes.{Gives};
 
@@ -7,8 +7,8 @@ use crossbeam_deque::Steal;
 use fz_model::Entry;
 use std::marker::Model;
 
-/// What takes from the line for a seat: its end of the line, the pass that carries the list of what it took, and its counts. How many entries it took
-/// is no count of its own: it is what it finished and forfeited, and one more for a duty. A contract sees it as the seat.
+/// A seat's end of the line: its stealer, the pass that carries the list of what it took, and its counts. It doesn't count the entries that it took: that is
+/// what it finished and forfeited, and one more for a duty. Its model is that of the seat.
 pub struct Taker {
     pub(crate) stealer: LineStealer,
     pub(crate) pass: LinePass,
@@ -29,14 +29,15 @@ impl Model for Taker {
     ghost invariant = { λ t. IsSeatPass (stealer_deque t.stealer) t.pass };
 }
 
-/// The front of a line, where a take steals: `Deque`, or in a test what answers as the test wants, since no test can bring a deque to answer `Retry`.
+/// The front of a line, from which a take steals. In the product it is `Deque`. A test substitutes one that returns what the test chooses, since no test can
+/// force a deque to return `Retry`.
 pub trait Front {
     /// One attempt to take the first entry of the line.
     fn steal(&mut self, taker: &mut Taker) -> Steal<Entry>
         ensures { Gives result taker.old taker.new };
 }
 
-/// The front of the line itself: one steal from its deque, with no lock and no wait.
+/// The front of the line itself: one steal from its deque, lock-free and without waiting.
 #[derive(Clone, Copy)]
 pub struct Deque;
 

@@ -1,4 +1,5 @@
--- What C's entries stand for.
+-- Which entries of the model C's entries represent.
+-- code: fz_line_c/src/entry.rt
 use Rattle.fz_model.specs.declared.answers.Entry as answers
 use Rattle.fz_line_c.specs.declared.entry.Entry.{Entry}
 

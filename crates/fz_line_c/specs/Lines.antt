@@ -1,4 +1,5 @@
--- What a call of a line behind a handle does.
+-- What the calls of a line do through a handle.
+-- code: fz_line_c/src/lines.rt, line_session.rt
 use Rattle.std.specs.Prelude.{◌≡◌, ◌≢◌, ◌≤◌, ◌⊎◌, ℕ, Option, true, Some, None, List, [], ◌∷◌, ◌++◌, length}
 use Rattle.fz_model.specs.declared.answers.Entry.{Entry}
 use Rattle.fz_model.specs.declared.limits.TheConstants.{MAX_WORKERS}
@@ -13,7 +14,7 @@ use Rattle.fz_line_c.specs.declared.line_session.TheConstants.{FIRST_ROOM}
 
 pub record LineState : Type 0 where
   pub owner : OwnerState
-  pub seats : List SeatState  -- those that weren't handed out
+  pub seats : List SeatState  -- those that C hasn't got yet
 
 -- ---- opening
 
@@ -34,7 +35,7 @@ Opens None n new code = Opened n new code
 abbrev pub with_sent : LineState → Entry → LineState
 with_sent l entry = record l { owner = record l.owner { sent = l.owner.sent ++ entry ∷ [] } }
 
--- the entry has another number than the next, or 2^62 were sent, or memory is short, but not for those that the line has room for from its opening
+-- the entry doesn't have the next number; or 2^62 entries were sent; or memory ran out, but not within the room that the line has from its opening
 abbrev pub IsWhyNot : LineState → Entry → ℕ → Type 0
 IsWhyNot l entry code =
     ((code ≡ NOT_NEXT) × (entry.seq ≢ length l.owner.sent))

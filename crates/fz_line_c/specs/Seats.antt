@@ -1,4 +1,5 @@
--- What a call of a seat behind a handle does.
+-- What the calls of a seat do through a handle.
+-- code: fz_line_c/src/seats.rt, seat_session.rt
 use Rattle.std.specs.Prelude.{◌≡◌, ◌+◌, ◌⊎◌, ℕ, Option, Some, None, [], ◌∷◌, ◌++◌}
 use Rattle.fz_model.specs.declared.answers.Entry.{Entry}
 use Rattle.fz_model.specs.declared.refusal.Refusal.TheVariants as refusals
@@ -11,7 +12,7 @@ use Rattle.fz_line_c.specs.declared.codes.TheConstants.{OK, NO_WORLD, HAS_WORLD,
 use Rattle.fz_line_c.specs.declared.seat_session.SeatSession.{SeatSession}
 use Rattle.fz_line_c.specs.declared.seat_session.SeatSession.TheVariants.{Idle, Working, Away}
 
--- ---- taking: what C is told is the entry that the seat gained, or its place is as it was
+---- taking: C gets the entry that the seat took, or its variable is unchanged
 
 abbrev pub Takes : SeatSession → SeatSession → ℕ → (Entry → Type 0) → Type 0 → Type 0
 Takes (Idle seat) (Working duty) code told kept = (code ≡ OK) × GainsEntry seat duty × told duty.entry
@@ -20,7 +21,7 @@ Takes (Idle seat) Away code told kept = ⊥
 Takes (Working duty) new code told kept = (new ≡ Working duty) × (code ≡ IN_HAND) × kept
 Takes Away new code told kept = (new ≡ Away) × (code ≡ NO_WORLD) × kept
 
--- each answer of the line is told as what it is. Means only.
+-- each result of the line gives the matching code. Means only.
 abbrev pub AnswersTake : Take → SeatSession → ℕ → (Entry → Type 0) → Type 0 → Type 0
 AnswersTake (take.Taken duty) (Working same) code told kept = (same ≡ duty) × (code ≡ OK) × told duty.entry
 AnswersTake (take.Empty seat) (Idle same) code told kept = (same ≡ seat) × (code ≡ EMPTY) × kept
@@ -44,7 +45,7 @@ FinishesBehind (Some old) (Some new) code = Finishes old new code
 FinishesBehind (Some old) None code = ⊥
 FinishesBehind None new code = (new ≡ None) × (code ≡ NO_WORLD)
 
--- ---- handing a seat out: the last of those that the line has left
+---- getting a seat: the last one that the line has left
 
 abbrev pub HandsNext : LineState → LineState → Option SeatSession → ℕ → Type 0
 HandsNext old new (Some (Idle seat)) code = (code ≡ OK) × (old.owner ≡ new.owner) × (old.seats ≡ new.seats ++ seat ∷ [])

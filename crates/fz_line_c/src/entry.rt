@@ -1,4 +1,4 @@
-//! Entries, as C has them.
+//! Entries, as C represents them.
 
 ghost use Rattle.std.specs.Prelude.{◌≡◌};
 ghost use Rattle.fz_line_c.specs.Entries.{entry_of};

@@ -1,4 +1,4 @@
-//! What C holds of a line, and of a seat.
+//! What C holds of a line and of a seat.
 
 ghost use Rattle.std.specs.Prelude.{Option};
 ghost use Rattle.std.specs.Coded.{coded_option};
@@ -12,7 +12,7 @@ mod sessions;
 use std::alloc::Global;
 use std::marker::Model;
 
-/// A boxed session of a line as its pointer, or null where there is none. C starts it as null, and doesn't copy it.
+/// A boxed session of a line as a raw pointer, or null if there is none. C initializes it to null and never copies it.
 #[repr(C)]
 #[derive(Drop)]
 pub struct LineHandle {
@@ -25,10 +25,10 @@ impl Model for LineHandle {
     ghost also_owns = { λ h. maybe_owns Line.the_row h.alloc h.at h.value };
 }
 
-// What a handle owns may go to another thread: `proofs/handle/LineHandle/TheSendSync/Send.antt`.
+// What a handle owns may be sent to another thread: `proofs/handle/LineHandle/TheSendSync/Send.antt`.
 unsafe impl Send for LineHandle {}
 
-/// A boxed session of a seat as its pointer, or null where there is none. C starts it as null, and doesn't copy it.
+/// A boxed session of a seat as a raw pointer, or null if there is none. C initializes it to null and never copies it.
 #[repr(C)]
 #[derive(Drop)]
 pub struct SeatHandle {
@@ -41,5 +41,5 @@ impl Model for SeatHandle {
     ghost also_owns = { λ h. maybe_owns Seat.the_row h.alloc h.at h.value };
 }
 
-// What a handle owns may go to another thread: `proofs/handle/SeatHandle/TheSendSync/Send.antt`.
+// What a handle owns may be sent to another thread: `proofs/handle/SeatHandle/TheSendSync/Send.antt`.
 unsafe impl Send for SeatHandle {}

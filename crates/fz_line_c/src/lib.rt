@@ -1,6 +1,6 @@
-//! The ready line, for C: an owner's end that entries are published to, and seats that take them, each behind a handle.
+//! The ready line for C: an owner's end that publishes entries, and seats (consumers) that take them, each through a handle.
 //!
-//! `c/include/derrimas.h` declares the exports. Each answers a code. Where it doesn't answer 0, the places that C gave for its results are as they were.
+//! `c/include/derrimas.h` declares the exports. Each returns a code. Unless it returns 0, the variables that C passed for results are unchanged.
 #![tactic(auto)]
 
 mod codes;

@@ -1,4 +1,4 @@
-//! What stands behind a line's handle.
+//! What a line's handle points to.
 
 ghost use Rattle.std.specs.Prelude.{◌≡◌, [], ◌∷◌, ◌++◌, length, IfErr, IfOk, OnOk, IfSome};
 ghost use Rattle.fz_line_c.specs.Lines.{Publishes};
@@ -8,13 +8,13 @@ use fz_line::{Owner, Seat, retire_all};
 use fz_model::{Entry, Refusal};
 use std::marker::Model;
 
-/// For how many entries a line has room from its opening.
+/// For how many entries a line has room when it is opened.
 pub(crate) const FIRST_ROOM: usize = 64;
 
-/// How many entries a line is sent at most.
+/// The largest number of entries that a line is sent.
 const MOST_SENT: u64 = 1 << 62;
 
-/// A line's owner, the seats that weren't handed out, and how many entries were sent.
+/// A line's owner, the seats that C hasn't got yet, and how many entries were sent.
 pub struct LineSession {
     pub(crate) owner: Owner,
     pub(crate) seats: Vec<Seat>,
@@ -45,7 +45,7 @@ impl Drop for LineSession {
 }
 
 impl LineSession {
-    /// Publishes one entry, which is to have the next number.
+    /// Publishes one entry. It has to have the next number.
     pub(crate) fn publish(&mut self, entry: Entry) -> Code
         ensures { Publishes self.old entry self.new result }
     {

@@ -1,4 +1,4 @@
-//! Lines come and go, and are published to.
+//! Opening and freeing lines, and publishing entries.
 
 ghost use Rattle.std.specs.Prelude.{◌≡◌, [], ◌∷◌, None, IfOk};
 ghost use Rattle.fz_model.specs.Causes.{IsJudgedOrLacks, bad_count};
@@ -58,7 +58,7 @@ pub extern "C" fn fz_line_open(alloc: Global, line: &mut LineHandle, seats: u64)
     }
 }
 
-/// Frees the handle's line, with the seats that weren't handed out, if it has one.
+/// Frees the handle's line, if it has one, with the seats that C hasn't got.
 #[unsafe(no_mangle)]
 pub extern "C" fn fz_line_destroy(alloc: Global, line: &mut LineHandle)
     ensures { line.new.value ≡ None }
@@ -66,7 +66,7 @@ pub extern "C" fn fz_line_destroy(alloc: Global, line: &mut LineHandle)
     drop(line.take(alloc));
 }
 
-/// `Owner::publish` of one entry.
+/// `Owner::publish` for one entry.
 #[unsafe(no_mangle)]
 pub extern "C" fn fz_line_publish(alloc: Global, line: &mut LineHandle, entry: &Entry) -> Code
     ensures { PublishesBehind line.old.value (entry_of entry.now) line.new.value result }
@@ -96,7 +96,7 @@ fn next_seat(alloc: Global, session: &mut LineSession, seat: &mut SeatHandle) ->
     }
 }
 
-/// Puts the last seat of the line that wasn't handed out into a handle that has none.
+/// Moves the last remaining seat of the line into an empty handle.
 #[unsafe(no_mangle)]
 pub extern "C" fn fz_line_seat(alloc: Global, line: &mut LineHandle, seat: &mut SeatHandle) -> Code
     ensures { HandsOut line.old.value seat.old.value line.new.value seat.new.value result }

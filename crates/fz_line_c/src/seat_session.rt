@@ -1,4 +1,4 @@
-//! What stands behind a seat's handle.
+//! What a seat's handle points to.
 
 ghost use Rattle.std.specs.Prelude.{◌≡◌};
 ghost use Rattle.fz_line_c.specs.Entries.{entry_of};
@@ -8,7 +8,7 @@ use crate::codes::{BUSY, Code, EMPTY, IN_HAND, NO_WORLD, OK};
 use crate::entry::Entry;
 use fz_line::{Duty, Front, Seat, Take};
 
-/// A seat, which may have an entry in hand; `Away` where a call has it just now.
+/// A seat, which may have an entry in flight. It is `Away` while a call uses it.
 pub enum SeatSession {
     Idle(Seat),
     Working(Duty),
@@ -25,7 +25,7 @@ impl Drop for SeatSession {
     }
 }
 
-/// What is answered of a take, and what is told of it.
+/// The session and the code after a take. An entry is stored in C's variable.
 fn answer(taken: Take, entry: &mut Entry) -> (SeatSession, Code)
     ensures { AnswersTake taken result.0 result.1 (λ taken. entry_of entry.new ≡ taken) (entry.new ≡ entry.old) }
 {
@@ -40,7 +40,7 @@ fn answer(taken: Take, entry: &mut Entry) -> (SeatSession, Code)
 }
 
 impl SeatSession {
-    /// Takes an entry from this front of the line, if none is in hand, and tells it.
+    /// Takes an entry from this front of the line, unless one is in flight, and stores it in C's variable.
     #[tactic(auto, using(crate::proofs::Answered::takes))]
     pub(crate) fn take<F: Front>(self, front: &mut F, entry: &mut Entry) -> (SeatSession, Code)
         ensures { Takes self result.0 result.1 (λ taken. entry_of entry.new ≡ taken) (entry.new ≡ entry.old) }
@@ -52,7 +52,7 @@ impl SeatSession {
         }
     }
 
-    /// Puts the entry in hand away with its work done.
+    /// Finishes the entry in flight.
     pub(crate) fn done(self) -> (SeatSession, Code)
         ensures { Finishes self result.0 result.1 }
     {

@@ -1,4 +1,4 @@
-//! Seats, which take entries.
+//! Seats: consumers that take entries.
 
 ghost use Rattle.std.specs.Prelude.{◌≡◌, None};
 ghost use Rattle.fz_line_c.specs.Entries.{entry_of};
@@ -30,7 +30,7 @@ pub(crate) fn take_from<F: Front>(
     code
 }
 
-/// `Seat::take`: with no lock and no wait.
+/// `Seat::take`: lock-free, and it doesn't wait.
 #[unsafe(no_mangle)]
 pub extern "C" fn fz_seat_take(alloc: Global, seat: &mut SeatHandle, entry: &mut Entry) -> Code
     ensures { TakesBehind seat.old.value seat.new.value result (λ taken. entry_of entry.new ≡ taken) (entry.new ≡ entry.old) }
@@ -52,7 +52,7 @@ pub extern "C" fn fz_seat_done(alloc: Global, seat: &mut SeatHandle) -> Code
     code
 }
 
-/// Ends the handle's seat, if it has one. An entry in hand is forfeited.
+/// Frees the handle's seat, if it has one. An entry in flight is forfeited.
 #[unsafe(no_mangle)]
 pub extern "C" fn fz_seat_destroy(alloc: Global, seat: &mut SeatHandle)
     ensures { seat.new.value ≡ None }

@@ -1,4 +1,4 @@
-//! What C's seat answers where a steal gives `Retry`, which no test can bring a deque to do, `Empty` or an entry.
+//! What C's seat returns if a steal gives `Retry`, which no test can force, `Empty` or an entry.
 
 use crate::codes::{BUSY, EMPTY, OK};
 use crate::entry::Entry;
@@ -23,7 +23,7 @@ const SENT: Entry = Entry {
     cd: 8,
 };
 
-/// What stands in C's place before an entry is told.
+/// The content of C's variable before an entry is stored.
 const UNTOLD: Entry = Entry {
     seq: 9,
     pass: 9,
@@ -34,7 +34,7 @@ const UNTOLD: Entry = Entry {
     cd: 9,
 };
 
-/// Gives these answers, one a take, and then those of the line. A task comes from the line too.
+/// A front that returns these results, one for each take, and afterwards those of the line. A taken entry comes from the line, too.
 #[derive(Drop)]
 struct Told<'a> {
     answers: &'a [Steal<()>],
@@ -54,10 +54,10 @@ impl Front for Told<'_> {
     }
 }
 
-/// Asks that a type may go to another thread. The proofs of handles cite that their sessions may, and a check of tests proves it only where it is asked for.
+/// Requires that a type is `Send`. The proofs of handles cite this property of their sessions, and a check of tests proves it only if something uses it.
 fn may_go_to_a_thread<T: Send>() {}
 
-/// Stops the test where a value isn't the one that is wanted.
+/// Fails the test if a value isn't the expected one.
 fn must_be<T: Copy + Debug + PartialEq>(rt: &impl Abort, found: T, want: T, what: &str) {
     assert_eq!(rt; found, want, "{what}");
 }

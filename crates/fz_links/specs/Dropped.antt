@@ -1,10 +1,11 @@
--- What is left when links are dropped by a test of link and target.
+-- The links that remain after links were removed by a test of link and target.
+-- code: fz_links/src/links.rt (drop_where)
 use Rattle.std.specs.Prelude.{◌≡◌, ℕ, Bool, false, not}
 use Rattle.std.specs.Option.{option_map_or}
 use Rattle.std.specs.FinMap.{get, retain_keys}
 use Rattle.fz_model.specs.State.{Map}
 
--- a call that may answer so computes the test
+-- a closure that returns this computes the test
 abbrev pub ComputesTest : (ℕ → ℕ → Bool → Type 0) → (ℕ → ℕ → Bool) → Type 0
 ComputesTest answers test = (link target : ℕ) (answer : Bool) → answers link target answer → answer ≡ test link target
 

@@ -1,4 +1,4 @@
-//! A table of links that is built anew in the memory that it has.
+//! Rebuilding a table of links in the memory that it has.
 
 ghost use Rattle.std.specs.Prelude.{◌≡◌, ◌≤◌, ◌<◌, [], length, vec_capacity, IsSome};
 ghost use Rattle.std.specs.Ordering.{nat_cmp};
@@ -9,7 +9,7 @@ use fz_model::Addr;
 use fz_table::{AddressHasher, Pairs};
 use indexmap::IndexMap;
 
-/// Puts all links with their targets on an empty list that has room for them.
+/// Puts all links with their targets into an empty list, which has room for them.
 pub(crate) fn list_all(links: &IndexMap<Addr, Addr, AddressHasher>, list: &mut Vec<(Addr, Addr)>)
     requires empty { list.old.items ≡ [] }
     requires room { length links.now.entries ≤ vec_capacity list.old }
@@ -21,7 +21,7 @@ pub(crate) fn list_all(links: &IndexMap<Addr, Addr, AddressHasher>, list: &mut V
     }
 }
 
-/// Puts the listed links into an empty table that has room for them, but one. Then there is room for another.
+/// Inserts the listed links except one into an empty table, which has room for them. Afterwards there is room for another link.
 pub(crate) fn insert_but(
     links: &mut IndexMap<Addr, Addr, AddressHasher>,
     list: &mut Vec<(Addr, Addr)>,

@@ -44,7 +44,7 @@ impl Model for Links {
 
     ghost coded = { linked_code };
 
-    ghost view = { λ l. record { links = from_entries l.entries.entries; room = spare l.entries } };
+    ghost view = { λ l. record { links = from_entries l.entries.entries; room = spare l.entries; order = l.entries.entries } };
 
     ghost invariant = { λ l. len (from_entries {R = nat_cmp} l.entries.entries) ≤ MOST_ENTRIES };
 }
@@ -69,6 +69,14 @@ impl Links {
     {
         self.entries.reserve(more)?;
         Ok(())
+    }
+
+    /// Gives back the memory that the links and their moves don't need. What can't be made smaller for want of memory stays as it is.
+    pub fn shrink(&mut self)
+        ensures same { self.new.links ≡ self.old.links }
+    {
+        let len = self.entries.len();
+        self.entries.shrink_to(len + spare_for(len));
     }
 
     /// Registers a link, or gives a registered one a new target.
@@ -216,12 +224,13 @@ impl Links {
         self.entries.is_empty()
     }
 
-    /// All links with their targets, each once, in no order that callers may count on.
+    /// All links with their targets, each once, in an order that stays as long as nothing changes.
     pub fn iter(&self) -> Pairs<'_, Addr, Addr>
         ensures all { from_entries result ≡ self.now.links }
         ensures once { IsDistinct nat_eq (keys_of result) }
         ensures count { length result ≡ len self.now.links }
         ensures limit { length result ≤ MOST_ENTRIES }
+        ensures order { result ≡ self.now.order }
     {
         Pairs::of(self.entries.iter())
     }
@@ -257,6 +266,14 @@ impl Links {
     {
         self.len() as u64 >= TABLE_LIMIT && self.get(link).is_none()
     }
+}
+
+/// How many places a table of so many links keeps for their moves: a sixteenth of all.
+fn spare_for(links: usize) -> usize
+    ensures few { result ≤ links }
+    ensures some { 0 < links → 0 < result }
+{
+    links.div_ceil(15)
 }
 
 /// The answer to the registering of a link.

@@ -19,7 +19,7 @@ use Rattle.fz_finalizers.specs.declared.kinds.Finalizer.{Finalizer}
 use Rattle.fz_finalizers.specs.Follows.{Event, Follows, Register, Unregister, Link, Unlink, Move, Pass, Begin, Queue, QueueAll, Take, TakeFinished, Finish, queued_object, queued_one, with_registration}
 use Rattle.fz_finalizers.specs.Kinds.{is_late, table_finalizer, table_kind}
 use Rattle.fz_finalizers.specs.Promises.{IsReached, Opened, Past, Then}
-use Rattle.fz_finalizers.specs.States.{State, registered, with_links}
+use Rattle.fz_finalizers.specs.States.{State, View, registered, with_links}
 use Rattle.fz_machine.specs.declared.item.Item.{Item}
 use Rattle.fz_machine.specs.declared.phase.Phase.{Phase}
 use Rattle.fz_machine.specs.declared.phase.Phase.TheVariants.{ShortTargets, ShortWords, Objects, Children, Again, Picks, LateAgain, LatePicks, LongTargets, LongWords, ShortHolders, LongHolders}
@@ -58,11 +58,13 @@ module _ (past : Past) (s : State) (c : IsCalled past s) where
 
 pub passes_are_calls : PassesAreCalls
 passes_are_calls old new past reached (inl begun) = record { later = past; reached = Then Begin reached begun.finalizers; taken = refl; finished = refl }
-passes_are_calls old new past reached (inr (answers, next, goes)) =
+passes_are_calls old new past reached (inr (inl (answers, next, goes))) =
     let kept = λ (phase : Phase) (item : Item) (answer : Bool) (s : State) (c : IsCalled past s). called past s c phase item answer in
     let start : IsCalled past old.finalizers.state = record { later = past; reached = reached; taken = refl; finished = refl } in
     goes_keep (IsCalled past) kept goes.phase (steps goes.phase answers (going old.finalizers old.walk)) new.phase (going new.finalizers new.walk) goes.goes
     (steps_keep (IsCalled past) kept goes.phase answers (going old.finalizers old.walk) start)
+passes_are_calls old new past reached (inr (inr abandoned)) =
+    record { later = past; reached = subst (λ (v : View). IsReached v.state past) (sym abandoned.same) reached; taken = refl; finished = refl }
 
 -- ---- the late ones are registered as normal ones
 

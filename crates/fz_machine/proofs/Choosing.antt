@@ -14,7 +14,7 @@ use Rattle.fz_machine.specs.Graph.{Graph, CanMark, IsHonest}
 use Rattle.fz_machine.specs.Phases.{pick_ask}
 
 module _ (E : Type 0) (clear : Map Object) (o : ℕ) (h new : Graph) (objects : h.objects ≡ clear) (closed : IsClosed clear h.marked) (there : IsTrue (contains_key clear o)) where
-  can_mark : CanMark h o
+  pub can_mark : CanMark h o
   can_mark = (ap (λ (m : Map Object). contains_key m o) objects ∙ there, subst (λ (m : Map Object). IsClosed m h.marked) (sym objects) closed)
 
   abbrev Marked : Type 0

@@ -24,3 +24,4 @@ pub mod Fewer
 pub mod Within
 pub mod Throughout
 pub mod Called
+mod Askable

@@ -82,7 +82,7 @@ module _ (E : Type 0) (b : State) (before : Graph) (begin : HasBegun b before) w
 
 -- ---- from the begin to the end
 
-module _ (E : Type 0) (old begun new : Machine) (past : Past) (before after_it : Graph) (reached : IsReached old.finalizers.state past) (is : IsBegun old begun) (may : MayBegin old.finalizers.state before) (runs : Runs E begun before new after_it) (ends : new.phase ≡ None) where
+module _ (E : Type 0) (old begun new : Machine) (past : Past) (before after_it : Graph) (reached : IsReached old.finalizers.state past) (is : IsBegun old begun) (may : MayBegin old.finalizers.state before) (runs : Runs E begun before new after_it) where
   abbrev b : State
   b = record old.finalizers.state { passes = next_pass old.finalizers.passes }
 
@@ -100,31 +100,43 @@ module _ (E : Type 0) (old begun new : Machine) (past : Past) (before after_it :
       (sifts_begin E _ before.objects before.marked (IsLink before.objects b.short before.marked) (IsLinkAt before.objects b.short before.marked) begun.finalizers.state begun.walk.left before
       (is.finalizers ∙ as_begun b) refl refl (links_each b.short begun.walk.left listed) (λ object word here off. links_all b.short begun.walk.left listed object word here))
 
-  at_end : IsAtEnd E b before new.finalizers.state after_it
-  at_end =
-      subst (λ o. IsWhere E b before o new.finalizers.state new.walk.kept new.walk.left after_it) ends
-      (ran E b before has_begun begun new after_it (subst (λ o. IsWhere E b before o begun.finalizers.state begun.walk.kept begun.walk.left before) (sym is.phase) starts) runs)
+  is_where : IsWhere E b before new.phase new.finalizers.state new.walk.kept new.walk.left after_it
+  is_where = ran E b before has_begun begun new after_it (subst (λ o. IsWhere E b before o begun.finalizers.state begun.walk.kept begun.walk.left before) (sym is.phase) starts) runs
+
+  -- where the pass is, as its phase says
+  pub where_it_is : (s : State) × (h : HasBegun s before) × ((phase : Phase) → new.phase ≡ Some phase → IsIn E s before phase new.finalizers.state new.walk.kept new.walk.left after_it)
+  where_it_is = (b, has_begun, λ phase at. subst (λ o. IsWhere E b before o new.finalizers.state new.walk.kept new.walk.left after_it) at is_where)
+
+module _ (E : Type 0) (old begun new : Machine) (past : Past) (before after_it : Graph) (reached : IsReached old.finalizers.state past) (is : IsBegun old begun) (may : MayBegin old.finalizers.state before) (runs : Runs E begun before new after_it) (ends : new.phase ≡ None) where
+  abbrev c : State
+  c = b E old begun new past before after_it reached is may runs
+
+  begins_so : HasBegun c before
+  begins_so = has_begun E old begun new past before after_it reached is may runs
+
+  at_end : IsAtEnd E c before new.finalizers.state after_it
+  at_end = subst (λ o. IsWhere E c before o new.finalizers.state new.walk.kept new.walk.left after_it) ends (is_where E old begun new past before after_it reached is may runs)
 
   -- what comes and goes in the finalizers
   as_pass : Follows old.finalizers.state Pass new.finalizers.state
   as_pass =
       let picks = at_end.chosen.first.picks ++ at_end.chosen.late_picks in
-      let come = entries_of b.passes b.queued picks in
-      let long = ap length (ap (λ (s : State). s.waiting) at_end.state) ∙ length-append b.waiting come in
-      let entries = length-entries_of b.passes b.queued picks in
+      let come = entries_of c.passes c.queued picks in
+      let long = ap length (ap (λ (s : State). s.waiting) at_end.state) ∙ length-append c.waiting come in
+      let entries = length-entries_of c.passes c.queued picks in
       let queued = ap (λ (s : State). s.queued) at_end.state in
       let count : length old.finalizers.waiting + new.finalizers.queued ≡ length new.finalizers.waiting + old.finalizers.queued = omega (arith, long, entries, queued) in (
-        decided_queues E b.passes before.objects (retain_keys after_it.objects after_it.marked) before.marked old.finalizers.state new.finalizers.state has_begun.apart
-            (decides E b before has_begun new.finalizers.state after_it at_end) count (ap (λ (s : State). s.held) at_end.state) (ap (λ (s : State). s.next_number) at_end.state),
+        decided_queues E c.passes before.objects (retain_keys after_it.objects after_it.marked) before.marked old.finalizers.state new.finalizers.state begins_so.apart
+            (decides E c before begins_so new.finalizers.state after_it at_end) count (ap (λ (s : State). s.held) at_end.state) (ap (λ (s : State). s.next_number) at_end.state),
         ap (λ (s : State). s.passes) at_end.state,
       )
 
   pub makes_pass : MakesPass E old.finalizers.state before new.finalizers.state after_it
   makes_pass = record {
-    decided = decides E b before has_begun new.finalizers.state after_it at_end;
+    decided = decides E c before begins_so new.finalizers.state after_it at_end;
     follows = as_pass;
-    marks = still_marked E b before has_begun new.finalizers.state after_it at_end;
-    closed = closed_after E b before has_begun new.finalizers.state after_it at_end;
+    marks = still_marked E c before begins_so new.finalizers.state after_it at_end;
+    closed = closed_after E c before begins_so new.finalizers.state after_it at_end;
   }
 
 pub runs_pass : (E : Type 0) → RunsPass E

@@ -27,6 +27,11 @@ MayAsk MarkAlone object g = CanMark g object × IsLastToMark g.objects g.marked 
 MayAsk Clear word g = Unit {0}
 MayAsk IsHolderMarked word g = Unit {0}
 
+-- where nothing is asked, nothing is owed
+abbrev pub MayBeAsked : Option Ask → ℕ → Graph → Type 0
+MayBeAsked None subject g = Unit {0}
+MayBeAsked (Some ask) subject g = MayAsk ask subject g
+
 -- these came to the marks, and no others where the marking is exact
 abbrev pub Gains : Type 0 → Graph → Graph → (ℕ → Type 0) → Type 0
 Gains Exact old new gained = (new.objects ≡ old.objects) × Marks Exact old.objects old.marked new.marked gained

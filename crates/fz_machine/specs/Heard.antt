@@ -4,7 +4,7 @@ use Rattle.std.specs.FinMap.{len}
 use Rattle.fz_finalizers.specs.Promises.{Past, IsReached}
 use Rattle.fz_finalizers.specs.States.{State}
 use Rattle.fz_machine.specs.declared.pass.Next.{Next}
-use Rattle.fz_machine.specs.Machines.{Machine, IsBegun, GoesTo}
+use Rattle.fz_machine.specs.Machines.{Machine, IsBegun, GoesTo, IsAbandoned}
 
 -- a number of answers was heard since a pass began, no more to a question than it asked for
 pub data Hears (begun : Machine) : Machine → ℕ → Type 0 where
@@ -25,6 +25,6 @@ pub record IsCalled (past : Past) (s : State) : Type 0 where
   pub taken : later.taken ≡ past.taken
   pub finished : later.finished ≡ past.finished
 
--- calls lead through a pass
+-- calls lead through a pass, and to where one is abandoned
 abbrev pub PassesAreCalls : Type 0
-PassesAreCalls = (old new : Machine) (past : Past) → IsReached old.finalizers.state past → IsBegun old new ⊎ ((answers : List Bool) × (next : Next) × GoesTo old answers new next) → IsCalled past new.finalizers.state
+PassesAreCalls = (old new : Machine) (past : Past) → IsReached old.finalizers.state past → IsBegun old new ⊎ (((answers : List Bool) × (next : Next) × GoesTo old answers new next) ⊎ IsAbandoned old new) → IsCalled past new.finalizers.state

@@ -1,5 +1,5 @@
 -- What contracts see of finalizers whose pass asks.
-use Rattle.std.specs.Prelude.{◌≡◌, ℕ, ◌-◌, zero, suc, Bool, List, [], Option, Some, None, refl}
+use Rattle.std.specs.Prelude.{◌≡◌, ℕ, ◌-◌, zero, suc, Bool, List, [], Option, Some, None, is_some, IsTrue, refl}
 use Rattle.std.specs.Coded.{Coded, code_by, coded×, coded_ℕ, coded_option}
 use Rattle.fz_model.specs.declared.answers.Entry.{Entry}
 use Rattle.fz_finalizers.specs.States.{View, view_code}
@@ -98,3 +98,9 @@ pub record GoesTo (old : Machine) (answers : List Bool) (new : Machine) (next : 
   pub goes : GoesOn phase (steps phase answers (going old.finalizers old.walk)) new.phase (going new.finalizers new.walk)
   pub tells : Tells new next
   pub before : new.before ≡ old.before
+
+-- an open pass is ended before its end: the finalizers are as they were
+pub record IsAbandoned (old new : Machine) : Type 0 where
+  pub was : IsTrue (is_some old.phase)
+  pub idle : IsIdle new
+  pub same : new.finalizers ≡ old.finalizers

@@ -1,5 +1,5 @@
 -- Runs of a pass over a graph, and what they make.
-use Rattle.std.specs.Prelude.{◌≡◌, ℕ, Bool, List, [], ◌∷◌, None, IsTrue}
+use Rattle.std.specs.Prelude.{◌≡◌, ℕ, Bool, List, [], ◌∷◌, None, Some, IsTrue}
 use Rattle.fz_pass.specs.Marks.{IsClosed}
 use Rattle.fz_finalizers.specs.Follows.{Follows, Pass, next_pass}
 use Rattle.fz_finalizers.specs.Passed.{DecidesFor}
@@ -8,7 +8,7 @@ use Rattle.fz_finalizers.specs.States.{State}
 use Rattle.fz_machine.specs.declared.item.Item.{Item}
 use Rattle.fz_machine.specs.declared.pass.Next.{Next}
 use Rattle.fz_machine.specs.declared.phase.Phase.{Phase}
-use Rattle.fz_machine.specs.Graph.{Graph, IsHonest, MayBegin}
+use Rattle.fz_machine.specs.Graph.{Graph, IsHonest, MayBegin, MayBeAsked}
 use Rattle.fz_machine.specs.Machines.{Machine, IsBegun, GoesTo}
 use Rattle.fz_machine.specs.Phases.{asks, subject}
 
@@ -37,3 +37,16 @@ abbrev pub RunsPass : Type 0 → Type 0
 RunsPass Exact = (old begun new : Machine) (past : Past) (before after : Graph)
     → IsReached old.finalizers.state past → IsBegun old begun → MayBegin old.finalizers.state before → Runs Exact begun before new after → new.phase ≡ None
     → MakesPass Exact old.finalizers.state before new.finalizers.state after
+
+-- the first of the items may be asked about, and each later one after honest answers about those before it
+abbrev pub AreAskable : Type 0 → Phase → List Item → Graph → Type 0
+AreAskable Exact phase [] g = Unit {0}
+AreAskable Exact phase (item ∷ items) g =
+    MayBeAsked (asks phase item) (subject phase item) g
+    × ((answer : Bool) (between : Graph) → IsHonest Exact (asks phase item) (subject phase item) g answer between → AreAskable Exact phase items between)
+
+-- a host that answers for a graph is asked only what it may be asked
+abbrev pub AsksRightly : Type 0 → Type 0
+AsksRightly Exact = (old begun new : Machine) (past : Past) (before after : Graph) (phase : Phase)
+    → IsReached old.finalizers.state past → IsBegun old begun → MayBegin old.finalizers.state before → Runs Exact begun before new after → new.phase ≡ Some phase
+    → AreAskable Exact phase new.walk.left after

@@ -1,6 +1,7 @@
 //! Finalizers whose pass asks: for a host that answers questions, as one in C.
 #![tactic(auto)]
 
+mod abandoning;
 mod asking;
 mod calls;
 mod going_on;
@@ -16,7 +17,7 @@ mod reserving;
 mod walk;
 
 pub use item::Item;
-pub use law::{passes_are_calls, passes_end, runs_make_the_pass};
+pub use law::{passes_are_calls, passes_end, questions_may_be_asked, runs_make_the_pass};
 pub use machine::Machine;
 pub use pass::Next;
 pub use phase::Phase;

@@ -5,7 +5,7 @@ use Rattle.fz_machine.specs.declared.pass.Next.TheVariants as next
 use Rattle.fz_machine.specs.declared.phase.Phase.{Phase}
 use Rattle.fz_machine.specs.declared.refused.Refused.TheVariants.{NoPass}
 use Rattle.fz_machine.specs.Asks.{number_of}
-use Rattle.fz_machine.specs.Machines.{Machine, GoesTo}
+use Rattle.fz_machine.specs.Machines.{Machine, GoesTo, IsAbandoned}
 use Rattle.fz_machine_c.specs.declared.codes.TheConstants.{OK, EMPTY}
 use Rattle.fz_machine_c.specs.declared.passing.Question.{Question}
 use Rattle.fz_machine_c.specs.declared.passing.Passed.{Passed}
@@ -30,3 +30,11 @@ AsksNextIn (Some phase) m answers n code old_question question old_passed passed
 
 abbrev pub AsksNext : Machine → List Bool → Machine → ℕ → Question → Question → Passed → Passed → Type 0
 AsksNext m = AsksNextIn m.phase m
+
+-- an open pass is abandoned; where none is open it is refused
+abbrev AbandonsIn : Option Phase → ℕ → Machine → Machine → Type 0
+AbandonsIn None code m n = (code ≡ code_of NoPass) × (n ≡ m)
+AbandonsIn (Some phase) code m n = (code ≡ OK) × IsAbandoned m n
+
+abbrev pub Abandons : ℕ → Machine → Machine → Type 0
+Abandons code m = AbandonsIn m.phase code m

@@ -1,21 +1,24 @@
 -- How what stands is shown to C.
-use Rattle.std.specs.Prelude.{◌≡◌, ◌⊎◌, ℕ, ◌+◌, ◌≤◌, ◌<◌, min, zero, suc, List, drop, take, length, Option, Some, None}
-use Rattle.std.specs.FinMap.{len}
+use Rattle.std.specs.Prelude.{◌≡◌, ◌⊎◌, ℕ, ◌+◌, ◌≤◌, ◌<◌, min, zero, suc, List, drop, map, take, length, Option, Some, None}
+use Rattle.std.specs.FinMap.{get, len}
 use Rattle.fz_model.specs.declared.answers.Registration as answers
+use Rattle.fz_model.specs.declared.kinds.LinkKind.{LinkKind}
 use Rattle.fz_model.specs.State.{Map}
 use Rattle.fz_finalizers.specs.declared.kinds.Kind.{Kind}
 use Rattle.fz_finalizers.specs.declared.kinds.Kind.TheVariants.{Normal, IgnoreSelf, NoOrder, Unreachable}
 use Rattle.fz_finalizers.specs.declared.roots.Root.{Root}
 use Rattle.fz_finalizers.specs.declared.roots.Root.TheVariants.{HeldObject, HeldData, RegisteredData}
-use Rattle.fz_finalizers.specs.Nearest.{IsFirstFrom}
-use Rattle.fz_finalizers.specs.States.{State, View, kind_at}
-use Rattle.fz_finalizers.specs.Walks.{IsFirstRegistered, YieldsRoots, roots_of}
+use Rattle.fz_finalizers.specs.States.{State, View, kind_at, registered}
+use Rattle.fz_finalizers.specs.Walks.{AreLinks, AreRegistrations, YieldsRoots, links_in_order, registrations_in_order, roots_of}
 use Rattle.fz_machine_c.specs.declared.codes.TheConstants.{OK, EMPTY}
 use Rattle.fz_machine_c.specs.declared.shown.TheConstants.{WORDS}
 use Rattle.fz_machine_c.specs.declared.shown.Counts.{Counts}
-use Rattle.fz_machine_c.specs.declared.shown.Linked.{Linked}
 use Rattle.fz_machine_c.specs.declared.shown.Registration.{Registration}
 use Rattle.fz_machine_c.specs.declared.shown.Words.{Words}
+use Rattle.fz_machine_c.specs.declared.walks.TheConstants.{PART}
+use Rattle.fz_machine_c.specs.declared.walks.Linked.{Linked}
+use Rattle.fz_machine_c.specs.declared.walks.Links.{Links}
+use Rattle.fz_machine_c.specs.declared.walks.Registrations.{Registrations}
 
 abbrev pub root_of : ℕ → Root
 root_of zero = HeldObject
@@ -33,22 +36,39 @@ abbrev pub IsCounted : State → Counts → Type 0
 IsCounted s told =
     told ≡ record { registrations = len s.registrations + len s.late; short_links = len s.short; long_links = len s.long; waiting = length s.waiting; held = len s.held; queued = s.queued; passes = s.passes }
 
--- of the one list of the roots of a sort the words from a place on, as many as there is room for; or none is left, and the place for them is as it was
-abbrev ShowsFrom : List ℕ → ℕ → ℕ → Words → Words → Type 0
-ShowsFrom words from code old told =
-    ((code ≡ EMPTY) × (length words ≤ from) × (told ≡ old))
-    ⊎ ((code ≡ OK) × (from < length words) × (told.count ≡ min WORDS (length (drop from words))) × (take told.count told.words ≡ take told.count (drop from words)))
+-- of a list the part from a place on, as much as there is room for: the walk goes on from the place after it; or none is left, and the place for the part
+-- is as it was
+abbrev pub ShowsFrom : {X Told : Type 0} → ℕ → List X → (Told → ℕ) → (Told → List X) → ℕ → ℕ → Told → Told → Type 0
+ShowsFrom room all count part from code old told =
+    ((code ≡ EMPTY) × (length all ≤ from) × (told ≡ old))
+    ⊎ ((code ≡ OK) × (from < length all) × (count told ≡ min room (length (drop from all))) × (take (count told) (part told) ≡ take (count told) (drop from all)))
 
 abbrev pub ShowsRoots : Root → View → ℕ → ℕ → Words → Words → Type 0
-ShowsRoots root v from code old told = YieldsRoots root v.state (roots_of root v) × ShowsFrom (roots_of root v) from code old told
+ShowsRoots root v from code old told = YieldsRoots root v.state (roots_of root v) × ShowsFrom WORDS (roots_of root v) (λ (w : Words). w.count) (λ (w : Words). w.words) from code old told
 
--- the first registration from an object on, or none
+-- what C is told of an object's registration, and of a link
+abbrev pub registration_told : State → ℕ × answers.Registration → Registration
+registration_told s e = record { object = e.0; number = e.1.number; proc = e.1.proc; cd = e.1.cd; kind = kind_number (kind_at s e.0); rank = e.1.rank }
+
+abbrev pub link_told : ℕ × ℕ → Linked
+link_told e = record { word = e.0; target = e.1 }
+
+abbrev pub ShowsRegistrations : View → ℕ → ℕ → Registrations → Registrations → Type 0
+ShowsRegistrations v from code old told =
+    AreRegistrations v.state (registrations_in_order v)
+    × ShowsFrom PART (map (registration_told v.state) (registrations_in_order v)) (λ (t : Registrations). t.count) (λ (t : Registrations). t.registrations) from code old told
+
+abbrev pub ShowsLinks : LinkKind → View → ℕ → ℕ → Links → Links → Type 0
+ShowsLinks kind v from code old told =
+    AreLinks v.state kind (links_in_order v kind) × ShowsFrom PART (map link_told (links_in_order v kind)) (λ (t : Links). t.count) (λ (t : Links). t.links) from code old told
+
+-- what is found is told; where there is nothing, the place for it is as it was
+abbrev ShowsFound : {X Told : Type 0} → Option X → (X → Told) → ℕ → Told → Told → Type 0
+ShowsFound None tell code old told = (code ≡ EMPTY) × (told ≡ old)
+ShowsFound (Some x) tell code old told = (code ≡ OK) × (told ≡ tell x)
+
 abbrev pub ShowsRegistration : State → ℕ → ℕ → Registration → Registration → Type 0
-ShowsRegistration s from code old told =
-    ((code ≡ EMPTY) × IsFirstRegistered s from None × (told ≡ old))
-    ⊎ ((code ≡ OK) × ((object : ℕ) × (r : answers.Registration) × IsFirstRegistered s from (Some (object, r)) × (told ≡ record { object = object; number = r.number; proc = r.proc; cd = r.cd; kind = kind_number (kind_at s object); rank = r.rank })))
+ShowsRegistration s object = ShowsFound (registered s object) (λ (r : answers.Registration). registration_told s (object, r))
 
--- the first link from a word on, or none
-abbrev pub ShowsLink : Map ℕ → ℕ → ℕ → Linked → Linked → Type 0
-ShowsLink links from code old told =
-    ((code ≡ EMPTY) × IsFirstFrom links from None × (told ≡ old)) ⊎ ((code ≡ OK) × IsFirstFrom links from (Some (told.word, told.target)))
+abbrev pub ShowsTarget : Map ℕ → ℕ → ℕ → ℕ → ℕ → Type 0
+ShowsTarget links word = ShowsFound (get links word) (λ (target : ℕ). target)

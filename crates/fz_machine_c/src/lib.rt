@@ -14,6 +14,7 @@ mod passing;
 mod registering;
 mod session;
 mod shown;
+mod walks;
 
 pub use codes::Code;
 pub use entries::{Entry, fz_machine_finish, fz_machine_take, fz_machine_take_finished};
@@ -21,10 +22,13 @@ pub use handle::Handle;
 pub use linking::{fz_machine_link, fz_machine_move_link, fz_machine_unlink};
 pub use old::{Old, Registered};
 pub use opening::{fz_machine_destroy, fz_machine_open, fz_machine_reserve};
-pub use passing::{Passed, Question, fz_machine_begin, fz_machine_next, fz_machine_queue_all};
+pub use passing::{
+    Passed, Question, fz_machine_abandon, fz_machine_begin, fz_machine_next, fz_machine_queue_all,
+};
 pub use registering::{fz_machine_register, fz_machine_unregister};
 pub use session::Session;
 pub use shown::{
-    Counts, Linked, Registration, Words, fz_machine_count, fz_machine_next_link,
-    fz_machine_next_registration, fz_machine_roots,
+    Counts, Registration, Words, fz_machine_count, fz_machine_registration, fz_machine_roots,
+    fz_machine_target,
 };
+pub use walks::{Linked, Links, Registrations, fz_machine_links, fz_machine_registrations};

@@ -5,7 +5,7 @@ ghost use Rattle.fz_machine.specs.Causes.{first_of};
 ghost use Rattle.fz_machine.specs.Machines.{IsBegun};
 ghost use Rattle.fz_machine_c.specs.Changes.{QueuesAll};
 ghost use Rattle.fz_machine_c.specs.Codes.{Answers, Behind};
-ghost use Rattle.fz_machine_c.specs.Passing.{AsksNext, bits_of, is_bit};
+ghost use Rattle.fz_machine_c.specs.Passing.{Abandons, AsksNext, bits_of, is_bit};
 
 use crate::codes::{Code, EMPTY, NOT_OPEN, OK, code_of};
 use crate::handle::Handle;
@@ -73,6 +73,22 @@ pub extern "C" fn fz_machine_begin(alloc: Global, finalizers: &mut Handle) -> Co
     finalizers.put(session);
     match reply {
         Ok(_) => OK,
+        Err(refused) => code_of(refused),
+    }
+}
+
+/// `Machine::abandon`.
+#[unsafe(no_mangle)]
+pub extern "C" fn fz_machine_abandon(alloc: Global, finalizers: &mut Handle) -> Code
+    ensures { Behind finalizers.old.value finalizers.new.value result (Unit {0}) (Abandons result) }
+{
+    let Some(mut session) = finalizers.take(alloc) else {
+        return NOT_OPEN;
+    };
+    let reply = session.machine.abandon();
+    finalizers.put(session);
+    match reply {
+        Ok(()) => OK,
         Err(refused) => code_of(refused),
     }
 }

@@ -1,10 +1,9 @@
 //! What stands. Nothing changes by it, and a pass may be open.
 
 ghost use Rattle.std.specs.Prelude.{◌≡◌};
-ghost use Rattle.fz_finalizers.specs.Nearest.{IsFirstFrom};
 ghost use Rattle.fz_finalizers.specs.States.{links_of};
 ghost use Rattle.fz_machine_c.specs.Codes.{Behind};
-ghost use Rattle.fz_machine_c.specs.Shows.{IsCounted, ShowsLink, ShowsRegistration, ShowsRoots, kind_number, root_of};
+ghost use Rattle.fz_machine_c.specs.Shows.{IsCounted, ShowsRegistration, ShowsRoots, ShowsTarget, kind_number, root_of};
 ghost use Rattle.fz_machine_c.specs.Told.{link_kind_of};
 
 use crate::codes::{Code, EMPTY, NOT_OPEN, OK};
@@ -49,12 +48,24 @@ pub struct Registration {
     pub rank: u8,
 }
 
-/// A link that stands.
-#[repr(C)]
-#[derive(Clone, Copy)]
-pub struct Linked {
-    pub word: u64,
-    pub target: u64,
+impl Registration {
+    /// What C is told of an object's registration.
+    pub(crate) fn of(
+        object: u64,
+        registration: &fz_model::Registration,
+        kind: Option<Kind>,
+    ) -> Registration
+        ensures { result ≡ record { object = object; number = registration.now.number; proc = registration.now.proc; cd = registration.now.cd; kind = kind_number kind; rank = registration.now.rank } }
+    {
+        Registration {
+            object,
+            number: registration.number,
+            proc: registration.proc,
+            cd: registration.cd,
+            kind: kind_number(kind),
+            rank: registration.rank,
+        }
+    }
 }
 
 /// The sort of roots of a number; what is neither of the first two is the last.
@@ -135,62 +146,49 @@ pub extern "C" fn fz_machine_count(
     OK
 }
 
-/// `Finalizers::next_registration`.
+/// `Finalizers::registration`, with its kind.
 #[unsafe(no_mangle)]
-pub extern "C" fn fz_machine_next_registration(
+pub extern "C" fn fz_machine_registration(
     alloc: Global,
     finalizers: &mut Handle,
-    from: u64,
+    object: u64,
     registration: &mut Registration,
 ) -> Code
-    ensures { Behind finalizers.old.value finalizers.new.value result (registration.new ≡ registration.old) (λ m n. (n ≡ m) × ShowsRegistration m.finalizers.state from result registration.old registration.new) }
+    ensures { Behind finalizers.old.value finalizers.new.value result (registration.new ≡ registration.old) (λ m n. (n ≡ m) × ShowsRegistration m.finalizers.state object result registration.old registration.new) }
 {
     let Some(session) = finalizers.take(alloc) else {
         return NOT_OPEN;
     };
     let shown = session.machine.finalizers();
-    let found = shown.next_registration(from);
-    let kind = match found {
-        Some((object, _)) => shown.kind(object),
-        None => None,
-    };
+    let found = shown.registration(object);
+    let kind = shown.kind(object);
     finalizers.put(session);
-    let Some((object, next)) = found else {
+    let Some(shown) = found else {
         return EMPTY;
     };
-    *registration = Registration {
-        object,
-        number: next.number,
-        proc: next.proc,
-        cd: next.cd,
-        kind: kind_number(kind),
-        rank: next.rank,
-    };
+    *registration = Registration::of(object, &shown, kind);
     OK
 }
 
-/// `Finalizers::next_link`.
+/// `Finalizers::target`.
 #[unsafe(no_mangle)]
-pub extern "C" fn fz_machine_next_link(
+pub extern "C" fn fz_machine_target(
     alloc: Global,
     finalizers: &mut Handle,
     is_long: bool,
-    from: u64,
-    link: &mut Linked,
+    word: u64,
+    target: &mut u64,
 ) -> Code
-    ensures { Behind finalizers.old.value finalizers.new.value result (link.new ≡ link.old) (λ m n. (n ≡ m) × ShowsLink (links_of m.finalizers.state (link_kind_of is_long)) from result link.old link.new) }
+    ensures { Behind finalizers.old.value finalizers.new.value result (target.new ≡ target.old) (λ m n. (n ≡ m) × ShowsTarget (links_of m.finalizers.state (link_kind_of is_long)) word result target.old target.new) }
 {
     let Some(session) = finalizers.take(alloc) else {
         return NOT_OPEN;
     };
-    let found = session
-        .machine
-        .finalizers()
-        .next_link(kind_for(is_long), from);
+    let found = session.machine.finalizers().target(kind_for(is_long), word);
     finalizers.put(session);
-    let Some((word, target)) = found else {
+    let Some(object) = found else {
         return EMPTY;
     };
-    *link = Linked { word, target };
+    *target = object;
     OK
 }

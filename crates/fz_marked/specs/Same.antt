@@ -1,4 +1,4 @@
--- What a pass leaves of a heap and its marker, but for words and the second set of marks.
+-- What a pass leaves unchanged in a heap and its marker: all but words and the second set of marks.
 use Rattle.std.specs.Prelude.{◌≡◌, refl}
 use Rattle.std.proofs.Common.{ap, ◌∙◌}
 use Rattle.std.specs.FinMap.{keys}

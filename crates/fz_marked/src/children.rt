@@ -1,4 +1,4 @@
-//! What an object's children lead to.
+//! Tracing from an object's children.
 
 ghost use Rattle.std.specs.Prelude.{◌≡◌, ◌*◌};
 ghost use Rattle.fz_model.specs.declared.limits.TheConstants.{BLOCK_WORDS};
@@ -10,7 +10,7 @@ use fz_heap::Heap;
 use fz_marker::Marker;
 use fz_model::{Addr, Word};
 
-/// Traces what a word of an object points to, but for the object itself where that is left out.
+/// Traces from the object to which a word of `object` points. With `but_itself` a pointer to `object` itself is skipped.
 fn trace_target(heap: &Heap, marker: &mut Marker, word: Word, object: Addr, but_itself: bool)
     requires size { marker.old.size ≡ BLOCK_WORDS * heap.now.blocks }
     requires closed { IsClosed heap.now.objects marker.old.traced }
@@ -25,7 +25,7 @@ fn trace_target(heap: &Heap, marker: &mut Marker, word: Word, object: Addr, but_
     marker.trace(heap, child);
 }
 
-/// Traces the children of an object, or its children but itself.
+/// Traces from the children of an object. With `but_itself` the object itself is skipped.
 pub(crate) fn trace_children(heap: &Heap, marker: &mut Marker, object: Addr, but_itself: bool)
     requires size { marker.old.size ≡ BLOCK_WORDS * heap.now.blocks }
     requires closed { IsClosed heap.now.objects marker.old.traced }

@@ -1,4 +1,4 @@
-//! The modelled heap with its marks, as the host of a pass.
+//! The reference heap with its marks, as the host of a pass.
 #![tactic(auto)]
 
 mod children;

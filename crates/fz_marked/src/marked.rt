@@ -11,7 +11,7 @@ use fz_marker::Marker;
 use fz_model::Addr;
 use fz_pass::Host;
 
-/// A heap, and its marker, whose second set has the marks of a pass.
+/// A heap and its marker, whose second set has the marks that a pass adds.
 #[derive(Drop)]
 pub struct Marked {
     pub heap: Heap,
@@ -47,7 +47,7 @@ impl Host for Marked {
     }
 
     fn mark(&mut self, object: Addr) {
-        // An object with facts lies in the heap.
+        // An object that has facts lies in the heap.
         if self.heap.facts(object).is_some() {
             self.marker.trace(&self.heap, object);
         }
@@ -64,7 +64,7 @@ impl Host for Marked {
     }
 
     fn clear(&mut self, word: Addr) {
-        // A word that lies in no object is none to write.
+        // A word outside every object isn't written.
         let _ = self.heap.write(word, 0, 0);
     }
 

@@ -1,4 +1,4 @@
-//! A pass over the modelled heap, by the pass over any heap.
+//! A pass over the reference heap, by means of the pass over any heap.
 
 ghost use Rattle.std.specs.Prelude.{◌≡◌, ◌≤◌, ◌<◌, ◌+◌, ◌^◌, ◌||◌, ◌&&◌, not, [], ℕ, vec_len, vec_capacity};
 ghost use Rattle.std.specs.FinSet.{contains};
@@ -16,9 +16,10 @@ use fz_model::Entry;
 use fz_pass::ReadyList;
 use fz_table::Table;
 
-/// Carries out a pass in which the marked objects are those that were found, and returns the number of objects that it reclaims.
+/// Carries out a pass whose found set is the marked objects. Returns the number of objects that it reclaims.
 ///
-/// It does what `fz_pass::decide` does, with entries that are numbered on from `first`, and condemns the objects that aren't kept.
+/// It does the same as `fz_pass::decide`; entries have successive numbers from `first` on. The cells of the objects that aren't retained become dead and wait
+/// to be swept.
 pub fn decide(
     marked: &mut Marked,
     table: &mut Table,
@@ -37,14 +38,14 @@ pub fn decide(
     requires room { vec_len queue.old + len table.old.registrations ≤ vec_capacity queue.old }
     requires numbers { first + len table.old.registrations < 2 ^ 64 }
     ensures decided { DecidesInto pass first (parts_of marked.old.heap.objects table.old short.old long.old) (contains marked.old.marker.marked) (parts_of marked.new.heap.objects table.new short.new long.new) queue.old.items queue.new.items }
-    // The objects that it reclaims are condemned, and no other.
+    // Exactly the reclaimed objects become dead cells.
     ensures condemned { (a : ℕ) → contains marked.new.heap.condemned a ≡ (contains_key marked.old.heap.objects a && not (contains_key marked.new.heap.objects a) || contains marked.old.heap.condemned a) }
     ensures count { sets.len marked.new.heap.condemned ≡ sets.len marked.old.heap.condemned + result }
     ensures reclaimed { len marked.new.heap.objects + result ≡ len marked.old.heap.objects }
-    // There is room for every registration that is left.
+    // There is room for every remaining registration.
     ensures list { ready.old.room ≤ ready.new.room }
     ensures room { vec_len queue.new + len table.new.registrations ≤ vec_capacity queue.new }
-    // All else stays.
+    // Everything else is unchanged.
     ensures heap { marked.new.heap ≡ record marked.old.heap { objects = marked.new.heap.objects; condemned = marked.new.heap.condemned } }
     ensures marker { marked.new.marker ≡ record marked.old.marker { traced = marked.new.marker.traced } }
     ensures table { table.new.registered ≡ record table.old.registered { registrations = table.new.registrations } }

@@ -1,4 +1,5 @@
 -- How the marks of a cycle grow.
+-- code: fz_marker/src/cycle.rt
 use Rattle.std.specs.Prelude.{◌&&◌, count_by, ◌≡◌, ℕ, ◌+◌, ◌*◌, ◌≤◌, Bool, nat_lt, cond, length, Contains, ◌⊎◌, IsTrue, IsFalse}
 use Rattle.std.specs.FinSet.{contains, insert, len}
 use Rattle.std.specs.FinMap.{keys}
@@ -11,7 +12,7 @@ use Rattle.fz_marker.specs.declared.cycle.Cycle.{Cycle}
 use Rattle.fz_marker.specs.Frontiers.{Gains}
 use Rattle.fz_marker.specs.Marking.{IsLedFrom, HasChildrenIn, is_newly_in}
 
--- what waits is marked, and so is what was scanned
+-- waiting objects are marked, and so are scanned ones
 pub record IsCycle (c : Cycle) : Type 0 where
   pub size : c.scanned.size ≡ c.marks.size
   pub waiting : (a : ℕ) → Contains c.marks.waiting a → IsTrue (contains c.marks.members a)
@@ -21,19 +22,19 @@ pub record IsCycle (c : Cycle) : Type 0 where
   pub small : c.marks.size ≤ BLOCK_WORDS * MAX_BLOCKS
   pub low : (a : ℕ) → IsTrue (contains c.marks.members a) → HEAP_START ≤ a
 
--- it waits, or was scanned
+-- the object waits or was scanned
 abbrev pub IsSettled : Cycle → ℕ → Type 0
 IsSettled c a = Contains c.marks.waiting a ⊎ IsTrue (contains c.scanned.members a)
 
--- each marked object does
+-- each marked object waits or was scanned
 abbrev pub AllWait : Cycle → Type 0
 AllWait c = (a : ℕ) → IsTrue (contains c.marks.members a) → IsSettled c a
 
--- each does, or is one of these
+-- each marked object waits, was scanned, or satisfies P
 abbrev pub WaitsOr : (ℕ → Type 0) → Cycle → Type 0
 WaitsOr P c = (a : ℕ) → IsTrue (contains c.marks.members a) → IsSettled c a ⊎ P a
 
--- whether there are words to read, and how many of these objects have some
+-- whether the object has words to scan, and how many of the objects do
 abbrev pub has_pointers : Map Object → ℕ → Bool
 has_pointers objects a = nat_lt 0 (length (pointers_of objects a))
 
@@ -48,11 +49,11 @@ pub record Scans (objects : Map Object) (start : ℕ) (old new : Cycle) : Type 0
   pub few : len new.scanned.members ≤ new.scanned.size
   pub scans : new.scans ≡ old.scans + cond (has_pointers objects start) 1 0
 
--- it was scanned already, or is now
+-- the object was scanned already, or is scanned now
 abbrev pub Visits : Map Object → ℕ → Cycle → Cycle → Type 0
 Visits objects start old new = (IsTrue (contains old.scanned.members start) × (new ≡ old)) ⊎ Scans objects start old new
 
--- many are, each once, after another
+-- several objects are scanned, one after another, each once
 pub record Proceeds (objects : Map Object) (old new : Cycle) : Type 0 where
   pub cycle : IsCycle new
   pub size : new.marks.size ≡ old.marks.size

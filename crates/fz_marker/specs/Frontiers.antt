@@ -1,4 +1,5 @@
--- A set of addresses that grows, and those of its members that wait to be read.
+-- A growing set of addresses with a mark stack: the members that wait to be scanned.
+-- code: fz_marker/src/frontier.rt
 use Rattle.std.specs.Prelude.{◌≡◌, ℕ, ◌+◌, ◌-◌, ◌<◌, ◌≤◌, Some, List, length, Contains, ◌↔◌, ◌⊎◌, IsTrue, IsFalse, refl}
 use Rattle.std.specs.Coded.{Coded, code_by, coded×, coded_ℕ, coded_list}
 use Rattle.std.specs.FinSet as sets
@@ -18,18 +19,18 @@ abbrev pub frontier_code : Coded Frontier
 frontier_code =
     code_by (ℕ × (Set × List ℕ)) (coded× coded_ℕ (coded× (sets.code coded_ℕ) (coded_list coded_ℕ))) (λ f. (f.size, (f.members, f.waiting))) (λ p. record { size = p.0; members = p.1.0; waiting = p.1.1 }) (λ _. refl)
 
--- the address is one of the first `size` of the heap
+-- the address is one of the first `size` addresses of the heap
 abbrev pub IsAmong : ℕ → ℕ → Type 0
 IsAmong size a = (HEAP_START ≤ a) × (a < HEAP_START + size)
 
--- no more wait than are members, and there is room for all that may be
+-- no more objects wait than are members, and the mark stack has room for all that may become members
 pub record HasRoom (set : Flagged) (waiting : List ℕ) (capacity : ℕ) : Type 0 where
   pub wait : length waiting ≤ len set.members
   pub few : len set.members ≤ set.size
   pub room : set.size ≤ capacity
   pub within : (a : ℕ) → Contains waiting a → IsAmong set.size a
 
--- some numbers have become members, and those of them that are new wait
+-- some addresses became members, and the new ones wait
 pub record Gains (old new : Frontier) (gained : ℕ → Type 0) : Type 0 where
   pub size : new.size ≡ old.size
   pub members : (a : ℕ) → IsTrue (contains new.members a) ↔ (IsTrue (contains old.members a) ⊎ gained a)
@@ -38,7 +39,7 @@ pub record Gains (old new : Frontier) (gained : ℕ → Type 0) : Type 0 where
   pub few : len new.members ≤ new.size
   pub low : (a : ℕ) → IsTrue (contains new.members a) → IsTrue (contains old.members a) ⊎ (HEAP_START ≤ a)
 
--- members are led to from the first ones, and wait or have their children among them
+-- members are reached from the first ones, and each member waits or has its children among the members
 pub record IsTracing (objects : Map Object) (first now : Frontier) : Type 0 where
   pub size : now.size ≡ first.size
   pub few : len now.members ≤ now.size
@@ -47,7 +48,7 @@ pub record IsTracing (objects : Map Object) (first now : Frontier) : Type 0 wher
   pub waiting : (a : ℕ) → Contains now.waiting a → IsTrue (contains now.members a)
   pub read : (a : ℕ) → IsTrue (contains now.members a) → Contains now.waiting a ⊎ HasChildrenIn objects now.members a
 
--- how many still wait, or may come to wait
+-- how many objects wait or may still come to wait
 abbrev pub left : Frontier → ℕ
 left f = f.size - len f.members + length f.waiting
 

@@ -1,4 +1,5 @@
--- What a marker keeps.
+-- The invariant of a marker.
+-- code: fz_marker/src/marker.rt
 use Rattle.std.specs.Prelude.{◌≡◌, ◌≤◌, []}
 use Rattle.std.specs.FinSet.{len}
 use Rattle.fz_marker.specs.declared.cycle.Cycle.{Cycle}

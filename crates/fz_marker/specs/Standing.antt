@@ -1,4 +1,5 @@
--- On which pages an object stands.
+-- On which pages an object lies.
+-- code: fz_marker/src/cycle.rt
 use Rattle.std.specs.Prelude.{◌≡◌, ℕ, ◌+◌, ◌≤◌, ◌<◌, ◌⊎◌, Some, length, IsTrue}
 use Rattle.std.specs.FinSet.{contains}
 use Rattle.std.specs.FinMap.{get}
@@ -7,7 +8,7 @@ use Rattle.fz_model.specs.Memory.{points}
 use Rattle.fz_model.specs.Allocation.{block_of, block_start}
 use Rattle.fz_bits.specs.Flags.{Set}
 
--- a word of the object that starts at `a` stands on the page
+-- a word of the object at `a` lies on the page
 pub record HasWordOn (objects : Map Object) (page a : ℕ) : Type 0 where
   pub object : Object
   pub here : get objects a ≡ Some object
@@ -16,14 +17,14 @@ pub record HasWordOn (objects : Map Object) (page a : ℕ) : Type 0 where
   pub before : address < a + length object.words
   pub on : block_of address ≡ page
 
--- it starts on the page, or the page's first word points to it
+-- the object starts on the page, or the page's first word points to it
 abbrev pub StandsOn : Map Object → ℕ → ℕ → Type 0
 StandsOn objects page a = (block_of a ≡ page) ⊎ (points objects (block_start page) ≡ Some a)
 
--- it stands on a noted page from one on
+-- the object lies on a dirty page that isn't before `from`
 abbrev pub IsOnNotedFrom : Map Object → Set → ℕ → ℕ → Type 0
 IsOnNotedFrom objects noted from a = (page : ℕ) × (from ≤ page) × IsTrue (contains noted page) × StandsOn objects page a
 
--- it starts on this page at an address or after it, or stands on a later noted page
+-- the object starts on this page at `from` or later, or lies on a later dirty page
 abbrev pub IsAhead : Map Object → Set → ℕ → ℕ → ℕ → Type 0
 IsAhead objects noted page from a = ((from ≤ a) × (block_of a ≡ page)) ⊎ IsOnNotedFrom objects noted (page + 1) a

@@ -1,4 +1,4 @@
-//! The marks of a cycle, and what scanning makes of them.
+//! The marks of a collection cycle, and how scanning changes them.
 
 ghost use Rattle.std.specs.Prelude.{◌⊎◌, [], ◌≡◌, ◌≤◌, ◌<◌, ◌+◌, ◌*◌, ◌&&◌, not, cond, ℕ, IsTrue, IsFalse};
 ghost use Rattle.std.specs.FinSet.{contains, len};
@@ -18,7 +18,7 @@ use fz_dirty::Dirty;
 use fz_heap::Heap;
 use fz_model::{Addr, BLOCK_WORDS, HEAP_START, Progress};
 
-/// Which objects are marked, which of them were scanned, and how many scans were made.
+/// Which objects are marked, which of them were scanned, and the number of scans.
 #[derive(Drop)]
 pub(crate) struct Cycle {
     pub(crate) marks: Frontier,
@@ -27,15 +27,15 @@ pub(crate) struct Cycle {
 }
 
 impl Cycle {
-    /// Whether the object has words to read, and wasn't scanned.
+    /// Whether the object has words to scan and wasn't scanned.
     fn is_unread(&self, heap: &Heap, start: Addr) -> bool
         ensures { result ≡ (not (contains self.now.scanned.members start) && has_pointers heap.now.objects start) }
     {
         !self.scanned.contains(start) && !heap.pointers(start).is_empty()
     }
 
-    /// Marks the children of an object. It is a scan if there are words to read.
-    // As with `visit`: the loop of `step` comes here for each object, and a call costs as much as reading one of few words.
+    /// Marks the children of an object. This counts as a scan if the object has words to scan.
+    // Inlined as `visit` is: the loop of `step` runs this for each object, and a call would cost as much as scanning a few words.
     #[inline(always)]
     fn read(&mut self, heap: &Heap, start: Addr)
         requires size { self.old.marks.size ≡ BLOCK_WORDS * heap.now.blocks }
@@ -51,7 +51,7 @@ impl Cycle {
         self.marks.add_targets(heap, words);
     }
 
-    /// Scans a marked object that wasn't scanned, and returns whether it is now: it isn't where that would take more than `limit` scans.
+    /// Scans a marked object unless it was scanned already. Returns whether it is scanned now: it isn't if that would take more than `limit` scans.
     #[inline(always)]
     fn visit(&mut self, heap: &Heap, start: Addr, limit: u64) -> bool
         requires size { self.old.marks.size ≡ BLOCK_WORDS * heap.now.blocks }
@@ -71,7 +71,7 @@ impl Cycle {
         true
     }
 
-    /// Scans what waits until nothing does, or until one more than `budget` scans is wanted.
+    /// Scans waiting objects until none waits, or until another scan would exceed `budget`.
     pub(crate) fn step(&mut self, heap: &Heap, budget: u64) -> Progress
         requires size { self.old.marks.size ≡ BLOCK_WORDS * heap.now.blocks }
         requires cycle { IsCycle self.old }
@@ -93,7 +93,7 @@ impl Cycle {
         Progress::Done
     }
 
-    /// Forgets that the objects on a page were scanned.
+    /// Makes the objects on a page unscanned.
     fn forget_page(&mut self, heap: &Heap, page: u64)
         requires within { BLOCK_WORDS * page < self.old.scanned.size }
         requires small { self.old.scanned.size ≤ BLOCK_WORDS * MAX_BLOCKS }
@@ -106,13 +106,13 @@ impl Cycle {
         ensures apart { AreApart (extents heap.now.objects) }
     {
         self.scanned.clear_word(page);
-        // An object of several pages may have begun before.
+        // An object of several pages may start on an earlier page.
         if let Some(start) = heap.resolve(HEAP_START + BLOCK_WORDS * page) {
             self.scanned.remove(start);
         }
     }
 
-    /// Forgets that the objects on noted pages were scanned.
+    /// Makes the objects on dirty pages unscanned.
     pub(crate) fn forget(&mut self, heap: &Heap, dirty: &Dirty)
         requires size { self.old.scanned.size ≡ BLOCK_WORDS * dirty.now.pages }
         requires few { len self.old.scanned.members ≤ self.old.scanned.size }
@@ -123,7 +123,7 @@ impl Cycle {
         ensures few { len self.new.scanned.members ≤ self.new.scanned.size }
         ensures gone { (a : ℕ) → IsTrue (contains self.new.scanned.members a) → IsTrue (contains self.old.scanned.members a) × IsFalse (is_on_noted heap.now.objects dirty.now.noted a) }
         ensures others { (a : ℕ) → IsTrue (contains self.old.scanned.members a) → IsTrue (contains self.new.scanned.members a) ⊎ IsOnNotedFrom heap.now.objects dirty.now.noted 0 a }
-        // Only the walk over noted pages asks the heap.
+        // Only the loop over dirty pages uses the heap.
         ensures apart { (page : ℕ) → IsTrue (contains dirty.now.noted page) → AreApart (extents heap.now.objects) }
     {
         let mut from = 0;
@@ -133,7 +133,7 @@ impl Cycle {
         }
     }
 
-    /// Scans the object that has a page's first word, if it is marked and wasn't scanned.
+    /// Scans the object that contains a page's first word, if it is marked and wasn't scanned.
     fn rescan_first(&mut self, heap: &Heap, page: u64)
         requires size { self.old.marks.size ≡ BLOCK_WORDS * heap.now.blocks }
         requires cycle { IsCycle self.old }
@@ -169,7 +169,7 @@ impl Cycle {
         }
     }
 
-    /// Scans the marked objects of noted pages that aren't scanned.
+    /// Scans the marked objects on dirty pages that weren't scanned.
     pub(crate) fn rescan(&mut self, heap: &Heap, dirty: &Dirty)
         requires size { self.old.marks.size ≡ BLOCK_WORDS * heap.now.blocks }
         requires pages { dirty.now.pages ≡ heap.now.blocks }

@@ -1,4 +1,4 @@
-//! A set of objects that grows, with its members that wait to be read.
+//! A set of objects with a mark stack: the members that wait to be scanned.
 
 ghost use Rattle.std.specs.Prelude.{◌∷◌, [], ◌++◌, ◌≡◌, ◌≤◌, ◌<◌, ◌+◌, ◌*◌, ◌↔◌, ◌⊎◌, not, ℕ, length, vec_capacity, Some, IsTrue, IsFalse, IfOk, IfErr, IsSome, IfSome, MatchOption};
 ghost use Rattle.std.specs.FinSet.{contains, insert, empty, len};
@@ -15,7 +15,7 @@ use fz_model::{Addr, BLOCK_WORDS, HEAP_START, Refusal, Word};
 use std::alloc::Global;
 use std::marker::Model;
 
-/// A set of objects by their starts, with a work list of members. The list has room for each object that may become one.
+/// A set of objects by address, and a mark stack of members. The mark stack has room for every object, so it can't overflow.
 #[derive(Drop)]
 pub(crate) struct Frontier {
     set: Flags<HEAP_START>,
@@ -35,7 +35,7 @@ impl Model for Frontier {
     ghost invariant = { λ f. HasRoom f.set f.work.items (vec_capacity f.work) };
 }
 
-/// An empty list with room for `room` objects.
+/// An empty mark stack with room for `room` objects.
 fn work_list(alloc: Global, room: u64) -> Result<Vec<Addr>, Refusal>
     ensures refused { IfErr result (λ r. r ≡ Refusal.NoMemory) }
     ensures empty { IfOk result (λ work. work.items ≡ []) }
@@ -44,7 +44,7 @@ fn work_list(alloc: Global, room: u64) -> Result<Vec<Addr>, Refusal>
     Vec::with_capacity(alloc, room as usize).map_err(|_| Refusal::NoMemory)
 }
 
-/// Puts an object at the end of a list that has room for it, so that the push takes no memory and can't fail.
+/// Pushes an object onto a mark stack that has room, so the push doesn't allocate and can't fail.
 fn put_last(work: &mut Vec<Addr>, start: Addr)
     requires room { length work.old.items < vec_capacity work.old }
     ensures items { work.new.items ≡ work.old.items ++ start ∷ [] }
@@ -54,7 +54,7 @@ fn put_last(work: &mut Vec<Addr>, start: Addr)
 }
 
 impl Frontier {
-    /// An empty set of objects of a heap of `blocks` blocks. `NoMemory` where an allocation fails.
+    /// An empty set of objects of a heap of `blocks` blocks. Fails with `NoMemory` if an allocation fails.
     pub(crate) fn new(alloc: Global, blocks: u64) -> Result<Frontier, Refusal>
         requires { blocks ≤ MAX_BLOCKS }
         ensures refused { IfErr result (λ r. r ≡ Refusal.NoMemory) }
@@ -72,7 +72,7 @@ impl Frontier {
         self.set.contains(start)
     }
 
-    /// Makes the object a member. A new one waits.
+    /// Makes the object a member. A new member waits to be scanned.
     pub(crate) fn add(&mut self, start: Addr)
         requires { IsAmong self.old.size start }
         ensures gains { Gains self.old self.new (λ a. a ≡ start) }
@@ -83,7 +83,7 @@ impl Frontier {
     }
 
     /// Adds all objects to which the words point.
-    // Each scan calls it, mostly for few words: a call of its own would take as long as one of them.
+    // Inlined: each scan runs this, usually for few words, and a call would take as long as one of them.
     #[inline(always)]
     pub(crate) fn add_targets(&mut self, heap: &Heap, words: &[Word])
         requires size { self.old.size ≡ BLOCK_WORDS * heap.now.blocks }
@@ -97,7 +97,7 @@ impl Frontier {
         }
     }
 
-    /// Takes one that waits.
+    /// Pops a waiting object.
     pub(crate) fn pop(&mut self) -> Option<Addr>
         ensures set { (self.new.size ≡ self.old.size) × (self.new.members ≡ self.old.members) }
         ensures waiting { MatchOption result ((self.old.waiting ≡ []) × (self.new.waiting ≡ [])) (λ start. self.old.waiting ≡ self.new.waiting ++ start ∷ []) }
@@ -107,7 +107,7 @@ impl Frontier {
         self.work.pop()
     }
 
-    /// The least member from an address on, among those of its block.
+    /// The lowest member, from an address on, in the same block.
     pub(crate) fn next_in_block(&self, from: Addr) -> Option<Addr>
         ensures next { MatchOption result ((a : ℕ) → from ≤ a → block_of a ≡ block_of from → IsFalse (contains self.now.members a)) (λ next. IsNext self.now.members from next) }
         ensures within { IfSome result (IsAmong self.now.size) }
@@ -116,7 +116,7 @@ impl Frontier {
         self.set.next_in_word(from)
     }
 
-    /// Lets one wait again that was taken.
+    /// Pushes a popped object back.
     pub(crate) fn put_back(&mut self, start: Addr)
         requires room { length self.old.waiting < len self.old.members }
         requires among { IsAmong self.old.size start }
@@ -125,7 +125,7 @@ impl Frontier {
         put_last(&mut self.work, start);
     }
 
-    /// Makes it the same set as another, where nothing waits.
+    /// Makes it equal to another set. Requires an empty mark stack.
     pub(crate) fn copy(&mut self, other: &Frontier)
         requires size { self.old.size ≡ other.now.size }
         requires idle { self.old.waiting ≡ [] }
@@ -149,7 +149,7 @@ impl Frontier {
         self.work.clear();
     }
 
-    /// Adds the children of the object at a start.
+    /// Adds the children of the object at an address.
     #[inline(always)]
     fn add_children(&mut self, heap: &Heap, start: Addr)
         requires size { self.old.size ≡ BLOCK_WORDS * heap.now.blocks }
@@ -159,7 +159,7 @@ impl Frontier {
         self.add_targets(heap, heap.pointers(start));
     }
 
-    /// Makes the object a member, which then doesn't wait. Returns whether it is new.
+    /// Makes the object a member without pushing it. Returns whether it is new.
     pub(crate) fn enter(&mut self, object: Addr) -> bool
         requires { IsAmong self.old.size object }
         ensures new { result ≡ not (contains self.old.members object) }
@@ -169,8 +169,8 @@ impl Frontier {
         self.set.insert(object)
     }
 
-    /// Adds the object and all that it leads to. Asked only where nothing waits, and all children of members are members.
-    // The object has no turn on the work list: most objects of a pass lead to nothing that is new.
+    /// Adds the object and everything that it reaches. Requires an empty mark stack, and that the set is closed under children.
+    // The object itself isn't pushed: most objects of a pass reach nothing new.
     pub(crate) fn add_closed(&mut self, heap: &Heap, object: Addr)
         requires size { self.old.size ≡ BLOCK_WORDS * heap.now.blocks }
         requires among { IsAmong self.old.size object }
@@ -188,7 +188,7 @@ impl Frontier {
         }
     }
 
-    /// Adds all that those lead to that wait.
+    /// Adds everything that the waiting objects reach.
     fn close(&mut self, heap: &Heap)
         requires size { self.old.size ≡ BLOCK_WORDS * heap.now.blocks }
         requires traced { IsTracing heap.now.objects self.old self.old }

@@ -19,17 +19,17 @@ use fz_model::{Addr, HEAP_START, Progress, Refusal, Word};
 use std::alloc::Global;
 use std::marker::Model;
 
-/// The marks of a cycle, and a second set of marks, by the starts of objects of one heap.
+/// The mark bits of a collection cycle and a second set of marks, by the addresses of one heap's objects.
 ///
-/// Each call with a heap is asked only with one of as many blocks. All its memory is taken by `new`: for each word of the heap 16 bytes, for the two
-/// lists of objects to be read, and three bits. Marking goes by single objects, so that a cycle can be spread over many steps of the program
-/// (Boehm, Demers and Shenker, "Mostly parallel garbage collection", 1991).
+/// Calls that take a heap require one with as many blocks as at `new`. Only `new` allocates: for each word of the heap 16 bytes for two mark stacks, and
+/// three bits. The unit of marking is one object, so the work of a cycle can be spread over many steps of the program (Boehm, Demers and Shenker, "Mostly
+/// parallel garbage collection", 1991).
 pub struct Marker {
     cycle: Cycle,
     traces: Frontier,
 }
 
-// Written out: who owns a marker then drops it by one call that is proved here, not field by field at each way out of a function.
+// Written by hand, so that the owner drops it by one proved call, not field by field at each exit of a function.
 impl Drop for Marker {
     fn drop(self) {
         let Marker {
@@ -54,7 +54,7 @@ impl Model for Marker {
 }
 
 impl Marker {
-    /// A marker for a heap of `blocks` blocks, without marks. `NoMemory` where an allocation fails.
+    /// A marker for a heap of `blocks` blocks, without marks. Fails with `NoMemory` if an allocation fails.
     pub fn new(alloc: Global, blocks: u64) -> Result<Marker, Refusal>
         requires { blocks ≤ MAX_BLOCKS }
         ensures refused { IfErr result (λ r. r ≡ Refusal.NoMemory) }
@@ -71,7 +71,7 @@ impl Marker {
         Ok(Marker { cycle, traces })
     }
 
-    /// Begins a cycle: nothing is marked or traced, and nothing was scanned.
+    /// Begins a cycle: no object is marked, scanned or in the second set.
     pub fn begin(&mut self)
         ensures { self.new ≡ record self.old { marked = empty; scanned = empty; traced = empty; scans = 0 } }
     {
@@ -81,11 +81,11 @@ impl Marker {
         self.traces.clear();
     }
 
-    /// Marks the object to which the word points, if it points to one.
+    /// Marks the object to which the word points, if there is one.
     pub fn root(&mut self, heap: &Heap, word: Word)
         requires { self.old.size ≡ BLOCK_WORDS * heap.now.blocks }
         ensures marked { self.new ≡ record self.old { marked = with_target self.old.marked (points heap.now.objects word) } }
-        // The start of an object is one.
+        // The address of an object points to that object.
         ensures itself { IsTrue (contains_key heap.now.objects word) → points heap.now.objects word ≡ Some word }
     {
         if let Some(start) = heap.resolve(word) {
@@ -93,7 +93,7 @@ impl Marker {
         }
     }
 
-    /// Marks a new object.
+    /// Marks a newly allocated object.
     pub fn born(&mut self, start: Addr)
         requires { (HEAP_START ≤ start) × (start < HEAP_START + self.old.size) }
         ensures { self.new ≡ record self.old { marked = insert self.old.marked start } }
@@ -101,20 +101,20 @@ impl Marker {
         self.cycle.marks.add(start);
     }
 
-    /// Scans marked objects that weren't scanned in this cycle, at most `budget` of them. An atomic object needs no scan.
+    /// Scans marked objects that weren't scanned in this cycle, at most `budget` of them. A pointer-free object needs no scan.
     ///
-    /// `Done` where no marked object is left unscanned, `More` where one is after `budget` scans. Asked only in an open cycle, where no
-    /// object was scanned twice: `finish` may scan some again.
+    /// Returns `Done` if every marked object is scanned, and `More` if some remain after `budget` scans. Requires an open cycle in which no object was
+    /// scanned twice; `finish` may scan objects again.
     pub fn step(&mut self, heap: &Heap, budget: u64) -> Progress
         requires size { self.old.size ≡ BLOCK_WORDS * heap.now.blocks }
         requires unfinished { self.old.scans ≤ len self.old.scanned }
-        // Marks come, and only along child steps from marked objects.
+        // It only adds marks, and only for objects that marked objects reach.
         ensures kept { IsWithin self.old.marked self.new.marked }
         ensures led { (a : ℕ) → IsTrue (contains self.new.marked a) → IsLedFrom heap.now.objects self.old.marked a }
-        // What it scans has marked children.
+        // The children of each scanned object are marked.
         ensures still { IsWithin self.old.scanned self.new.scanned }
         ensures closed { (a : ℕ) → IsTrue (is_newly_in self.old.scanned self.new.scanned a) → HasChildrenIn heap.now.objects self.new.marked a }
-        // Its answer, and how many scans it makes.
+        // What it returns, and how many scans it makes.
         ensures done { result ≡ Progress.Done ↔ AllScanned heap.now.objects self.new }
         ensures more { result ≡ Progress.More → self.new.scans ≡ self.old.scans + budget }
         ensures left { result ≡ Progress.More → IsLeft heap.now.objects self.new.marked self.new.scanned }
@@ -126,8 +126,8 @@ impl Marker {
         self.cycle.step(heap, budget)
     }
 
-    /// Closes the marks under children: scans the marked objects that weren't scanned in this cycle, and once more those that were, but stand on a
-    /// noted page. An object stands on each page that its words meet. Asked once a cycle; empties the second set.
+    /// Completes marking (the remark): it scans the marked objects that weren't scanned in this cycle, and scans again those on a dirty page. An object is on
+    /// each page that contains one of its words. Called once per cycle. Empties the second set.
     pub fn finish(&mut self, heap: &Heap, dirty: &Dirty)
         requires size { self.old.size ≡ BLOCK_WORDS * heap.now.blocks }
         requires pages { dirty.now.pages ≡ heap.now.blocks }
@@ -136,7 +136,7 @@ impl Marker {
         ensures led { (a : ℕ) → IsTrue (contains self.new.marked a) → IsLedFrom heap.now.objects self.old.marked a }
         ensures closed { CleanAreClosed heap.now.objects self.old dirty.now.noted → IsClosed heap.now.objects self.new.marked }
         ensures few { (self.old.scans ≤ self.new.scans) × (self.new.scans ≤ self.old.scans + readable_count heap.now.objects (is_to_scan heap.now.objects self.old dirty.now.noted self.new.marked)) }
-        // Each scan but of an object that wasn't scanned is owed to a noted page: no more objects stand on a page than it has words.
+        // Each scan is of an object that wasn't scanned, or is due to a dirty page: a page has no more objects than words.
         ensures again { self.new.scans ≤ self.old.scans + readable_count heap.now.objects (is_newly_in self.old.scanned self.new.marked) + BLOCK_WORDS * len dirty.now.noted }
         ensures size { self.new.size ≡ self.old.size }
         ensures emptied { self.new.traced ≡ empty }
@@ -154,7 +154,7 @@ impl Marker {
         self.cycle.marks.contains(start)
     }
 
-    /// The number of scans in this cycle: each is one reading of an object's words by `step` or `finish`.
+    /// The number of scans in this cycle. A scan reads the words of one object, in `step` or `finish`.
     pub fn scans(&self) -> u64
         ensures { result ≡ self.now.scans }
     {
@@ -168,14 +168,14 @@ impl Marker {
         self.cycle.marks.members()
     }
 
-    /// Makes the second set the marks, so that `trace` stops at marked objects.
+    /// Makes the second set equal to the marks, so that `trace` stops at marked objects.
     pub fn trace_found(&mut self)
         ensures { self.new ≡ record self.old { traced = self.old.marked } }
     {
         self.traces.copy(&self.cycle.marks);
     }
 
-    /// Adds the object and all that it leads to to the second set; its readings are no scans. Asked only where the second set is closed under children.
+    /// Adds the object and everything that it reaches to the second set. This doesn't count as a scan. Requires that the second set is closed under children.
     pub fn trace(&mut self, heap: &Heap, start: Addr)
         requires size { self.old.size ≡ BLOCK_WORDS * heap.now.blocks }
         requires in_heap { IsInHeap heap.now.blocks start }
@@ -186,7 +186,7 @@ impl Marker {
         self.traces.add_closed(heap, start);
     }
 
-    /// Adds one object to the second set, and nothing that it leads to.
+    /// Adds only this object to the second set, without what it reaches.
     pub fn trace_alone(&mut self, start: Addr)
         requires { (HEAP_START ≤ start) × (start < HEAP_START + self.old.size) }
         ensures { self.new ≡ record self.old { traced = insert self.old.traced start } }
@@ -201,7 +201,7 @@ impl Marker {
         self.traces.contains(start)
     }
 
-    /// The objects of the second set.
+    /// The objects in the second set.
     pub fn kept(&self) -> &Flags<HEAP_START>
         ensures { result.now ≡ record { size = self.now.size; members = self.now.traced } }
     {

@@ -1,4 +1,6 @@
--- Where a new object goes: into a block of 64 words that has objects of its size and kind, or into neighbouring blocks without objects.
+-- Where a new object goes: into a cell of a block that already has objects of its size and kind, or into neighbouring blocks without objects. Blocks have 64
+-- words.
+-- code: fz_blocks/src/block_map.rt (claim), fz_blocks/src/claims.rt, fz_heap/src/heap.rt (alloc)
 use Rattle.std.specs.Prelude.{ℕ, ◌+◌, ◌-◌, ◌*◌, ◌/◌, Bool, ◌&&◌, ◌||◌, not, ◌==◌, nat_le, List, map, Option, is_none, option_map, flat_map, filter}
 use Rattle.std.specs.List.{find, list_any, list_all, range_with_len}
 use Rattle.std.specs.Option.{option_or}
@@ -31,27 +33,27 @@ has_class extents size kind b =
 abbrev pub is_free : Map Extent → ℕ → Bool
 is_free extents a = is_none (get extents a)
 
--- whether an extent meets the block: it starts there, or has the block's first word
+-- whether an object has a word in the block: it starts there, or it contains the block's first word
 abbrev pub meets : ℕ → ℕ × Extent → Bool
 meets b (start, extent) = (block_of start == b) || covers (start, extent) (block_start b)
 
--- whether no object meets the block
+-- whether no object has a word in the block
 abbrev pub is_bare : Map Extent → ℕ → Bool
 is_bare extents b = not (list_any (meets b) (entries extents))
 
--- a block's cells, as many as fit whole: none of a size that no block can hold
+-- the starts of a block's cells, as many as fit completely: none if the size is larger than a block
 abbrev pub cells : ℕ → ℕ → List ℕ
 cells size b = map (λ i. block_start b + i * size) (range_with_len 0 (BLOCK_WORDS / size))
 
--- the blocks that the first object of its size and kind takes
+-- how many blocks an object takes that is the first of its size and kind there
 abbrev pub blocks_for : ℕ → ℕ
 blocks_for size = (size - 1) / BLOCK_WORDS + 1
 
--- whether a run of `count` blocks without objects begins with block `b`
+-- whether `count` blocks without objects begin with block `b`
 abbrev pub has_run : Map Extent → ℕ → ℕ → ℕ → Bool
 has_run extents blocks count b = nat_le (b + count) blocks && list_all (is_bare extents) (range_with_len b count)
 
--- the least free cell of the blocks of this class, or else the start of the least run of blocks with no object
+-- the lowest free cell among the blocks of this size and kind; if there is none, the start of the lowest run of empty blocks that is long enough
 abbrev pub place_in : Map Extent → ℕ → ℕ → ObjKind → Option ℕ
 place_in extents blocks size kind =
     option_or (find (is_free extents) (flat_map (cells size) (filter (has_class extents size kind) (range_with_len 0 blocks))))

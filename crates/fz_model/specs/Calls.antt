@@ -1,4 +1,5 @@
--- The answers of calls as replies.
+-- The results of calls as values of `Reply`.
+-- code: fz_model/src/call.rt, fz_world/src/calls.rt
 use Rattle.std.specs.Prelude.{Result, Ok, Err}
 use Rattle.fz_model.specs.declared.call.Call.{Call}
 use Rattle.fz_model.specs.declared.call.Call.TheVariants as calls

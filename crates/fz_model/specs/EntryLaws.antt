@@ -1,4 +1,5 @@
--- Laws that test the definitions of registrations and of held entries: what is expected of each call, in words that don't repeat how it is defined.
+-- Laws that test the definitions of registrations and held entries. They state what one expects of each call, in other words than its definition.
+-- code: fz_model/src/laws.rt (every_call)
 use Rattle.std.specs.Prelude.{◌≡◌, ◌≢◌, ℕ, ◌+◌, ◌<◌, ◌≤◌, ◌⊎◌, Option, None, Some, Contains, Result, Ok, ◌↔◌}
 use Rattle.std.specs.FinMap.{get}
 use Rattle.fz_model.specs.declared.call.Call.TheVariants.{Register, Unregister, Pause, Collect, Outstanding}
@@ -21,12 +22,12 @@ use Rattle.fz_model.specs.CallLaws.{Stands}
 
 -- ---- registrations
 
--- tells the procedure and the client data of what stood in the table, if anything did
+-- returns the procedure and the client data of the old registration, if there was one
 pub record Tells (was : Option Registration) (old : Option Old) : Type 0 where
   pub nothing : was ≡ None → old ≡ None
   pub pair : (r : Registration) → was ≡ Some r → (o : Old) × (old ≡ Some o) × (o.proc ≡ r.proc) × (o.cd ≡ r.cd)
 
--- the object has this finalizer now, under a number that no registration and no entry had
+-- the object has this finalizer now, under a number that no registration and no entry had before
 pub record IsRegistered (old : State) (object : ℕ) (finalizer : Finalizer) (answer : RegAnswer) (new : State) : Type 0 where
   pub registration : Registration
   pub here : get new.registrations object ≡ Some registration
@@ -41,17 +42,17 @@ pub record IsRegistered (old : State) (object : ℕ) (finalizer : Finalizer) (an
   pub counted : (registration.number ≡ old.next_number) × (new.next_number ≡ registration.number + 1)
   pub fresh : (a : ℕ) (r : Registration) → get old.registrations a ≡ Some r → r.number < registration.number
   pub never_queued : (e : Entry) → Contains old.queue e → e.reg < registration.number
-  -- it starts at the slot's word; every other registration is as it was, and so is all else
+  -- the object exists; every other registration and everything else is unchanged
   pub stands : Stands old.objects object
   pub others : (a : ℕ) → a ≢ object → get new.registrations a ≡ get old.registrations a
   pub rest : new.core ≡ record old.core { registrations = new.registrations; next_number = new.next_number }
 
--- off the heap nothing happens
+-- for a word outside the heap nothing happens
 pub record ObjectsAreRegistered (s : State) : Type 0 where
   pub outside : (slot : Slot) (finalizer : Finalizer) (answer : RegAnswer) (new : State) → (slot_word s.frames slot < HEAP_START) ⊎ (heap_end s.blocks ≤ slot_word s.frames slot) → Step s (Make (Register slot finalizer)) (Ok answer) new → (answer ≡ Outside) × (new.core ≡ s.core)
   pub object : (slot : Slot) (finalizer : Finalizer) (answer : RegAnswer) (new : State) → HEAP_START ≤ slot_word s.frames slot → slot_word s.frames slot < heap_end s.blocks → Step s (Make (Register slot finalizer)) (Ok answer) new → IsRegistered s (slot_word s.frames slot) finalizer answer new
 
--- the answer tells what stood there; none is left, every other registration is as it was, and so is all else
+-- the result says what was registered; no registration is left; every other registration and everything else is unchanged
 pub record IsUnregistered (old : State) (object : ℕ) (answer : Option Old) (new : State) : Type 0 where
   pub told : Tells (get old.registrations object) answer
   pub gone : get new.registrations object ≡ None
@@ -64,7 +65,7 @@ ObjectsAreUnregistered s =
 
 -- ---- held entries
 
--- how many entries an event adds to those that are held, and how many it takes away
+-- how many held entries an event adds, and how many it removes
 abbrev pub queued_by : (e : Event) → Result (Answer e) Refusal → ℕ
 queued_by (Make Pause) (Ok passed) = passed.picked
 queued_by (Make Collect) (Ok passed) = passed.picked
@@ -74,21 +75,21 @@ abbrev pub finished_by : (e : Event) → Result (Answer e) Refusal → ℕ
 finished_by (Finish entry) (Ok answer) = 1
 finished_by _ reply = 0
 
--- a held entry is finished: it is held no more, every other entry is as before, and so is all else
+-- the finished entry is no longer held; every other entry and everything else is unchanged
 pub record IsLetGo (old : State) (entry : Entry) (new : State) : Type 0 where
   pub was : Contains old.held entry
   pub gone : Contains new.held entry → ⊥
   pub others : (e : Entry) → e ≢ entry → Contains new.held e ↔ Contains old.held e
   pub rest : new.core ≡ record old.core { held = new.held }
 
--- a look at the number changes nothing; it is 0 just where nothing is held, goes up by what a pass queues, and down by one with each finish
+-- reading the number changes nothing; it is 0 exactly if nothing is held, grows by what a pass queues, and shrinks by one with each finish
 pub record HeldAreCounted (s : State) : Type 0 where
   pub looks : (count : ℕ) (new : State) → Step s (Make Outstanding) (Ok count) new → new.core ≡ s.core
   pub none : (count : ℕ) (new : State) → Step s (Make Outstanding) (Ok count) new → count ≡ 0 ↔ ((e : Entry) → Contains s.held e → ⊥)
   pub goes_on : (e : Event) (reply : Result (Answer e) Refusal) (mid : State) (before after : ℕ) (old new : State) → Step s (Make Outstanding) (Ok before) old → Step s e reply mid → Step mid (Make Outstanding) (Ok after) new → after + finished_by e reply ≡ before + queued_by e reply
   pub lets_go : (entry : Entry) (answer : Unit {0}) (new : State) → Step s (Finish entry) (Ok answer) new → IsLetGo s entry new
 
--- an entry is in one hand at most, and a forfeited one in none
+-- an entry is in at most one worker's hand, and a forfeited entry in none
 pub record InOneHand (j : Joint) : Type 0 where
   pub hands : (v w : ℕ) (e : Entry) → (worker_at j v).hand ≡ Some e → (worker_at j w).hand ≡ Some e → v ≡ w
   pub forfeited : (v w : ℕ) (e : Entry) → Contains (worker_at j v).forfeited e → (worker_at j w).hand ≡ Some e → ⊥

@@ -14,7 +14,7 @@ pub mod Calls
 pub mod Steps
 pub mod Joint
 pub mod Refusals
--- what is promised
+-- the main theorem
 pub mod Headline
 -- laws that test the model
 pub mod CallLaws
@@ -24,7 +24,7 @@ pub mod PassLaws
 pub mod CycleLaws
 pub mod OrderLaws
 pub mod Seen
--- means only
+-- means only: no public contract cites them
 pub mod Codes
 pub mod Sound
 pub mod Parts

@@ -1,4 +1,5 @@
--- Laws that test the order of the causes: where a call could be refused for two of them, which is told; and of some refusals, that their cause stands.
+-- Laws that test the order of the causes: which refusal is returned if two apply. For some refusals also that their cause applies.
+-- code: fz_model/src/laws.rt (every_call)
 use Rattle.std.specs.Prelude.{◌≡◌, ℕ, ◌+◌, ◌<◌, ◌≤◌, ◌⊎◌, length, None, Some, Result, Err, IsTrue}
 use Rattle.std.specs.FinMap.{get, len}
 use Rattle.fz_model.specs.declared.call.Call.{Call}
@@ -20,7 +21,7 @@ use Rattle.fz_model.specs.Events.{Event, Make, Hold, Answer}
 use Rattle.fz_model.specs.Steps.{Step}
 use Rattle.fz_model.specs.Joint.{Joint, JointEvent, Take, HoldOwn, FinishOwn, Forfeit, JointAnswer, JointStep}
 
--- whatever the call leads to, it is refused so
+-- whatever the reply and the new state are, the reply is this refusal
 abbrev pub AlwaysRefuses : State → Event → Refusal → Type 0
 AlwaysRefuses s e r = (reply : Result (Answer e) Refusal) (new : State) → Step s e reply new → reply ≡ Err r
 
@@ -34,7 +35,7 @@ HasSlot s slot = (slot.frame < length s.frames) × (slot.slot < SLOTS)
 abbrev pub LacksSlot : State → Slot → Type 0
 LacksSlot s slot = HasSlot s slot → ⊥
 
--- the slot's word points to nothing
+-- the slot's word points to no object
 abbrev pub PointsNowhere : State → Slot → Type 0
 PointsNowhere s slot = points s.objects (slot_word s.frames slot) ≡ None
 
@@ -48,11 +49,11 @@ abbrev pub HasPlace : State → Place → Type 0
 HasPlace s place =
     (start : ℕ) × (o : Object) × (points s.objects (slot_word s.frames place.slot) ≡ Some start) × (get s.objects start ≡ Some o) × (address_of s.frames place < start + length o.words)
 
--- the slot's word points into an object, and not to its start
+-- the slot's word is an interior pointer
 abbrev pub PointsInside : State → Slot → Type 0
 PointsInside s slot = (start : ℕ) × (points s.objects (slot_word s.frames slot) ≡ Some start) × (get s.objects (slot_word s.frames slot) ≡ None)
 
--- a slot that is missing comes before all else, the first-named slot before the second
+-- a missing slot comes before all other causes, the first slot of the call before the second
 pub record SlotsComeFirst (s : State) (slot : Slot) (lacks : LacksSlot s slot) : Type 0 where
   pub alloc : (size : ℕ) (kind : ObjKind) → AlwaysRefusesCall s (Alloc slot size kind) BadSlot
   pub load : (offset : ℕ) (to : Slot) → AlwaysRefusesCall s (Load (record { slot = slot; offset = offset }) to) BadSlot
@@ -71,8 +72,8 @@ pub record SlotsComeFirst (s : State) (slot : Slot) (lacks : LacksSlot s slot) :
   pub move_to : (which : LinkKind) (place : Place) (offset : ℕ) → AlwaysRefusesCall s (Move which place (record { slot = slot; offset = offset })) BadSlot
   pub hold : (entry : Entry) → AlwaysRefuses s (Hold slot entry) BadSlot
 
--- where both slots are there, the place of a link comes before its target, and the old place of a move before the new one; and a word that points to
--- nothing comes before all else that is wrong with a place or a target
+-- if both slots exist, the place of a link comes before its target, and the old place of a move before the new one; a word that points to no object comes
+-- before every other cause of a place or target
 pub record PlacesComeFirst (s : State) (place to : Place) (here : HasSlot s place.slot) (there : HasSlot s to.slot) : Type 0 where
   pub load_nowhere : PointsNowhere s place.slot → AlwaysRefusesCall s (Load place to.slot) NotPointer
   pub load_outside : EndsBefore s place → AlwaysRefusesCall s (Load place to.slot) OutsideObject
@@ -89,12 +90,12 @@ pub record PlacesComeFirst (s : State) (place to : Place) (here : HasSlot s plac
   pub move_to_nowhere : (which : LinkKind) → HasPlace s place → PointsNowhere s to.slot → AlwaysRefusesCall s (Move which place to) NotPointer
   pub move_to_outside : (which : LinkKind) → HasPlace s place → EndsBefore s to → AlwaysRefusesCall s (Move which place to) OutsideObject
 
--- where the slot is there, an object's size comes before births that are used up, and these before want of space
+-- if the slot exists, a wrong size comes before exhausted births, and these before a full heap
 pub record SizesComeFirst (s : State) (slot : Slot) (size : ℕ) (kind : ObjKind) (here : HasSlot s slot) : Type 0 where
   pub wrong : (size ≡ 0) ⊎ (MAX_OBJECT_WORDS < size) → AlwaysRefusesCall s (Alloc slot size kind) BadSize
   pub births : 1 ≤ size → size ≤ MAX_OBJECT_WORDS → COUNT_LIMIT ≤ s.next_birth → AlwaysRefusesCall s (Alloc slot size kind) Exhausted
 
--- where the slot's word lies in the heap, what it points to comes before numbers that are used up, and these before a full table
+-- if the slot's word lies in the heap, what it points to comes before exhausted registration numbers, and these before a full table
 pub record ObjectsComeFirst (s : State) (slot : Slot) (finalizer : Finalizer) (here : HasSlot s slot) (low : HEAP_START ≤ slot_word s.frames slot) (high : slot_word s.frames slot < heap_end s.blocks) : Type 0 where
   pub nowhere : PointsNowhere s slot → AlwaysRefusesCall s (Register slot finalizer) NotPointer
   pub inside : PointsInside s slot → AlwaysRefusesCall s (Register slot finalizer) NotStart
@@ -102,13 +103,13 @@ pub record ObjectsComeFirst (s : State) (slot : Slot) (finalizer : Finalizer) (h
   pub unregister_nowhere : PointsNowhere s slot → AlwaysRefusesCall s (Unregister slot) NotPointer
   pub unregister_inside : PointsInside s slot → AlwaysRefusesCall s (Unregister slot) NotStart
 
--- a budget of 0 comes before a cycle that isn't open, and an open cycle before passes that are used up
+-- a budget of 0 comes before a cycle that isn't open, and an open cycle before exhausted pass numbers
 pub record CyclesComeFirst (s : State) : Type 0 where
   pub mark : AlwaysRefusesCall s (Mark 0) BadCount
   pub begin : IsTrue s.cycle → AlwaysRefusesCall s Begin CycleOpen
   pub collect : IsTrue s.cycle → AlwaysRefusesCall s Collect CycleOpen
 
--- what is told of each call that could be refused for two causes
+-- which refusal each call returns if two causes apply
 pub record FirstIsTold (s : State) : Type 0 where
   pub slots : (slot : Slot) (lacks : LacksSlot s slot) → SlotsComeFirst s slot lacks
   pub places : (place to : Place) (here : HasSlot s place.slot) (there : HasSlot s to.slot) → PlacesComeFirst s place to here there
@@ -116,11 +117,11 @@ pub record FirstIsTold (s : State) : Type 0 where
   pub objects : (slot : Slot) (finalizer : Finalizer) (here : HasSlot s slot) (low : HEAP_START ≤ slot_word s.frames slot) (high : slot_word s.frames slot < heap_end s.blocks) → ObjectsComeFirst s slot finalizer here low high
   pub cycles : CyclesComeFirst s
 
--- the same of an event of a joint run
+-- the same for an event of a joint run
 abbrev pub AlwaysRefusesEvent : Joint → JointEvent → Refusal → Type 0
 AlwaysRefusesEvent j e r = (reply : Result (JointAnswer e) Refusal) (new : Joint) → JointStep j e reply new → reply ≡ Err r
 
--- a worker that is missing comes before an empty hand and all that is wrong with the call
+-- a missing worker comes before an empty hand, and before all causes of the call
 pub record WorkersComeFirst (j : Joint) (w : ℕ) (missing : length j.workers ≤ w) : Type 0 where
   pub take : AlwaysRefusesEvent j (Take w) SeatsMissing
   pub hold : (slot : Slot) → AlwaysRefusesEvent j (HoldOwn w slot) SeatsMissing
@@ -129,18 +130,18 @@ pub record WorkersComeFirst (j : Joint) (w : ℕ) (missing : length j.workers �
 
 -- ---- memory, sizes, counts and tables
 
--- it makes something: an object, or a registration, a link or a moved link
+-- the event creates something: an object, a registration, a link, or a moved link
 pub data MakesSomething : Event → Type 0 where
   AnObject : (slot : Slot) (size : ℕ) (kind : ObjKind) → MakesSomething (Make (Alloc slot size kind))
   ARegistration : (slot : Slot) (finalizer : Finalizer) → MakesSomething (Make (Register slot finalizer))
   ALink : (which : LinkKind) (place : Place) (target : Slot) → MakesSomething (Make (Link which place target))
   AMovedLink : (which : LinkKind) (place to : Place) → MakesSomething (Make (Move which place to))
 
--- the table has all that it can have, and not this key
+-- the table is full and doesn't have this key
 abbrev pub IsFullFor : {X : Type 0} → Map X → ℕ → Type 0
 IsFullFor table key = (TABLE_LIMIT ≤ len table) × (get table key ≡ None)
 
--- memory is lacking only where something is made; a size is wrong, a count used up and a table full only where it is so
+-- `NoMemory` occurs only where something is created; `BadSize`, `Exhausted` and `TableFull` occur only where they are true
 pub record RefusedForACause (s : State) : Type 0 where
   pub memory : (e : Event) (new : State) → Step s e (Err NoMemory) new → MakesSomething e
   pub size : (slot : Slot) (size : ℕ) (kind : ObjKind) (new : State) → Step s (Make (Alloc slot size kind)) (Err BadSize) new → (size ≡ 0) ⊎ (MAX_OBJECT_WORDS < size)

@@ -1,4 +1,4 @@
--- What holds of the parts of every world, as one word that proofs hand on whole. Means only, as IsSound is: no public contract cites it.
+-- What holds of the parts of every world, as one name that proofs pass on whole. Means only, as IsSound is: no public contract cites it.
 use Rattle.std.specs.Prelude.{ℕ, List}
 use Rattle.fz_model.specs.declared.answers.Entry.{Entry}
 use Rattle.fz_model.specs.declared.answers.Registration.{Registration}

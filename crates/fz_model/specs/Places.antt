@@ -1,4 +1,5 @@
--- Slots, places and finalizers by their numbers, as contracts of calls name them.
+-- Slots, places and finalizers from their numbers, as contracts of calls write them.
+-- code: fz_model/src/places.rt, fz_model/src/finalizer.rt, fz_script/src/fields.rt
 use Rattle.std.specs.Prelude.{ℕ, Some}
 use Rattle.fz_model.specs.declared.finalizer.Finalizer.{Finalizer}
 use Rattle.fz_model.specs.declared.kinds.RegKind.{RegKind}

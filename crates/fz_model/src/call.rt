@@ -1,4 +1,4 @@
-//! The calls of a world as values, and what they answer.
+//! The calls of a world as values, and their replies.
 
 use crate::answers::{LinkAnswer, MoveAnswer, Old, Passed, Progress, RegAnswer};
 use crate::finalizer::Finalizer;
@@ -6,44 +6,44 @@ use crate::kinds::{LinkKind, ObjKind};
 use crate::places::{Place, Slot};
 use crate::{Addr, Word};
 
-/// A call of a world. Entries are finished and their objects held by workers alone, so no call here names an entry.
+/// A call of a world. Only workers finish entries and hold their objects, so no call here names an entry.
 #[derive(Clone, Copy, Debug, PartialEq, Eq)]
 pub enum Call {
-    /// Makes an object, whose address goes into the slot.
+    /// Allocates an object and stores its address in the slot.
     Alloc {
         slot: Slot,
         /// In words.
         size: u64,
         kind: ObjKind,
     },
-    /// Puts the slot's word into another slot.
+    /// Copies the slot's word into another slot.
     Copy {
         slot: Slot,
         to: Slot,
     },
-    /// Reads a word of an object into a slot.
+    /// Loads a word of an object into a slot.
     Load {
         place: Place,
         to: Slot,
     },
-    /// Writes a slot's word into an object.
+    /// Stores a slot's word into an object.
     Store {
         place: Place,
         from: Slot,
     },
-    /// Puts the word into the slot.
+    /// Stores the word in the slot.
     Set {
         slot: Slot,
         word: Word,
     },
-    /// Registers a finalizer of the slot's object (`GC_register_finalizer` and its kinds).
+    /// Registers a finalizer for the object at the slot's word (`GC_register_finalizer` and its variants).
     Register {
         slot: Slot,
         finalizer: Finalizer,
     },
-    /// Removes the registration of the slot's object.
+    /// Removes the registration of the object at the slot's word.
     Unregister(Slot),
-    /// Makes a disappearing link at the place, whose target is the object that starts at the slot's word.
+    /// Registers a disappearing link at the place. Its target is the object at the slot's word.
     Link {
         which: LinkKind,
         place: Place,
@@ -54,48 +54,48 @@ pub enum Call {
         which: LinkKind,
         place: Place,
     },
-    /// Moves the link at the place to another place.
+    /// Moves the link from one place to another (`GC_move_disappearing_link`, `GC_move_long_link`).
     Move {
         which: LinkKind,
         place: Place,
         to: Place,
     },
-    /// Opens a cycle.
+    /// Opens a collection cycle.
     Begin,
-    /// Scans marked objects, at most as many as its number.
+    /// Scans at most this many marked objects.
     Mark(u64),
-    /// Ends the cycle with a pass.
+    /// Ends the cycle with a remark and a pass, while mutators are stopped.
     Pause,
-    /// A whole cycle in one step (`GC_gcollect`).
+    /// A whole collection in one step (`GC_gcollect`).
     Collect,
-    /// Closes the world: no pass queues anything from now on.
+    /// Closes the world: no later pass queues anything.
     Close,
-    /// Counts the held entries.
+    /// Counts the held entries: those that were queued and aren't finished.
     Outstanding,
 }
 
-/// What an accepted call answers.
+/// What an accepted call returns.
 #[derive(Clone, Copy, Debug, PartialEq, Eq)]
 pub enum Reply {
-    /// It is done, and there is nothing to tell.
+    /// The call was carried out and has no result.
     Done,
     /// The address of the new object, and its birth.
     Allocated { address: Addr, birth: u64 },
     /// The word that was read.
     Word(Word),
-    /// What registering a finalizer answers.
+    /// The result of registering a finalizer.
     Registered(RegAnswer),
-    /// The pair that was removed, if there was one.
+    /// The procedure and data that were removed, if there was a registration.
     Unregistered(Option<Old>),
-    /// What registering a link answers.
+    /// The result of registering a link.
     Linked(LinkAnswer),
     /// Whether there was a link.
     Unlinked(bool),
-    /// What moving a link answers.
+    /// The result of moving a link.
     Moved(MoveAnswer),
-    /// Whether marking has more to do.
+    /// Whether marking is complete.
     Marked(Progress),
-    /// What the pass did.
+    /// What the pass has done.
     Passed(Passed),
     /// The number of held entries.
     Outstanding(u64),

@@ -1,8 +1,8 @@
-//! What decides where an object lies.
+//! An object's size and kind, which decide where it lies.
 
 use crate::ObjKind;
 
-/// How far an object reaches from its start, and its kind. Objects of one size and kind share blocks.
+/// The size and kind of an object. Objects share a block only with objects of the same size and kind.
 #[derive(Clone, Copy, Debug, PartialEq, Eq)]
 pub struct Extent {
     /// In words.

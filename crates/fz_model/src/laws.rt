@@ -15,60 +15,59 @@ ghost use Rattle.fz_model.specs.PassLaws.{EachPassIsLawful};
 ghost use Rattle.fz_model.specs.CycleLaws.{SeenInThisCycle};
 ghost use Rattle.fz_model.specs.OrderLaws.{FirstIsTold, WorkersComeFirst, RefusedForACause};
 
-/// Does nothing. Its contract says of every reached state what is expected of each call and of each pass, in words of their own: so it tests the
-/// definitions by which all other contracts speak.
+/// Does nothing. Its contract states what one expects of each call and of each pass, for every reachable state. It uses other words than the definitions do,
+/// so it tests the definitions on which all other contracts depend.
 pub fn every_call()
-    // Each call has a step: it can be accepted, or it is refused for its first cause. So has each event of a joint run.
+    // Each call has a step: it can be accepted, or it fails with its first cause of refusal. The same holds of each event of a joint run.
     ensures each_has_step { (s : State) → IsReached s → EachCallHasStep s }
     ensures each_event_has_step { (moves : List Move) (end : Joint) → IsRun moves end → EachJointEventHasStep end }
-    // No word lies in two objects, and each object lies in the heap.
+    // No word belongs to two objects, and each object lies in the heap.
     ensures apart { (s : State) → IsReached s → AreApart (extents s.objects) }
     ensures within { (s : State) → IsReached s → AreWithin s.blocks (extents s.objects) }
-    // Objects with words in one block have one size and kind; an object takes no more blocks than it fills.
+    // Objects with words in one block have the same size and kind. An object takes no more blocks than it fills.
     ensures blocks_are_shared { (s : State) → IsReached s → BlocksAreShared s }
     ensures empty_blocks_are_room { (s : State) → IsReached s → EmptyBlocksAreRoom s }
-    // A new object is where and what the call answers, has words of zero, and changes no other object.
+    // A new object has the address and birth that the call returns, its words are zero, and no other object changes.
     ensures objects_are_made { (s : State) → IsReached s → ObjectsAreMade s }
-    // A slot gets the word that is given, or that of another slot, which keeps it.
+    // A slot gets the given word, or the word of another slot, which keeps it.
     ensures slots_are_set { (s : State) → IsReached s → SlotsAreSet s }
-    // A hold sets its slot, a begin opens a cycle and a close closes the world, and no more; a mark and a look at the queue change nothing.
+    // A hold sets only its slot, a begin only opens a cycle, and a close only closes the world. Marking and reading the queue change nothing.
     ensures rest_is_kept { (s : State) → IsReached s → RestIsKept s }
-    // A load gives the word that stands at the place. What was stored is loaded, and nothing else has changed.
+    // A load returns the word at the place. A load after a store returns what was stored, and nothing else has changed.
     ensures words_are_loaded { (s : State) → IsReached s → WordsAreLoaded s }
     ensures words_are_stored { (s : State) → IsReached s → WordsAreStored s }
-    // A registration has a new number, and tells what it replaces; one that is removed is gone.
+    // A registration gets a new number and returns what it replaces. A removed registration is gone.
     ensures objects_are_registered { (s : State) → IsReached s → ObjectsAreRegistered s }
     ensures objects_are_unregistered { (s : State) → IsReached s → ObjectsAreUnregistered s }
-    // Each link's target starts an object, and its word lies in one.
+    // Each link's target is the address of an object, and its word lies in an object.
     ensures short_links_stand { (s : State) → IsReached s → LinksStand s.objects s.short }
     ensures long_links_stand { (s : State) → IsReached s → LinksStand s.objects s.long }
-    // Where a call or a worker could be refused for two causes, the first is told.
+    // If a call or a worker has two causes of refusal, the first in the documented order is returned.
     ensures first_is_told { (s : State) → IsReached s → FirstIsTold s }
     ensures workers_come_first { (moves : List Move) (end : Joint) → IsRun moves end → (w : ℕ) (missing : length end.workers ≤ w) → WorkersComeFirst end w missing }
-    // Memory is lacking only where something is made; a size is wrong, a count used up and a table full only where it is so.
+    // `NoMemory` occurs only where something is created. `BadSize`, `Exhausted` and `TableFull` occur only where they are true.
     ensures refused_for_a_cause { (s : State) → IsReached s → RefusedForACause s }
-    // No table is larger than its limit.
+    // No table exceeds its limit.
     ensures tables_are_within { (s : State) → IsReached s → TablesAreWithin s }
-    // A link has the target that was named last; one that is removed is gone; a move keeps the target, and the number of links.
+    // A link has the target named last, and a removed link is gone. A move keeps the target and the number of links.
     ensures links_are_made { (s : State) → IsReached s → (place : Place) (target : Slot) → LinksAreMade s place target }
     ensures links_are_unlinked { (s : State) → IsReached s → (place : Place) → LinksAreUnlinked s place }
     ensures links_are_moved { (s : State) → IsReached s → (from to : Place) → LinksAreMoved s from to }
-    // A pass keeps all that is reachable and all that is registered, as it was but for the words of lost links; it keeps no more than what was seen and
-    // what registered objects lead to; no word that stays leads to what went; each link that stays leads to an object that stays, from one that
-    // stays; what is queued stands by rank, then address; the answer counts the entries that the queue gained and the starts that went; and no
-    // cycle is open afterwards.
+    // A pass retains every reachable object and every registered object, unchanged but for the words of cleared links. It retains nothing but what was seen
+    // in this cycle and what registered objects reach. No retained word points to a reclaimed object. Each remaining link has a retained target and lies in a
+    // retained object. Entries are queued by rank, then address. The result counts the new entries and the reclaimed objects. No cycle is open afterwards.
     ensures passes { (s : State) → IsReached s → EachPassIsLawful s }
-    // What was seen was reachable in a state of this cycle.
+    // An object counts as seen exactly if it was reachable in some state of this cycle.
     ensures seen { (s : State) → IsReached s → SeenInThisCycle s }
-    // In an open cycle what was seen is closed under children, and has what is reachable now; so a pause may find all of it.
+    // In an open cycle the seen set is closed under children and contains all that is reachable now, so a pause may find all of it.
     ensures seen_is_closed { (s : State) → IsReached s → SeenIsClosed s }
-    // The number of held entries goes up by what a pass queues, and down with each finish, which lets go of its entry alone.
+    // The number of held entries grows by what a pass queues. Each finish reduces it by one and affects only its own entry.
     ensures held_are_counted { (s : State) → IsReached s → HeldAreCounted s }
-    // An entry is in one hand at most, and a forfeited one in none.
+    // An entry is in at most one worker's hand, and a forfeited entry in none.
     ensures in_one_hand { (moves : List Move) (end : Joint) → IsRun moves end → InOneHand end }
-    // A hold puts the held object's start into the slot; a worker with an empty hand is refused.
+    // A hold stores the address of the held object in the slot. A worker with an empty hand is refused.
     ensures holds { (s : State) → IsReached s → HoldGivesTheObject s }
     ensures empty_hand { (moves : List Move) (end : Joint) → IsRun moves end → EmptyHandIsRefused end }
-    // A world is closed once.
+    // A world is closed only once.
     ensures closes { (s : State) → IsReached s → ClosesOnce s }
 {}

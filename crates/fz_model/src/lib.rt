@@ -1,6 +1,6 @@
-//! The plain types of the finalization service, and in `specs/` the meaning of all that it does.
+//! The plain types of the finalization service. `specs/` defines what every other crate does.
 //!
-//! Words, addresses and numbers are `u64`. An address is a word number of the heap, which begins at 65,536.
+//! Words, addresses and numbers are `u64`. An address counts words, not bytes. The heap begins at address 65,536.
 #![tactic(auto)]
 
 mod answers;
@@ -30,8 +30,8 @@ pub use limits::{
 pub use places::{Place, Slot};
 pub use refusal::Refusal;
 
-/// A word number of the heap.
+/// The address of a word of the heap.
 pub type Addr = u64;
 
-/// What a word of memory holds: any value, which is an address if it lies in an object.
+/// The content of a word of memory: any value. It is an address if it lies within an object.
 pub type Word = u64;

@@ -1,19 +1,19 @@
-//! Where the words stand that a mutator names.
+//! How a mutator names a word: a slot of a root frame, or a place in the heap.
 
-/// A slot of a frame, which holds one word.
+/// A slot of a root frame, which contains one word.
 #[derive(Clone, Copy, Debug, PartialEq, Eq)]
 pub struct Slot {
-    /// Frames are counted from 0.
+    /// The index of the frame, counted from 0.
     pub frame: u64,
-    /// The slots of a frame are counted from 0.
+    /// The index of the slot within its frame, counted from 0.
     pub slot: u64,
 }
 
-/// A word of the heap, named from the word in a slot.
+/// A word of the heap, named by a slot and an offset.
 #[derive(Clone, Copy, Debug, PartialEq, Eq)]
 pub struct Place {
-    /// The slot whose word it is counted from.
+    /// The slot whose word is the base address.
     pub slot: Slot,
-    /// In words, and added to the word in the slot.
+    /// In words, added to the slot's word.
     pub offset: u64,
 }

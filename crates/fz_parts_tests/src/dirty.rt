@@ -1,4 +1,4 @@
-//! What no clause says: that memory for the flags can be had, and examples of each call.
+//! What no clause states: that the bits can be allocated; and examples of each call.
 
 use crate::equal::must_be;
 use fz_bits::{Flags, SmallFlags, SparseFlags};
@@ -6,7 +6,7 @@ use fz_dirty::Dirty;
 use fz_model::{HEAP_START, MAX_BLOCKS};
 use std::test::Fail;
 
-/// The addresses of a heap of two blocks.
+/// The number of blocks of a small heap.
 const BLOCKS: u64 = 2;
 
 #[test]

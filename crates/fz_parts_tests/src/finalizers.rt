@@ -1,4 +1,4 @@
-//! What no clause says of finalizers: that calls succeed, and that thousands of rounds leave as little as one.
+//! What no clause states of finalizers: that calls succeed, and that thousands of rounds leave no more memory in use than one.
 
 use crate::equal::must_be;
 use fz_finalizers::{
@@ -7,7 +7,7 @@ use fz_finalizers::{
 use std::alloc::Global;
 use std::process::Abort;
 
-/// A finalizer of a kind, whose procedure and client data are the object plus 1 and plus 2.
+/// A finalizer of this kind, whose procedure and client data are the object's address plus 1 and plus 2.
 fn finalizer(kind: Kind, object: Addr, rank: u8) -> Finalizer {
     Finalizer {
         kind,
@@ -48,12 +48,12 @@ fn registers_replaces_and_removes(rt: HostRuntime) {
     must_be(&rt, number, Some(2), "its new number");
     let kind = finalizers.kind(16);
     must_be(&rt, kind, Some(Kind::Unreachable), "its new kind");
-    let next = finalizers.next_registration(17).map(|found| found.0);
-    must_be(&rt, next, Some(32), "the next object");
-    let last = finalizers.next_registration(33).map(|found| found.0);
-    must_be(&rt, last, None, "none after it");
-    let walked = finalizers.iter().next().is_some();
-    must_be(&rt, walked, true, "a walk over both");
+    let walked = finalizers.iter().next().map(|found| found.0);
+    must_be(&rt, walked, Some(32), "a walk over both");
+    let next = finalizers.iter().from_place(1).next().map(|found| found.0);
+    must_be(&rt, next, Some(16), "the walk from a place on");
+    let last = finalizers.iter().from_place(2).next().is_none();
+    must_be(&rt, last, true, "none after it");
     must_be(&rt, finalizers.unregister(16), old, "removed");
     must_be(&rt, finalizers.unregister(16), None, "removed once more");
     must_be(&rt, finalizers.registrations(), 1, "one object");
@@ -77,14 +77,10 @@ fn links_move_and_go(rt: HostRuntime) {
         let nowhere = finalizers.move_link(kind, 24, 0);
         must_be(&rt, nowhere, Err(Refused::Zero), "a move to no word");
         must_be(&rt, finalizers.target(kind, 8), None, "its old word");
-        must_be(
-            &rt,
-            finalizers.next_link(kind, 9),
-            Some((24, 32)),
-            "the link",
-        );
         let walked = finalizers.iter_links(kind).next();
         must_be(&rt, walked, Some((24, 32)), "a walk");
+        let last = finalizers.iter_links(kind).from_place(1).next();
+        must_be(&rt, last, None, "none from the next place on");
         must_be(&rt, finalizers.links(kind), 1, "one link of the kind");
     }
     must_be(&rt, finalizers.unlink(LinkKind::Short, 24), true, "it goes");

@@ -1,5 +1,5 @@
-//! Tests of the libraries below the world, and of scripts, by their public calls. They stand in one crate of their own: a crate with tests in it is proved
-//! twice, and each crate of tests takes a minute or two to read what it uses.
+//! Tests of the libraries below the world, and of scripts, through their public calls. They have a crate of their own: a crate with tests is proved twice,
+//! and each crate of tests takes a minute or two to load its dependencies.
 #![tactic(auto)]
 
 #[cfg(test)]
@@ -10,6 +10,8 @@ mod dirty;
 mod equal;
 #[cfg(test)]
 mod finalizers;
+#[cfg(test)]
+mod hash;
 #[cfg(test)]
 mod heap;
 #[cfg(test)]

@@ -1,4 +1,4 @@
-//! What no clause says: that memory is asked for only where it is needed, that Empty comes of a look at the line, and that Busy ends.
+//! What no clause states: that memory is allocated only when it is needed, that Empty depends on the line's content, and that Busy ends.
 
 ghost use Rattle.std.specs.Prelude.{◌≡◌, ◌<◌, ◌≤◌, [], length, vec_len, IfOk};
 ghost use Rattle.fz_line.specs.Numbers.{AreNumberedFrom};
@@ -15,10 +15,10 @@ use std::test::*;
 use std::thread;
 use std::thread::Threads;
 
-/// The most takes until an answer other than Busy.
+/// The largest number of takes until a result other than Busy.
 const TRIES: u32 = 1_000;
 
-/// Stops the test where a value isn't the one that is wanted. The assert stands here alone, since it is proved again at each place where it stands.
+/// Fails the test if a value isn't the expected one. The assert is in a function of its own, because it is proved again wherever it occurs.
 fn must_be<T: Copy + Debug + PartialEq>(rt: &impl Abort, found: T, want: T, what: &str) {
     assert_eq!(rt; found, want, "{what}");
 }
@@ -37,7 +37,7 @@ fn entry(seq: u64) -> Entry
     }
 }
 
-/// So many entries, numbered from 0.
+/// This many entries, numbered from 0.
 fn entries(alloc: Global, count: u64) -> Result<Vec<Entry>, AllocError>
     ensures { IfOk result (λ all. AreNumberedFrom 0 all.items × (vec_len all ≡ count)) }
 {
@@ -48,7 +48,7 @@ fn entries(alloc: Global, count: u64) -> Result<Vec<Entry>, AllocError>
     Ok(all)
 }
 
-/// The first answer other than Busy.
+/// The first result other than Busy.
 fn take_soon(mut seat: Seat) -> Take {
     for _ in 0..TRIES {
         match seat.take() {
@@ -59,7 +59,7 @@ fn take_soon(mut seat: Seat) -> Take {
     Take::Busy(seat)
 }
 
-/// A take that has to give an entry.
+/// A take that has to return an entry.
 fn must_take(rt: &impl Abort, seat: Seat) -> Duty {
     match take_soon(seat) {
         Take::Taken(duty) => duty,
@@ -131,7 +131,7 @@ fn opens_with_one_to_eight_seats(rt: HostRuntime) {
     }
 }
 
-/// A seat on its way to a thread, and the numbers of what it took. A closure that holds it may be let go, and then the seat is retired.
+/// A seat that is sent to a thread, and the numbers of the entries that it took. If a closure that owns it is dropped, the seat is retired.
 struct Taker {
     seat: Seat,
     numbers: Vec<u64>,
@@ -151,7 +151,7 @@ impl Taker {
         (seat, numbers)
     }
 
-    /// Forfeits what it takes, for a given number of takes.
+    /// Takes this many times, and forfeits every entry.
     fn take(self, takes: u64) -> Taker {
         let (mut seat, mut numbers) = self.parts();
         for _ in 0..takes {
@@ -176,7 +176,7 @@ struct Publisher {
 }
 
 impl Publisher {
-    /// Sends entries one by one, until `count` are sent or one is refused.
+    /// Publishes entries one by one, until `count` are sent or one is refused.
     fn publish(self, count: u64) -> Publisher {
         let Self {
             mut owner,
@@ -192,7 +192,7 @@ impl Publisher {
     }
 }
 
-/// Publishes in one thread while two others take, and then lets the second take what is left.
+/// Publishes in one thread while two others take, and then lets the second take the rest.
 fn publish_and_take<R: Threads + Sync>(
     rt: &R,
     publisher: Publisher,
@@ -212,7 +212,7 @@ fn publish_and_take<R: Threads + Sync>(
     (publisher, first, second.take(count))
 }
 
-/// A publisher of up to 10,000 entries, and the takers of its line's two seats.
+/// A publisher of up to 10,000 entries, and takers with the line's two seats.
 fn publisher_and_takers(rt: &impl Abort, alloc: Global) -> Result<(Publisher, Taker, Taker), Fail> {
     let one = Vec::with_capacity(alloc, 10_000)?;
     let two = Vec::with_capacity(alloc, 10_000)?;
@@ -229,7 +229,7 @@ fn publisher_and_takers(rt: &impl Abort, alloc: Global) -> Result<(Publisher, Ta
     Ok((Publisher { owner, sent: 0 }, first, second))
 }
 
-/// Notes numbers that have places, none of which may be noted before.
+/// Records numbers, each of which has an index in `seen` and may occur only once.
 fn note_numbers(rt: &impl Abort, seen: &mut [bool], numbers: &[u64]) {
     for &number in numbers {
         let Some(is_seen) = seen.get_mut(number as usize) else {
@@ -253,7 +253,7 @@ fn takes_each_entry_once_in_two_threads(rt: HostRuntime) -> Result<(), Fail> {
     Ok(())
 }
 
-/// A line that is asked for again where memory was wanting.
+/// Opens a line, and again if memory ran out.
 fn line_again(rt: &impl Abort, alloc: Global, workers: u64) -> (Owner, Vec<Seat>)
     requires { (0 < workers) × (workers ≤ 8) }
     ensures owner { result.0 ≡ owner_state result.0.line workers 64 [] [] }
@@ -268,7 +268,7 @@ fn line_again(rt: &impl Abort, alloc: Global, workers: u64) -> (Owner, Vec<Seat>
     }
 }
 
-/// With an allocation that fails, what isn't sent is the rest of the outbox in order, and it is sent when that is asked for again.
+/// If an allocation fails, the entries that aren't sent are the rest of the slice in order, and publishing them again sends them.
 #[test]
 fn stands_a_refused_push(rt: HostRuntime) -> Result<(), Fail> {
     let all = match entries(rt.alloc(), 2_000) {

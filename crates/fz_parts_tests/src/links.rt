@@ -1,4 +1,4 @@
-//! What no clause says: that calls succeed, and what they return when an allocation failed.
+//! What no clause states: that calls succeed, and what they return after a failed allocation.
 
 use crate::equal::must_be;
 use fz_links::Links;
@@ -49,7 +49,7 @@ fn moves_a_link(rt: HostRuntime) {
     must_be(&rt, links.len(), 3, "as many links as before");
 }
 
-/// Notes one of ten links from 100 on, which has to have its own target and to come once.
+/// Records one of ten links from 100 on. It has to have its own target, and it may occur only once.
 fn note_link(rt: &impl Abort, seen: &mut [bool; 10], link: Addr, target: Addr) {
     must_be(rt, target, link ^ 1, "the target of a link");
     assert!(rt; 100 <= link && link < 110, "{link} wasn't registered");
@@ -102,7 +102,7 @@ fn drops_by_link_and_target(rt: HostRuntime) {
     must_be(&rt, links.register(9, 1), registered, "a link once more");
 }
 
-/// A word beyond those of all the links.
+/// A word above those of all the links.
 const FURTHER: Addr = HEAP_START + 2 * TABLE_LIMIT;
 
 #[test]
@@ -125,7 +125,7 @@ fn holds_as_many_as_the_limit(rt: HostRuntime) {
     let duplicate = Ok(LinkAnswer::Duplicate);
     must_be(&rt, links.register(second, 2), duplicate, "a new target");
     must_be(&rt, links.get(second), Some(2), "the new target");
-    // A move leaves as many links as there were.
+    // A move doesn't change the number of links.
     let moved = Ok(MoveAnswer::Success);
     must_be(&rt, links.move_link(third, FURTHER), moved, "a move");
     must_be(&rt, links.get(FURTHER), Some(2), "the moved link");
@@ -139,7 +139,7 @@ fn holds_as_many_as_the_limit(rt: HostRuntime) {
     must_be(&rt, links.register(third, 1), success, "in that room");
 }
 
-/// Registers a link with a number, which is how many there are, and again where memory was wanting.
+/// Registers a link under a number, which is how many there are, and again if memory ran out.
 fn register_soon(rt: &impl Abort, links: &mut Links, link: Addr, number: u64) {
     let mut answer = links.register(link, number);
     if answer == Err(Refusal::NoMemory) {
@@ -150,7 +150,7 @@ fn register_soon(rt: &impl Abort, links: &mut Links, link: Addr, number: u64) {
     must_be(rt, answer, Ok(LinkAnswer::Success), "one of 1,000 links");
 }
 
-/// Moves a link with a number, and again where memory was wanting.
+/// Moves the link with this number, and again if memory ran out.
 fn move_soon(rt: &impl Abort, links: &mut Links, link: Addr, new: Addr, number: u64) {
     let mut moved = links.move_link(link, new);
     if moved == Err(Refusal::NoMemory) {
@@ -161,7 +161,7 @@ fn move_soon(rt: &impl Abort, links: &mut Links, link: Addr, new: Addr, number: 
     must_be(rt, moved, Ok(MoveAnswer::Success), "one of 1,000 moves");
 }
 
-/// With an allocation that fails, the call that wanted it is refused, changes nothing, and is accepted when it is made again.
+/// If an allocation fails, the call returns an error and changes nothing, and succeeds when it is repeated.
 #[test]
 fn stands_a_refused_growth(rt: HostRuntime) {
     let mut links = Links::new(rt.alloc());

@@ -1,4 +1,4 @@
-//! Cycles over chains and over an object of several pages: how many scans they take, which no clause says from below.
+//! Cycles over chains and over an object of several pages: how many scans they need. No clause gives a lower bound.
 
 ghost use Rattle.std.specs.Prelude.{◌≡◌, ◌≤◌, ◌<◌, ◌*◌, All, IfOk};
 ghost use Rattle.std.specs.FinSet.{len};
@@ -15,7 +15,7 @@ use fz_model::{Addr, BLOCK_WORDS, HEAP_START, MAX_BLOCKS, Progress};
 use std::alloc::Global;
 use std::test::Fail;
 
-/// Makes one-word objects, each but the last pointing to the next one.
+/// Allocates one-word objects, each pointing to the next.
 fn make_chain(heap: &mut Heap, count: u64) -> Result<(), Fail>
     ensures { IfOk result (λ _. heap.new.blocks ≡ heap.old.blocks) }
 {
@@ -85,10 +85,10 @@ fn large_and_small(alloc: Global) -> Result<Heap, Fail>
     Ok(heap)
 }
 
-/// The small object's start.
+/// The address of the small object.
 const SMALL: Addr = HEAP_START + 3 * BLOCK_WORDS;
 
-/// How many scans a cycle makes that begins with the large object and ends with one to three noted pages.
+/// How many scans a cycle makes that begins with the large object and ends with one to three dirty pages.
 fn scans_with(alloc: Global, heap: &Heap, noted: &[u64]) -> Result<u64, Fail>
     requires blocks { heap.now.blocks ≡ 5 }
     requires pages { All (λ page. page < 5) noted.now }
@@ -145,7 +145,7 @@ fn the_largest_heap_is_marked(rt: HostRuntime) -> Result<(), Fail> {
     Ok(())
 }
 
-/// Begins a cycle and traces from one object.
+/// Begins a cycle and traces from one object into the second set.
 fn trace_anew(marker: &mut Marker, heap: &Heap, start: Addr)
     requires size { marker.old.size ≡ BLOCK_WORDS * heap.now.blocks }
     requires in_heap { IsInHeap heap.now.blocks start }

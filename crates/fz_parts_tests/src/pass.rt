@@ -1,4 +1,4 @@
-//! Worked examples of a pass. Objects of one word stand at the heap's first addresses, in the order in which they are made.
+//! Worked examples of a pass. Objects of one word have the heap's first addresses, in the order of their allocation.
 
 ghost use Rattle.std.specs.Prelude.{◌≡◌, OnOk};
 ghost use Rattle.fz_marker.specs.Marking.{IsClosed};
@@ -29,10 +29,10 @@ const FOURTH: Addr = HEAP_START + 3;
 /// How many objects of half a block fill the largest heap.
 const FULL: u64 = 2 * MAX_BLOCKS;
 
-/// How many of these have each rank, where they have all ranks in turn.
+/// How many of these have each rank, if ranks are assigned in turn.
 const OF_A_RANK: u64 = FULL / 256;
 
-/// What a pass goes over.
+/// The parts of a world that a pass works on.
 #[derive(Drop)]
 struct Parts {
     marked: Marked,
@@ -52,7 +52,7 @@ fn open(alloc: Global, blocks: u64) -> Result<Parts, Fail> {
     })
 }
 
-/// Makes a scanned object for each word, which is what it holds.
+/// Allocates a scanned object for each word, and stores the word in it.
 fn make(parts: &mut Parts, words: &[Word]) -> Result<(), Fail> {
     for word in words {
         let (start, _) = parts.marked.heap.alloc(1, ObjKind::Scanned)?;
@@ -71,7 +71,7 @@ fn register(parts: &mut Parts, registered: &[(Addr, RegKind, u8)]) -> Result<(),
     Ok(())
 }
 
-/// Marks what one root leads to.
+/// Marks what one root reaches.
 fn find(alloc: Global, marked: &mut Marked, root: Word) -> Result<(), Fail>
     ensures heap { marked.new.heap ≡ marked.old.heap }
     ensures closed { OnOk result (IsClosed marked.new.heap.objects marked.new.marker.marked) }
@@ -83,7 +83,7 @@ fn find(alloc: Global, marked: &mut Marked, root: Word) -> Result<(), Fail>
     Ok(())
 }
 
-/// Refuses a table with a registration of what isn't an object.
+/// Fails if the table has a registration whose address isn't an object.
 fn check_registered(heap: &Heap, table: &Table) -> Result<(), Refusal>
     ensures { OnOk result (AreRegistered heap.now.objects table.now.registrations) }
 {
@@ -95,7 +95,7 @@ fn check_registered(heap: &Heap, table: &Table) -> Result<(), Refusal>
     Ok(())
 }
 
-/// Refuses links of which one has a target that isn't an object.
+/// Fails if a link has a target that isn't an object.
 fn check_targets(heap: &Heap, links: &Links) -> Result<(), Refusal>
     ensures { OnOk result (AreTargets heap.now.objects links.now.links) }
 {
@@ -107,17 +107,17 @@ fn check_targets(heap: &Heap, links: &Links) -> Result<(), Refusal>
     Ok(())
 }
 
-/// The number of each pass.
+/// The number of every pass.
 const PASS: u64 = 3;
 
-/// A pass that finds what one root leads to: the entries of its picks, and how many objects it reclaims.
+/// A pass whose only root is this word: the entries that it queues, and how many objects it reclaims.
 fn pass(alloc: Global, parts: &mut Parts, root: Word) -> Result<(Vec<Entry>, u64), Fail> {
     let mut queue = Vec::new(alloc);
     let reclaimed = pass_onto(alloc, parts, root, &mut queue)?;
     Ok((queue, reclaimed))
 }
 
-/// The same, with the entries at the end of a queue.
+/// The same, with the entries appended to a queue.
 fn pass_onto(
     alloc: Global,
     parts: &mut Parts,
@@ -149,7 +149,7 @@ fn objects_of(alloc: Global, queue: &[Entry]) -> Result<Vec<Addr>, Fail> {
     Ok(queue.iter().map(|entry| entry.obj).collect(alloc)?)
 }
 
-/// The objects that a pass without roots picks among those with these words, in order.
+/// The objects with these words that a pass without roots queues, in order.
 fn picked(
     alloc: Global,
     words: &[Word],
@@ -162,7 +162,7 @@ fn picked(
     objects_of(alloc, &queue)
 }
 
-/// A pass without roots has to pick these objects among those with these words, in order.
+/// A pass without roots has to queue these of the objects with these words, in order.
 fn must_pick(
     rt: &impl Abort,
     alloc: Global,
@@ -175,7 +175,7 @@ fn must_pick(
     Ok(())
 }
 
-/// Of four objects the first is registered and found, the second is registered and leads to the third, and nothing leads to the fourth.
+/// Of four objects the first is registered and reachable, the second is registered and points to the third, and nothing points to the fourth.
 #[test]
 fn picks_keeps_and_reclaims(rt: HostRuntime) -> Result<(), Fail> {
     let alloc = rt.alloc();
@@ -211,7 +211,7 @@ fn picks_keeps_and_reclaims(rt: HostRuntime) -> Result<(), Fail> {
     Ok(())
 }
 
-/// Two objects lead to one another, and each waits for the other, whether it ignores itself or not.
+/// Two objects point to each other, and each waits for the other, whether or not it ignores itself.
 #[test]
 fn a_cycle_waits(rt: HostRuntime) -> Result<(), Fail> {
     let pair = [SECOND, FIRST];
@@ -221,7 +221,7 @@ fn a_cycle_waits(rt: HostRuntime) -> Result<(), Fail> {
     must_pick(&rt, rt.alloc(), &pair, &ignore_self, &[])
 }
 
-/// A word that leads back to its own object holds back a normal one alone.
+/// An object that points to itself waits for itself only if its kind is normal.
 #[test]
 fn a_self_reference_counts_by_kind(rt: HostRuntime) -> Result<(), Fail> {
     let words = [FIRST, SECOND, THIRD];
@@ -233,7 +233,7 @@ fn a_self_reference_counts_by_kind(rt: HostRuntime) -> Result<(), Fail> {
     must_pick(&rt, rt.alloc(), &words, &registered, &[SECOND, THIRD])
 }
 
-/// A no-order object holds nothing back, and waits for a normal one that leads to it.
+/// A no-order object delays no other, and waits for a normal one that points to it.
 #[test]
 fn no_order_waits_for_normal(rt: HostRuntime) -> Result<(), Fail> {
     let chain = [SECOND, THIRD, 0];
@@ -257,7 +257,7 @@ fn ranks_come_before_addresses(rt: HostRuntime) -> Result<(), Fail> {
     must_pick(&rt, rt.alloc(), &[0; 4], &registered, &want)
 }
 
-/// What is tried with one heap and its tables, which one function owns and lends.
+/// An example for one heap and its tables. One function owns these and lends them.
 #[derive(Clone, Copy)]
 enum Example {
     ShortLink,
@@ -278,7 +278,7 @@ fn holds(alloc: Global, example: Example) -> Result<bool, Fail> {
     }
 }
 
-/// Two objects lead to one another, the first by a word that is a short link. It is zeroed before the order is judged.
+/// Two objects point to each other, the first by a word with a short link. This word is cleared before the order is decided.
 fn clears_short_links_first(alloc: Global, parts: &mut Parts) -> Result<bool, Fail> {
     make(parts, &[SECOND, FIRST])?;
     register(parts, &[(FIRST, Normal, 0), (SECOND, Normal, 0)])?;
@@ -289,7 +289,7 @@ fn clears_short_links_first(alloc: Global, parts: &mut Parts) -> Result<bool, Fa
     Ok(queue.len() == 1 && is_second && reclaimed == 0 && is_cleared)
 }
 
-/// A long link of a found object stands while its target is kept for its finalizer, and is cleared when the target is reclaimed.
+/// A long link in a reachable object remains while its target is retained for its finalizer, and is cleared when the target is reclaimed.
 fn long_link_waits(alloc: Global, parts: &mut Parts) -> Result<bool, Fail> {
     make(parts, &[5, 0])?;
     register(parts, &[(SECOND, Normal, 0)])?;
@@ -301,7 +301,7 @@ fn long_link_waits(alloc: Global, parts: &mut Parts) -> Result<bool, Fail> {
     Ok(stood && is_cleared)
 }
 
-/// The heap is full of registered objects of half a block each: one pass picks them all, and the next reclaims them.
+/// The heap is full of registered objects of half a block each: one pass queues them all, and the next reclaims them.
 fn picks_by_address(alloc: Global, parts: &mut Parts) -> Result<bool, Fail> {
     fill(parts)?;
     let (queue, kept) = pass(alloc, parts, 0)?;
@@ -320,7 +320,7 @@ fn fill(parts: &mut Parts) -> Result<(), Fail> {
     Ok(())
 }
 
-/// The picks of a second pass stand behind those of the first, also where their ranks differ and are lower.
+/// The entries of a second pass come after those of the first, even if their ranks are lower.
 fn picks_behind_earlier(alloc: Global, parts: &mut Parts) -> Result<bool, Fail> {
     make(parts, &[0; 4])?;
     register(parts, &[(FOURTH, Normal, 9)])?;
@@ -334,7 +334,7 @@ fn picks_behind_earlier(alloc: Global, parts: &mut Parts) -> Result<bool, Fail> 
     Ok(objects.as_slice() == [FOURTH, SECOND, FIRST, THIRD].as_slice())
 }
 
-/// The heap is full of registered objects of half a block each, whose ranks are 255 to 0 in turn: one pass picks them by rank, then address.
+/// The heap is full of registered objects of half a block each, with ranks from 255 to 0 in turn: one pass queues them by rank, then address.
 fn picks_by_rank(alloc: Global, parts: &mut Parts) -> Result<bool, Fail> {
     fill_in_turn(parts)?;
     let (queue, kept) = pass(alloc, parts, 0)?;
@@ -353,7 +353,7 @@ fn fill_in_turn(parts: &mut Parts) -> Result<(), Fail> {
     Ok(())
 }
 
-/// Whether the entries are those of the ranks 0 to 255, as many of each, by rising address, and have the numbers of their places.
+/// Whether the entries have the ranks 0 to 255, the same number of each, with ascending addresses, and successive numbers.
 fn are_in_turn(queue: &[Entry]) -> bool {
     let mut place = 0u64;
     for entry in queue {
@@ -367,7 +367,7 @@ fn are_in_turn(queue: &[Entry]) -> bool {
     true
 }
 
-/// The first entry whose object or number isn't that of its place.
+/// The first entry with the wrong object or number.
 fn first_out_of_place(queue: &[Entry]) -> Option<usize> {
     let mut want = HEAP_START;
     for (place, entry) in queue.iter().enumerate() {

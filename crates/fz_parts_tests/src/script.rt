@@ -1,4 +1,4 @@
-//! Lines of each verb and each job, and lines that are none.
+//! Lines of every verb and every job, and malformed lines.
 
 use fz_model::{Call, Finalizer, LinkKind, ObjKind, Place, RegKind, Slot};
 use fz_script::{Job, Step, job_of, step_of};

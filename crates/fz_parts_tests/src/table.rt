@@ -1,4 +1,4 @@
-//! What no clause says: that calls succeed, and what they return when an allocation failed.
+//! What no clause states: that calls succeed, and what they return after a failed allocation.
 
 use crate::equal::must_be;
 use fz_model::{Addr, Finalizer, HEAP_START, Old, Refusal, RegKind, Registration, TABLE_LIMIT};
@@ -36,12 +36,12 @@ fn registers_replaces_and_takes(rt: HostRuntime) {
     must_be(&rt, table.take(70_000), None, "take it once more");
     must_be(&rt, table.get(70_000), None, "get what was taken");
     must_be(&rt, table.len(), 1, "one object");
-    // Numbers aren't used again.
+    // Numbers aren't reused.
     let next = table.register(70_000, Finalizer::new(RegKind::Normal, 1, 2, 0));
     must_be(&rt, next, Ok((3, None)), "the first after that");
 }
 
-/// Notes one of ten objects from 100,000 on, whose procedure has to be its own address, and which has to come once.
+/// Records one of ten objects from 100,000 on. Its procedure has to equal its address, and it may occur only once.
 fn note_object(rt: &impl Abort, seen: &mut [bool; 10], object: Addr, proc: u64) {
     must_be(rt, proc, object, "the procedure of an object");
     assert!(rt;
@@ -75,7 +75,7 @@ fn iterates_over_all(rt: HostRuntime) {
     must_be(&rt, seen, want, "all objects but one");
 }
 
-/// An object beyond all the others.
+/// An object above all the others.
 const FURTHER: Addr = HEAP_START + 2 * TABLE_LIMIT;
 
 #[test]
@@ -112,7 +112,7 @@ fn holds_as_many_as_the_limit(rt: HostRuntime) {
     );
 }
 
-/// Registers an object with a number, which is how many there are, and again where memory was wanting.
+/// Registers an object under a number, which is how many there are, and again if memory ran out.
 fn register_soon(rt: &impl Abort, table: &mut Table, object: Addr, number: u64) {
     let mut answer = table.register(object, Finalizer::new(RegKind::Normal, number, 0, 0));
     if answer == Err(Refusal::NoMemory) {
@@ -127,7 +127,7 @@ fn register_soon(rt: &impl Abort, table: &mut Table, object: Addr, number: u64) 
     must_be(rt, answer, Ok((number, None)), "one of 1,000 objects");
 }
 
-/// With an allocation that fails, the call that wanted it is refused, changes nothing, and is accepted when it is made again.
+/// If an allocation fails, the call returns an error and changes nothing, and succeeds when it is repeated.
 #[test]
 fn stands_a_refused_growth(rt: HostRuntime) {
     let mut table = Table::new(rt.alloc());

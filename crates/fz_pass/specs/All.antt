@@ -1,4 +1,5 @@
--- All that is registered is queued, whatever is marked.
+-- Queueing every registration, whatever is marked.
+-- code: fz_pass/src/all.rt
 use Rattle.std.specs.Prelude.{◌≡◌, ℕ, List, [], ◌++◌, map, Some, Contains, All, AllPairs}
 use Rattle.std.specs.FinMap.{get}
 use Rattle.fz_model.specs.declared.kinds.ObjKind.TheVariants.{Atomic}
@@ -21,7 +22,7 @@ unknown_objects registrations = mapped (λ _ _. unknown) registrations
 abbrev pub IsQueuedOf : Map Registration → Pick → Type 0
 IsQueuedOf registrations p = (r : Registration) × (get registrations p.obj ≡ Some r) × (p ≡ pick_of r p.obj unknown)
 
--- each registration has its entry at the end of the queue, by rank, then object, numbered on from the first, and as of no pass
+-- the entry of each registration is appended to the queue, by rank, then address, with successive numbers, and with pass 0
 pub record QueuesAll (first : ℕ) (registrations : Map Registration) (queue new_queue : List Entry) : Type 0 where
   pub picks : List Pick
   pub queued : new_queue ≡ queue ++ entries_of 0 first picks

@@ -1,4 +1,5 @@
--- What a pass makes of the parts that it goes over.
+-- How a pass changes the objects, the table and the links.
+-- code: fz_pass/src/pass.rt
 use Rattle.std.specs.Prelude.{◌≡◌, ℕ, ◌+◌, ◌++◌, Bool, false, List, length}
 use Rattle.std.specs.FinMap.{len, retain_keys}
 use Rattle.fz_model.specs.declared.answers.Entry.{Entry}
@@ -15,15 +16,15 @@ pub record Parts : Type 0 where
   pub short : Map ℕ
   pub long : Map ℕ
 
--- the objects, with what tables and links hold
+-- the objects, with the content of the table and of the links
 abbrev pub parts_of : Map Object → Tabled → Linked → Linked → Parts
 parts_of objects table short long = record { objects = objects; registrations = table.registrations; short = short.links; long = long.links }
 
--- the same after a pass: of the objects, those that are marked
+-- the same after a pass: only the marked objects remain
 abbrev pub parts_left : Map Object → (ℕ → Bool) → Tabled → Linked → Linked → Parts
 parts_left objects marked table short long = parts_of (retain_keys objects marked) table short long
 
--- what a pass with these found objects picks, and what it leaves
+-- what a pass with this found set queues, and the state after it
 pub record Decides (old : Parts) (found : ℕ → Bool) (picks : List Pick) (new : Parts) : Type 0 where
   pub decision : Decision old.objects old.registrations old.short found
   pub picked : picks ≡ decision.picks
@@ -34,17 +35,18 @@ pub record Decides (old : Parts) (found : ℕ → Bool) (picks : List Pick) (new
     long = links_within old.objects old.long decision.kept decision.kept;
   }
 
--- the pass of this number queues entries of picks, numbered on from the first; they are the model's, and so is what it leaves, where the marking is exact
+-- the pass of this number queues entries of picks, with successive numbers; if marking is exact, they are the model's picks, and the state after it is the
+-- model's
 pub record DecidesInto (Exact : Type 0) (pass first : ℕ) (old : Parts) (found : ℕ → Bool) (new : Parts) (queue new_queue : List Entry) : Type 0 where
   pub picks : List Pick
   pub queued : new_queue ≡ queue ++ entries_of pass first picks
   pub exactly : Exact → Decides old found picks new
 
--- the parts of a core
+-- the objects, table and links of a core
 abbrev pub core_parts : Core → Parts
 core_parts c = record { objects = c.objects; registrations = c.registrations; short = c.short; long = c.long }
 
--- the core after a pass: with other parts, and with the entries of the picks
+-- the core after a pass: with other objects, table and links, and with the entries of the picks
 abbrev pub passed_core : Core → Parts → List Pick → Core
 passed_core c new picks = record c {
   objects = new.objects;
@@ -57,7 +59,7 @@ passed_core c new picks = record c {
   cycle = false;
 }
 
--- a decision for the core that is carried out, with its picks queued and held, is a pass of the model
+-- carrying out a decision for the core, so that its picks are queued and held, is a pass of the model
 abbrev pub DecisionsPass : Core → Type 0
 DecisionsPass c = (found : ℕ → Bool) (picks : List Pick) (new : Parts) (reclaimed : ℕ)
     → Decides (core_parts c) found picks new → len new.objects + reclaimed ≡ len c.objects

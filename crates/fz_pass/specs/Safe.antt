@@ -1,4 +1,5 @@
--- What a pass leaves alone, also where the marking marks more than it is asked to.
+-- What a pass leaves unchanged, even if marking marks more than it is asked to.
+-- code: fz_pass/src/law.rt
 use Rattle.std.specs.Prelude.{◌≡◌, ℕ, ◌+◌, ◌<◌, ◌≤◌, ◌⊎◌, Bool, List, length, Some, Contains, IsTrue, IsFalse}
 use Rattle.std.specs.FinMap.{get, contains_key}
 use Rattle.fz_model.specs.declared.answers.Entry.{Entry}
@@ -7,21 +8,21 @@ use Rattle.fz_model.specs.Memory.{points}
 use Rattle.fz_model.specs.State.{Map, Object}
 use Rattle.fz_pass.specs.Late.{Parts, DecidesLate}
 
--- a link whose word is at the address has a target that passes a test
+-- if a link has its word at this address, its target passes the test
 abbrev pub LeadsTo : Map ℕ → ℕ → (ℕ → Bool) → Type 0
 LeadsTo links word test = (target : ℕ) → get links word ≡ Some target → IsTrue (test target)
 
 pub record IsSafe (old : Parts) (found : ℕ → Bool) (picks late : List Pick) (new : Parts) : Type 0 where
-  -- nothing that was found is queued
+  -- nothing in the found set is queued
   pub unfound : (p : Pick) → Contains picks p ⊎ Contains late p → IsFalse (found p.obj)
-  -- what was found stays
+  -- every object in the found set is retained
   pub stays : (a : ℕ) → IsTrue (found a) → IsTrue (contains_key old.objects a) → IsTrue (contains_key new.objects a)
-  -- a short link to a found object stays, where its word's object does
+  -- a short link to an object in the found set remains, if the object that contains its word is retained
   pub short : (word target holder : ℕ) → get old.short word ≡ Some target → IsTrue (found target) → points old.objects word ≡ Some holder → IsTrue (contains_key new.objects holder) → get new.short word ≡ Some target
-  -- an object that stays is as it was, where all links of its words lead to objects that were found, or that stay
+  -- a retained object is unchanged, if all links in its words have targets that were found or are retained
   pub same : (a : ℕ) (o : Object) → get old.objects a ≡ Some o → IsTrue (contains_key new.objects a)
       → ((word : ℕ) → a ≤ word → word < a + length o.words → LeadsTo old.short word found × LeadsTo old.long word (contains_key new.objects)) → get new.objects a ≡ Some o
 
--- a pass of whatever marking is so
+-- a pass is safe in this sense, whatever it marks
 abbrev pub PassesAreSafe : Parts → Type 0
 PassesAreSafe old = (found : ℕ → Bool) (new : Parts) (queue new_queue : List Entry) (pass first : ℕ) (d : DecidesLate ⊥ pass first old found new queue new_queue) → IsSafe old found d.picks d.late new

@@ -1,4 +1,4 @@
-//! All that is registered, queued whatever is marked.
+//! Queueing every registration, whatever is marked.
 
 ghost use Rattle.std.specs.Prelude.{◌≡◌, ◌≤◌, ◌+◌, ◌<◌, ◌^◌, [], ℕ, Bool, false, List, length, vec_len, vec_capacity, IsTrue, Some, refl};
 ghost use Rattle.std.proofs.Common.{◌∙◌};
@@ -17,7 +17,7 @@ use fz_model::{Addr, Entry, Pick};
 use fz_table::Table;
 use std::mem;
 
-/// A host without objects, none of which is marked.
+/// A host without objects or marks.
 struct Nothing;
 
 impl Host for Nothing {
@@ -54,7 +54,7 @@ impl Host for Nothing {
     ghost transitive = { λ _ _ _ _ _. tt };
 }
 
-/// Takes the object's registration out of the table, and returns its pick, without a birth. Asked only of a registered object.
+/// Removes the object's registration from the table, and returns its pick, without a birth. Requires a registered object.
 fn take_unknown(table: &mut Table, object: Addr) -> Pick
     requires registered { IsTrue (contains_key table.old.registrations object) }
     ensures taken { (objects : Map Object) (o : Object) → get objects object ≡ Some o → o.birth ≡ 0 → IsTaken objects object table.old.registered table.new.registered result }
@@ -70,7 +70,7 @@ fn take_unknown(table: &mut Table, object: Addr) -> Pick
     }
 }
 
-/// Takes the listed objects' registrations out of the table, and puts their entries at the end of a queue.
+/// Removes the listed objects' registrations from the table, and appends their entries to a queue.
 fn take_all(table: &mut Table, ready: &[(u8, Addr)], out: &mut Gathered)
     requires listed { AreUnmarked table.old.registrations (λ _. false) AreRanked ready.now }
     requires room { length out.old.picks + len table.old.registrations ≤ out.old.capacity }
@@ -86,10 +86,10 @@ fn take_all(table: &mut Table, ready: &[(u8, Addr)], out: &mut Gathered)
     }
 }
 
-/// Queues all that is registered, by rank, then address, whatever is marked: `GC_finalize_all`. The entries are numbered from `first` on; their pass is
-/// 0, and so is each birth.
+/// Queues every registration, by rank, then address, whatever is marked: `GC_finalize_all`. Entries have successive numbers from `first` on; their pass is 0,
+/// and so is each birth.
 ///
-/// It takes no memory: the list has room for every registration, and so has the queue.
+/// Takes no memory: both the list and the queue have room for every registration.
 pub fn queue_all(table: &mut Table, ready: &mut ReadyList, queue: &mut Vec<Entry>, first: u64)
     requires list { len table.old.registrations ≤ ready.old.room }
     requires room { vec_len queue.old + len table.old.registrations ≤ vec_capacity queue.old }

@@ -1,4 +1,4 @@
-//! The words of links whose targets are gone.
+//! Clearing the words of links to unmarked objects.
 
 ghost use Rattle.std.specs.Prelude.{◌≡◌, nat_eq, ◌&&◌, IsTrue};
 ghost use Rattle.std.specs.FinMap.{contains_key};
@@ -10,7 +10,7 @@ use crate::host::Host;
 use fz_links::Links;
 use fz_model::Addr;
 
-/// Writes zero to the word of a link, if its target isn't marked.
+/// Clears the word of a link, if its target isn't marked.
 fn clear_if_dead<H: Host>(host: &mut H, link: Addr, target: Addr)
     requires target { IsTrue (contains_key (H.objects host.old) target) }
     ensures objects { H.objects host.new ≡ filled (λ a. nat_eq a link && is_outside (H.objects host.old) (H.marked host.old) target) 0 (H.objects host.old) }
@@ -22,7 +22,7 @@ fn clear_if_dead<H: Host>(host: &mut H, link: Addr, target: Addr)
     }
 }
 
-/// Writes zero to the word of each link whose target isn't marked.
+/// Clears the word of each link whose target isn't marked.
 pub(crate) fn clear_dead<H: Host>(host: &mut H, links: &Links)
     requires targets { AreTargets (H.objects host.old) links.now.links }
     ensures objects { H.objects host.new ≡ cleared links.now.links (H.marked host.old) (H.objects host.old) }

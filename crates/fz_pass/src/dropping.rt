@@ -1,4 +1,4 @@
-//! Which links stay.
+//! Removing links.
 
 ghost use Rattle.std.specs.Prelude.{◌≡◌, not, false};
 ghost use Rattle.std.specs.Option.{option_map_or};
@@ -9,7 +9,7 @@ use crate::host::Host;
 use fz_links::Links;
 use fz_model::Addr;
 
-/// Drops the links whose targets aren't marked.
+/// Removes the links whose targets aren't marked.
 pub(crate) fn drop_dead<H: Host>(host: &H, links: &mut Links)
     ensures { links.new.links ≡ with_targets links.old.links (H.marked host.now) }
 {
@@ -20,7 +20,7 @@ pub(crate) fn drop_dead<H: Host>(host: &H, links: &mut Links)
     );
 }
 
-/// Drops the links whose words lie in no marked object.
+/// Removes the links whose words don't lie in a marked object.
 pub(crate) fn drop_outside<H: Host>(host: &H, links: &mut Links)
     ensures { links.new.links ≡ with_containers (H.objects host.now) links.old.links (H.marked host.now) }
 {

@@ -6,12 +6,12 @@ ghost use Rattle.fz_model.specs.Pass.{entry_of, entries_of};
 use fz_model::{Entry, Pick};
 use std::marker::Model;
 
-/// A queue that gains the entries of a pass. A contract sees what stood in it before, and the picks whose entries came.
+/// A queue to which the entries of a pass are appended. Its model is its content before the pass, and the picks whose entries were appended.
 #[derive(Drop)]
 pub(crate) struct Gathered {
     queue: Vec<Entry>,
     pass: u64,
-    /// How many entries stood in it before.
+    /// How many entries it had before.
     before: usize,
     /// The number of the pass's first entry.
     first: u64,
@@ -31,7 +31,7 @@ impl Model for Gathered {
     ghost invariant = { λ g. (g.before ≤ length g.queue.items) × (drop g.before g.queue.items ≡ entries_of g.pass g.first (picks_of (drop g.before g.queue.items))) };
 }
 
-/// The entry of a pick.
+/// The queue entry of a pick.
 fn entry_of(pass: u64, seq: u64, pick: Pick) -> Entry
     ensures { result ≡ entry_of pass seq pick }
 {
@@ -47,7 +47,7 @@ fn entry_of(pass: u64, seq: u64, pick: Pick) -> Entry
 }
 
 impl Gathered {
-    /// The queue before its first entry of the pass comes.
+    /// The queue before the pass's first entry.
     pub(crate) fn new(queue: Vec<Entry>, pass: u64, first: u64) -> Gathered
         ensures { result ≡ record { before = queue.items; pass = pass; first = first; picks = []; capacity = vec_capacity queue - vec_len queue } }
     {
@@ -60,7 +60,7 @@ impl Gathered {
         }
     }
 
-    /// Puts the entry of a pick at the end, for which there has to be room.
+    /// Appends the entry of a pick. Requires room for it.
     pub(crate) fn push(&mut self, pick: Pick)
         requires room { length self.old.picks < self.old.capacity }
         requires number { self.old.first + length self.old.picks < 2 ^ 64 }
@@ -71,7 +71,7 @@ impl Gathered {
         let _ = self.queue.push(entry_of(self.pass, seq, pick));
     }
 
-    /// The queue with all that came.
+    /// The queue with all entries.
     pub(crate) fn into_queue(self) -> Vec<Entry>
         ensures items { result.items ≡ self.before ++ entries_of self.pass self.first self.picks }
         ensures capacity { vec_capacity result ≡ length self.before + self.capacity }

@@ -1,4 +1,4 @@
-//! A host's heap at the moment of a pass, when its marking is done.
+//! A host's heap at the moment of a pass, after its marking is complete.
 
 ghost use Rattle.std.specs.Prelude.{◌≡◌, ℕ, Bool, false, IsTrue, Some};
 ghost use Rattle.std.specs.Option.{option_map_or};
@@ -10,33 +10,36 @@ ghost use Rattle.fz_pass.specs.Marks.{IsClosed, Marks, IsLeadingBut, IsLastToMar
 
 use fz_model::Addr;
 
-/// A heap with marks, whose marking is done: what a pass asks of it.
+/// A heap with marks, as a pass uses it. Marking must be complete.
 ///
-/// Objects and words are numbers, which a pass compares and hands back. The host knows what they stand for. Its contracts speak of its objects as the
-/// model has them, by their starts: whose words lead where, and which word lies in which object.
+/// Objects and words are numbers that a pass only compares and passes back. The host knows what they mean. The contracts of these methods refer to the host's
+/// objects as the model defines them, by address: which words point to which objects, and in which object a word lies.
+///
+/// A host also defines four ghost members, and proves that `is_same` is reflexive and transitive. A host whose marking is exact defines `is_exact` as
+/// `Unit {0}`, and one that may mark more as `⊥`. The heap of records in `own_heap/src/host.rt` is an example.
 pub trait Host {
-    /// Its objects, by their starts.
+    /// Its objects, by address.
     ghost objects: { Self → Map Object };
-    /// Its marks.
+    /// Which objects are marked.
     ghost marked: { Self → ℕ → Bool };
-    /// That it marks what it is asked to, and nothing else. A host that scans conservatively may mark more.
+    /// Whether marking is exact: it marks what it is asked to mark, and nothing else. A host that scans conservatively may mark more.
     ghost is_exact: { Type 0 };
-    /// That all else of it is the same.
+    /// Whether everything else in the host is unchanged.
     ghost is_same: { Self → Self → Type 0 };
 
     /// Whether the object is marked.
     fn is_marked(&self, object: Addr) -> bool
         ensures { result ≡ marked self.now object };
 
-    /// Whether the object that has the word is marked. False for a word that lies in no object.
+    /// Whether the object that contains the word is marked. False for a word outside every object.
     fn is_holder_marked(&self, word: Addr) -> bool
         ensures { result ≡ option_map_or (marked self.now) (points (objects self.now) word) false };
 
-    /// The birth of an object, which tells it from those that had its address before. A host without births returns 0, and so do its objects.
+    /// The birth of an object, which distinguishes it from earlier objects at the same address. A host without births returns 0, and so do its objects.
     fn birth(&self, object: Addr) -> u64
         ensures { (o : Object) → get (objects self.now) object ≡ Some o → result ≡ o.birth };
 
-    /// Marks an object and all that it leads to. Asked only where all that marked objects lead to is marked, as are the next two calls.
+    /// Marks an object and everything that it reaches. Requires that everything marked objects reach is marked. The next two methods require the same.
     fn mark(&mut self, object: Addr)
         requires object { IsTrue (contains_key (objects self.old) object) }
         requires closed { IsClosed (objects self.old) (marked self.old) }
@@ -44,7 +47,7 @@ pub trait Host {
         ensures marked { Marks is_exact (objects self.old) (marked self.old) (marked self.new) (Leads (objects self.old) object) }
         ensures same { is_same self.old self.new };
 
-    /// Marks an object, where all else that it leads to is marked already.
+    /// Marks an object, of which everything else that it reaches is marked already.
     fn mark_alone(&mut self, object: Addr)
         requires object { IsTrue (contains_key (objects self.old) object) }
         requires closed { IsClosed (objects self.old) (marked self.old) }
@@ -53,7 +56,7 @@ pub trait Host {
         ensures marked { Marks is_exact (objects self.old) (marked self.old) (marked self.new) (λ a. a ≡ object) }
         ensures same { is_same self.old self.new };
 
-    /// Marks an object's children, or its children but itself, and all that they lead to.
+    /// Marks an object's children, or with `but_itself` its children other than itself, and everything that they reach.
     fn mark_children(&mut self, object: Addr, but_itself: bool)
         requires object { IsTrue (contains_key (objects self.old) object) }
         requires closed { IsClosed (objects self.old) (marked self.old) }
@@ -61,13 +64,15 @@ pub trait Host {
         ensures marked { Marks is_exact (objects self.old) (marked self.old) (marked self.new) (IsLeadingBut (objects self.old) but_itself object) }
         ensures same { is_same self.old self.new };
 
-    /// Writes zero to the word of a link.
+    /// Clears the word of a link, that is, sets it to zero.
     fn clear(&mut self, word: Addr)
         ensures objects { objects self.new ≡ written word 0 (objects self.old) }
         ensures marked { marked self.new ≡ marked self.old }
         ensures same { is_same self.old self.new };
 
+    /// Nothing changes from a host to itself.
     ghost reflexive: { (h : Self) → is_same h h };
 
+    /// What doesn't change in two steps doesn't change in both together.
     ghost transitive: { (f g h : Self) → is_same f g → is_same g h → is_same f h };
 }

@@ -1,4 +1,4 @@
-//! What unreachable registrations lead to. The kinds differ in one function alone, `mark_first`.
+//! Marking what unreachable registered objects reach. The kinds differ only in the function `mark_first`.
 
 ghost use Rattle.std.specs.Prelude.{◌≡◌, not, ℕ, IsTrue};
 ghost use Rattle.std.specs.FinMap.{contains_key};
@@ -9,7 +9,7 @@ use crate::host::Host;
 use fz_model::{Addr, RegKind};
 use fz_table::Table;
 
-/// Marks what an object leads to that is registered with this kind.
+/// Marks what an object with a registration of this kind reaches.
 fn mark_first<H: Host>(host: &mut H, object: Addr, kind: RegKind)
     requires object { IsTrue (contains_key (H.objects host.old) object) }
     requires closed { IsClosed (H.objects host.old) (H.marked host.old) }
@@ -24,7 +24,7 @@ fn mark_first<H: Host>(host: &mut H, object: Addr, kind: RegKind)
     }
 }
 
-/// Marks what a registered object leads to, if it isn't marked.
+/// Marks what a registered object reaches, if the object isn't marked.
 fn mark_if_unmarked<H: Host>(host: &mut H, object: Addr, kind: RegKind)
     requires object { IsTrue (contains_key (H.objects host.old) object) }
     requires closed { IsClosed (H.objects host.old) (H.marked host.old) }
@@ -37,7 +37,7 @@ fn mark_if_unmarked<H: Host>(host: &mut H, object: Addr, kind: RegKind)
     }
 }
 
-/// Marks what the registered objects lead to that aren't marked.
+/// Marks what the unmarked registered objects reach.
 pub(crate) fn mark_led<H: Host>(host: &mut H, table: &Table)
     requires registered { AreRegistered (H.objects host.old) table.now.registrations }
     requires closed { IsClosed (H.objects host.old) (H.marked host.old) }

@@ -16,6 +16,6 @@ mod ready_list;
 
 pub use all::queue_all;
 pub use host::Host;
-pub use law::{decisions_pass, passes_are_safe};
+pub use law::{decisions_pass, late_alone_decides, passes_are_safe};
 pub use pass::{decide, decide_with_late};
 pub use ready_list::ReadyList;

@@ -1,4 +1,4 @@
-//! The registered objects that aren't marked.
+//! Listing the unmarked registered objects.
 
 ghost use Rattle.std.specs.Prelude.{◌≡◌, ◌≤◌, ◌<◌, ◌++◌, ◌∷◌, [], ℕ, List, length, if◌then◌else◌, vec_len, vec_capacity};
 ghost use Rattle.std.specs.List.{IsDistinct};
@@ -12,7 +12,7 @@ use crate::ready_list::ReadyList;
 use fz_model::Addr;
 use fz_table::Table;
 
-/// Puts an object with its rank on the list, which has room for it, if the object isn't marked.
+/// Appends an object with its rank to the list, which has room for it, if the object isn't marked.
 fn list_if_unmarked<H: Host>(host: &H, object: Addr, rank: u8, ready: &mut Vec<(u8, Addr)>)
     requires room { vec_len ready.old < vec_capacity ready.old }
     ensures listed { ready.new.items ≡ (if H.marked host.now object then ready.old.items else ready.old.items ++ (rank, object) ∷ []) }
@@ -23,7 +23,7 @@ fn list_if_unmarked<H: Host>(host: &H, object: Addr, rank: u8, ready: &mut Vec<(
     }
 }
 
-/// Puts the registered objects that aren't marked on the list, each with its rank.
+/// Appends the unmarked registered objects to the list, each with its rank.
 fn list_unmarked<H: Host>(host: &H, table: &Table, ready: &mut Vec<(u8, Addr)>)
     requires empty { ready.old.items ≡ [] }
     requires room { len table.now.registrations ≤ vec_capacity ready.old }
@@ -36,7 +36,7 @@ fn list_unmarked<H: Host>(host: &H, table: &Table, ready: &mut Vec<(u8, Addr)>)
     }
 }
 
-/// Lists the registered objects that aren't marked, by rank, then object.
+/// Lists the unmarked registered objects, sorted by rank, then address.
 pub(crate) fn rank_unmarked<H: Host>(host: &H, table: &Table, ready: &mut ReadyList)
     requires room { len table.now.registrations ≤ ready.old.room }
     ensures listed { AreUnmarked table.now.registrations (H.marked host.now) AreRanked ready.new.listed }

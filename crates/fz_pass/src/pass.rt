@@ -3,6 +3,7 @@
 ghost use Rattle.std.specs.Prelude.{◌≡◌, ◌≤◌, ◌<◌, ◌+◌, ◌^◌, [], ℕ, None, vec_len, vec_capacity, IsTrue};
 ghost use Rattle.std.specs.FinMap.{len};
 ghost use Rattle.fz_model.specs.Memory.{points};
+ghost use Rattle.fz_pass.specs.Alone.{none_late};
 ghost use Rattle.fz_pass.specs.Decides.{DecidesInto, parts_of, parts_left};
 ghost use Rattle.fz_pass.specs.Late as two_tables;
 ghost use Rattle.fz_pass.specs.Late.{AreApart, AreNormal, both, DecidesLate};
@@ -146,6 +147,11 @@ pub fn decide<H: Host>(
     ensures decided { DecidesInto H.is_exact pass first
         (parts_of (H.objects host.old) table.old short.old long.old) (H.marked host.old)
         (parts_left (H.objects host.new) (H.marked host.new) table.new short.new long.new)
+        queue.old.items queue.new.items }
+    // For a host that marks more, no more is queued than the model queues, and no less kept: as with a second table that is empty.
+    ensures more { DecidesLate H.is_exact pass first
+        (none_late (parts_of (H.objects host.old) table.old short.old long.old)) (H.marked host.old)
+        (none_late (parts_left (H.objects host.new) (H.marked host.new) table.new short.new long.new))
         queue.old.items queue.new.items }
     ensures list { ready.old.room ≤ ready.new.room }
     // There is room for every registration that is left.

@@ -1,5 +1,6 @@
--- Reading a line word by word, as the code does it. Means only: no public contract cites this file,
--- and nothing here has to be believed. The contracts of the private functions cite it.
+-- Parsing a line word by word, as the code does. Means only: no public contract cites this file, and no statement depends on it. The contracts of private
+-- functions cite it.
+-- code: fz_script/src/reading.rt, fields.rt, words.rt
 use Rattle.std.specs.Prelude.{ℕ, List, [], ◌∷◌, codes, Option, Some, None, if◌then◌else◌, ◌==◌, ◌&&◌, nat_lt, ◌^◌, decimal}
 use Rattle.std.specs.Str.{bytes_eq}
 use Rattle.std.specs.Str.Parse.{digits_value}
@@ -20,13 +21,13 @@ use Rattle.fz_model.specs.declared.call.Call.{Call as WorldCall}
 use Rattle.fz_model.specs.declared.call.Call.TheVariants as calls
 use denote.Bor.{Bor}
 
--- the code's `?`
+-- the operator `?` of the code
 infixl 10 ◌>>=◌
 abbrev pub ◌>>=◌ : {A B : Type 0} → Option A → (A → Option B) → Option B
 (Some x) >>= f = f x
 None >>= f = None
 
--- the parts of a line between its spaces
+-- the parts of a line between spaces
 abbrev pub words_of : List ℕ → List (List ℕ)
 words_of line = slice_split (λ byte. byte == 32) line
 
@@ -34,11 +35,11 @@ abbrev pub words_in : Option (Bor (List ℕ)) → List (List ℕ)
 words_in None = []
 words_in (Some rest) = words_of rest.now
 
--- the words that are still to be read
+-- the words that weren't read yet
 abbrev pub words_left : Words → List (List ℕ)
 words_left words = words_in words.rest
 
--- what was read, with the words after it
+-- what was read, with the remaining words
 abbrev pub with_rest : {A : Type 0} → Option A → List (List ℕ) → Option (A × List (List ℕ))
 with_rest (Some x) rest = Some (x, rest)
 with_rest None rest = None
@@ -47,15 +48,15 @@ abbrev pub word_at : List (List ℕ) → Option (List ℕ × List (List ℕ))
 word_at [] = None
 word_at (word ∷ rest) = Some (word, rest)
 
--- what a word is worth in decimal, if this is how that number is written
+-- the value of a decimal word, if it is spelled without leading zeros and is less than 2 ^ 64
 unfoldable pub number : List ℕ → Option ℕ
 number word = let n = digits_value 10 word in if nat_lt n (2 ^ 64) && bytes_eq word (decimal n) then Some n else None
 
--- the same below 256
+-- the same, for numbers less than 256
 abbrev pub byte : List ℕ → Option ℕ
 byte word = number word >>= λ n. if nat_lt n (2 ^ 8) then Some n else None
 
--- the first of these that is written so
+-- the first of these that has this spelling
 abbrev pub find_text : {A : Type 0} → (A → List ℕ) → List A → List ℕ → Option A
 find_text text xs word = find (λ x. bytes_eq (text x) word) xs
 
@@ -68,7 +69,7 @@ number_at words = word_at words >>= λ first. with_rest (number first.0) first.1
 abbrev pub byte_at : List (List ℕ) → Option (ℕ × List (List ℕ))
 byte_at words = word_at words >>= λ first. with_rest (byte first.0) first.1
 
--- a field that may be left out at the end of a line
+-- an optional field at the end of a line
 abbrev pub optional_at : {A : Type 0} → (List (List ℕ) → Option (A × List (List ℕ))) → List (List ℕ) → Option (Option A × List (List ℕ))
 optional_at field [] = Some (None, [])
 optional_at field (word ∷ rest) = field (word ∷ rest) >>= λ x. Some (Some x.0, x.1)
@@ -82,14 +83,14 @@ reg_kind_at words = kind_at reg_kind (Normal ∷ IgnoreSelf ∷ NoOrder ∷ []) 
 abbrev pub link_kind_at : List (List ℕ) → Option (LinkKind × List (List ℕ))
 link_kind_at words = kind_at link_kind (Short ∷ Long ∷ []) words
 
--- fields one after another
+-- several fields in sequence
 abbrev pub two_at : {A B : Type 0} → (List (List ℕ) → Option (A × List (List ℕ))) → (List (List ℕ) → Option (B × List (List ℕ))) → List (List ℕ) → Option ((A × B) × List (List ℕ))
 two_at first second words = first words >>= λ x. second x.1 >>= λ y. Some ((x.0, y.0), y.1)
 
 abbrev pub three_at : {A B C : Type 0} → (List (List ℕ) → Option (A × List (List ℕ))) → (List (List ℕ) → Option (B × List (List ℕ))) → (List (List ℕ) → Option (C × List (List ℕ))) → List (List ℕ) → Option ((A × B × C) × List (List ℕ))
 three_at first second third words = first words >>= λ x. second x.1 >>= λ y. third y.1 >>= λ z. Some ((x.0, y.0, z.0), z.1)
 
--- a slot, and a place, of what was read of them
+-- a slot, and a place, made from the numbers read
 abbrev pub slot_of : ℕ × ℕ → Slot
 slot_of x = record { frame = x.0; slot = x.1 }
 
@@ -102,7 +103,7 @@ slot_at words = two_at number_at number_at words >>= λ x. Some (slot_of x.0, x.
 abbrev pub place_at : List (List ℕ) → Option (Place × List (List ℕ))
 place_at words = two_at slot_at number_at words >>= λ x. Some (place_of x.0, x.1)
 
--- what fields a verb may have
+-- the possible field lists of a verb
 pub data Fields : Type 0 where
   nothing : Fields
   a_number : Fields
@@ -139,7 +140,7 @@ values_at a_rank words = optional_at byte_at words
 values_at (two first second) words = two_at (values_at first) (values_at second) words
 values_at (three first second third) words = three_at (values_at first) (values_at second) (values_at third) words
 
--- a verb: the first word of its line, the fields that follow, and the step that they make
+-- a verb: its name, its fields, and the step that they make
 pub record Verb : Type 0 where
   pub name : List ℕ
   pub fields : Fields
@@ -151,7 +152,7 @@ verb name fields make = record { name = name; fields = fields; make = make }
 abbrev pub call_verb : (name : List ℕ) (fields : Fields) → (Values fields → WorldCall) → Verb
 call_verb name fields make = verb name fields (λ x. Call (make x))
 
--- a line a verb
+-- one verb per line
 abbrev pub verbs : List Verb
 verbs =
     verb (codes "open") (three a_number a_number a_number) (λ x. Open x.0 x.1 x.2)
@@ -180,7 +181,7 @@ verbs =
 abbrev pub verb_named : List ℕ → Option Verb
 verb_named word = find (λ (v : Verb). bytes_eq v.name word) verbs
 
--- the step of a verb, whose fields come next
+-- the step of the verb with this name, whose fields come next
 unfoldable pub named_at : List ℕ → List (List ℕ) → Option (Step × List (List ℕ))
 named_at name words = verb_named name >>= λ v. values_at v.fields words >>= λ x. Some (v.make x.0, x.1)
 
@@ -188,7 +189,7 @@ named_at name words = verb_named name >>= λ v. values_at v.fields words >>= λ 
 abbrev pub step_at : List (List ℕ) → Option (Step × List (List ℕ))
 step_at words = word_at words >>= λ first. named_at first.0 first.1
 
--- done, if no word is left
+-- `Some` if no words are left
 abbrev pub end_at : List (List ℕ) → Option (Unit {0})
 end_at [] = Some tt
 end_at (word ∷ rest) = None

@@ -1,4 +1,5 @@
--- The spelling of a step: the one line of a script that asks for it, byte by byte.
+-- The spelling of a step: the exact line of a script that means this step, byte by byte.
+-- code: fz_script/src/reading.rt (step_of)
 use Rattle.std.specs.Prelude.{ℕ, ◌^◌, ◌<◌, List, [], ◌∷◌, ◌++◌, map, codes, decimal, Option, Some, None}
 use Rattle.std.specs.List.{join_with_byte, AllByRecursion}
 use Rattle.fz_model.specs.declared.kinds.ObjKind.{ObjKind}
@@ -15,7 +16,7 @@ use Rattle.fz_model.specs.declared.call.Call.{Call as WorldCall}
 use Rattle.fz_model.specs.declared.call.Call.TheVariants as calls
 use Rattle.fz_script.specs.declared.step.Step.TheVariants.{Open, Call, Take, Hold, Finish, Forfeit}
 
--- one word of a line: a number, a rank, or letters that stand for themselves
+-- one word of a line: a number, a rank, or literal text
 pub data Token : Type 0 where
   Number : (n : ℕ) → Token
   Rank : (n : ℕ) → Token
@@ -34,14 +35,14 @@ abbrev pub link_kind : LinkKind → List ℕ
 link_kind Short = codes "short"
 link_kind Long = codes "long"
 
--- the number of the frame, and then that of the slot
+-- the number of the frame, then the number of the slot
 abbrev pub slot_words : Slot → List Token
 slot_words slot = Number slot.frame ∷ Number slot.slot ∷ []
 
 abbrev pub place_words : Place → List Token
 place_words place = slot_words place.slot ++ Number place.offset ∷ []
 
--- a rank may be left out
+-- a rank is optional
 abbrev pub rank_words : Option ℕ → List Token
 rank_words None = []
 rank_words (Some rank) = Rank rank ∷ []
@@ -49,8 +50,7 @@ rank_words (Some rank) = Rank rank ∷ []
 abbrev pub finalizer_words : Finalizer → List Token
 finalizer_words finalizer = Text (reg_kind finalizer.kind) ∷ Number finalizer.procedure ∷ Number finalizer.client_data ∷ rank_words finalizer.rank
 
--- The words of a call's line, in their order: the verb, then its fields.
--- A further verb is one more clause here; all else that is said of a line follows from it.
+-- The words of a call's line, in order: the verb, then the fields. To add a verb, add a clause here; everything else about lines follows from it.
 abbrev pub call_words : WorldCall → List Token
 call_words (calls.Alloc slot size kind) = Text (codes "new") ∷ slot_words slot ++ Number size ∷ Text (obj_kind kind) ∷ []
 call_words (calls.Copy slot to) = Text (codes "copy") ∷ slot_words slot ++ slot_words to
@@ -81,17 +81,17 @@ words (Hold worker slot) = Text (codes "hold") ∷ Number worker ∷ slot_words 
 words (Finish worker) = Text (codes "finish") ∷ Number worker ∷ []
 words (Forfeit worker) = Text (codes "forfeit") ∷ Number worker ∷ []
 
--- a number is in decimal: digits alone, and no zero before another digit
+-- numbers are decimal: digits only, without leading zeros
 abbrev pub text : Token → List ℕ
 text (Number n) = decimal n
 text (Rank n) = decimal n
 text (Text letters) = letters
 
--- one space (byte 32) between two words, none before the first or after the last
+-- words are separated by one space (byte 32), with none before the first or after the last
 abbrev pub spelling : Step → List ℕ
 spelling step = join_with_byte 32 (map text (words step))
 
--- a number on a line is at most 2 ^ 64 - 1, and a rank at most 255
+-- a number in a line is less than 2 ^ 64, and a rank less than 256
 abbrev pub IsToken : Token → Type 0
 IsToken (Number n) = n < 2 ^ 64
 IsToken (Rank n) = n < 2 ^ 8

@@ -1,4 +1,4 @@
-//! The fields of a line, by their types.
+//! The fields of a line, one reader for each type.
 
 ghost use Rattle.std.specs.Prelude.{◌≡◌, ◌<◌, ◌+◌, length, get_or, List, ℕ, Option, IfSome, None};
 ghost use Rattle.std.specs.Int.{IsInRange};
@@ -7,11 +7,11 @@ ghost use Rattle.fz_script.specs.Reading.{words_left, with_rest, number, number_
 use crate::words::Words;
 use fz_model::{LinkKind, ObjKind, Place, RegKind, Slot};
 
-/// What stands in one word of a line, or in several.
+/// A field of a line, which consists of one or more words.
 pub(crate) trait Field: Sized {
     ghost reads: { List (List ℕ) → Option (Self × List (List ℕ)) };
 
-    /// The field in the next words. Words that were asked for are read, also where they aren't what was asked for.
+    /// Reads the field from the next words. Words are consumed even if they aren't this field.
     fn read(words: &mut Words<'_>) -> Option<Self>
         ensures { reads (words_left words.old) ≡ with_rest result (words_left words.new) };
 }
@@ -50,7 +50,7 @@ impl Field for Place {
     }
 }
 
-/// The last field of a line, which may be left out.
+/// An optional field at the end of a line.
 impl<T: Field> Field for Option<T> {
     ghost reads = { optional_at T.reads };
 
@@ -115,8 +115,7 @@ impl<A: Field + Drop, B: Field + Drop, C: Field> Field for (A, B, C) {
     }
 }
 
-/// The number that the word spells in decimal, with no zero before another digit. `None` also for a number that no `u64`
-/// holds.
+/// The number that the word spells in decimal, without leading zeros. `None` if it isn't one, or if it doesn't fit a `u64`.
 #[tactic(auto, using(crate::proofs::Numbers::empty, crate::proofs::Numbers::zero_leads))]
 fn number_of(word: &[u8]) -> Option<u64>
     ensures { number word.now ≡ result }
@@ -127,7 +126,7 @@ fn number_of(word: &[u8]) -> Option<u64>
     }
 }
 
-/// The same of a number that a `u8` holds.
+/// The same for a number that fits a `u8`.
 fn byte_of(word: &[u8]) -> Option<u8>
     ensures { byte word.now ≡ result }
 {

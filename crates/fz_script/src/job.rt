@@ -13,16 +13,16 @@ use crate::step::Step;
 use crate::words::Words;
 use fz_model::{Call, ObjKind, RegKind, Slot};
 
-/// The most collections after a file's sections.
+/// The largest number of collections at the end of a threads file.
 pub const MAX_COLLECTIONS: u64 = 100;
 
-/// The most objects that one line makes.
+/// The largest number of objects that one `churn` line makes.
 pub const MAX_TURNS: u64 = 10_000;
 
-/// What one line of a threads file asks for, with the fields of the line in their order.
+/// One line of a threads file, with its fields in order.
 ///
-/// A threads file opens a world, says how often it is collected at the end, and then has sections, each
-/// of which is the work of one thread. Slots, sizes, the opening and calls are those of a script.
+/// A threads file opens a world, gives the number of collections at the end, and then has sections, each of which runs on one thread. Slots, sizes, the
+/// opening and calls are spelled as in a script.
 #[derive(Clone, Copy, Debug, PartialEq, Eq)]
 pub enum Job {
     /// The first line of a file.
@@ -33,31 +33,31 @@ pub enum Job {
     },
     /// The second line of a file: how the run ends.
     Settle {
-        /// How many collections follow once all sections have ended: at most 100.
+        /// How many collections follow after all sections have ended: at most 100.
         collections: u64,
     },
-    /// Begins the section of a mutator.
+    /// Begins a mutator's section.
     Mutator,
-    /// Begins the section of the collector.
+    /// Begins the collector's section.
     Collector,
-    /// Makes objects, each of which is registered and then dropped.
+    /// Allocates objects, registers a finalizer for each, and drops them.
     Churn {
-        /// How many objects: from 1 to 10,000.
+        /// How many objects, from 1 to 10,000.
         count: u64,
         slot: Slot,
         size: u64,
         kind: ObjKind,
         /// The kind of each registration.
         finalizer_kind: RegKind,
-        /// The number of the procedure that is to finalize each object.
+        /// The number of the procedure that finalizes each object.
         procedure: u64,
     },
-    /// One call of the world.
+    /// One call to the world.
     Call(Call),
 }
 
 impl Job {
-    /// Whether its count is within its limits.
+    /// Whether its count is within the limits.
     fn is_within(self) -> bool
         ensures { IsTrue result ↔ IsWithin self }
     {
@@ -69,21 +69,21 @@ impl Job {
     }
 }
 
-/// What a line of a threads file asks for, if it asks for anything that such a file knows.
+/// Parses a line of a threads file. `None` if the line is no job.
 ///
-/// The line is given without its line feed, and is written as those of a script are: see `step_of`. In
-/// which section it may stand, and where in the file, is the caller's question. It takes no memory.
+/// The line is passed without its LF. It is spelled as the lines of a script are: see `step_of`. The caller checks whether the job may come at this point of
+/// the file. Allocates nothing.
 pub fn job_of(line: &[u8]) -> Option<Job>
-    // What is read is spelled so, each byte of it.
+    // If it returns a job, the line is exactly the spelling of that job.
     ensures found { IfSome result (λ job. Fits job × (line.now ≡ spelling job)) }
-    // What is spelled so is read: a line spells at most one job, and `None` is that it spells none.
+    // If the line is the spelling of a job, it returns that job. So a line spells at most one job.
     ensures only { (job : Job) → Fits job → line.now ≡ spelling job → result ≡ Some job }
 {
     let job = read_job(line)?;
     if job.is_within() { Some(job) } else { None }
 }
 
-/// What the line asks for, whether its count is within its limits or not.
+/// The job of a line, before its count is checked.
 fn read_job(line: &[u8]) -> Option<Job>
     ensures { job_in (step_in (words_of line.now)) (words_of line.now) ≡ result }
 {
@@ -93,7 +93,7 @@ fn read_job(line: &[u8]) -> Option<Job>
     }
 }
 
-/// What a line asks for that isn't a step of a script.
+/// The job of a line that is no step of a script.
 #[tactic(auto, unfolding(crate::specs::JobReading::own_in))]
 fn read_own(line: &[u8]) -> Option<Job>
     ensures { own_in (words_of line.now) ≡ result }
@@ -104,7 +104,7 @@ fn read_own(line: &[u8]) -> Option<Job>
     Some(job)
 }
 
-/// What the next words ask for.
+/// The job whose words come next.
 #[tactic(auto, unfolding(crate::specs::JobReading::own_at))]
 fn next_job(words: &mut Words<'_>) -> Option<Job>
     ensures { own_at (words_left words.old) ≡ with_rest result (words_left words.new) }
@@ -113,7 +113,7 @@ fn next_job(words: &mut Words<'_>) -> Option<Job>
     first.fields(words)
 }
 
-/// A step as a job. What a worker does is none, since workers are threads of their own there.
+/// A step as a job. `None` for a worker's step: in a threads file, workers are threads of their own.
 fn job_of_step(step: Step) -> Option<Job>
     ensures { result ≡ job_of_step step }
 {
@@ -132,7 +132,7 @@ fn job_of_step(step: Step) -> Option<Job>
     }
 }
 
-/// The first words of those lines of threads files that ask for no step.
+/// The first words of the lines that are no steps of a script.
 #[derive(Clone, Copy)]
 enum Keyword {
     Settle,
@@ -142,7 +142,7 @@ enum Keyword {
 }
 
 impl Keyword {
-    /// The fields that follow it, and what they make.
+    /// Reads the fields after the first word, and makes the job.
     fn fields(self, words: &mut Words<'_>) -> Option<Job>
         ensures { made_at self (words_left words.old) ≡ with_rest result (words_left words.new) }
     {

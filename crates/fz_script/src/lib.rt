@@ -1,9 +1,8 @@
-//! The lines of a script, read as steps, and those of a threads file.
+//! Parsing the lines of scripts and of threads files.
 //!
-//! A script drives the finalization service by hand: each of its lines is one step, such as
-//! `new 0 0 2 scanned` or `collect`. `step_of` reads one line. How each step is spelled stands in
-//! specs/Spelling.antt; `step_of` is its inverse, for every line. A threads file says what several
-//! threads do; `job_of` reads its lines, and specs/Jobs.antt says how they are spelled.
+//! A script drives the finalization service step by step: each line is one step, such as `new 0 0 2 scanned` or `collect`. `step_of` parses a line. It is the
+//! exact inverse of the spelling that specs/Spelling.antt defines. A threads file says what several threads do; `job_of` parses its lines, and
+//! specs/Jobs.antt defines their spelling.
 #![tactic(auto)]
 
 mod fields;

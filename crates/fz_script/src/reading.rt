@@ -1,4 +1,4 @@
-//! A line as a step.
+//! Parsing a line as a step.
 
 ghost use Rattle.std.specs.Prelude.{◌≡◌, Some, IfSome, codes};
 ghost use Rattle.fz_script.specs.declared.step.Step.{Step};
@@ -9,22 +9,21 @@ use crate::step::Step;
 use crate::words::Words;
 use fz_model::{Call, Finalizer};
 
-/// The step that a line asks for, if it asks for one.
+/// Parses a line as a step. `None` if the line is no step.
 ///
-/// The line is given without its line feed. It is a verb and its fields, with one space between
-/// two of them; numbers are in decimal, with neither sign nor leading zero, and below 2^64. An empty
-/// line and a comment are no steps either: whether a line is skipped is the caller's question, and
-/// so is whether a step may come now. It takes no memory.
+/// The line is passed without its LF. It is a verb and its fields, separated by single spaces. Numbers are decimal, without sign or leading zeros, and less
+/// than 2^64. An empty line and a comment are no steps: the caller skips them. The caller also checks whether the step may come at this point. Allocates
+/// nothing.
 pub fn step_of(line: &[u8]) -> Option<Step>
-    // What is read is spelled so, each byte of it.
+    // If it returns a step, the line is exactly the spelling of that step.
     ensures found { IfSome result (λ step. Fits step × (line.now ≡ spelling step)) }
-    // What is spelled so is read: a line spells at most one step, and `None` is that it spells none.
+    // If the line is the spelling of a step, it returns that step. So a line spells at most one step.
     ensures only { (step : Step) → Fits step → line.now ≡ spelling step → result ≡ Some step }
 {
     read_line(line)
 }
 
-// Apart from `step_of`, so that its equation is at hand for both clauses there.
+// A function of its own, so that both clauses of `step_of` can use its equation.
 #[tactic(auto, unfolding(crate::specs::Reading::step_in))]
 fn read_line(line: &[u8]) -> Option<Step>
     ensures { step_in (words_of line.now) ≡ result }
@@ -72,7 +71,7 @@ fn next_step(words: &mut Words<'_>) -> Option<Step>
     }
 }
 
-// For each verb with several fields: reads them, as one tuple of their types, and makes the step.
+// For each verb with several fields: reads the fields as one tuple and makes the step.
 
 #[tactic(auto, unfolding(crate::specs::Reading::named_at))]
 fn read_open(words: &mut Words<'_>) -> Option<Step>

@@ -1,4 +1,4 @@
-//! The words of a line, one by one.
+//! The words of a line, read one by one.
 
 ghost use Rattle.std.specs.Prelude.{◌≡◌, ◌==◌, option_map, position, [], ◌↔◌, IsTrue, IfSome, Some, None};
 ghost use Rattle.fz_script.specs.Reading.{words_left, words_of, word_at, step_at, with_rest, end_at};
@@ -6,13 +6,12 @@ ghost use Rattle.fz_script.specs.Reading.{words_left, words_of, word_at, step_at
 use crate::fields::Field;
 use std::str;
 
-/// The rest of a line, from the next word on.
+/// The rest of a line, beginning with the next word.
 ///
-/// A word is what stands between two spaces, so it may be empty: a space too many is a word that is
-/// no field. A word that was asked for is read, also where it isn't what was asked for.
+/// Words are separated by single spaces, so a second space makes an empty word, which is no field. A word is consumed even if it isn't what was asked for.
 #[derive(Drop)]
 pub(crate) struct Words<'a> {
-    /// The line from the next word on; none once the last word was read.
+    /// The line from the next word on; `None` after the last word.
     rest: Option<&'a [u8]>,
 }
 
@@ -42,7 +41,7 @@ impl<'a> Words<'a> {
         }
     }
 
-    /// The next word as text. Where it is no text it is no verb either.
+    /// The next word as UTF-8 text. If it isn't UTF-8, it is no verb.
     pub(crate) fn verb(&mut self) -> Option<&'a str>
         ensures some { IfSome result (λ verb. word_at (words_left self.old) ≡ Some (verb.now, words_left self.new)) }
         ensures none { result ≡ None → step_at (words_left self.old) ≡ None }
@@ -53,22 +52,21 @@ impl<'a> Words<'a> {
         Some(verb)
     }
 
-    /// The next fields, if they are next.
+    /// Reads a field from the next words.
     pub(crate) fn read<T: Field>(&mut self) -> Option<T>
         ensures { T.reads (words_left self.old) ≡ with_rest result (words_left self.new) }
     {
         T::read(self)
     }
 
-    /// Whether no word is left.
+    /// Whether no words are left.
     pub(crate) fn is_empty(&self) -> bool
         ensures { IsTrue result ↔ (words_left self.now ≡ []) }
     {
         self.rest.is_none()
     }
 
-    /// Done, if no word is left. A further word is `None`, so that `?` ends the reading there as at
-    /// any other fault.
+    /// `Some` if no words are left. It returns `None` otherwise, so that `?` handles an extra word like any other error.
     pub(crate) fn end(&mut self) -> Option<()>
         ensures { end_at (words_left self.old) ≡ option_map (λ _. tt) result }
     {
@@ -79,7 +77,7 @@ impl<'a> Words<'a> {
     }
 }
 
-/// Where the first space is.
+/// The index of the first space.
 fn space_in(bytes: &[u8]) -> Option<usize>
     ensures { result ≡ position (λ byte. byte == 32) bytes.now }
 {

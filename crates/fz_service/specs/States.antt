@@ -1,4 +1,5 @@
--- What a service opened with, and what contracts see under its lock.
+-- What a service was opened with, and the model of the state under its lock.
+-- code: fz_service/src/locked.rt, calls.rt, service.rt, opening.rt
 use Rattle.std.specs.Prelude.{◌≡◌, ℕ, ◌+◌, ◌*◌, ◌<◌, ◌≤◌, min, Bool, true, false, not, List, [], length, take, filter, Some, Contains, refl}
 use Rattle.std.specs.Coded.{Coded, code_by, coded×, coded_ℕ, coded_list}
 use Rattle.std.specs.FinMap.{get}
@@ -15,23 +16,23 @@ use Rattle.fz_line.specs.States.{Line, SeatState, OwnerState, owner_state}
 use Rattle.fz_world.specs.World.{WorldView, world_code}
 use Rattle.fz_world.specs.Does.{StandsFor}
 
--- by what a service is told from every other, and what it opened with
+-- what distinguishes a service from every other, and what it was opened with
 pub record Origin : Type 0 where
   pub line : Line
   pub workers : ℕ
-  pub finishes : ℕ  -- the name of its book of finished duties
+  pub finishes : ℕ  -- the name of its ledger of finished duties
   pub blocks : ℕ
   pub frames : ℕ
 
--- for how many entries the line has room from the first: as many as one pass can queue, since each object has a word
+-- for how many entries the line has room from the start: as many as one pass can queue, since each object has a word
 abbrev pub line_room : ℕ → ℕ
 line_room blocks = min TABLE_LIMIT (BLOCK_WORDS * blocks)
 
 pub record LockedState : Type 0 where
   pub world : WorldView
-  pub sent : List Entry  -- what the line was sent, as its owner knows it
-  pub published : ℕ  -- the number of entries that were sent, which stands beside the world
-  pub finished : ℕ  -- the number of finished duties, by the book
+  pub sent : List Entry  -- the entries that the line was sent, as its owner knows
+  pub published : ℕ  -- the number of entries that were sent, which is kept beside the world
+  pub finished : ℕ  -- the number of finished duties, by the ledger
 
 abbrev pub locked_state : WorldView → List Entry → ℕ → ℕ → LockedState
 locked_state world sent published finished = record { world = world; sent = sent; published = published; finished = finished }
@@ -41,30 +42,30 @@ locked_code =
     code_by (WorldView × (List Entry × (ℕ × ℕ))) (coded× world_code (coded× (coded_list entry_code) (coded× coded_ℕ coded_ℕ)))
     (λ s. (s.world, (s.sent, (s.published, s.finished)))) (λ p. record { world = p.0; sent = p.1.0; published = p.1.1.0; finished = p.1.1.1 }) (λ _. refl)
 
--- the world stands for a state that steps reach from the opening
+-- the world represents a state that steps reach from the opening
 pub record IsReachedFrom (origin : Origin) (world : WorldView) : Type 0 where
   pub state : State
   pub steps : StepsTo any_call (opening origin.blocks origin.frames) state
   pub stands : StandsFor world state
 
--- what holds whenever the lock is taken
+-- the invariant whenever the lock is taken
 pub record IsInOrder (origin : Origin) (s : LockedState) : Type 0 where
   pub reached : IsReachedFrom origin s.world
-  -- what was sent is the first entries of the queue, so the outbox is the rest
+  -- the entries sent are a prefix of the queue, and the overflow queue is the rest
   pub sent : s.sent ≡ take s.published s.world.queue
   pub within : s.published ≤ length s.world.queue
-  -- what isn't sent is shown
+  -- entries that weren't sent aren't forgotten
   pub forgotten : s.world.forgotten ≤ s.published
-  -- what is held no more was finished
+  -- entries that are no longer held were finished
   pub finished : s.finished + length s.world.held ≡ length s.world.queue
 
--- the owner sends to the service's line and has popped nothing, and every share of the book was given away. Means only.
+-- the owner sends to the service's line and has popped nothing, and every share of the ledger was distributed. Means only.
 pub record IsReady (origin : Origin) (owner : OwnerState) (parts amount : ℕ) : Type 0 where
   pub owner_is : owner ≡ owner_state origin.line origin.workers (line_room origin.blocks) owner.sent []
   pub no_parts : parts ≡ 0
   pub no_amount : amount ≡ 0
 
--- nothing but the world may differ
+-- nothing but the world may have changed
 abbrev pub KeepsLine : LockedState → LockedState → Type 0
 KeepsLine old new = new ≡ record old { world = new.world }
 
@@ -89,7 +90,7 @@ pub record LetsGo (old new : WorldView) (entry : Entry) : Type 0 where
 abbrev pub is_no_finish : Event → Bool
 is_no_finish e = not (is_finish e)
 
--- calls other than `finish` lead from the old world to the new, and nothing is forgotten
+-- calls other than `finish` lead from the old world to the new one, and nothing is forgotten
 unfoldable pub RunsCalls : WorldView → WorldView → Type 0
 RunsCalls old new = (new.forgotten ≡ old.forgotten) × ((s : State) → StandsFor old s → (t : State) × StepsTo is_no_finish s t × StandsFor new t)
 

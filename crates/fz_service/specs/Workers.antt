@@ -1,9 +1,10 @@
--- What workers do to their seats.
+-- How workers change their seats.
+-- code: fz_service/src/worker_threads.rt, workers.rt
 use Rattle.std.specs.Prelude.{◌≡◌, ℕ, ◌+◌, ◌<◌, List, [], ◌∷◌, ◌++◌, length, map, slice_index_or, Option, Some, None, Bool, true, false}
 use Rattle.fz_model.specs.declared.answers.Entry.{Entry}
 use Rattle.fz_line.specs.States.{SeatState, DutyState}
 
--- the same seat, with what it took since at the end of its list
+-- the same seat, with what it took since appended to its list
 pub record Extends (old new : SeatState) : Type 0 where
   pub line : new.line ≡ old.line
   pub index : new.index ≡ old.index
@@ -15,11 +16,11 @@ abbrev pub Serves : DutyState → SeatState → Bool → Type 0
 Serves duty seat true = seat ≡ record duty.seat { finished = duty.seat.finished + 1 }
 Serves duty seat false = seat ≡ record duty.seat { forfeited = duty.seat.forfeited + 1 }
 
--- each stands where it stood, the same seat with what it took since
+-- each has kept its position: the same seat, with what it took since
 abbrev pub ExtendEach : List SeatState → List SeatState → Type 0
 ExtendEach old new = (length new ≡ length old) × ((i : ℕ) (d : SeatState) → i < length old → Extends (slice_index_or old i d) (slice_index_or new i d))
 
--- ---- how seats go to threads and back: means only
+---- how seats are sent to threads and back: means only
 
 abbrev pub slots_of : List SeatState → List (Option SeatState)
 slots_of seats = map Some seats

@@ -1,24 +1,24 @@
-//! What wakes workers that sleep.
+//! The eventcount that wakes sleeping workers.
 
 use std::sync::Wait;
 use std::sync::atomic::{AtomicU64, Ordering};
 use std::time::Duration;
 
-/// For how many milliseconds a worker sleeps at most: the net for whoever sets `stop` and doesn't ring.
+/// The longest sleep of a worker, in milliseconds. It bounds the delay if a caller sets `stop` without waking the workers.
 const MILLISECONDS_OF_SLEEP: u64 = 50;
 
-/// The bell of a service.
+/// A service's eventcount.
 ///
-/// No ring is missed: who is about to sleep counts itself a sleeper, reads how often the bell has rung, looks at `stop` and at the line once more, and sleeps only
-/// if it hasn't rung since. Who rings has sent its entries or set `stop` before it looks whether anyone sleeps. Each step stands in one order with all others,
-/// so either the sleeper sees what was sent, or the ringer the sleeper.
+/// No wake-up is lost. A worker that is about to sleep counts itself as a sleeper, reads the number of rings, checks `stop` and the line once more, and
+/// sleeps only if the number hasn't changed since. A waker sends its entries or sets `stop` before it checks for sleepers. All these steps are sequentially
+/// consistent, so either the sleeper sees what was sent, or the waker sees the sleeper.
 #[derive(Drop)]
 pub(crate) struct Bell {
     sleepers: AtomicU64,
     rings: AtomicU64,
 }
 
-/// How often a bell had rung when a worker listened, as far as a sleep compares it. Nothing but `Bell::listen` makes one.
+/// The number of rings that a worker has read, as far as a sleep compares it. Only `Bell::listen` makes one.
 #[derive(Clone, Copy)]
 pub(crate) struct Heard(u32);
 
@@ -30,7 +30,7 @@ impl Bell {
         }
     }
 
-    /// Wakes a sleeper for each of these entries, as far as there are any.
+    /// Wakes one sleeper for each of these entries, as far as there are sleepers.
     pub(crate) fn ring_for(&self, entries: usize) {
         if entries == 0 {
             return;
@@ -53,12 +53,12 @@ impl Bell {
         }
     }
 
-    /// Listens how often it has rung while someone slept.
+    /// Reads how often the bell was rung while a worker slept.
     pub(crate) fn listen(&self) -> Heard {
         Heard((self.rings.load(Ordering::SeqCst) % (1 << 32)) as u32)
     }
 
-    /// Counts the caller among the sleepers, until it gets up.
+    /// Counts the caller as a sleeper, until it gets up.
     pub(crate) fn lie_down(&self) {
         self.sleepers.fetch_add(1, Ordering::SeqCst);
     }
@@ -67,7 +67,7 @@ impl Bell {
         self.sleepers.fetch_sub(1, Ordering::SeqCst);
     }
 
-    /// Sleeps until the bell rings, unless it has rung since this was heard.
+    /// Sleeps until the bell is rung, unless it was rung since this number was read.
     pub(crate) fn sleep<R: Wait>(&self, heard: Heard, rt: &R) {
         let most = Duration::from_millis(MILLISECONDS_OF_SLEEP);
         self.rings.park_timeout(rt, heard.0, most);

@@ -1,4 +1,4 @@
-//! A program beside its workers.
+//! Running a program while workers serve.
 
 ghost use Rattle.std.specs.Prelude.{◌≡◌, ◌++◌, ◌∷◌, [], IfOk, IfErr};
 ghost use Rattle.fz_model.specs.Causes.{IsJudgedOrLacks, bad_count};
@@ -23,8 +23,8 @@ use std::thread::Threads;
 use std::{mem, thread};
 
 impl<O: Opening> Service<O> {
-    /// Runs workers as `run_workers` does, and `main` on the calling thread beside them. When `main` has ended, the workers take what was sent,
-    /// and stop. Returns the seats, in their order, and what `main` returned.
+    /// Runs workers as `run_workers` does, and meanwhile `main` on the calling thread; returns the seats, in order, and what `main` returned. When `main` has
+    /// ended, the workers take what was sent, and stop. May block.
     pub fn run_beside<T, F: FnOnce() -> T, G: Gate + Sync, R: Threads + Wait + Sync>(
         &self,
         seats: Vec<Seat<O>>,
@@ -43,7 +43,8 @@ impl<O: Opening> Service<O> {
         let alloc = *seats.allocator();
         let mut given = seats;
         let slot = &mut given;
-        // Where no thread can be made, the first half runs last. So the workers stand there: the other way round they would wait for ever.
+        // If no thread can be started, the first closure runs after the second. So the workers have to be the first one: in the other order they would wait
+        // for ever.
         let (back, answer) = thread::join(
             rt,
             || -> Vec<Seat<O>>
@@ -61,17 +62,18 @@ impl<O: Opening> Service<O> {
     }
 }
 
-/// What runs beside the workers of a service that `with_service` opens, with a runtime `R`; it tells a `T`.
+/// A program that runs while the workers of a service serve, for `with_service`. `R` is its runtime, and it returns a `T`.
 pub trait Program<R: Wait, T> {
-    /// Runs on the calling thread while workers serve, which are stopped when it has ended. It starts no threads of its own: these want `run_beside`.
+    /// Runs on the calling thread while workers serve. When it has ended, the workers are stopped. It starts no threads of its own; use `run_beside` for
+    /// that.
     fn run<O: Opening>(self, service: &Service<O>, rt: &R) -> T;
 }
 
-/// Opens a service of this size with this number of workers, runs the program beside them, and ends the service. Returns what the program told, and the
-/// totals.
+/// Opens a service of this size with this number of workers, runs the program while they serve, and ends the service. Returns what the program returned, and
+/// the totals. May block.
 ///
-/// The first worker has the first list of procedures, and so on. Refusals, in their order: `BadCount` where blocks, frames or workers are
-/// outside their limits, `NoMemory` where an allocation failed. What the program told is dropped where the end is refused.
+/// The first worker has the first list of procedures, and so on. Fails with, in this order: `BadCount` if blocks, frames or workers are outside their limits,
+/// `NoMemory` if an allocation fails. If ending the service fails, what the program returned is dropped.
 pub fn with_service<T: Drop, P: Program<R, T> + Drop, R: Threads + Wait + Sync>(
     alloc: Global,
     config: Config,
@@ -87,7 +89,7 @@ pub fn with_service<T: Drop, P: Program<R, T> + Drop, R: Threads + Wait + Sync>(
     open_and_run::<Brand, T, P, R>(prepared, procs.as_mut_slice(), rt, program)
 }
 
-/// Opens the service, runs the program beside its workers, and ends it.
+/// Opens the service, runs the program while its workers serve, and ends it.
 fn open_and_run<
     O: Opening + Send + Sync,
     T: Drop,

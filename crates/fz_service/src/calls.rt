@@ -29,7 +29,7 @@ use fz_model::{
     RegAnswer, RegKind, Reply, Word,
 };
 
-/// Whether the call ends a cycle, so that what it queued is to be sent.
+/// Whether the call ends a cycle, so that what it queued has to be sent.
 fn ends_cycle(call: Call) -> bool
     ensures { result ≡ ends_cycle call }
 {
@@ -39,11 +39,11 @@ fn ends_cycle(call: Call) -> bool
     }
 }
 
-/// Each call is the step of the same name of the world, and leaves the line as it is, but for what `pause` and `collect` send.
+/// Each method is the world's method of the same name. It leaves the line unchanged, except that `pause` and `collect` send what they queued.
 impl<O: Opening> Locked<O> {
-    /// Makes the call, and tells its answer; `pause` and `collect` send what they queued. Takes the time of that call.
+    /// Makes the call and returns its reply. `pause` and `collect` send what they queued. Takes time as the method of its name does.
     ///
-    /// It is refused as the call of its name is.
+    /// Fails as the method of the call's name does.
     pub fn make(&mut self, call: Call) -> Result<Reply, Refusal>
         ensures step { Replies self.old.world call result self.new.world }
         ensures line { IsFalse (ends_cycle call) → KeepsLine self.old self.new }
@@ -57,10 +57,10 @@ impl<O: Opening> Locked<O> {
         Ok(reply)
     }
 
-    /// Makes an object of `size` words, all of them zero, and puts its address into the slot; returns the address and the birth. Takes time by the object's
-    /// words.
+    /// Allocates an object of `size` words, all of them zero, stores its address in the slot, and returns its address and birth. Takes time proportional to
+    /// the object's words.
     ///
-    /// Refusals, in their order: `BadSlot`, `BadSize`, `Exhausted`, `NoSpace`.
+    /// Fails with, in this order: `BadSlot`, `BadSize`, `Exhausted`, `NoSpace`.
     pub fn alloc(
         &mut self,
         frame: u64,
@@ -102,9 +102,9 @@ impl<O: Opening> Locked<O> {
         self.alloc(frame, slot, size, kind)
     }
 
-    /// Reads the word at an offset from where the slot points into an object, and puts it into the second slot too.
+    /// Loads the word at `offset` words after the slot's word, in the object to which that points, stores it in the second slot, and returns it.
     ///
-    /// Refusals, in their order: `BadSlot` of either slot, `NotPointer`, `OutsideObject`.
+    /// Fails with, in this order: `BadSlot` for either slot, `NotPointer`, `OutsideObject`.
     pub fn load(
         &mut self,
         frame: u64,
@@ -122,9 +122,9 @@ impl<O: Opening> Locked<O> {
         self.world.load(frame, slot, offset, to_frame, to_slot)
     }
 
-    /// Writes the second slot's word at an offset from where the first slot points into an object.
+    /// Stores the second slot's word at `offset` words after the first slot's word, in the object to which that points.
     ///
-    /// Refusals, in their order: `BadSlot` of either slot, `NotPointer`, `OutsideObject`.
+    /// Fails with, in this order: `BadSlot` for either slot, `NotPointer`, `OutsideObject`.
     pub fn store(
         &mut self,
         frame: u64,
@@ -142,9 +142,9 @@ impl<O: Opening> Locked<O> {
         self.world.store(frame, slot, offset, from_frame, from_slot)
     }
 
-    /// Puts the word into the slot.
+    /// Stores the word in the slot.
     ///
-    /// Refused `BadSlot` where there is no such slot.
+    /// Fails with `BadSlot` if the slot doesn't exist.
     pub fn set(&mut self, frame: u64, slot: u64, word: Word) -> Result<(), Refusal>
         ensures step { Does self.old.world (Make (Set (slot_at frame slot) word)) result self.new.world }
         ensures line { KeepsLine self.old self.new }
@@ -155,9 +155,9 @@ impl<O: Opening> Locked<O> {
         self.world.set(frame, slot, word)
     }
 
-    /// Puts the slot's word into the second slot.
+    /// Copies the slot's word into the second slot.
     ///
-    /// Refused `BadSlot` where there is no such slot.
+    /// Fails with `BadSlot` if either slot doesn't exist.
     pub fn copy(
         &mut self,
         frame: u64,
@@ -174,9 +174,9 @@ impl<O: Opening> Locked<O> {
         self.world.copy(frame, slot, to_frame, to_slot)
     }
 
-    /// Registers a finalizer of the object that starts at the slot's word. The first in a world takes time by the heap.
+    /// Registers a finalizer for the object at the slot's word. Takes time proportional to the heap for the first registration in a world.
     ///
-    /// Refusals, in their order: `BadSlot`, `NotPointer`, `NotStart`, `Exhausted`, `TableFull`, `NoMemory`.
+    /// Fails with, in this order: `BadSlot`, `NotPointer`, `NotStart`, `Exhausted`, `TableFull`, `NoMemory`.
     pub fn register(
         &mut self,
         frame: u64,
@@ -192,9 +192,9 @@ impl<O: Opening> Locked<O> {
         self.world.register(frame, slot, kind, proc, cd, rank)
     }
 
-    /// Removes the registration of the object that starts at the slot's word; returns its procedure and client data.
+    /// Removes the registration of the object at the slot's word, and returns its procedure and client data, if it was registered.
     ///
-    /// Refusals, in their order: `BadSlot`, `NotPointer`, `NotStart`.
+    /// Fails with, in this order: `BadSlot`, `NotPointer`, `NotStart`.
     pub fn unregister(&mut self, frame: u64, slot: u64) -> Result<Option<Old>, Refusal>
         ensures step { Does self.old.world (Make (Unregister (slot_at frame slot))) result self.new.world }
         ensures line { KeepsLine self.old self.new }
@@ -205,9 +205,10 @@ impl<O: Opening> Locked<O> {
         self.world.unregister(frame, slot)
     }
 
-    /// Makes the word at an offset from where the slot points a link to the object that starts at the target slot's word.
+    /// Registers a disappearing link at `offset` words after the slot's word, whose target is the object at the target slot's word. If the place has a link
+    /// already, only its target changes.
     ///
-    /// Refusals, in their order: `BadSlot` of either slot, `NotPointer` and `OutsideObject` of the place, `NotPointer` and `NotStart` of the target,
+    /// Fails with, in this order: `BadSlot` for either slot, `NotPointer` and `OutsideObject` for the place, `NotPointer` and `NotStart` for the target,
     /// `TableFull`, `NoMemory`.
     pub fn link(
         &mut self,
@@ -229,9 +230,9 @@ impl<O: Opening> Locked<O> {
             .link(which, frame, slot, offset, target_frame, target_slot)
     }
 
-    /// Removes the link at an offset from where the slot points, and returns whether there was one.
+    /// Removes the link at `offset` words after the slot's word, and returns whether there was one.
     ///
-    /// Refusals, in their order: `BadSlot`, `NotPointer`, `OutsideObject`.
+    /// Fails with, in this order: `BadSlot`, `NotPointer`, `OutsideObject`.
     pub fn unlink(
         &mut self,
         which: LinkKind,
@@ -248,9 +249,9 @@ impl<O: Opening> Locked<O> {
         self.world.unlink(which, frame, slot, offset)
     }
 
-    /// Moves a link, with its target, from one place to another. No word changes.
+    /// Moves a link from one place to another; its target stays the same, and no word changes.
     ///
-    /// Refusals, in their order: `BadSlot` of either slot, `NotPointer` and `OutsideObject` of the old place, the same of the new one, `NoMemory`.
+    /// Fails with, in this order: `BadSlot` for either slot, `NotPointer` and `OutsideObject` for the old place, the same for the new one, `NoMemory`.
     pub fn move_link(
         &mut self,
         which: LinkKind,
@@ -272,9 +273,9 @@ impl<O: Opening> Locked<O> {
             .move_link(which, frame, slot, offset, to_frame, to_slot, to_offset)
     }
 
-    /// Opens a cycle. Takes time by the heap.
+    /// Opens a collection cycle. Takes time proportional to the heap.
     ///
-    /// Refusals, in their order: `CycleOpen`, `Exhausted` at the 2^48th pass.
+    /// Fails with, in this order: `CycleOpen`, `Exhausted` at the 2^48th pass.
     pub fn begin(&mut self) -> Result<(), Refusal>
         ensures step { Does self.old.world (Make Begin) result self.new.world }
         ensures caused { IsJudgedBy (causes self.old.world.core (Make Begin)) result }
@@ -285,9 +286,10 @@ impl<O: Opening> Locked<O> {
         self.world.begin()
     }
 
-    /// Scans at most `budget` marked objects that weren't scanned in the cycle: `Done` where none is left. Takes time by the words of what it scans.
+    /// Scans at most `budget` marked objects that weren't scanned in this cycle, and returns `Done` if none is left. Takes time proportional to the words
+    /// that it scans.
     ///
-    /// Refusals, in their order: `BadCount` where the budget is 0, `NoCycle`.
+    /// Fails with, in this order: `BadCount` if the budget is 0, `NoCycle`.
     pub fn mark(&mut self, budget: u64) -> Result<Progress, Refusal>
         ensures step { Does self.old.world (Make (Mark budget)) result self.new.world }
         ensures caused { IsJudgedBy (causes self.old.world.core (Make (Mark budget))) result }
@@ -302,9 +304,9 @@ impl<O: Opening> Locked<O> {
         self.world.mark(budget)
     }
 
-    /// Puts the object of a held entry into the slot.
+    /// Stores the address of a held entry's object in the slot. If the slot stays reachable, this resurrects the object.
     ///
-    /// Refusals, in their order: `BadSlot`, `NotHeld` where no held entry is the same in all its fields.
+    /// Fails with, in this order: `BadSlot`, `NotHeld` if no held entry equals this one in all fields.
     pub fn hold(&mut self, frame: u64, slot: u64, entry: &Entry) -> Result<(), Refusal>
         ensures step { Does self.old.world (Hold (slot_at frame slot) entry.now) result self.new.world }
         ensures line { KeepsLine self.old self.new }
@@ -315,10 +317,10 @@ impl<O: Opening> Locked<O> {
         self.world.hold(frame, slot, entry)
     }
 
-    /// Closes the world: every registered object is a root from now on, so no pass queues anything. What is unreachable but not yet queued stays for good:
-    /// collect before.
+    /// Closes the world: from now on every registered object is a root, so no pass queues anything. Objects that are unreachable but not queued yet are
+    /// retained for ever; to avoid that, collect first.
     ///
-    /// Refused `Closed` where the world is closed.
+    /// Fails with `Closed` if the world is closed already.
     pub fn close(&mut self) -> Result<(), Refusal>
         ensures step { Does self.old.world (Make Close) result self.new.world }
         ensures line { KeepsLine self.old self.new }
@@ -329,9 +331,9 @@ impl<O: Opening> Locked<O> {
         self.world.close()
     }
 
-    /// Ends the cycle with a pass, and sends what it queued. Takes time by the heap.
+    /// Ends the cycle with a remark and a pass, and sends what it queued. Takes time proportional to the heap.
     ///
-    /// Refused `NoCycle` where no cycle is open.
+    /// Fails with `NoCycle` if no cycle is open.
     pub fn pause(&mut self) -> Result<Passed, Refusal>
         ensures step { Does self.old.world (Make Pause) result self.new.world }
         ensures caused { IsJudgedBy (causes self.old.world.core (Make Pause)) result }
@@ -346,9 +348,9 @@ impl<O: Opening> Locked<O> {
         Ok(passed)
     }
 
-    /// A whole cycle in one step, which sends what it queued. Takes time by the heap.
+    /// A whole collection in one step, which sends what it queued. Takes time proportional to the heap.
     ///
-    /// Refusals, in their order: `CycleOpen`, `Exhausted` at the 2^48th pass.
+    /// Fails with, in this order: `CycleOpen`, `Exhausted` at the 2^48th pass.
     pub fn collect(&mut self) -> Result<Passed, Refusal>
         ensures step { Does self.old.world (Make Collect) result self.new.world }
         ensures caused { IsJudgedBy (causes self.old.world.core (Make Collect)) result }
@@ -362,7 +364,7 @@ impl<O: Opening> Locked<O> {
         Ok(passed)
     }
 
-    /// The number of held entries: those that aren't finished, taken or not.
+    /// The number of held entries: those that were queued and aren't finished, taken or not.
     pub fn outstanding(&self) -> u64
         ensures step { Does self.now.world (Make Outstanding) (Ok result) self.now.world }
         ensures count { result ≡ length self.now.world.held }
@@ -385,15 +387,15 @@ impl<O: Opening> Locked<O> {
         self.world.queued()
     }
 
-    /// The number from which on `queue` shows entries.
+    /// The number of the first entry that `queue` returns.
     pub fn forgotten(&self) -> u64
         ensures { result ≡ self.now.world.forgotten }
     {
         self.world.forgotten()
     }
 
-    /// Gives back the memory of finished entries, as the world does, once all entries were sent, and before that nothing; returns how many went. Takes time
-    /// by the entries in memory.
+    /// Frees the memory of finished entries, as the world's `forget` does, if all entries were sent, and else nothing; returns how many were forgotten. Takes
+    /// time proportional to the entries in memory.
     pub fn forget(&mut self) -> u64
         ensures line { KeepsLine self.old self.new }
         ensures same { self.new.world ≡ record self.old.world { forgotten = self.new.world.forgotten; remembered = self.new.world.remembered } }
@@ -409,14 +411,14 @@ impl<O: Opening> Locked<O> {
         self.world.forget()
     }
 
-    /// How many objects were scanned in the cycle begun last; 0 before any.
+    /// How many objects were scanned in the last cycle; 0 before the first.
     pub fn scans(&self) -> u64
         ensures { result ≡ self.now.world.scans }
     {
         self.world.scans()
     }
 
-    /// How many pages were noted in the cycle begun last; 0 before any.
+    /// How many pages were dirty in the last cycle; 0 before the first.
     pub fn noted(&self) -> u64
         ensures { result ≡ sets.len self.now.world.noted }
     {

@@ -1,4 +1,4 @@
-//! How a service ends.
+//! Ending a service.
 
 ghost use Rattle.fz_line.specs.States.{taken_by};
 ghost use Rattle.std.specs.Prelude.{◌≡◌, ◌+◌, ◌-◌, ◌≤◌, ◌⊎◌, ◌↔◌, [], ◌++◌, IsTrue, IfOk, IfErr, length, sum_by, All, vec_capacity};
@@ -14,7 +14,7 @@ use fz_model::{Entry, Refusal};
 use std::alloc::{AllocError, Global};
 use std::sync::ledger::Share;
 
-/// What an ended service tells.
+/// The totals of an ended service.
 #[derive(Drop)]
 pub struct Final {
     /// The number of entries that were ever queued.
@@ -23,21 +23,21 @@ pub struct Final {
     pub taken: u64,
     /// How many of these were finished.
     pub finished: u64,
-    /// How many of these were given up.
+    /// How many of these were forfeited.
     pub forfeited: u64,
     /// The entries that were not taken, in order.
     pub left: Vec<Entry>,
     /// The number of passes.
     pub passes: u64,
-    /// The number of objects that were made, less those that there are.
+    /// The number of objects reclaimed.
     pub reclaimed: u64,
 }
 
 impl<O: Opening> Locked<O> {
-    /// Ends the service, with all its seats. No pass is carried out. Takes time by the heap and by the entries that are left.
+    /// Ends the service, which requires all its seats. No pass is carried out. Takes time proportional to the heap and to the entries that are left.
     ///
-    /// Refusals, in their order, with all that was given: `SeatsMissing` where the seats' indices aren't each index once, `NoMemory` where an
-    /// allocation failed.
+    /// Fails with, in this order: `SeatsMissing` if the seats' indices aren't each index exactly once, `NoMemory` if an allocation fails. Then it returns
+    /// everything that it was given.
     pub fn end(self, seats: Vec<Seat<O>>) -> Result<Final, (Refusal, Locked<O>, Vec<Seat<O>>)>
         ensures ended { IfOk result (λ end. IsEnd self seats.items end × IsEachOnce O.origin.workers seats.items) }
         ensures order { IsInOrder O.origin self }
@@ -57,7 +57,7 @@ impl<O: Opening> Locked<O> {
         }
     }
 
-    /// Ends the service with all its seats, in room for what is left and for the seats without their shares.
+    /// Ends the service with all its seats. The caller provides room for the entries that are left, and for the seats without their shares.
     fn settle(self, seats: Vec<Seat<O>>, plain: Vec<fz_line::Seat>, mut left: Vec<Entry>) -> Final
         requires all { length seats.items ≡ O.origin.workers }
         requires plain { (plain.items ≡ []) × (length seats.items ≤ vec_capacity plain) }
@@ -98,7 +98,7 @@ impl<O: Opening> Locked<O> {
     }
 }
 
-/// How many entries these seats took, as far as a number tells it.
+/// How many entries these seats took, unless the sum overflows.
 fn count_taken<O: Opening>(seats: &[Seat<O>]) -> u64
     ensures { result ≤ length (taken_by seats.now) }
 {
@@ -108,7 +108,7 @@ fn count_taken<O: Opening>(seats: &[Seat<O>]) -> u64
     }
 }
 
-/// Room for a number of entries and a number of seats.
+/// Room for this number of entries and this number of seats.
 fn room(
     alloc: Global,
     entries: usize,
@@ -122,7 +122,7 @@ fn room(
     Ok((left, plain))
 }
 
-/// The seats without their shares, in room for them, and the shares together.
+/// The seats without their shares, and the sum of the shares. The caller provides room for the seats.
 fn without_shares<O: Opening>(
     mut seats: Vec<Seat<O>>,
     mut plain: Vec<fz_line::Seat>,
@@ -143,7 +143,7 @@ fn without_shares<O: Opening>(
     (plain, all)
 }
 
-/// Puts these entries at the end, in room for them.
+/// Appends these entries. Requires room for them.
 fn append(left: &mut Vec<Entry>, outbox: &[Entry])
     requires { length left.old.items + length outbox.now ≤ vec_capacity left.old }
     ensures { left.new.items ≡ left.old.items ++ outbox.now }
@@ -153,7 +153,7 @@ fn append(left: &mut Vec<Entry>, outbox: &[Entry])
     }
 }
 
-/// Whether there are as many seats as workers, with each index below that number.
+/// Whether there are as many seats as workers, and every index below that number occurs.
 fn is_each_once<O: Opening>(seats: &[Seat<O>], workers: usize) -> bool
     ensures { IsTrue result ↔ IsEachOnce workers seats.now }
 {

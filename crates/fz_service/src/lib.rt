@@ -1,7 +1,7 @@
-//! The finalization service: a world under one lock, the ready line outside of it, and the workers that take from the line.
+//! The finalization service: a world under one lock, a lock-free ready line, and the workers that take from it.
 //!
-//! `Service::prepare` makes all that a service needs, and `Service::open`, under a marker that names this one opening, gives the service and its
-//! seats. `enter` takes the lock and lends `Locked`, which has the calls of a world.
+//! `Service::prepare` allocates what a service needs. `Service::open`, with a type that names this one opening, returns the service and its seats. `enter`
+//! takes the lock and lends `Locked`, which has the calls of a world.
 #![tactic(auto)]
 
 mod bell;

@@ -1,4 +1,4 @@
-//! What the lock holds.
+//! What the lock protects.
 
 ghost use Rattle.std.specs.Prelude.{◌≡◌, ◌+◌, ◌<◌, ◌≤◌, [], ◌++◌, drop, length, take, IfOk, IfErr, OnOk};
 ghost use Rattle.fz_model.specs.declared.limits.TheConstants.{COUNT_LIMIT};
@@ -32,10 +32,10 @@ pub struct Locked<O: Opening> {
     pub(crate) owner: Owner,
     pub(crate) published: usize,
     pub(crate) book: Book<Finishes<O>>,
-    /// What is left of the book's shares, once each seat has its own: no part.
+    /// The rest of the ledger's shares, after each seat got its own: no part.
     pub(crate) rest: Share<Finishes<O>>,
     pub(crate) holds: u64,
-    /// Rung where entries are sent.
+    /// Wakes workers when entries are sent.
     pub(crate) bell: Arc<Bell, Global>,
 }
 
@@ -51,7 +51,7 @@ impl<O: Opening> Model for Locked<O> {
     ghost invariant = { λ s. IsInOrder O.origin (locked_state s.world s.owner.sent s.published s.book.total) × IsReady O.origin s.owner s.rest.parts s.rest.amount };
 }
 
-/// The entries of a queue from a number on, none of which is forgotten.
+/// The entries of a queue from a number on. Requires that none of them is forgotten.
 pub(crate) fn queue_from(world: &World, number: usize) -> &[Entry]
     requires { (world.now.forgotten ≤ number) × (number ≤ length world.now.queue) }
     ensures queue { result.now ≡ drop number world.now.queue }
@@ -61,7 +61,7 @@ pub(crate) fn queue_from(world: &World, number: usize) -> &[Entry]
 }
 
 impl<O: Opening> Locked<O> {
-    /// A new world and a new line, once each share of the book was given away.
+    /// A new world and a new line, after each share of the ledger was distributed.
     pub(crate) fn new(
         alloc: Global,
         world: World,
@@ -87,13 +87,13 @@ impl<O: Opening> Locked<O> {
         }
     }
 
-    /// How often the lock was taken since the opening, this hold among them. No contract speaks of it: it shows a test that nobody took the lock more often
-    /// than was asked.
+    /// How often the lock was taken since the opening, including this time. No contract mentions it: tests use it to show that the lock isn't taken more
+    /// often than needed.
     pub fn holds(&self) -> u64 {
         self.holds
     }
 
-    /// The entries that weren't sent: the queue from the published count on.
+    /// The overflow queue: the entries that weren't sent yet.
     pub fn outbox(&self) -> &[Entry]
         ensures { result.now ≡ drop self.now.published self.now.world.queue }
     {
@@ -116,7 +116,7 @@ impl<O: Opening> Locked<O> {
         count
     }
 
-    /// Lends the world to `work`, which reads it or changes it by calls alone, as a procedure's `run` does, and then sends what these queued.
+    /// Lends the world to `work`, which may read it and make calls, as a procedure's `run` does, and then sends what these queued.
     pub fn with_world<T, F: FnOnce(&mut World) -> T>(&mut self, work: F) -> T
         requires callable { F.IsAlwaysCallable work }
         requires calls { (old : WorldView) (answer : T) (new : WorldView) → FnOnceReturnsAtMut F.FnOnce work old answer new → RunsCalls old new }
@@ -129,9 +129,9 @@ impl<O: Opening> Locked<O> {
         answer
     }
 
-    /// Ends the duty with its work done: the entry is held no more.
+    /// Finishes the duty's entry, which then no longer retains its object, and returns the seat.
     ///
-    /// Refused `NotHeld`, with the duty, where no held entry is the same in all its fields.
+    /// Fails with `NotHeld`, and returns the duty, if no held entry equals this one in all fields.
     pub fn finish(&mut self, duty: Duty<O>) -> Result<Seat<O>, (Refusal, Duty<O>)>
         ensures step { Does self.old.world (Finish duty.entry) (reply_of result) self.new.world }
         ensures done { IfOk result (λ seat. seat ≡ record duty.seat { finished = duty.seat.finished + 1 }) }

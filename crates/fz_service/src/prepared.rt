@@ -1,4 +1,4 @@
-//! All that a service needs, before a marker names it.
+//! Everything that a service needs, before it is opened.
 
 ghost use Rattle.std.specs.Prelude.{◌≡◌, ◌≤◌, [], length, vec_capacity};
 ghost use Rattle.std.specs.List.{AllByRecursion};
@@ -17,9 +17,9 @@ use std::marker::Model;
 use std::sync::ledger::{Blank, Share};
 use std::sync::{Arc, Mutex};
 
-/// A world, a line with its seats, and a book, which no marker names yet.
+/// A world, a line with its seats, and a ledger, which don't belong to a named opening yet.
 ///
-/// A contract sees by what the service will be told from every other.
+/// Its model is what will distinguish the service from every other.
 pub struct Prepared {
     pub(crate) alloc: Global,
     pub(crate) config: Config,
@@ -43,7 +43,7 @@ impl Model for Prepared {
     ghost invariant = { λ p. (p.owner ≡ owner_state p.owner.line p.owner.seats (line_room p.config.blocks) [] []) × (p.seats.items ≡ new_seats p.owner.line p.owner.seats) × (p.blank.parts ≡ p.owner.seats) × StandsFor p.world (opening p.config.blocks p.config.frames) × (p.world.forgotten ≡ 0) };
 }
 
-/// What isn't opened goes, and its seats are retired.
+/// If it isn't opened, it is dropped, and its seats are retired.
 impl Drop for Prepared {
     fn drop(self) {
         let Self {
@@ -62,7 +62,7 @@ impl Drop for Prepared {
 }
 
 impl Prepared {
-    /// The service and its seats, in room for them, with the two ends of a bell.
+    /// The service and its seats. The caller provides room for the seats, and two handles of one bell.
     pub(crate) fn into_service<O: Opening>(
         self,
         room: Vec<Seat<O>>,
@@ -92,7 +92,7 @@ impl Prepared {
     }
 }
 
-/// Gives each seat its share of the book, in room for all seats.
+/// Gives each seat its share of the ledger. The caller provides room for all seats.
 fn share_out<O: Opening>(
     mut seats: Vec<fz_line::Seat>,
     mut shared: Vec<Seat<O>>,

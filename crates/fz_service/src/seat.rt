@@ -1,4 +1,4 @@
-//! Seats and duties of one opening.
+//! The seats (consumers) and duties of one opening.
 
 ghost use Rattle.std.specs.Prelude.{◌≡◌, ◌+◌, length};
 ghost use Rattle.fz_line.specs.Takes.{GainsEntry};
@@ -9,10 +9,10 @@ use fz_model::Entry;
 use std::marker::Model;
 use std::sync::ledger::Share;
 
-/// A worker's seat at the line of one opening, with no entry in hand.
+/// A worker's seat: a consumer of one opening's line, with no entry in flight.
 ///
-/// A seat can't be copied, cloned or dropped: it ends by an accepted `end` or `shutdown`, or by `retire`. A contract sees the list of all entries
-/// that it took, and how many it finished and forfeited.
+/// A seat can't be copied, cloned or dropped: only a successful `end` or `shutdown`, or `retire`, ends it. Its model is the list of all entries that it took,
+/// and how many it finished and forfeited.
 pub struct Seat<O: Opening> {
     pub(crate) seat: fz_line::Seat,
     pub(crate) share: Share<Finishes<O>>,
@@ -29,9 +29,9 @@ impl<O: Opening> Model for Seat<O> {
     ghost invariant = { λ s. (s.seat.line ≡ O.origin.line) × (s.share.parts ≡ 1) × (s.share.amount ≡ s.seat.finished) };
 }
 
-/// A seat with the entry that it took last.
+/// A seat with the entry that it took last, which is in flight.
 ///
-/// It can't be copied, cloned or dropped: it becomes a seat again by `Locked::finish` or by `forfeit`.
+/// It can't be copied, cloned or dropped: `Locked::finish` or `forfeit` turns it back into a seat.
 pub struct Duty<O: Opening> {
     pub(crate) duty: fz_line::Duty,
     pub(crate) share: Share<Finishes<O>>,
@@ -50,15 +50,15 @@ impl<O: Opening> Model for Duty<O> {
 
 /// What a take returns.
 pub enum Take<O: Opening> {
-    /// The first entry of the line, in the seat's hands.
+    /// The first entry of the line. The seat became a duty.
     Taken(Duty<O>),
-    /// The line was empty at one moment of the call.
+    /// The line was empty at some moment during the call.
     Empty(Seat<O>),
-    /// Another thread was in the way, and the take has to be tried again.
+    /// Another thread interfered. Try again.
     Busy(Seat<O>),
 }
 
-/// The line's answer, with the share that belongs to its seat.
+/// The line's result, with the share of its seat.
 fn with_share<O: Opening>(answer: fz_line::Take, share: Share<Finishes<O>>) -> Take<O>
     requires share { (share.parts ≡ 1) × IsShareOf O.origin.line share.amount answer }
     ensures { IsSameTake answer result }
@@ -71,7 +71,7 @@ fn with_share<O: Opening>(answer: fz_line::Take, share: Share<Finishes<O>>) -> T
 }
 
 impl<O: Opening> Seat<O> {
-    /// Takes the first entry of the line: one steal, with no lock and no wait.
+    /// Takes the first entry of the line by one steal. It is lock-free and doesn't wait.
     #[inline(always)]
     pub fn take(self) -> Take<O>
         ensures { MatchTake result (GainsEntry self) (λ seat. seat ≡ self) }
@@ -80,7 +80,7 @@ impl<O: Opening> Seat<O> {
         with_share(seat.take(), share)
     }
 
-    /// Its place among the seats of its service, counted from 0.
+    /// Its index among the seats of its service, counted from 0.
     pub fn index(&self) -> usize
         ensures { result ≡ self.now.index }
     {
@@ -102,14 +102,14 @@ impl<O: Opening> Seat<O> {
         self.seat.finished()
     }
 
-    /// The number of entries that it gave up.
+    /// The number of entries that it forfeited.
     pub fn forfeited(&self) -> u64
         ensures { result ≡ self.now.forfeited }
     {
         self.seat.forfeited()
     }
 
-    /// Ends the seat for good. Its service can't be shut down after that.
+    /// Ends the seat for good. Afterwards its service can't be shut down.
     pub fn retire(self) {
         let Seat { seat, share } = self;
         drop(share);
@@ -118,14 +118,14 @@ impl<O: Opening> Seat<O> {
 }
 
 impl<O: Opening> Duty<O> {
-    /// The entry in hand.
+    /// The entry in flight.
     pub fn entry(&self) -> &Entry
         ensures { result.now ≡ self.now.entry }
     {
         self.duty.entry()
     }
 
-    /// Gives the entry up, which counts as forfeited: the entry is held for good.
+    /// Abandons the entry, which counts as forfeited: it is held for ever, and so its object is retained.
     pub fn forfeit(self) -> Seat<O>
         ensures { result ≡ record self.seat { forfeited = self.seat.forfeited + 1 } }
     {
@@ -137,7 +137,7 @@ impl<O: Opening> Duty<O> {
     }
 }
 
-/// Ends these seats for good. Their service can't be shut down after that.
+/// Ends these seats for good. Afterwards their service can't be shut down.
 pub fn retire_all<O: Opening>(mut seats: Vec<Seat<O>>) {
     while let Some(seat) = seats.pop() {
         seat.retire();

@@ -1,4 +1,4 @@
-//! The lock, and how a service opens.
+//! The lock, and opening a service.
 
 ghost use Rattle.std.specs.Prelude.{◌≡◌, ◌≤◌, ◌++◌, ◌∷◌, [], IfOk, IfErr};
 ghost use Rattle.std.specs.Sync.Mutex.{mutex_guard_value};
@@ -25,30 +25,30 @@ use std::marker::Brand;
 use std::sync::ledger::Blank;
 use std::sync::{Arc, Mutex, MutexGuard, Wait};
 
-/// How often a thread asks for the lock before it sleeps until it is free. That takes one to three microseconds.
+/// How often a thread tries to take the lock before it sleeps. That takes one to three microseconds.
 const TRIES: u32 = 64;
 
 /// How many times as many entries as one pass can queue wait in the line at most. The others wait in the outbox, which takes no memory.
 const PASSES_IN_A_LINE: usize = 4;
 
-/// The lock, held: it lends `Locked`.
+/// The lock while it is held: it lends `Locked`.
 pub type Guard<'a, O> = MutexGuard<'a, Locked<O>>;
 
 /// A world and the owner's end of its line, under one lock.
 pub struct Service<O: Opening> {
     pub(crate) lock: Mutex<Locked<O>>,
-    /// That which the lock holds too.
+    /// The bell that the lock's content has, too.
     pub(crate) bell: Arc<Bell, Global>,
 }
 
-// Written out: who owns a service then drops it by one call that is proved here, not field by field at each way out of a function.
+// Written by hand, so that the owner drops it by one proved call, not field by field at each exit of a function.
 impl<O: Opening> Drop for Service<O> {
     fn drop(self) {
         let Service { lock: _, bell: _ } = self;
     }
 }
 
-/// Refuses a world outside its limits.
+/// Checks that the size of a world is within its limits.
 fn check_config(config: Config) -> Result<(), Refusal>
     ensures { IsJudgedBy (open_causes config.blocks config.frames) result }
 {
@@ -70,12 +70,12 @@ fn line_room(blocks: u64) -> usize
 }
 
 impl Service<Brand> {
-    /// Makes what a service needs: a world of this size, and a line with a seat for each worker. Takes time by the heap.
+    /// Allocates what a service needs: a world of this size, and a line with one seat for each worker. Takes time proportional to the heap.
     ///
-    /// The line has room for as many entries as one pass can queue, min(65,536, 64 * blocks), so that none of them asks for memory. A place of it
-    /// takes some 80 bytes, that is 5.2 MB and some 4 ms for a heap of 1,024 blocks or more.
+    /// The line has room for as many entries as one pass can queue, min(65,536, 64 * blocks), so sending these allocates nothing. Each takes about 80 bytes:
+    /// 5.2 MB and about 4 ms for a heap of 1,024 blocks or more.
     ///
-    /// Refusals, in their order: `BadCount` where blocks, frames or workers are outside their limits, `NoMemory` where an allocation failed.
+    /// Fails with, in this order: `BadCount` if blocks, frames or workers are outside their limits, `NoMemory` if an allocation fails.
     pub fn prepare(alloc: Global, config: Config, workers: u64) -> Result<Prepared, Refusal>
         ensures judged { IsJudgedOrLacks (open_causes config.blocks config.frames ++ bad_count MAX_WORKERS workers ∷ []) result }
         ensures prepared { IfOk result (λ made. (made.blocks ≡ config.blocks) × (made.frames ≡ config.frames) × (made.workers ≡ workers)) }
@@ -103,9 +103,9 @@ impl Service<Brand> {
 }
 
 impl<O: Opening> Service<O> {
-    /// A service under a marker that names this one opening, and its seats by index.
+    /// The service, under a type that names this one opening, and its seats in order of index.
     ///
-    /// Refused `NoMemory` where an allocation failed; what was prepared is dropped then.
+    /// Fails with `NoMemory` if an allocation fails; then what was prepared is dropped.
     pub fn open(prepared: Prepared) -> Result<(Service<O>, Vec<Seat<O>>), Refusal>
         requires { prepared ≡ O.origin }
         ensures seats { IfOk result (λ opened. opened.1.items ≡ new_seats O.origin.line O.origin.workers) }
@@ -117,8 +117,8 @@ impl<O: Opening> Service<O> {
         Ok(prepared.into_service(room, bell, rung))
     }
 
-    /// Takes the lock. Whenever it is taken, the world stands for a state that steps reach from the opening, what was sent is the beginning of
-    /// its queue, and what is held no more was finished by a duty.
+    /// Takes the lock. Under the lock the world is always in a state reachable in the model, the entries sent are a prefix of its queue, and entries that are
+    /// no longer held were finished by duties. May block.
     pub fn enter<'a, R: Wait>(&'a self, rt: &R) -> Guard<'a, O>
         ensures { IsInOrder O.origin (mutex_guard_value result) }
     {
@@ -128,7 +128,8 @@ impl<O: Opening> Service<O> {
         guard
     }
 
-    /// Takes the lock. A hold is shorter than a sleep, and a lock for which one thread sleeps sends the next one to sleep too.
+    /// Takes the lock. It tries several times before it sleeps: the lock is held for less time than a sleep takes, and one sleeping thread makes the next one
+    /// sleep, too.
     fn take_lock<'a, R: Wait>(&'a self, rt: &R) -> Guard<'a, O> {
         for _ in 0..TRIES {
             if let Some(guard) = self.lock.try_lock() {
@@ -139,17 +140,17 @@ impl<O: Opening> Service<O> {
         self.lock.lock(rt)
     }
 
-    /// Wakes all workers that sleep, so that they look at `stop` and at the line. For who sets the `stop` of `run_workers`, after that: a worker that
-    /// sleeps sees it within 50 milliseconds else. `run_beside` calls it itself.
+    /// Wakes all sleeping workers, so that they check `stop` and the line. Call it after setting the `stop` of `run_workers`; without it a sleeping worker
+    /// sees `stop` after at most 50 milliseconds. `run_beside` calls it itself.
     pub fn wake(&self) {
         self.bell.ring();
     }
 
-    /// Ends the service, with all its seats, as `Locked::end` says of what the lock held. No pass is carried out, and the world ends with it. Takes time by
-    /// the heap and by the entries that are left.
+    /// Ends the service, which requires all its seats, as `Locked::end` does. No pass is carried out, and the world is dropped. Takes time proportional to
+    /// the heap and to the entries that are left.
     ///
-    /// Refusals, in their order, with all that was given: `SeatsMissing` where the seats' indices aren't each index once, `NoMemory` where an
-    /// allocation failed.
+    /// Fails with, in this order: `SeatsMissing` if the seats' indices aren't each index exactly once, `NoMemory` if an allocation fails. Then it returns
+    /// everything that it was given.
     pub fn shutdown(self, seats: Vec<Seat<O>>) -> Result<Final, (Refusal, Service<O>, Vec<Seat<O>>)>
         ensures ended { IfOk result (λ end. IsEndOfRun O.origin seats.items end × IsEachOnce O.origin.workers seats.items) }
         ensures refused { IfErr result (λ refused. IsRefusedEnd O.origin.workers seats.items refused.0) }
@@ -165,10 +166,10 @@ impl<O: Opening> Service<O> {
         }
     }
 
-    /// Ends the service, with all its seats, as `shutdown` does. Where that is refused, the seats are retired and the service is dropped. Takes time by the
-    /// heap and by the entries that are left.
+    /// Ends the service, which requires all its seats, as `shutdown` does. If that fails, the seats are retired and the service is dropped. Takes time
+    /// proportional to the heap and to the entries that are left.
     ///
-    /// Refusals, in their order: `SeatsMissing` where the seats' indices aren't each index once, `NoMemory` where an allocation failed.
+    /// Fails with, in this order: `SeatsMissing` if the seats' indices aren't each index exactly once, `NoMemory` if an allocation fails.
     pub fn conclude(self, seats: Vec<Seat<O>>) -> Result<Final, Refusal>
         ensures ended { IfOk result (λ end. IsEndOfRun O.origin seats.items end × IsEachOnce O.origin.workers seats.items) }
         ensures refused { IfErr result (λ refusal. IsRefusedEnd O.origin.workers seats.items refusal) }

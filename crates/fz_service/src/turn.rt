@@ -1,4 +1,4 @@
-//! A worker's turn: it takes an entry, and does all that is to be done with it.
+//! A worker's turn: it takes an entry and serves it completely.
 
 ghost use Rattle.std.specs.Prelude.{◌<◌, ◌≤◌, Contains, length};
 ghost use Rattle.fz_service.specs.States.{line_room, RunsCalls};
@@ -14,43 +14,43 @@ use fz_model::Entry;
 use fz_world::World;
 use std::sync::Wait;
 
-/// A worker's turn, once it has ended.
+/// The result of a worker's turn.
 pub(crate) struct Turn<'a, O: Opening> {
     pub(crate) seat: Seat<O>,
     pub(crate) came_to: CameTo,
-    /// The lock, where it is still held.
+    /// The lock, if it is still held.
     pub(crate) held: Option<Guard<'a, O>>,
 }
 
-/// What a turn came to.
+/// How a turn ended.
 #[derive(Clone, Copy)]
 pub(crate) enum CameTo {
-    /// It took an entry, and finished it, or forfeited it where that was refused.
+    /// It took an entry and finished it; `false` if finishing was refused, so that the entry was forfeited.
     Served(bool),
-    /// It gave no entry, since the line was empty.
+    /// The line was empty.
     Empty(FoundEmpty),
-    /// Another thread was in the way, and the take has to be tried again.
+    /// Another thread interfered. Try again.
     Busy,
 }
 
-/// The line was empty at one moment of a turn. Nothing but such a turn makes one.
+/// The line was empty at some moment during a turn. Only such a turn makes one.
 #[derive(Clone, Copy)]
 pub(crate) struct FoundEmpty(());
 
-/// Whether something happens with the entry outside of the lock: the gate is to be told, or the procedure has work there.
+/// Whether serving the entry involves steps without the lock: the hook has to be called, or the procedure has work.
 fn has_outside_steps<G: Gate>(procs: &[Box<dyn Proc + Send>], gate: &G, entry: &Entry) -> bool {
     !gate.lets_all_through()
         || entry.proc < procs.len() as u64 && procs[entry.proc as usize].has_work()
 }
 
-/// Calls `work` of the entry's procedure, if the list has it.
+/// Calls `work` of the entry's procedure, if the list contains it.
 fn work(procs: &mut [Box<dyn Proc + Send>], entry: &Entry) {
     if entry.proc < procs.len() as u64 {
         procs[entry.proc as usize].work(entry);
     }
 }
 
-/// Calls `run` of the entry's procedure, if the list has it.
+/// Calls `run` of the entry's procedure, if the list contains it.
 #[tactic(auto, using(crate::proofs::Running::runs_calls))]
 fn run(procs: &mut [Box<dyn Proc + Send>], entry: &Entry, world: &mut World)
     ensures { RunsCalls world.old world.new }
@@ -61,8 +61,8 @@ fn run(procs: &mut [Box<dyn Proc + Send>], entry: &Entry, world: &mut World)
 }
 
 impl<O: Opening> Locked<O> {
-    /// Runs the procedure of the duty's entry, sends what it queued, and finishes the duty, or forfeits it where that is refused. Returns the seat,
-    /// and whether it finished.
+    /// Runs the procedure of the duty's entry, sends what it queued, and finishes the duty, or forfeits it if finishing is refused. Returns the seat, and
+    /// whether the entry was finished.
     fn serve_duty(&mut self, duty: Duty<O>, procs: &mut [Box<dyn Proc + Send>]) -> (Seat<O>, bool)
         ensures seat { Serves duty result.0 result.1 }
         ensures answer { ¬ Contains self.new.world.held duty.entry }
@@ -78,8 +78,8 @@ impl<O: Opening> Locked<O> {
 }
 
 impl<O: Opening> Service<O> {
-    /// Does with what a take gave what `invoke_finalizers` says. Where something happens with the entry outside of the lock, the lock is given back
-    /// before that, and again after `run`; else the entry is served in the hold that there is.
+    /// Handles the result of a take, as `invoke_finalizers` documents. If serving the entry involves steps without the lock, the lock is released before
+    /// these and again after `run`; otherwise the entry is served under the present hold.
     fn answer<'a, G: Gate, R: Wait>(
         &'a self,
         taken: Take<O>,
@@ -121,7 +121,7 @@ impl<O: Opening> Service<O> {
         }
     }
 
-    /// Takes an entry, if the line has one, and does with it what `invoke_finalizers` says. The lock may be held from the turn before.
+    /// Takes an entry, if the line has one, and serves it as `invoke_finalizers` documents. The lock may still be held from the previous turn.
     pub(crate) fn take_turn<'a, G: Gate, R: Wait>(
         &'a self,
         seat: Seat<O>,

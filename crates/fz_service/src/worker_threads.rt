@@ -16,22 +16,22 @@ use std::sync::atomic::AtomicBool;
 use std::thread::Threads;
 use std::{hint, mem, thread};
 
-/// How often in a row a worker spins where the line is empty, before it begins to yield: for some 10 microseconds in all.
+/// How many times in a row a worker spins while the line is empty, before it yields: about 10 microseconds in all.
 const SPINS_IN_A_ROW: u32 = 16;
 
-/// How often it tells the processor so in each spin.
+/// How many spin hints it executes in each spin.
 const HINTS_IN_A_SPIN: u32 = 16;
 
-/// How often in a row it yields, before it begins to sleep.
+/// How many times in a row it yields, before it sleeps.
 const YIELDS_IN_A_ROW: u32 = 64;
 
-/// What a worker does while the line is empty: it spins at first, then yields, and then sleeps until the bell rings.
+/// What a worker does while the line is empty: first it spins, then it yields, and then it sleeps until it is woken.
 #[derive(Drop)]
 struct Pause<'a> {
     bell: &'a Bell,
     spins: u32,
     yields: u32,
-    /// What the worker heard before it last looked at `stop` and at the line; something only while it counts as a sleeper.
+    /// The number of rings that the worker read before it last checked `stop` and the line. It is set only while the worker counts as a sleeper.
     heard: Option<Heard>,
 }
 
@@ -45,7 +45,7 @@ impl<'a> Pause<'a> {
         }
     }
 
-    /// The line had an entry, or the worker is to stop, so that the next pause is a first one.
+    /// Called when the line had an entry, or the worker has to stop: the next pause starts from the beginning.
     fn end(&mut self) {
         if self.heard.is_some() {
             self.bell.get_up();
@@ -67,7 +67,7 @@ impl<'a> Pause<'a> {
         }
     }
 
-    /// The first time it only counts as a sleeper, and the worker looks once more.
+    /// The first call only counts the worker as a sleeper, so that it checks once more.
     fn sleep<R: Wait>(&mut self, rt: &R) {
         match self.heard {
             Some(heard) => self.bell.sleep(heard, rt),
@@ -86,14 +86,14 @@ fn spin() {
 /// The procedures of one worker.
 type List = Vec<Box<dyn Proc + Send>>;
 
-/// A seat on its way to a thread and back, with the list that goes with it.
+/// A seat that is sent to a thread and back, with its list of procedures.
 struct Worker<O: Opening, L> {
     slot: Option<Seat<O>>,
     procs: L,
 }
 
 impl<O: Opening> Worker<O, List> {
-    /// Serves with the seat in the slot until it is told to stop, and puts it back.
+    /// Serves with the seat in the slot until it is told to stop, and puts the seat back.
     fn serve_from_slot<G: Gate, R: Wait>(
         &mut self,
         service: &Service<O>,
@@ -113,7 +113,7 @@ impl<O: Opening> Worker<O, List> {
     }
 }
 
-/// Takes the list of this number out, or an empty one where there is none.
+/// Takes the list with this number, or an empty one if there is none.
 #[tactic(auto, using(crate::proofs::Slots::set_other))]
 fn take_list(procs: &mut [List], number: usize, alloc: Global) -> List
     ensures taken { (list : _) → slice_get procs.old number ≡ Some list → result ≡ list }
@@ -126,14 +126,14 @@ fn take_list(procs: &mut [List], number: usize, alloc: Global) -> List
     }
 }
 
-/// Puts the list of this number back, if there is one.
+/// Puts the list with this number back, if there is one.
 fn put_list_back(procs: &mut [List], number: usize, list: List) {
     if number < procs.len() {
         procs[number] = list;
     }
 }
 
-/// Gives each seat the list of its number in the row, in room for all.
+/// Gives each seat the list at its position. The caller provides room for all.
 fn with_lists<O: Opening>(
     seats: &mut Vec<Seat<O>>,
     procs: &mut [Vec<Box<dyn Proc + Send>>],
@@ -142,7 +142,7 @@ fn with_lists<O: Opening>(
 ) -> Vec<Worker<O, List>>
     requires room { (workers.items ≡ []) × (length seats.old.items ≤ vec_capacity workers) }
     ensures workers { map (λ worker. worker.slot) result.items ≡ slots_of seats.old.items }
-    // The worker at a place has the list that stood there.
+    // The worker at an index has the list that was there.
     ensures lists { (i : ℕ) (list : _) → slice_get procs.old i ≡ Some list → i < length result.items → slice_get (map (λ worker. worker.procs) result.items) i ≡ Some list }
     ensures seats { (seats.new.items ≡ []) × (vec_capacity seats.new ≡ vec_capacity seats.old) }
 {
@@ -157,7 +157,7 @@ fn with_lists<O: Opening>(
     workers
 }
 
-/// Takes the seats out of their slots, in room for them, and puts each list back where it was.
+/// Takes the seats out of their slots, and puts each list back at its index. The caller provides room for the seats.
 fn without_lists<O: Opening>(
     mut workers: Vec<Worker<O, List>>,
     procs: &mut [Vec<Box<dyn Proc + Send>>],
@@ -217,7 +217,7 @@ impl<O: Opening> Service<O> {
         unreachable!()
     }
 
-    /// Takes turns until one finds the line empty, once the worker was told to stop.
+    /// Takes turns until one finds the line empty. Requires that the worker was told to stop.
     fn serve_rest<G: Gate, R: Wait>(
         &self,
         _told: &Told,
@@ -249,8 +249,7 @@ impl<O: Opening> Service<O> {
         unreachable!()
     }
 
-    /// Takes turns until it reads `stop` as true, and then until a further one finds the line empty: whatever was published before `stop` was set
-    /// is taken by then.
+    /// Takes turns until it reads `stop` as true, and then until another turn finds the line empty. So everything published before `stop` was set is taken.
     fn serve_until<G: Gate, R: Wait>(
         &self,
         seat: Seat<O>,
@@ -266,7 +265,7 @@ impl<O: Opening> Service<O> {
         (seat, told, found)
     }
 
-    /// Serves with each of these, in a thread of its own where one can be made.
+    /// Serves with each of these seats, on a thread of its own if one can be started.
     fn serve_all<G: Gate + Sync, R: Threads + Wait + Sync>(
         &self,
         workers: &mut Vec<Worker<O, List>>,
@@ -289,15 +288,14 @@ impl<O: Opening> Service<O> {
         thread::for_each_mut(rt, workers.as_mut_slice(), threads, &serve);
     }
 
-    /// Runs a worker in a thread of its own with each seat, and comes back with the seats, in their order, when all have ended.
+    /// Runs one worker for each seat, on threads of their own, and returns the seats, in order, when all have ended. May block.
     ///
-    /// The worker of the first seat runs the procedures of the first list, and so on, and none where `procs` is shorter.
-    /// It does with each entry as `invoke_finalizers` does, and ends when it finds the line empty in a take that began after it had read
-    /// `stop` as true. So what was published before `stop` was set is taken. While the line is empty and `stop` is false, it spins, then yields,
-    /// and later sleeps until an entry is sent, or `wake` is called, for 50 milliseconds at a time at most. The calling thread is one of the workers:
-    /// whoever sets `stop` runs in another.
+    /// The worker of the first seat runs the procedures of the first list, and so on; it has none if `procs` is too short. It serves each entry as
+    /// `invoke_finalizers` does. It ends when a take that began after it had read `stop` as true finds the line empty, so everything published before `stop`
+    /// was set is taken. While the line is empty and `stop` is false, it spins, then yields, and then sleeps until an entry is sent or `wake` is called, but
+    /// at most 50 milliseconds at a time. The calling thread is one of the workers, so `stop` has to be set by another.
     ///
-    /// Where a thread can't be started, another one serves its seat too. Without the memory for the threads' slots, all seats come back unused.
+    /// If a thread can't be started, another worker also serves its seat. If the threads' slots can't be allocated, all seats are returned unused.
     pub fn run_workers<G: Gate + Sync, R: Threads + Wait + Sync>(
         &self,
         mut seats: Vec<Seat<O>>,

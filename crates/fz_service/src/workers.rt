@@ -14,27 +14,27 @@ use fz_model::Entry;
 use fz_world::World;
 use std::sync::Wait;
 
-/// A finalizer's procedure. Each part does nothing where it isn't written.
+/// A finalizer's procedure. Each part has an empty default.
 pub trait Proc: Drop {
-    /// Its work outside of the lock.
+    /// The part that runs without the lock.
     fn work(&mut self, _entry: &Entry) {}
 
-    /// Whether it has any work outside of the lock. Where it has none, a worker that serves several of its entries in a row need not give the lock
-    /// back in between, and doesn't call `work`.
+    /// Whether `work` does anything. If it doesn't, a worker that serves several such entries in a row need not release the lock in between, and doesn't call
+    /// `work`.
     fn has_work(&self) -> bool {
         true
     }
 
-    /// Its work on the world, under the lock: calls other than `open` and `finish`.
+    /// The part that runs under the lock and may change the world, by calls other than `open` and `finish`.
     #[tactic(auto, using(crate::proofs::Running::runs_calls))]
     fn run(&mut self, _entry: &Entry, _world: &mut World)
         ensures { RunsCalls _world.old _world.new }
     {}
 }
 
-/// Makes a list of procedures for each of a number of workers. Each list has a value of each expression, in their order.
+/// Makes a list of procedures for each of a number of workers. Each list has one value of each expression, in order.
 ///
-/// The function that calls it is left by `?` where there is no memory, or where an expression is.
+/// If memory runs out, or an expression fails by `?`, the calling function returns that error.
 #[macro_export]
 macro_rules! procedures {
     ($alloc:expr; $workers:expr; $($procedure:expr),+ $(,)?) => {{
@@ -49,18 +49,18 @@ macro_rules! procedures {
     }};
 }
 
-/// What is told of each entry before its procedure is called.
+/// A hook that is called for each entry before its procedure.
 pub trait Gate {
-    /// The entry with this sequence number was taken. The lock isn't held.
+    /// The entry with this sequence number was taken. Called without the lock.
     fn entered(&self, seq: u64);
 
-    /// Whether it lets each entry through, so that it need not be told.
+    /// Whether it lets all entries through, so that it need not be called.
     fn lets_all_through(&self) -> bool {
         false
     }
 }
 
-/// A gate that lets each entry through.
+/// A hook that does nothing.
 pub struct OpenGate;
 
 impl Gate for OpenGate {
@@ -71,10 +71,10 @@ impl Gate for OpenGate {
     }
 }
 
-/// In how many turns in a row a worker keeps the lock, at most.
+/// The largest number of turns in a row for which a worker keeps the lock.
 const TURNS_IN_A_HOLD: u64 = 32;
 
-/// What of the lock is kept for the next turn, by how many turns came before this one: nothing each 32nd time, so that others come to it.
+/// The lock for the next turn, given how many turns came before this one. Every 32nd time it is released, so that other threads can take it.
 pub(crate) fn lock_for_next_turn<T: Drop>(held: Option<T>, turns_before: u64) -> Option<T>
     ensures { result ≡ (if turns_before % TURNS_IN_A_HOLD == TURNS_IN_A_HOLD - 1 then None else held) }
 {
@@ -86,8 +86,8 @@ pub(crate) fn lock_for_next_turn<T: Drop>(held: Option<T>, turns_before: u64) ->
 }
 
 impl<O: Opening> Service<O> {
-    /// Takes turns until it took `limit` entries or a turn gives none. Returns the seat, how many entries it finished, and what its last turn came
-    /// to, if that gave no entry.
+    /// Takes turns until it took `limit` entries or a turn took none. Returns the seat, how many entries it finished, and how its last turn ended, if that
+    /// took no entry.
     fn serve_up_to<G: Gate, R: Wait>(
         &self,
         seat: Seat<O>,
@@ -120,13 +120,14 @@ impl<O: Opening> Service<O> {
         (seat, finished, None)
     }
 
-    /// Takes entries and finishes them, until it took `limit` or a take gives none; returns the seat, and how many it finished.
+    /// Takes entries and finishes them, until it took `limit` or a take returns none; returns the seat, and how many it finished. May block.
     ///
-    /// Of each entry the gate is told, and then `work` of its procedure is called, both without the lock; then, under the lock, `run` of its
-    /// procedure. The procedure of an entry is the one of its number in the list, counted from 0; where the list is shorter there is none. A duty whose
-    /// finish is refused is forfeited.
+    /// For each entry the hook and then `work` of its procedure are called without the lock, and then `run` of its procedure under the lock. An entry's
+    /// procedure number is an index into the list, counted from 0; if the list is shorter, there is no procedure. If finishing an entry is refused, it is
+    /// forfeited.
     ///
-    /// Where the gate is open and the procedures have no work outside of the lock, up to 32 entries in a row are run and finished in one hold.
+    /// If the hook lets all entries through and the procedures have no work without the lock, up to 32 entries in a row are run and finished under one hold
+    /// of the lock.
     pub fn invoke_finalizers<G: Gate, R: Wait>(
         &self,
         seat: Seat<O>,

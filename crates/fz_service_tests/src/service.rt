@@ -1,5 +1,5 @@
-//! What no clause says: that memory is asked for only where it is needed, that takes need no lock and look at the line, which procedures workers call,
-//! that they run at the same time, and the service's answers from end to end.
+//! What no clause states: that memory is allocated only when it is needed, that takes need no lock and depend on the line's content, which procedures workers
+//! call, that these run at the same time, and the results of whole services.
 
 mod bell;
 mod calls;
@@ -29,7 +29,7 @@ use std::sync::Wait;
 use std::test::*;
 use wanted::{accepted, collects, count_seats, put_back, same};
 
-/// The most takes until an answer other than Busy.
+/// The largest number of takes until a result other than Busy.
 const TRIES: u32 = 1_000;
 
 fn prepared(rt: &impl Abort, alloc: Global, workers: u64) -> Prepared {
@@ -41,7 +41,7 @@ fn prepared_with(rt: &impl Abort, alloc: Global, blocks: u64, workers: u64) -> P
     Service::prepare(alloc, config, workers).expect(rt, "memory")
 }
 
-/// Makes an object of one word, registers it with this procedure, and drops it.
+/// Allocates an object of one word, registers it with this procedure, and drops it.
 fn make_and_drop_with<O: Opening>(rt: &impl Abort, locked: &mut Locked<O>, proc: u64) {
     accepted(rt, "alloc", locked.alloc(0, 0, 1, Scanned));
     accepted(rt, "register", locked.register(0, 0, Normal, proc, 0, 0));
@@ -63,7 +63,7 @@ fn queue_entries<O: Opening>(rt: &impl Abort, locked: &mut Locked<O>, procs: &[u
     same(rt, "not sent", locked.outbox().len(), 0);
 }
 
-/// The first answer other than Busy.
+/// The first result other than Busy.
 fn take_soon<O: Opening>(mut seat: Seat<O>) -> Take<O> {
     for _ in 0..TRIES {
         match seat.take() {
@@ -74,7 +74,7 @@ fn take_soon<O: Opening>(mut seat: Seat<O>) -> Take<O> {
     Take::Busy(seat)
 }
 
-/// A take that has to give an entry.
+/// A take that has to return an entry.
 fn must_take<O: Opening>(rt: &impl Abort, seat: Seat<O>) -> Duty<O> {
     match take_soon(seat) {
         Take::Taken(duty) => duty,
@@ -85,7 +85,7 @@ fn must_take<O: Opening>(rt: &impl Abort, seat: Seat<O>) -> Duty<O> {
     }
 }
 
-/// A finish that has to be accepted.
+/// A finish that has to succeed.
 fn must_finish<O: Opening, R: Abort + Wait>(
     rt: &R,
     service: &Service<O>,
@@ -100,19 +100,19 @@ fn must_finish<O: Opening, R: Abort + Wait>(
     }
 }
 
-/// A take that has to give the entry with this number.
+/// A take that has to return the entry with this number.
 fn take_next<O: Opening>(rt: &impl Abort, seat: Seat<O>, seq: u64) -> Duty<O> {
     let duty = must_take(rt, seat);
     same(rt, "the entry's number", duty.entry().seq, seq);
     duty
 }
 
-/// A take that has to give the entry with this number, which is given up.
+/// Takes the entry with this number and forfeits it.
 fn forfeit_next<O: Opening>(rt: &impl Abort, seat: Seat<O>, seq: u64) -> Seat<O> {
     take_next(rt, seat, seq).forfeit()
 }
 
-/// A take that has to give the entry with this number, which is finished.
+/// Takes the entry with this number and finishes it.
 fn finish_next<O: Opening, R: Abort + Wait>(
     rt: &R,
     service: &Service<O>,
@@ -148,7 +148,7 @@ fn ended<O: Opening>(rt: &impl Abort, service: Service<O>, seats: Vec<Seat<O>>) 
     service.conclude(seats).expect(rt, "ended")
 }
 
-/// Two entries are taken and given up while the lock is held; then the line is empty, and the service ends with two forfeits.
+/// Two entries are taken and forfeited while the lock is held; then the line is empty, and the service ends with two forfeits.
 fn takes_under_the_lock<O: Opening, R: Abort + Wait>(rt: &R, prepared: Prepared)
     requires { prepared ≡ O.origin }
 {
@@ -172,7 +172,7 @@ fn takes_under_the_lock<O: Opening, R: Abort + Wait>(rt: &R, prepared: Prepared)
     same(rt, "the end's counts", counts, (2, 2, 2));
 }
 
-/// A shutdown without all seats is refused and gives everything back; with all of them it succeeds. A pass that wasn't carried out isn't counted.
+/// A shutdown without all seats fails and gives everything back; with all of them it succeeds. A cycle that is still open doesn't count as a pass.
 fn ends_with_all_seats<O: Opening, R: Abort + Wait>(rt: &R, prepared: Prepared)
     requires { prepared ≡ O.origin }
 {
@@ -222,7 +222,7 @@ fn closes_in_a_cycle<O: Opening, R: Abort + Wait>(rt: &R, prepared: Prepared)
     same(rt, "queued, left and passes", counts, (0, 0, 1));
 }
 
-/// An allocation that finds no space collects, sends what it queued and is made; one for which the collection frees nothing finds none.
+/// An allocation that finds no room collects, sends the queued entries and succeeds. If the collection frees nothing, it fails.
 fn collects_for_space<O: Opening, R: Abort + Wait>(rt: &R, prepared: Prepared)
     requires { prepared ≡ O.origin }
 {

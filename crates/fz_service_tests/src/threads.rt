@@ -22,7 +22,7 @@ use std::sync::Wait;
 use std::sync::ledger::{Blank, Ledger};
 use std::thread::Threads;
 
-/// A threads file, what its run prints, and how it ends.
+/// A threads file, the output of its run, and how the run ends.
 #[derive(Clone, Copy)]
 struct Row {
     file: &'static [u8],
@@ -30,7 +30,7 @@ struct Row {
     fault: Option<DriveFault>,
 }
 
-/// A threads file whose summary leaves one number free, from 0 to `most`, between two parts.
+/// A threads file whose summary has one number that may vary, from 0 to `most`, between two fixed parts.
 #[derive(Clone, Copy)]
 struct FreeRow {
     file: &'static [u8],
@@ -101,7 +101,7 @@ fn fault(refusal: Refusal, line: u64) -> Result<(), DriveFault> {
     Err(DriveFault { refusal, line })
 }
 
-/// The bytes of all these parts.
+/// The concatenation of all these parts.
 fn joined(alloc: Global, parts: &[&[u8]]) -> Result<Vec<u8>, AllocError> {
     let mut bytes = Vec::new(alloc);
     for part in parts {

@@ -1,4 +1,5 @@
--- What is registered: the registrations by the starts of their objects, and the next number.
+-- The content of a table: the registrations by the addresses of their objects, and the next number.
+-- code: fz_table/src/table.rt
 use Rattle.std.specs.Prelude.{ℕ, refl}
 use Rattle.std.specs.Coded.{Coded, code_by, coded×, coded_ℕ}
 use Rattle.std.specs.FinMap as map

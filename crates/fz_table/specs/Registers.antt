@@ -1,4 +1,5 @@
--- What registering an object's finalizer answers, and what is registered after it.
+-- What registering an object's finalizer returns, and the content of the table afterwards.
+-- code: fz_table/src/table.rt (register, register_checked)
 use Rattle.std.specs.Prelude.{◌≡◌, ℕ, ◌+◌, Option, Result, IfOk, IfErr, OnOk, OnErr}
 use Rattle.std.specs.Option.{IsNone}
 use Rattle.std.specs.FinMap.{get, insert}
@@ -12,14 +13,14 @@ use Rattle.fz_table.specs.Registered.{Registered}
 
 pub record Registers (old : Registered) (object : ℕ) (finalizer : Finalizer) (result : Result (ℕ × Option Old) Refusal) (new : Registered) : Type 0 where
   pub judged : IsJudgedOrLacks (register_causes old.registrations old.next_number object) result
-  -- only an object's first registration can lack memory
+  -- only an object's first registration can run out of memory
   pub growth : IfErr result (λ r. r ≡ NoMemory → IsNone (get old.registrations object))
   pub unchanged : OnErr result (new ≡ old)
   pub number : IfOk result (λ answer. answer.0 ≡ old.next_number)
   pub replaced : IfOk result (λ answer. answer.1 ≡ old_of old.registrations object)
   pub registered : OnOk result (new ≡ record { registrations = insert old.registrations object (registration_of old.next_number finalizer); next_number = old.next_number + 1 })
 
--- the same where memory alone can be lacking
+-- the same, if running out of memory is the only possible error
 pub record RegistersOrLacks (old : Registered) (object : ℕ) (finalizer : Finalizer) (result : Result (ℕ × Option Old) Refusal) (new : Registered) : Type 0 where
   pub refused : IfErr result (λ r. r ≡ NoMemory)
   pub growth : OnErr result (IsNone (get old.registrations object))

@@ -1,4 +1,5 @@
--- What contracts see of a table: what is registered, how many more registrations fit before memory is asked for, and the order in which walks go.
+-- The model of a table: its content, how many more registrations fit without allocating, and the order of its iterators.
+-- code: fz_table/src/table.rt
 use Rattle.std.specs.Prelude.{ℕ, List, refl}
 use Rattle.std.specs.Coded.{Coded, code_by, coded×, coded_ℕ, coded_list}
 use Rattle.fz_model.specs.declared.answers.Registration.{Registration}
@@ -9,7 +10,7 @@ pub record Tabled : Type 0 where
   pub registered : Registered
   pub open registered use *
   pub room : ℕ
-  pub order : List (ℕ × Registration)  -- what is registered, each once
+  pub order : List (ℕ × Registration)  -- the content, each registration once
 
 abbrev pub tabled_code : Coded Tabled
 tabled_code =

@@ -6,8 +6,9 @@ use std::hash::{BuildHasher, Hasher};
 
 /// Hashes addresses so that those which follow one another stand side by side in a map.
 ///
-/// Eight of them share a group of the map, where their lowest bits tell them apart, and the next ones stand in the groups next to it. Bits from further up
-/// are mixed in, so that addresses at any equal distance spread over all groups.
+/// Four of them share a group of the map, where their lowest bits tell them apart, and the next ones stand in the groups next to it. A full map has nine
+/// addresses a group, and a group holds twelve. So where they go round all groups, each gets eight or twelve; if eight shared a group, some would get sixteen.
+/// Bits from further up are mixed in, so that addresses at any equal distance spread over all groups.
 #[derive(Clone, Copy)]
 pub struct AddressHasher {
     word: u64,
@@ -28,7 +29,7 @@ impl Hasher for AddressHasher {
     #[inline(always)]
     fn finish(&self) -> u64 {
         let word = self.word ^ (self.word >> 7) ^ (self.word >> 18);
-        (word >> 3) ^ (word << 24)
+        (word >> 2) ^ (word << 24)
     }
 
     /// Takes the eight bytes of an address, and nothing else.

@@ -1,4 +1,4 @@
-//! The table of registrations, one an object.
+//! The table of registrations: at most one for each object.
 #![tactic(auto)]
 
 mod hasher;

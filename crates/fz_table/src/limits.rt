@@ -1,4 +1,4 @@
-//! How many entries a table has at the most.
+//! The largest size of a table.
 
-/// The most registrations of a table, and the most links of a kind. A world stops at fewer (`TABLE_LIMIT`).
+/// The largest number of registrations in a table, and of links of one kind. A world stops at fewer (`TABLE_LIMIT`).
 pub const MOST_ENTRIES: u64 = 1 << 32;

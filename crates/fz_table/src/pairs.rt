@@ -1,4 +1,4 @@
-//! The iterator over the entries of an ordered map, as pairs of values.
+//! An iterator over the entries of an ordered map, as pairs of values.
 
 ghost use Rattle.std.specs.Prelude.{◌≡◌, drop, length, Some, IfSome};
 ghost use Rattle.std.specs.Iterator.{YieldsFirst, UpTo, at_most, item_count};
@@ -7,7 +7,7 @@ ghost use Rattle.std.specs.Iterator.SizeHint.{IsWithinCount};
 use indexmap::map::Iter;
 use std::marker::Model;
 
-/// The keys of a map with their values, seen as the list of those that are left.
+/// An iterator over the keys of a map with their values. Its model is the list of the remaining pairs.
 #[derive(Drop)]
 pub struct Pairs<'a, K, V> {
     entries: Iter<'a, K, V>,
@@ -22,14 +22,14 @@ impl<'a, K, V> Model for Pairs<'a, K, V> {
 }
 
 impl<'a, K, V> Pairs<'a, K, V> {
-    /// The pairs that an iterator over a map has left.
+    /// The remaining pairs of an iterator over a map.
     pub fn of(entries: Iter<'a, K, V>) -> Pairs<'a, K, V>
         ensures { result ≡ entries.entry }
     {
         Pairs { entries }
     }
 
-    /// Those from a place on, in constant time.
+    /// The pairs from an index on. Takes constant time.
     pub fn from_place(self, place: usize) -> Pairs<'a, K, V>
         ensures { result ≡ drop place self.entry }
     {

@@ -76,6 +76,14 @@ impl Table {
         Ok(())
     }
 
+    /// Gives back the memory that the registrations don't need. What can't be made smaller for want of memory stays as it is.
+    pub fn shrink(&mut self)
+        ensures same { self.new.registered ≡ self.old.registered }
+        ensures order { self.new.order ≡ self.old.order }
+    {
+        self.entries.shrink_to_fit();
+    }
+
     /// Refuses an object that `register` would refuse for another cause than want of memory.
     ///
     /// The refusals, in this order: `Exhausted` once 2^48 numbers are given out, `TableFull` when 65,536 other objects are registered.

@@ -1,4 +1,5 @@
--- The reading of lines, one by one.
+-- Reading lines one by one.
+-- code: fz_text/src/input.rt, chunk.rt
 use Rattle.std.specs.Prelude.{◌≡◌, ◌≢◌, ℕ, ◌≤◌, ◌+◌, List, [], ◌∷◌, ◌++◌, Option, Some, None, Bool, true, false, Result, Ok, Err, length, take, drop}
 use Rattle.fz_text.specs.declared.chunk.Chunk.{Chunk}
 use Rattle.fz_text.specs.declared.input.Ending.{Ending}
@@ -7,11 +8,11 @@ use Rattle.std.specs.Io.KnownBytes.{Consumes, IsAtEnd}
 use Rattle.fz_text.specs.Devices.{Feed}
 use Rattle.fz_text.specs.Lines.{IsOneLine, max_line}
 
--- the bytes of a chunk that were read and not used
+-- the bytes of a buffer that were read and not consumed
 abbrev pub unread : Chunk → List ℕ
 unread chunk = drop chunk.at (take chunk.len chunk.bytes)
 
--- the bytes that were taken for a line, by how it ends
+-- the bytes that were consumed for a line, depending on how it ends
 abbrev pub TakenFor : Ending → List ℕ → List ℕ → Type 0
 TakenFor Whole line bytes = bytes ≡ line ++ 10 ∷ []
 TakenFor Last line bytes = (bytes ≡ line) × (line ≢ [])
@@ -24,7 +25,7 @@ EndsInput Last left = IsAtEnd left
 EndsInput Nothing left = IsAtEnd left
 EndsInput TooLong left = Unit {0}
 
--- the next line was read; or the reader failed first
+-- the next line was read, or the reader failed first
 abbrev pub Reads : {E : Type 0} → Feed → Result Ending E → List ℕ → List ℕ → Feed → Type 0
 Reads old (Ok ending) line unread new =
     ((bytes : List ℕ) × TakenFor ending line bytes × Consumes old.remaining new.remaining bytes) × EndsInput ending new.remaining × IsOneLine line × (length line ≤ max_line)
@@ -32,13 +33,13 @@ Reads old (Ok ending) line unread new =
 Reads old (Err e) line unread new =
     Consumes old.remaining new.remaining line × IsOneLine line × (length line ≤ max_line) × (unread ≡ []) × (new.failures ≡ old.failures + 1)
 
--- a byte is unread; or the input has ended; or the reader failed
+-- the buffer has an unread byte, or the input has ended, or the reader failed
 abbrev pub Fills : {E : Type 0} → Feed → Result Bool E → List ℕ → Feed → Type 0
 Fills old (Ok true) unread new = Consumes old.remaining new.remaining [] × (unread ≢ []) × (new.failures ≡ old.failures)
 Fills old (Ok false) unread new = Consumes old.remaining new.remaining [] × IsAtEnd new.remaining × (new.failures ≡ old.failures)
 Fills old (Err e) unread new = Consumes old.remaining new.remaining [] × (unread ≡ []) × (new.failures ≡ old.failures + 1)
 
--- what was unread of a line went to its end: with its LF, or to the one byte too many, or all of it
+-- unread bytes were moved to the end of the line: up to its LF, up to the one byte too many, or all of them
 abbrev pub MovesLine : List ℕ → List ℕ → Option Ending → List ℕ → List ℕ → Type 0
 MovesLine unread line (Some Whole) unread' line' =
     (part : List ℕ) × (unread ≡ (part ++ 10 ∷ []) ++ unread') × (line' ≡ line ++ part) × IsOneLine part × (length line' ≤ max_line)
@@ -47,7 +48,7 @@ MovesLine unread line (Some TooLong) unread' line' =
 MovesLine unread line (Some _) unread' line' = ⊥
 MovesLine unread line None unread' line' = (unread' ≡ []) × (line' ≡ line ++ unread) × IsOneLine unread × (length line' ≤ max_line)
 
--- how a line ends where the input does
+-- how a line ends that reaches the end of the input
 abbrev pub EndsWithInput : Ending → List ℕ → Type 0
 EndsWithInput Whole line = ⊥
 EndsWithInput Last line = line ≢ []

@@ -1,21 +1,21 @@
-//! What is read of an input at a time.
+//! A buffer of input.
 
 ghost use Rattle.std.specs.Prelude.{◌≡◌, ◌≤◌, drop, length, take};
 
-/// The bytes of the last read that aren't used yet, 8,192 at most.
+/// A buffer of at most 8,192 bytes: those of the last read that weren't consumed yet.
 #[derive(Drop)]
 pub struct Chunk {
     pub(crate) bytes: [u8; 8192],
-    /// Those before it are used.
+    /// Bytes before this index are consumed.
     pub(crate) at: usize,
-    /// Those from it on weren't read.
+    /// Bytes from this index on were not read.
     pub(crate) len: usize,
     ghost in_range: { at ≤ len },
     ghost within: { len ≤ 8192 },
 }
 
 impl Chunk {
-    /// Nothing was read yet.
+    /// An empty buffer.
     pub fn new() -> Chunk
         ensures { (result.at ≡ 0) × (result.len ≡ 0) }
     {
@@ -26,14 +26,14 @@ impl Chunk {
         }
     }
 
-    /// The bytes that were read and not used.
+    /// The bytes that were read and not consumed.
     pub(crate) fn unread(&self) -> &[u8]
         ensures { result.now ≡ drop self.now.at (take self.now.len self.now.bytes) }
     {
         &self.bytes[self.at..self.len]
     }
 
-    /// Uses the next `count` bytes.
+    /// Consumes the next `count` bytes.
     pub(crate) fn advance(&mut self, count: usize)
         requires { count ≤ length (drop self.old.at (take self.old.len self.old.bytes)) }
         ensures { drop self.new.at (take self.new.len self.new.bytes) ≡ drop count (drop self.old.at (take self.old.len self.old.bytes)) }

@@ -1,4 +1,4 @@
-//! Where a file comes from, and where its report goes.
+//! Readers and writers of files.
 
 ghost use Rattle.std.specs.Prelude.{◌≡◌, ◌<◌, ◌≤◌, ◌+◌, ℕ, List, [], Option, IfSome, Some, length, take, unwrap_or};
 ghost use Rattle.std.specs.Io.KnownBytes.{Consumes, Appends, IsAtEnd};
@@ -6,11 +6,10 @@ ghost use Rattle.fz_text.specs.Devices.{Feed, Log, read_failures, write_failures
 
 /// A reader.
 pub trait Source {
-    /// What it will hand over, and how many reads have failed.
+    /// The bytes that are still to be read, and how many reads have failed.
     ghost feed: { Self → Feed };
 
-    /// Reads some bytes into the front of `buf`; returns how many. For a `buf` with room, 0 is
-    /// the end of the input. `None` says that the read failed.
+    /// Reads bytes into the front of `buf`, and returns their number. If `buf` isn't empty, 0 means the end of the input. `None` means that the read failed.
     fn read(&mut self, buf: &mut [u8]) -> Option<usize>
         ensures bound { unwrap_or result 0 ≤ length buf.new }
         ensures bytes { Consumes (feed self.old).remaining (feed self.new).remaining (take (unwrap_or result 0) buf.new) }
@@ -20,11 +19,10 @@ pub trait Source {
 
 /// A writer.
 pub trait Sink {
-    /// What was written, and how many writes have failed, or have taken no byte though one was offered.
+    /// The bytes written so far, and how many writes have failed. A write that takes none of the bytes offered counts as failed.
     ghost log: { Self → Log };
 
-    /// Writes some of the bytes from the front; returns how many. `None` says that the write
-    /// failed.
+    /// Writes a prefix of the bytes, and returns its length. `None` means that the write failed.
     fn write(&mut self, bytes: &[u8]) -> Option<usize>
         ensures bound { unwrap_or result 0 ≤ length bytes.now }
         ensures bytes { Appends (log self.old).written (log self.new).written (take (unwrap_or result 0) bytes.now) }

@@ -1,11 +1,11 @@
-//! A count that costs nothing.
+//! A counter that exists only in proofs.
 
 ghost use Rattle.std.specs.Prelude.{◌≡◌, ℕ, ◌+◌, ◌<◌};
 
 use std::marker::Model;
 use std::sync::ledger::{Blank, Book, Ledger, Share};
 
-/// How often a device has failed. It stands in contracts alone: it takes no bytes, and no code can read it.
+/// How often a device has failed. It occurs only in contracts: it has no size, and no code can read it.
 #[derive(Drop)]
 pub struct Failures<L: Ledger> {
     book: Book<L>,
@@ -21,7 +21,7 @@ impl<L: Ledger> Model for Failures<L> {
 }
 
 impl<L: Ledger> Failures<L> {
-    /// No failure so far, in a ledger of one part.
+    /// A counter at zero, in a ledger of one part.
     pub fn none(blank: Blank) -> Failures<L>
         requires name { blank.name ≡ L.name }
         requires parts { blank.parts ≡ L.parts }
@@ -32,7 +32,7 @@ impl<L: Ledger> Failures<L> {
         Failures { book, share }
     }
 
-    /// One failure more.
+    /// Adds one failure.
     pub fn count(&mut self)
         ensures { self.new ≡ self.old + 1 }
     {

@@ -1,14 +1,13 @@
-//! Why the run of a file ended early.
+//! Why running a file ended early.
 
 use fz_model::Refusal;
 use thiserror::Error;
 
 /// Why a run ended early, and at which line.
 ///
-/// `BadLine`: the line is malformed, or the input has ended without an opening, one past its last
-/// line. `BadCount` and `NoMemory`: the opening was refused. `Output`: what this line gets wasn't
-/// written whole; one past the last line, the report's end wasn't. `Input`: the reader failed in this
-/// line.
+/// `BadLine`: the line is malformed, or the input ended without an opening (then the line is one past the last). `BadCount` and `NoMemory`: the opening was
+/// refused. `Output`: the output for this line, or for the end of the report (one past the last line), wasn't written completely. `Input`: reading failed in
+/// this line.
 #[derive(Clone, Copy, Debug, PartialEq, Eq, Error)]
 #[error("line {line}: {refusal:?}")]
 pub struct DriveFault {

@@ -1,4 +1,4 @@
-//! Lines of input.
+//! Reading lines.
 
 ghost use Rattle.std.specs.Prelude.{◌≡◌, ◌≢◌, ℕ, ◌<◌, ◌≤◌, ◌+◌, ◌++◌, ◌==◌, length, get_or, position};
 ghost use Rattle.fz_text.specs.Devices.{with_unread};
@@ -9,27 +9,27 @@ use crate::chunk::Chunk;
 use crate::device::Source;
 use arrayvec::ArrayVec;
 
-/// The most bytes that a line may have, its LF not counted.
+/// The largest length of a line in bytes, without its LF.
 pub const MAX_LINE: usize = 200;
 
-/// The reader failed.
+/// A read failed.
 #[derive(Clone, Copy, Debug, PartialEq, Eq)]
 pub struct ReadFailed;
 
 /// How the next line ends.
 #[derive(Clone, Copy, Debug, PartialEq, Eq)]
 pub enum Ending {
-    /// With LF.
+    /// With an LF.
     Whole,
-    /// With the input, after a byte.
+    /// With the end of the input, after at least one byte.
     Last,
-    /// There is no line.
+    /// There is no further line.
     Nothing,
-    /// It has too many bytes.
+    /// The line is too long.
     TooLong,
 }
 
-/// Sees to it that a byte is unread. `false`: the input has ended.
+/// Makes sure that the buffer has an unread byte. Returns `false` at the end of the input.
 fn fill<R: Source>(source: &mut R, chunk: &mut Chunk) -> Result<bool, ReadFailed>
     ensures { Fills (with_unread (unread chunk.old) (R.feed source.old)) result (unread chunk.new) (with_unread (unread chunk.new) (R.feed source.new)) }
 {
@@ -46,14 +46,14 @@ fn fill<R: Source>(source: &mut R, chunk: &mut Chunk) -> Result<bool, ReadFailed
     Ok(true)
 }
 
-/// Where the first LF is.
+/// The index of the first LF.
 fn line_feed_in(bytes: &[u8]) -> Option<usize>
     ensures { result ≡ position (λ byte. byte == 10) bytes.now }
 {
     bytes.iter().position(|byte| *byte == b'\n')
 }
 
-/// How many bytes stand before the first LF, or in all.
+/// The number of bytes before the first LF; without an LF, all of them.
 #[tactic(auto, using(crate::proofs::Reading::feed_at, crate::proofs::Reading::no_feed))]
 fn line_length(bytes: &[u8]) -> usize
     ensures within { result ≤ length bytes.now }
@@ -73,7 +73,7 @@ fn append(line: &mut ArrayVec<u8, MAX_LINE>, bytes: &[u8])
     line.try_extend_from_slice(bytes).unwrap();
 }
 
-/// Moves what is unread of a line from the chunk to its end, and tells how the line ends, if it ends there.
+/// Moves unread bytes of the line from the buffer to `line`. Returns how the line ends, if its end was reached.
 fn move_line(chunk: &mut Chunk, line: &mut ArrayVec<u8, MAX_LINE>) -> Option<Ending>
     ensures { MovesLine (unread chunk.old) line.old.items result (unread chunk.new) line.new.items }
 {
@@ -94,7 +94,7 @@ fn move_line(chunk: &mut Chunk, line: &mut ArrayVec<u8, MAX_LINE>) -> Option<End
     None
 }
 
-/// How a line ends with the input.
+/// How a line ends that reaches the end of the input.
 fn last_ending(line: &ArrayVec<u8, MAX_LINE>) -> Ending
     ensures { EndsWithInput result line.now.items }
 {
@@ -105,7 +105,7 @@ fn last_ending(line: &ArrayVec<u8, MAX_LINE>) -> Ending
     }
 }
 
-/// Reads the next line, without its LF. Of a line that is too long it uses one byte more than a line may have.
+/// Reads the next line, without its LF. Of a line that is too long it consumes one byte more than the limit.
 pub fn next_line<R: Source>(
     source: &mut R,
     chunk: &mut Chunk,
@@ -124,7 +124,7 @@ pub fn next_line<R: Source>(
     }
 }
 
-/// Whether a line asks for something: it has a byte, and isn't a comment, which begins with `#`.
+/// Whether a line is a step or job: it isn't empty, and isn't a comment, which begins with `#`.
 pub fn is_kept(line: &[u8]) -> bool
     ensures { result ≡ lines.is_kept line.now }
 {

@@ -1,4 +1,4 @@
-//! Text by lines: what is read of a source, and what is written to a sink.
+//! Reading and writing text line by line.
 #![tactic(auto)]
 
 mod chunk;

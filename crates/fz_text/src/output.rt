@@ -1,4 +1,4 @@
-//! Lines of words, each written at once.
+//! Writing lines of words, each with one write.
 
 ghost use Rattle.std.specs.Prelude.{◌≡◌, ◌≤◌, ◌+◌, ◌++◌, [], IsTrue, map, true};
 ghost use Rattle.arrayvec.specs.ArrayString.{array_string_len};
@@ -11,7 +11,7 @@ use crate::device::Sink;
 use arrayvec::ArrayString;
 use itoa::Buffer;
 
-/// The writer failed, or took no byte.
+/// A write failed, or took no byte.
 #[derive(Clone, Copy, Debug, PartialEq, Eq)]
 pub struct WriteFailed;
 
@@ -22,10 +22,10 @@ pub enum Word {
     Number(u64),
 }
 
-/// Room for twelve words of at most 20 bytes, each with a byte behind it.
+/// Room for twelve words of at most 20 bytes, each followed by one byte.
 type Line = ArrayString<256>;
 
-/// Writes all these bytes, in as many writes as the writer takes them in.
+/// Writes all these bytes, with as many writes as the writer needs.
 pub fn write_all<W: Sink>(writer: &mut W, bytes: &[u8]) -> Result<(), WriteFailed>
     ensures { Emits (W.log writer.old) bytes.now result (W.log writer.new) }
 {
@@ -40,7 +40,7 @@ pub fn write_all<W: Sink>(writer: &mut W, bytes: &[u8]) -> Result<(), WriteFaile
     Ok(())
 }
 
-/// Ends the word before the one with this place, where places are counted from 0.
+/// Appends the space before the word with this index, unless it is the first. Words are counted from 0.
 fn push_separator(line: &mut Line, place: usize)
     requires room { array_string_len line.old + 1 ≤ 256 }
     ensures bytes { line.new.bytes ≡ line.old.bytes ++ separator place }
@@ -63,7 +63,7 @@ fn push_word(line: &mut Line, word: Word)
     }
 }
 
-/// Puts the words on an empty line, with one space between two, and LF at the end.
+/// Puts the words into an empty line, separated by single spaces and ended by an LF.
 fn put_words(line: &mut Line, words: &[Word])
     requires empty { line.old.bytes ≡ [] }
     requires fits { fits_line words.now ≡ true }
@@ -76,7 +76,7 @@ fn put_words(line: &mut Line, words: &[Word])
     line.push_str("\n");
 }
 
-/// Writes the words as a line, in one write where the writer takes it whole.
+/// Writes the words as a line. This is one write, if the writer takes the whole line.
 pub fn write_line<W: Sink>(writer: &mut W, words: &[Word]) -> Result<(), WriteFailed>
     requires { fits_line words.now ≡ true }
     ensures { Emits (W.log writer.old) (text_line (map said words.now)) result (W.log writer.new) }

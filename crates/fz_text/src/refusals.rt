@@ -1,4 +1,4 @@
-//! What is said of refused and malformed lines.
+//! The output for refused and malformed lines.
 
 ghost use Rattle.fz_text.specs.Devices.{Emits};
 ghost use Rattle.fz_text.specs.Written.{text_line, refused_words, malformed_words};
@@ -7,7 +7,7 @@ use crate::device::Sink;
 use crate::output::{Word, WriteFailed, write_line};
 use fz_model::Refusal;
 
-/// `refused`, the refusal's number and its name.
+/// Writes `refused`, the refusal's number and its name.
 pub fn write_refused<W: Sink>(writer: &mut W, refusal: Refusal) -> Result<(), WriteFailed>
     ensures { Emits (W.log writer.old) (text_line (refused_words refusal)) result (W.log writer.new) }
 {
@@ -21,7 +21,7 @@ pub fn write_refused<W: Sink>(writer: &mut W, refusal: Refusal) -> Result<(), Wr
     )
 }
 
-/// `line`, its number, and that it is refused as malformed.
+/// Writes `line`, its number, and the refusal of a malformed line.
 pub fn write_malformed<W: Sink>(writer: &mut W, number: u64) -> Result<(), WriteFailed>
     ensures { Emits (W.log writer.old) (text_line (malformed_words number)) result (W.log writer.new) }
 {

@@ -1,4 +1,5 @@
--- What a thread does, one hold of the lock after another.
+-- The work of a thread, as a list of calls, each under a hold of the lock of its own.
+-- code: fz_threads/src/section.rt, holds.rt, actors.rt
 use Rattle.std.specs.Prelude.{◌≡◌, ℕ, ◌+◌, ◌==◌, ◌<◌, Bool, true, false, if◌then◌else◌, List, [], ◌∷◌, ◌++◌, map, replicate, count_by, length, sum, None, slice_index, is_err, Result}
 use Rattle.fz_model.specs.declared.refusal.Refusal.{Refusal}
 use Rattle.fz_model.specs.declared.call.Call.TheVariants as calls
@@ -13,7 +14,7 @@ use Rattle.fz_service.specs.States.{Origin, LockedState, IsInOrder}
 abbrev pub Makes : Event → WorldView → WorldView → Type 0
 Makes event old new = (reply : Result (Answer event) Refusal) × Does old event reply new
 
--- one hold: in a state that steps reach from the opening, one call of the world
+-- one hold of the lock: one call to the world, in a state that steps reach from the opening
 pub record Hold (origin : Origin) : Type 0 where
   pub old : LockedState
   pub in_order : IsInOrder origin old
@@ -28,13 +29,13 @@ event_in hold = hold.event
 abbrev pub is_refused : {origin : Origin} → Hold origin → Bool
 is_refused hold = is_err hold.reply
 
--- one turn of `churn`: a new object, which is registered and dropped; a refused `new` leaves out the other two
+-- one turn of `churn`: a new object, which is registered and dropped; a refused `new` skips the other two
 abbrev pub IsTurn : {origin : Origin} → (new register drop : Event) → List (Hold origin) → Type 0
 IsTurn {origin} new register drop holds =
     (first : Hold origin) × (rest : List (Hold origin)) × (holds ≡ first ∷ rest) × (first.event ≡ new)
     × (map event_in rest ≡ if is_refused first then [] else register ∷ drop ∷ [])
 
--- a number of turns, one after another
+-- several turns, one after another
 pub data AreTurns {origin : Origin} (new register drop : Event) : ℕ → List (Hold origin) → Type 0 where
   NoTurn : AreTurns new register drop 0 []
   OneTurn : (n : ℕ) (holds more : List (Hold origin)) → AreTurns new register drop n holds → IsTurn new register drop more → AreTurns new register drop (n + 1) (holds ++ more)
@@ -61,17 +62,17 @@ begins_section Mutator = true
 begins_section Collector = true
 begins_section _ = false
 
--- the jobs of the section with this number, where `begun` sections have begun before
+-- the jobs of the section with this number, after `begun` sections have begun
 abbrev pub own_from : ℕ → ℕ → List Job → List Job
 own_from begun number [] = []
 own_from begun number (job ∷ jobs) =
     if begins_section job then own_from (begun + 1) number jobs else (if begun == number then job ∷ own_from begun number jobs else own_from begun number jobs)
 
--- the jobs of a section, where sections are counted from 1
+-- the jobs of a section; sections are counted from 1
 abbrev pub own_jobs : ℕ → List Job → List Job
 own_jobs number jobs = own_from 0 number jobs
 
--- this number of holds of such a list were refused
+-- this many holds of such a list were refused
 abbrev pub HasRefused : (origin : Origin) → (List (Hold origin) → Type 0) → ℕ → Type 0
 HasRefused origin P refused = (holds : List (Hold origin)) × P holds × (refused ≡ count_by is_refused holds)
 
@@ -83,12 +84,12 @@ settling collections = Make calls.Pause ∷ replicate collections (Make calls.Co
 abbrev pub Held : Origin → Event → Bool → Type 0
 Held origin event refused = (hold : Hold origin) × (hold.event ≡ event) × (is_refused hold ≡ refused)
 
--- the sections of these jobs, with how many calls of each were refused, and of all
+-- the sections of these jobs, with how many calls of each were refused, and of all together
 abbrev pub SectionsRefused : Origin → List Job → ℕ → Type 0
 SectionsRefused origin jobs refused =
     (counts : List ℕ) × (length counts ≡ count_by begins_section jobs) × (refused ≡ sum counts)
     × ((i : ℕ) → i < length counts → HasRefused origin (Works (own_jobs (i + 1) jobs)) (slice_index counts i))
 
--- the run ended so
+-- the run ended in this way
 abbrev pub Settles : Origin → ℕ → Type 0
 Settles origin collections = (holds : List (Hold origin)) × (map event_in holds ≡ settling collections)

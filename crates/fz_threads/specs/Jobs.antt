@@ -1,4 +1,5 @@
--- A threads file: the jobs that its lines ask for, and where each of them may stand.
+-- A threads file: the jobs that its lines spell, and in which order they may come.
+-- code: fz_threads/src/reading.rt, plan.rt, stage.rt, draft.rt
 use Rattle.std.specs.Prelude.{◌≡◌, ℕ, ◌+◌, ◌≤◌, ◌<◌, Bool, true, false, nat_lt, ◌⊎◌, List, [], ◌∷◌, ◌++◌, length, map, filter, fold, Option, IsTrue}
 use Rattle.std.specs.List.{All}
 use Rattle.fz_model.specs.declared.call.Call.{Call as WorldCall}
@@ -26,7 +27,7 @@ abbrev pub is_settle : Job → Bool
 is_settle (Settle collections) = true
 is_settle _ = false
 
--- whose call it is; nobody closes the world, which is done at the end, or asks how many entries are held, since nothing is reported meanwhile
+-- which actor may make the call; no section closes the world, which the run does at its end, or counts held entries, since no report is written meanwhile
 abbrev pub maker : WorldCall → Actor
 maker Begin = actor.Collector
 maker (Mark budget) = actor.Collector
@@ -49,7 +50,7 @@ may_churn actor.Nobody = false
 may_churn actor.Mutator = true
 may_churn actor.Collector = false
 
--- whether the job may come after `settle`, at this stage: at most eight mutators, at most one collector, and each has its own calls
+-- whether the job may come after `settle`, at this stage: at most eight mutators, at most one collector, and each with its own kinds of calls
 abbrev pub may_come : Stage → Job → Bool
 may_come stage (Open blocks frames workers) = false
 may_come stage (Settle collections) = false
@@ -67,7 +68,7 @@ stage_after stage _ = stage
 abbrev pub first_stage : Stage
 first_stage = record { actor = actor.Nobody; mutators = 0; collectors = 0 }
 
--- whether the job may follow these: the opening comes first, `settle` second, and then sections
+-- whether the job may follow these: the opening is first, `settle` second, then come sections
 abbrev pub may_follow : List Job → Job → Bool
 may_follow [] job = is_opening job
 may_follow (first ∷ []) job = is_settle job
@@ -78,7 +79,7 @@ pub data AreInOrder : List Job → Type 0 where
   NoJob : AreInOrder []
   OneMore : (jobs : List Job) (job : Job) → AreInOrder jobs → may_follow jobs job ≡ true → AreInOrder (jobs ++ job ∷ [])
 
--- these lines ask for these jobs, one after another
+-- these lines spell these jobs, in order
 pub record AreJobs (lines : List (List ℕ)) (jobs : List Job) : Type 0 where
   pub spelled : filter is_kept lines ≡ map spelling jobs
   pub fit : All Fits jobs
@@ -86,12 +87,12 @@ pub record AreJobs (lines : List (List ℕ)) (jobs : List Job) : Type 0 where
   pub short : All (λ line. length line ≤ max_line) lines
   pub few : length lines ≤ MAX_LINES
 
--- the line breaks the rules: it is too long, one too many, or asks for no job that may follow
+-- the line is malformed: it is too long, beyond the last number, or spells no job that may follow
 abbrev pub IsNoJob : List Job → ℕ → List ℕ → Type 0
 IsNoJob jobs number line =
     (max_line < length line) ⊎ ((MAX_LINES < number) ⊎ (IsTrue (is_kept line) × ((job : Job) → Fits job → line ≡ spelling job → may_follow jobs job ≡ false)))
 
--- what a file asks for: a world, how often it is collected at the end, and the jobs of the sections, with the first line of each
+-- the content of a file: a world, how often it is collected at the end, and the jobs of the sections, including the first line of each
 pub record Asked : Type 0 where
   pub blocks : ℕ
   pub frames : ℕ
@@ -102,7 +103,7 @@ pub record Asked : Type 0 where
 abbrev pub asked_jobs : Asked → List Job
 asked_jobs asked = Open asked.blocks asked.frames asked.workers ∷ Settle asked.collections ∷ asked.body
 
--- the line with this number asks for the job
+-- the line with this number spells the job
 pub record AsksAt (bytes : List ℕ) (number : ℕ) (job : Job) : Type 0 where
   pub before : List (List ℕ)
   pub after : List (List ℕ)
@@ -110,36 +111,36 @@ pub record AsksAt (bytes : List ℕ) (number : ℕ) (job : Job) : Type 0 where
   pub split : Lines bytes (before ++ spelling job ∷ after) last
   pub place : length before + 1 ≡ number
 
--- the line with this number asks for the opening
+-- the line with this number spells the opening
 abbrev pub OpensAt : List ℕ → ℕ → Asked → Type 0
 OpensAt bytes number asked = AsksAt bytes number (Open asked.blocks asked.frames asked.workers)
 
--- the lines of these bytes ask for these jobs; a further line would have this number
+-- the lines of these bytes spell these jobs; the next line would have this number
 abbrev pub FileIs : List ℕ → List Job → ℕ → Type 0
 FileIs bytes jobs number = AreLines (λ lines. AreJobs lines jobs) bytes number
 
--- the bytes are a threads file that asks for this
+-- the bytes are a threads file with this content
 abbrev pub IsThreadsFile : List ℕ → Asked → Type 0
 IsThreadsFile bytes asked = (number : ℕ) × FileIs bytes (asked_jobs asked) number
 
--- the bytes end with this line, and the lines before it ask for these jobs; `left` is what can still be read
+-- the bytes end with this line, and the lines before it spell these jobs; `left` is what can still be read
 abbrev pub AtJob : List ℕ → Option (List ℕ) → ℕ → List ℕ → List Job → Type 0
 AtJob bytes left number line jobs = EndsAt (λ lines. AreJobs lines jobs) bytes left number line
 
--- Why a file can't be carried out, and at which line. These bytes were used, and `unread` was read beyond them; `left` is what the reader has left.
+-- Why a file can't be carried out, and at which line. `bytes` were consumed, `unread` was read beyond them, and `left` is what the reader has left.
 abbrev pub Unreadable : Refusal → ℕ → List ℕ → List ℕ → Option (List ℕ) → Type 0
--- the line is malformed, or the file has ended before `settle`
+-- the line is malformed, or the file ended before `settle`
 Unreadable BadLine number bytes unread left =
     ((line : List ℕ) × (jobs : List Job) × AtJob bytes (prepend_known unread left) number line jobs × IsNoJob jobs number line)
     ⊎ ((jobs : List Job) × FileIs bytes jobs number × (length jobs < 2) × IsAtEnd (prepend_known unread left))
--- the reader failed in a line, and no line before it was malformed
+-- reading failed in a line, and no line before it was malformed
 Unreadable Input number bytes unread left =
     (number ≡ 0) × (unread ≡ []) × (lines : List (List ℕ)) × (line : List ℕ) × (jobs : List Job) × Lines bytes lines line × (length line ≤ max_line) × AreJobs lines jobs
--- there was no room for a job
+-- a job couldn't be stored
 Unreadable NoMemory number bytes unread left = number ≡ 0
 Unreadable _ number bytes unread left = ⊥
 
--- the file can't be carried out for this fault, and a read failed just where the fault says so
+-- the file can't be carried out because of this fault, and a read failed exactly if the fault says so
 abbrev pub IsUnreadable : Feed → Feed → DriveFault → Type 0
 IsUnreadable input left fault =
     ((bytes : List ℕ) × (unread : List ℕ) × Consumes input.remaining left.remaining (bytes ++ unread) × Unreadable fault.refusal fault.line bytes unread left.remaining)

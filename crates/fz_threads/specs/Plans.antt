@@ -1,4 +1,5 @@
--- How a threads file is read, line by line. Means only: no public contract cites this file.
+-- Reading a threads file line by line. Means only: no public contract cites this file.
+-- code: fz_threads/src/reading.rt, plan.rt, draft.rt
 use Rattle.std.specs.Prelude.{◌≡◌, ◌≢◌, ℕ, ◌≤◌, ◌<◌, true, false, ◌⊎◌, List, [], ◌∷◌, ◌++◌, length, Result, Ok, Err, IsTrue}
 use Rattle.std.specs.Io.KnownBytes.{Consumes, IsAtEnd}
 use Rattle.fz_script.specs.Jobs.{spelling, Fits}
@@ -25,19 +26,19 @@ jobs_in Empty = []
 jobs_in (Opened size) = Open size.blocks size.frames size.workers ∷ []
 jobs_in (Settled plan) = asked_jobs (asked_by plan)
 
--- the line that asked for the opening, where there is one
+-- the line of the opening, if there was one
 abbrev pub opened_at : Draft → ℕ
 opened_at Empty = 0
 opened_at (Opened size) = size.line
 opened_at (Settled plan) = plan.size.line
 
--- the line of the opening, where this line comes next
+-- the line of the opening, if this line comes next
 abbrev pub opens_at : Draft → ℕ → ℕ
 opens_at Empty line = line
 opens_at (Opened size) line = size.line
 opens_at (Settled plan) line = plan.size.line
 
--- the line's job was added; or it may not follow, or there was no memory for it
+-- the line's job was added; or it may not follow; or memory ran out
 abbrev pub Adds : Draft → ℕ → Job → Result (Unit {0}) Refusal → Draft → Type 0
 Adds old line job (Ok x) new = (may_follow (jobs_in old) job ≡ true) × (jobs_in new ≡ jobs_in old ++ job ∷ []) × (opened_at new ≡ opens_at old line)
 Adds old line job (Err refusal) new = (refusal ≡ NoMemory) ⊎ ((refusal ≡ BadLine) × (may_follow (jobs_in old) job ≡ false))
@@ -45,41 +46,41 @@ Adds old line job (Err refusal) new = (refusal ≡ NoMemory) ⊎ ((refusal ≡ B
 abbrev pub is_empty : Draft → Type 0
 is_empty draft = draft ≡ Empty
 
--- a malformed line has its number, and no other cause has one
+-- only the fault of a malformed line has its number
 abbrev pub unreadable : Refusal → ℕ → DriveFault
 unreadable BadLine number = record { refusal = BadLine; line = number }
 unreadable refusal number = record { refusal = refusal; line = 0 }
 
--- the line asks for nothing, or its job was added
+-- the line is empty or a comment, or its job was added
 abbrev pub TakesLine : Draft → ℕ → List ℕ → Draft → Type 0
 TakesLine old number line new =
     ((is_kept line ≡ false) × (new ≡ old))
     ⊎ ((job : Job) × (is_kept line ≡ true) × Fits job × (line ≡ spelling job) × Adds old number job (Ok tt) new)
 
--- what the line with this number gives
+-- what reading the line with this number does
 abbrev pub ReadsJob : ℕ → Ending → Draft → List ℕ → Result (Unit {0}) Refusal → Draft → Type 0
 ReadsJob number ending old line (Ok x) new = (ending ≢ TooLong) × (number ≤ MAX_LINES) × TakesLine old number line new
 ReadsJob number ending old line (Err refusal) new =
     (refusal ≡ NoMemory) ⊎ ((refusal ≡ BadLine) × ((ending ≡ TooLong) ⊎ ((MAX_LINES < number) ⊎ (IsTrue (is_kept line) × ((job : Job) → Fits job → line ≡ spelling job → may_follow (jobs_in old) job ≡ false)))))
 
--- the plan is whole, or the file has ended too early
+-- the plan is complete, or the file has ended too early
 abbrev pub Ends : Draft → ℕ → Result Plan DriveFault → Type 0
 Ends draft number (Ok plan) = draft ≡ Settled plan
 Ends draft number (Err fault) = (fault ≡ record { refusal = BadLine; line = number }) × (length (jobs_in draft) < 2)
 
--- the first of these jobs, if there are more, is asked for in the line with this number
+-- if these are several jobs, the line with this number spells the first
 abbrev pub FirstAt : List ℕ → List Job → ℕ → Type 0
 FirstAt bytes [] number = Unit {0}
 FirstAt bytes (job ∷ []) number = Unit {0}
 FirstAt bytes (job ∷ next ∷ jobs) number = AsksAt bytes number job
 
--- these bytes were read, and their lines ask for the draft's jobs; a further line would have this number
+-- these bytes were read, and their lines spell the draft's jobs; the next line would have this number
 abbrev pub WasRead : Feed → Feed → Draft → ℕ → Type 0
 WasRead input left draft number =
     (bytes : List ℕ) × Consumes input.remaining left.remaining bytes × IsAtEnd left.remaining × FileIs bytes (jobs_in draft) number × FirstAt bytes (jobs_in draft) (opened_at draft)
     × (left.failures ≡ input.failures)
 
--- all lines were read; or one of them stopped the reading
+-- all lines were read, or reading stopped at one of them
 abbrev pub ReadsAll : Feed → Draft → Result ℕ DriveFault → Feed → Type 0
 ReadsAll input draft (Ok number) left = WasRead input left draft number
 ReadsAll input draft (Err fault) left = IsUnreadable input left fault

@@ -1,14 +1,15 @@
 -- The summary of a run of a threads file.
+-- code: fz_threads/src/summary.rt, tally.rt
 use Rattle.std.specs.Prelude.{ℕ, List, [], ◌∷◌, flat_map, codes}
 use Rattle.fz_script.specs.Spelling.{Token, Text, Number}
 use Rattle.fz_text.specs.Written.{text_line}
 use Rattle.fz_threads.specs.declared.tally.Tally.{Tally}
 
--- a name and its number
+-- a name and a number
 abbrev pub named : List ℕ → ℕ → List Token
 named name number = Text name ∷ Number number ∷ []
 
--- the lines of a summary, in their order
+-- the lines of a summary, in order
 abbrev pub summary_lines : Tally → List (List Token)
 summary_lines tally =
     named (codes "enqueued") tally.enqueued ∷ named (codes "finished") tally.finished ∷ named (codes "forfeited") tally.forfeited

@@ -1,4 +1,4 @@
-//! The actors of a threads file, side by side.
+//! The actors of a threads file, running concurrently.
 
 ghost use Rattle.std.specs.Prelude.{◌≡◌, ◌≤◌, ◌<◌, ◌+◌, sum, length, IfOk};
 ghost use Rattle.std.specs.List.{All};
@@ -28,7 +28,7 @@ fn total(counts: &[u64]) -> u64
     total
 }
 
-/// Carries out all sections, each on a thread of its own; returns how many of their calls were refused.
+/// Carries out all sections, each on a thread of its own. Returns how many of their calls were refused.
 fn run_sections<O: Opening + Send + Sync, R: Threads + Wait + Sync>(
     alloc: Global,
     service: &Service<O>,
@@ -46,7 +46,7 @@ fn run_sections<O: Opening + Send + Sync, R: Threads + Wait + Sync>(
     Ok(total(refused.as_slice()))
 }
 
-/// Ends the cycle, if one is open, and makes this number of collections.
+/// Ends the cycle, if one is open, and then collects this many times.
 fn settle<O: Opening, R: Wait>(service: &Service<O>, collections: u64, rt: &R)
     ensures { Settles O.origin collections }
 {
@@ -56,7 +56,7 @@ fn settle<O: Opening, R: Wait>(service: &Service<O>, collections: u64, rt: &R)
     }
 }
 
-/// What the main thread does: all sections, and the run's end.
+/// The main thread's work: all sections, and then the end of the run.
 fn lead<O: Opening + Send + Sync, R: Threads + Wait + Sync>(
     alloc: Global,
     service: &Service<O>,
@@ -72,7 +72,7 @@ fn lead<O: Opening + Send + Sync, R: Threads + Wait + Sync>(
     refused
 }
 
-/// Carries out all sections, with the workers beside them; returns the seats, and how many of the sections' calls were refused.
+/// Carries out all sections while the workers run. Returns the seats, and how many of the sections' calls were refused.
 pub(crate) fn side_by_side<O: Opening + Send + Sync, R: Threads + Wait + Sync>(
     alloc: Global,
     service: &Service<O>,

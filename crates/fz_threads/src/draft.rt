@@ -1,4 +1,4 @@
-//! What the lines of a threads file ask for so far.
+//! The part of a threads file that was read so far.
 
 ghost use Rattle.fz_threads.specs.Plans.{Adds};
 
@@ -7,7 +7,7 @@ use fz_model::Refusal;
 use fz_script::Job;
 use std::alloc::Global;
 
-/// What the lines so far ask for.
+/// The jobs of the lines read so far.
 #[derive(Drop)]
 pub(crate) enum Draft {
     Empty,
@@ -16,7 +16,7 @@ pub(crate) enum Draft {
 }
 
 impl Draft {
-    /// Adds the job of this line where it may come next.
+    /// Adds this line's job, if it may come next.
     pub(crate) fn add(&mut self, alloc: Global, line: u64, job: Job) -> Result<(), Refusal>
         ensures { Adds self.old line job result self.new }
     {

@@ -1,4 +1,4 @@
-//! Calls, each under a hold of the lock of its own.
+//! Calls that take the lock once each.
 
 ghost use Rattle.fz_model.specs.Events.{Make};
 ghost use Rattle.fz_threads.specs.Holds.{Held};
@@ -7,7 +7,7 @@ use fz_model::Call;
 use fz_service::{Opening, Service};
 use std::sync::Wait;
 
-/// Carries out a call in a hold of its own; returns whether it was refused.
+/// Carries out one call under the lock. Returns whether it was refused.
 pub(crate) fn hold_for<O: Opening, R: Wait>(service: &Service<O>, call: Call, rt: &R) -> bool
     ensures { Held O.origin (Make call) result }
 {

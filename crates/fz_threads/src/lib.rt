@@ -1,4 +1,4 @@
-//! Runs of threads files: mutators and a collector, each on a thread of its own, beside workers, and the summary of what became of their objects.
+//! Running threads files: mutators and a collector, each on a thread of its own, with workers; and the summary of what became of their objects.
 #![tactic(auto)]
 
 mod actors;

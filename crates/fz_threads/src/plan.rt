@@ -1,4 +1,4 @@
-//! What a threads file asks for.
+//! The content of a threads file.
 
 ghost use Rattle.std.specs.Prelude.{◌≡◌, [], ◌∷◌, ◌++◌, true, false, fold, IfErr, OnOk, ◌⊎◌};
 ghost use Rattle.fz_threads.specs.Jobs.{may_come, stage_after, first_stage};
@@ -8,7 +8,7 @@ use fz_model::Refusal;
 use fz_script::Job;
 use std::alloc::Global;
 
-/// The size of a world, and the line that asked for it.
+/// The size of a world, and the line of its opening.
 #[derive(Clone, Copy)]
 pub(crate) struct Size {
     pub(crate) blocks: u64,
@@ -17,20 +17,20 @@ pub(crate) struct Size {
     pub(crate) line: u64,
 }
 
-/// What a file asks for.
+/// The content of a threads file.
 #[derive(Drop)]
 pub(crate) struct Plan {
     pub(crate) size: Size,
-    /// How often the world is collected at the end.
+    /// How many collections follow at the end.
     pub(crate) collections: u64,
-    /// The jobs of all sections, with the first line of each.
+    /// The jobs of all sections, including the first line of each.
     pub(crate) jobs: Vec<Job>,
     pub(crate) stage: Stage,
     ghost staged: { stage ≡ fold stage_after first_stage jobs.items },
 }
 
 impl Plan {
-    /// No section has begun.
+    /// A plan without sections.
     pub(crate) fn new(alloc: Global, size: Size, collections: u64) -> Plan
         ensures { (result.size ≡ size) × (result.collections ≡ collections) × (result.jobs.items ≡ []) }
     {

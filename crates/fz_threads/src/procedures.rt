@@ -1,4 +1,4 @@
-//! The procedures of a threads file's finalizers.
+//! The procedures with which threads files finalize objects.
 
 ghost use Rattle.std.specs.Prelude.{◌≡◌};
 ghost use Rattle.fz_model.specs.Places.{slot_at};
@@ -10,7 +10,7 @@ use fz_model::Entry;
 use fz_service::Proc;
 use fz_world::World;
 
-/// Does nothing.
+/// A procedure that does nothing.
 #[derive(Drop)]
 pub struct Nothing;
 
@@ -26,7 +26,7 @@ impl Proc for Nothing {
     {}
 }
 
-/// Puts the object into the last slot of the first frame.
+/// A procedure that stores the object's address in the last slot of the first frame.
 #[derive(Drop)]
 pub struct Keep;
 

@@ -1,4 +1,4 @@
-//! How a threads file is read.
+//! Reading a threads file.
 
 ghost use Rattle.std.specs.Prelude.{◌≡◌};
 ghost use Rattle.fz_threads.specs.Plans.{unreadable, ReadsJob, Ends, ReadsAll, PlanIsRead, is_empty};
@@ -12,7 +12,7 @@ use fz_script::job_of;
 use fz_text::{Chunk, DriveFault, Ending, MAX_LINE, Source, is_kept, next_line};
 use std::alloc::Global;
 
-/// Why a file isn't carried out: a malformed line has its number, and no other cause has one.
+/// The fault of an unreadable file. It has a line number only if the line is malformed.
 fn unreadable(refusal: Refusal, number: u64) -> DriveFault
     ensures { result ≡ unreadable refusal number }
 {
@@ -23,7 +23,7 @@ fn unreadable(refusal: Refusal, number: u64) -> DriveFault
     DriveFault { refusal, line }
 }
 
-/// Adds what the line with this number asks for, where lines are counted from 1.
+/// Adds the job of the line with this number; lines are counted from 1.
 fn read_job(
     alloc: Global,
     draft: &mut Draft,
@@ -48,7 +48,7 @@ fn read_job(
     }
 }
 
-/// Reads all lines; returns the number of the line that would come next.
+/// Reads all lines. Returns the number of the line that would come next.
 fn read_lines<R: Source>(
     alloc: Global,
     reader: &mut R,
@@ -77,7 +77,7 @@ fn read_lines<R: Source>(
     }
 }
 
-/// The plan, if the file had all of it; the line that would come next has this number.
+/// The plan, if the file is complete. The line that would come next has this number.
 fn whole(draft: Draft, number: u64) -> Result<Plan, DriveFault>
     ensures { Ends draft number result }
 {

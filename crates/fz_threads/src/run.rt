@@ -1,4 +1,4 @@
-//! A threads file from its first byte to its last.
+//! Running a whole threads file.
 
 ghost use Rattle.std.specs.Prelude.{◌≡◌, ◌≤◌, None, IfErr, IfOk, length};
 ghost use Rattle.std.specs.List.{All};
@@ -28,14 +28,14 @@ use std::sync::Wait;
 use std::thread;
 use std::thread::Threads;
 
-/// A fault that has no line.
+/// A fault without a line number.
 fn lineless(refusal: Refusal) -> DriveFault
     ensures { result ≡ lineless refusal }
 {
     DriveFault { refusal, line: 0 }
 }
 
-/// Says of a file why it can't be carried out, where the report is to say so.
+/// Writes why a file can't be carried out, if the report has to say so.
 fn tell_unreadable<W: Sink>(writer: &mut W, fault: DriveFault) -> DriveFault
     ensures { TellsFault (text_for fault.refusal fault.line) fault (W.log writer.old) result (W.log writer.new) }
 {
@@ -48,7 +48,7 @@ fn tell_unreadable<W: Sink>(writer: &mut W, fault: DriveFault) -> DriveFault
     }
 }
 
-/// The fault of a refused opening: only one outside its limits has a line.
+/// The fault of a refused opening. It has a line number only if the opening is outside its limits.
 fn opening_fault(refusal: Refusal, line: u64) -> DriveFault
     ensures { result ≡ opening_fault refusal line }
 {
@@ -58,7 +58,7 @@ fn opening_fault(refusal: Refusal, line: u64) -> DriveFault
     }
 }
 
-/// Says that the opening in this line was refused.
+/// Writes that the opening in this line was refused.
 fn tell_refused<W: Sink>(writer: &mut W, refusal: Refusal, line: u64) -> DriveFault
     ensures { TellsFault (text_line (refused_words refusal)) (opening_fault refusal line) (W.log writer.old) result (W.log writer.new) }
 {
@@ -82,7 +82,7 @@ fn tally_of(end: &Final, refused: u64) -> Tally
     }
 }
 
-/// Ends the service with all its seats; returns the numbers of the run.
+/// Ends the service with all its seats. Returns the totals of the run.
 fn end_of<O: Opening>(
     service: Service<O>,
     seats: Vec<Seat<O>>,
@@ -106,7 +106,7 @@ fn tell_summary<W: Sink>(writer: &mut W, tally: Tally) -> Result<(), DriveFault>
     }
 }
 
-/// Starts a thread, which ends at once. A fault says that none can be started.
+/// Starts a thread that ends at once. Fails if no thread can be started.
 fn start_thread<R: Threads>(rt: &R) -> Result<(), DriveFault>
     ensures { IfErr result (λ fault. fault ≡ lineless Refusal.NoMemory) }
 {
@@ -119,7 +119,7 @@ fn start_thread<R: Threads>(rt: &R) -> Result<(), DriveFault>
     }
 }
 
-/// Runs the sections over the service that was prepared for them, and writes the summary. The opening was asked for in this line.
+/// Runs the sections over a prepared service, and writes the summary. `line` is the line of the opening.
 fn run_prepared<O: Opening + Send + Sync, W: Sink, R: Threads + Wait + Sync>(
     alloc: Global,
     writer: &mut W,
@@ -153,7 +153,7 @@ fn run_prepared<O: Opening + Send + Sync, W: Sink, R: Threads + Wait + Sync>(
     }
 }
 
-/// Opens a service of the size that the plan asks for, and carries the plan out.
+/// Opens a service of the plan's size, and carries the plan out.
 fn run_plan<W: Sink, T: Threads + Wait + Sync>(
     alloc: Global,
     writer: &mut W,
@@ -191,11 +191,11 @@ fn run_plan<W: Sink, T: Threads + Wait + Sync>(
     }
 }
 
-/// Carries out the threads file that the reader hands over, and writes its summary.
+/// Runs the threads file that the reader delivers, and writes its summary.
 ///
-/// The whole file is read and checked before any thread starts. Where none can be started, the fault is `NoMemory`. Else each section runs on a thread
-/// of its own, beside the workers; when all sections have ended, an open cycle is ended and the world is collected as often as the file says; then the
-/// workers finish what is left. The worker at each place has the list of procedures at that place.
+/// The whole file is read and checked before any thread starts. If no thread can be started, it fails with `NoMemory`. Otherwise each section runs on a
+/// thread of its own, while the workers run. After all sections have ended, an open cycle is ended and the world is collected as often as the file says. Then
+/// the workers finish the remaining entries. Each worker has the list of procedures at its index.
 pub fn drive_threads<R: Source, W: Sink, T: Threads + Wait + Sync>(
     alloc: Global,
     reader: &mut R,

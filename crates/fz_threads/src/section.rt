@@ -1,4 +1,4 @@
-//! What a section does.
+//! The work of a section.
 
 ghost use Rattle.std.specs.Prelude.{◌≡◌, ◌≤◌, ◌*◌, length};
 ghost use Rattle.std.specs.List.{All};
@@ -14,7 +14,7 @@ use fz_script::Job;
 use fz_service::{Opening, Service};
 use std::sync::Wait;
 
-/// One turn of `churn`; returns how many of its calls were refused. A refused `new` leaves out the other two.
+/// One turn of `churn`. Returns how many of its calls were refused. A refused `new` skips the other two.
 fn churn_once<O: Opening, R: Wait>(
     service: &Service<O>,
     new: Call,
@@ -33,7 +33,7 @@ fn churn_once<O: Opening, R: Wait>(
     registered as u64 + dropped as u64
 }
 
-/// Carries out `count` turns; returns how many of their calls were refused.
+/// Carries out `count` turns. Returns how many of their calls were refused.
 fn churn<O: Opening, R: Wait>(
     service: &Service<O>,
     count: u64,
@@ -53,7 +53,7 @@ fn churn<O: Opening, R: Wait>(
     refused
 }
 
-/// Carries out a job; returns how many of its calls were refused.
+/// Carries out a job. Returns how many of its calls were refused.
 fn carry<O: Opening, R: Wait>(service: &Service<O>, job: Job, rt: &R) -> u64
     requires { turns_of job ≤ MAX_TURNS }
     ensures refused { HasRefused O.origin (Carries job) result }
@@ -98,7 +98,7 @@ fn begins_section(job: Job) -> bool
     }
 }
 
-/// Carries out the jobs of the section with this number, counted from 1; returns how many of its calls were refused.
+/// Carries out the jobs of the section with this number, counted from 1. Returns how many of its calls were refused.
 fn work<O: Opening, R: Wait>(service: &Service<O>, jobs: &[Job], number: usize, rt: &R) -> u64
     requires stand { All (λ job. turns_of job ≤ MAX_TURNS) jobs.now }
     requires few { length jobs.now ≤ MAX_LINES }
@@ -117,7 +117,7 @@ fn work<O: Opening, R: Wait>(service: &Service<O>, jobs: &[Job], number: usize, 
     refused
 }
 
-/// The jobs of all sections of a file, with the first line of each.
+/// The jobs of all sections of a file, including the first line of each.
 #[derive(Drop)]
 pub(crate) struct Sections {
     pub(crate) jobs: Vec<Job>,
@@ -134,7 +134,7 @@ impl Sections {
         Sections { jobs }
     }
 
-    /// How many sections there are.
+    /// The number of sections.
     pub(crate) fn count(&self) -> usize
         ensures count { result ≡ count_by begins_section self.now.jobs.items }
         ensures few { result ≤ MAX_LINES }
@@ -142,7 +142,7 @@ impl Sections {
         self.jobs.iter().filter(|job| begins_section(**job)).count()
     }
 
-    /// Carries out the section with this number, counted from 1; returns how many of its calls were refused.
+    /// Carries out the section with this number, counted from 1. Returns how many of its calls were refused.
     pub(crate) fn work<O: Opening, R: Wait>(
         &self,
         service: &Service<O>,

@@ -1,4 +1,4 @@
-//! Where in a threads file a job may stand.
+//! At which point of a threads file a job may come.
 
 ghost use Rattle.std.specs.Prelude.{◌≡◌, true};
 ghost use Rattle.fz_threads.specs.Jobs.{maker, is_call_of, may_come, stage_after, first_stage};
@@ -7,7 +7,7 @@ use crate::limits::MAX_MUTATORS;
 use fz_model::Call;
 use fz_script::Job;
 
-/// Whose section it is.
+/// Whose section this is.
 #[derive(Clone, Copy, Debug, PartialEq, Eq)]
 pub(crate) enum Actor {
     /// No section has begun.
@@ -16,7 +16,7 @@ pub(crate) enum Actor {
     Collector,
 }
 
-/// The section that was begun last, and how many there are so far.
+/// The actor of the current section, and the number of sections so far.
 #[derive(Clone, Copy, Debug, PartialEq, Eq)]
 pub(crate) struct Stage {
     pub(crate) actor: Actor,
@@ -24,7 +24,7 @@ pub(crate) struct Stage {
     pub(crate) collectors: u64,
 }
 
-/// Whose call it is. Nobody closes the world, which is done at the end, or counts what is held, since nothing is reported meanwhile.
+/// Which actor may make the call. No section closes the world, which the run does at its end, or counts held entries, since no report is written meanwhile.
 fn maker(call: Call) -> Actor
     ensures { result ≡ maker call }
 {
@@ -81,7 +81,7 @@ impl Stage {
         }
     }
 
-    /// The stage after the job, which may come next.
+    /// The stage after the job. Requires that the job may come next.
     pub(crate) fn after(self, job: Job) -> Stage
         requires { may_come self job ≡ true }
         ensures { result ≡ stage_after self job }

@@ -1,4 +1,4 @@
-//! What a run of a threads file prints.
+//! The summary that a run of a threads file writes.
 
 ghost use Rattle.std.specs.Prelude.{◌≡◌, ◌≤◌, ◌+◌, ◌++◌, ◌∷◌, [], length};
 ghost use Rattle.arrayvec.specs.ArrayString.{array_string_len};
@@ -15,7 +15,7 @@ use itoa::Buffer;
 /// Room for seven lines of at most 32 bytes.
 type Summary = ArrayString<256>;
 
-/// Adds a line with a name and its number.
+/// Appends a line with a name and a number.
 fn push_line(text: &mut Summary, name: &str, number: u64)
     requires room { array_string_len text.old + 32 ≤ 256 }
     requires short { length name.now ≤ 10 }
@@ -43,7 +43,7 @@ fn summary_of(tally: Tally) -> Summary
     text
 }
 
-/// Writes the summary, in one write where the writer takes it whole.
+/// Writes the summary. This is one write, if the writer takes it whole.
 pub(crate) fn write_summary<W: Sink>(writer: &mut W, tally: Tally) -> Result<(), WriteFailed>
     ensures { Emits (W.log writer.old) (summary_text tally) result (W.log writer.new) }
 {

@@ -1,4 +1,4 @@
-//! How often a run takes the lock: once for each call that its file asks for, and no more.
+//! How often a run takes the lock: once for each call in its file, and no more.
 
 ghost use Rattle.std.specs.Prelude.{◌≡◌, ◌≤◌, length};
 ghost use Rattle.std.specs.List.{All};
@@ -20,7 +20,7 @@ use std::sync::Wait;
 use std::sync::ledger::{Blank, Ledger};
 use std::thread::Threads;
 
-/// Carries the plan out with one worker. Returns how often the lock was taken before it is taken to ask for that.
+/// Carries out the plan with one worker. Returns how often the lock was taken before this was asked.
 fn holds_of<O: Opening + Send + Sync, R: AllocGlobal + Abort + Threads + Wait + Sync>(
     rt: &R,
     prepared: Prepared,
@@ -72,14 +72,14 @@ fn takes<R: AllocGlobal + Abort + Threads + Wait + Sync>(rt: &R, file: &[u8], wa
     assert_eq!(rt; holds, wanted, "holds");
 }
 
-/// Files, with how many holds their calls, the pause at the end and the collections after it are, and those of the worker: one for up to 32 entries that
-/// a collection queued, since nothing is to be done for them outside of the lock. The first nine queue none.
+/// Files, with how often their runs take the lock: once for each call, for the pause at the end and for each collection after it; and for the worker once for
+/// up to 32 entries that a collection queued, since their procedures need no lock. The first nine files queue none.
 const FILES: [(&[u8], u64); 11] = [
     (b"open 1 1 1\nsettle 0\n", 1),
     (b"open 1 1 1\nsettle 3\n", 4),
     (b"open 1 1 1\nsettle 100\n", 101),
     (b"open 1 1 1\nsettle 0\nmutator\nset 0 0 1\n", 2),
-    // refused calls are holds too
+    // refused calls take the lock too
     (
         b"open 1 1 1\nsettle 0\nmutator\nset 1 0 1\nnew 0 0 0 scanned\n",
         3,
@@ -88,12 +88,12 @@ const FILES: [(&[u8], u64); 11] = [
         b"open 1 1 1\nsettle 1\ncollector\ncollect\nbegin\nmark 1\npause\npause\n",
         7,
     ),
-    // three of each turn
+    // three calls for each turn
     (
         b"open 1 1 1\nsettle 0\nmutator\nchurn 20 0 0 1 scanned normal 0\n",
         61,
     ),
-    // the last of them find no room, and each of those is one
+    // the last turns find no room; each of them makes one call
     (
         b"open 1 1 1\nsettle 0\nmutator\nchurn 100 0 0 1 scanned normal 0\n",
         229,

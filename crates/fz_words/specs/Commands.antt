@@ -1,4 +1,5 @@
--- Which words the program takes, in the words of clap's contracts.
+-- Which arguments the program accepts, in terms of clap's contracts.
+-- code: fz_words/src/lib.rt
 use Rattle.std.specs.Prelude.{◌≡◌, ℕ, List, [], ◌∷◌, Option, Some, codes, true, option_and_then}
 use Rattle.clap.specs.Words.{App, Row, Text, first_of, is_simple, subcommand_of, takes}
 use Rattle.fz_words.specs.declared.Program.{Program}
@@ -8,7 +9,7 @@ use Rattle.fz_words.specs.Words.{name_of, IsFile}
 abbrev pub file_in : Option (Text × List Row) → Option (List ℕ)
 file_in = option_and_then (λ found. first_of (codes "FILE") found.1)
 
--- where the words are a program's name and a file, a parse fails only for want of memory, and else finds that file
+-- if the arguments are a program's name and a file, parsing fails only when memory runs out, and else finds that file
 pub record TakesFiles (app : App) : Type 0 where
   pub simple : is_simple app ≡ true
   pub takes_it : (program : Program) (file : List ℕ) → IsFile file → takes app (name_of program ∷ file ∷ []) ≡ true

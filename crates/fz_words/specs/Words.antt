@@ -1,25 +1,26 @@
--- The words of the program: which of its parts they name, and which word is a file.
+-- The arguments of the program: which program they name, and which argument is a file.
+-- code: fz_words/src/lib.rt
 use Rattle.std.specs.Prelude.{◌≡◌, ◌≢◌, ◌⊎◌, ℕ, List, [], ◌∷◌, codes, Some, slice_get}
 use Rattle.fz_words.specs.declared.Program.{Program}
 use Rattle.fz_words.specs.declared.Program.TheVariants.{Run, Threads}
 
--- the word that names the program
+-- the argument that names the program
 abbrev pub name_of : Program → List ℕ
 name_of Run = codes "run"
 name_of Threads = codes "threads"
 
--- the words are the program's name and a file
+-- the arguments are the program's name and a file
 abbrev pub Names : Program → List (List ℕ) → Type 0
 Names program words = (file : List ℕ) × (words ≡ name_of program ∷ file ∷ [])
 
--- they are no program's name and a file
+-- the arguments aren't any program's name and a file
 abbrev pub NameNothing : List (List ℕ) → Type 0
 NameNothing words = (program : Program) → ¬ Names program words
 
--- the word is taken as a file: it is `-` alone, or doesn't begin with a hyphen (45)
+-- the argument is accepted as a file: it is `-`, or doesn't begin with a hyphen (45)
 abbrev pub IsFile : List ℕ → Type 0
 IsFile word = (word ≡ codes "-") ⊎ (slice_get word 0 ≢ Some 45)
 
--- the words are a program's name and this file
+-- the arguments are a program's name and this file
 abbrev pub AskFor : List (List ℕ) → List ℕ → Type 0
 AskFor words file = (program : Program) × (words ≡ name_of program ∷ file ∷ []) × IsFile file

@@ -1,4 +1,4 @@
-//! The words of the program, read by `clap`: which part of it they ask for, and on which file.
+//! The command line, parsed by `clap`: which program to run, and on which file.
 #![tactic(auto)]
 
 ghost use Rattle.std.specs.Prelude.{◌≡◌, List, ℕ, Err, IfErr, IfOk, IfSome, IsNone, Some, map, option_map};
@@ -11,7 +11,7 @@ use clap::{Arg, Command, Error};
 use std::alloc::{AllocError, Global};
 use std::convert::AsStr;
 
-/// What the first word asks for.
+/// Which program to run.
 #[derive(Clone, Copy, Debug, PartialEq, Eq)]
 pub enum Program {
     /// Runs a script.
@@ -20,18 +20,18 @@ pub enum Program {
     Threads,
 }
 
-/// Why words are refused.
+/// Why the arguments are refused.
 #[derive(Clone, Copy, Debug, PartialEq, Eq)]
 pub enum WordsFault {
-    /// They aren't the name of a program and a file.
+    /// They aren't the name of a program and of a file.
     Wrong,
-    /// There was no memory to read them.
+    /// Parsing them ran out of memory.
     NoMemory,
 }
 
-/// The program that the words name, and the file.
+/// The program and the file that the arguments name.
 ///
-/// A file's name may begin with a hyphen only if it is `-`, since `clap` takes other such words as options.
+/// A file name may begin with a hyphen only if it is `-`: `clap` takes all other such arguments as options.
 pub fn program_and_file<'a, S: AsStr>(
     alloc: Global,
     words: &'a [S],
@@ -51,7 +51,7 @@ pub fn program_and_file<'a, S: AsStr>(
     }
 }
 
-/// The program that the words name: they are its name and a file.
+/// The program that the arguments name. They have to be its name and a file.
 fn program_of<S: AsStr>(words: &[S]) -> Option<Program>
     ensures some { IfSome result (λ program. Names program (map S.text words.now)) }
     ensures none { IsNone result → NameNothing (map S.text words.now) }
@@ -81,7 +81,7 @@ fn command<'a>(alloc: Global) -> Result<Command<'a>, AllocError>
         .subcommand(threads)
 }
 
-/// The file that the words name. An error says that they are wrong, or that memory was short.
+/// The file that the arguments name. Fails if they are wrong or memory runs out.
 fn file_of<'a, S: AsStr>(alloc: Global, words: &'a [S]) -> Result<Option<&'a str>, Error>
     ensures found { (file : List ℕ) → AskFor (map S.text words.now) file → IfOk result (λ some. option_map (λ word. word.now) some ≡ Some file) }
     ensures taken { (file : List ℕ) → AskFor (map S.text words.now) file → IfErr result (λ error. kind_of error ≡ ErrorKind.OutOfMemory) }

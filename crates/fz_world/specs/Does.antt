@@ -1,4 +1,5 @@
--- A world stands for a state of the model, and each of its calls is a step of the model from that state.
+-- A world represents a state of the model, and each of its calls is a step of the model from that state.
+-- code: fz_world/src/world.rt
 use Rattle.std.specs.Prelude.{◌≡◌, ℕ, [], ◌∷◌, Result, IsTrue}
 use Rattle.std.specs.FinSet.{contains}
 use Rattle.fz_model.specs.declared.refusal.Refusal.{Refusal}
@@ -16,17 +17,16 @@ use Rattle.fz_world.specs.World.{WorldView}
 abbrev pub AreSeen : State → Set → Type 0
 AreSeen s marked = IsTrue s.cycle → (a : ℕ) → IsTrue (contains marked a) → WasSeen s a
 
--- all that the world keeps is as in the state; what the state's open cycle has seen is closed under children, and has what is reachable and what
--- is marked
+-- the world has the core of the state; what the state's open cycle has seen is closed under children and contains everything that is reachable or marked
 pub record StandsFor (world : WorldView) (s : State) : Type 0 where
   pub core : world.core ≡ s.core
   pub seen : SeenIsClosed s
   pub marks : AreSeen s world.marked
 
--- from each state that the old world stands for there is a step with this reply, to a state that the new world stands for; and nothing is forgotten
+-- from each state that the old world represents there is a step with this reply to a state that the new world represents; and no entry is forgotten
 unfoldable pub Does : WorldView → (e : Event) → Result (Answer e) Refusal → WorldView → Type 0
 Does old e reply new = (new.forgotten ≡ old.forgotten) × ((s : State) → StandsFor old s → (t : State) × Step s e reply t × StandsFor new t)
 
--- the causes of refusal of an opening
+-- the causes for which opening a world is refused
 abbrev pub open_causes : ℕ → ℕ → Causes
 open_causes blocks frames = bad_count MAX_BLOCKS blocks ∷ bad_count MAX_FRAMES frames ∷ []

@@ -1,4 +1,5 @@
--- What a call does that registers a finalizer of a slot's object.
+-- What registering a finalizer for a slot's object does.
+-- code: fz_world/src/registrations.rt
 use Rattle.std.specs.Prelude.{◌≡◌, Result, IfErr, OnErr, IsFalse}
 use Rattle.std.specs.Option.{IsNone}
 use Rattle.std.specs.FinMap.{get}
@@ -18,7 +19,7 @@ pub record RegistersFinalizer (old : WorldView) (slot : Slot) (finalizer : Final
   pub step : Does old (Make (Register slot finalizer)) result new
   pub caused : IsJudgedOrLacks (causes old.core (Make (Register slot finalizer))) result
   pub refused : OnErr result (new ≡ old)
-  -- only the first registration of an object can want memory
+  -- only the first registration of an object can run out of memory
   pub inside : IfErr result (λ r. r ≡ NoMemory → IsFalse (is_off_heap old.blocks (slot_word old.frames slot)))
   pub growth : IfErr result (λ r. r ≡ NoMemory → IsNone (get old.registrations (slot_word old.frames slot)))
   pub marks : KeepsMarks old new

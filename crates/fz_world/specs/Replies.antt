@@ -1,4 +1,5 @@
--- A call of a world as a value, with what comes of it: all that the contract of the call of its name says.
+-- A call of a world as a value, with everything that the contract of the method of its name states.
+-- code: fz_world/src/calls.rt
 use Rattle.std.specs.Prelude.{◌≡◌, Result, OnErr, IfOk, IfErr, IsSome, IsFalse, length}
 use Rattle.std.specs.Option.{IsNone}
 use Rattle.std.specs.FinMap.{get}
@@ -16,7 +17,7 @@ use Rattle.fz_world.specs.Cycles.{IsBegun, ScansSome, EndsScans, ScansAll}
 use Rattle.fz_world.specs.Does.{Does}
 use Rattle.fz_world.specs.Links.{link_at}
 
--- refused for the first cause that stands; memory can be lacking only for an object's first registration, a new link, and a link's move to a place without one
+-- refused for the first cause that applies; only an object's first registration, a new link, and a move to a place without a link can run out of memory
 abbrev pub IsCaused : WorldView → (c : Call) → Result (CallAnswer c) Refusal → Type 0
 IsCaused old (calls.Register slot finalizer) answer =
     IsJudgedOrLacks (causes old.core (Make (calls.Register slot finalizer))) answer
@@ -28,7 +29,7 @@ IsCaused old (calls.Move which place to) answer =
     × IfErr answer (λ r. r ≡ NoMemory → IsSome (link_at old.core which place) × IsNone (link_at old.core which to))
 IsCaused old c answer = IsJudgedBy (causes old.core (Make c)) answer
 
--- what becomes of marks, scans and noted pages, once the call is accepted
+-- how an accepted call changes marks, scans and dirty pages
 abbrev pub MarksAs : (c : Call) → WorldView → CallAnswer c → WorldView → Type 0
 MarksAs (calls.Alloc slot size kind) old made new = MarksMade old made.0 new
 MarksAs (calls.Store place from) old done new = NotesWritten old (address_of old.frames place) new
@@ -39,7 +40,7 @@ MarksAs calls.Collect old passed new = ScansAll old new
 MarksAs calls.Outstanding old count new = (new ≡ old) × (count ≡ length old.held)
 MarksAs c old answer new = KeepsMarks old new
 
--- the world made the call, and the result tells its answer; a refused call left the world as it was
+-- the world made the call, and the result is its reply; a refused call left the world as it was
 pub record Replies (old : WorldView) (c : Call) (result : Result Reply Refusal) (new : WorldView) : Type 0 where
   pub answer : Result (CallAnswer c) Refusal
   pub does : Does old (Make c) answer new

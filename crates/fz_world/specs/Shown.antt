@@ -1,4 +1,5 @@
--- What a world shows of its tables, by address.
+-- What the readers of a world return, by address.
+-- code: fz_world/src/shown.rt
 use Rattle.std.specs.Prelude.{ℕ, ◌≤◌, ◌<◌, Bool, length, IsTrue, IsFalse}
 use Rattle.std.specs.FinMap.{contains_key}
 use Rattle.fz_model.specs.State as model
@@ -13,17 +14,17 @@ use Rattle.fz_world.specs.declared.shown.Table.TheVariants.{Objects, Registratio
 abbrev pub shown_object : ℕ → model.Object → Object
 shown_object start o = record { start = start; size = length o.words; kind = o.kind; birth = o.birth }
 
--- the addresses at which a table has a row
+-- the addresses at which a table has an entry
 abbrev pub has_row : Core → Table → ℕ → Bool
 has_row c Objects = contains_key c.objects
 has_row c Registrations = contains_key c.registrations
 has_row c (Links which) = contains_key (links_of c which)
 
--- at no address of a heap of `blocks` blocks from one on
+-- no address of a heap of `blocks` blocks has it, from `from` on
 abbrev pub HasNoneFrom : ℕ → (ℕ → Bool) → ℕ → Type 0
 HasNoneFrom blocks has from = (a : ℕ) → IsInHeap blocks a → from ≤ a → IsFalse (has a)
 
--- the first address of the heap from one on
+-- the first address of the heap that has it, from `from` on
 pub record IsFirstFrom (blocks : ℕ) (has : ℕ → Bool) (from first : ℕ) : Type 0 where
   pub here : IsTrue (has first)
   pub in_heap : IsInHeap blocks first

@@ -1,5 +1,6 @@
--- What contracts see of a world: all that a state of the model keeps but what an open cycle has seen; and of the cycle begun last the marked
--- and the scanned objects, the noted pages, and the number of scans; and the number from which on its queue shows entries, and how many are in memory.
+-- The model of a world: the state of the model without the history of an open cycle; of the last cycle the marked and the scanned objects, the dirty pages,
+-- and the number of scans; and from which number on its queue shows entries, and how many are in memory.
+-- code: fz_world/src/world.rt, fz_world/src/objects.rt
 use Rattle.std.specs.Prelude.{◌≡◌, ℕ, ◌+◌, ◌<◌, ◌≤◌, Bool, List, if◌then◌else◌, IsTrue, length, refl}
 use Rattle.std.specs.Coded.{Coded, code_by, coded×, coded_ℕ}
 use Rattle.std.specs.FinSet as sets
@@ -65,50 +66,50 @@ view_of core marker pages ready =
       remembered = ready.remembered;
     }
 
--- a call that leaves all marks and pages as they were, and forgets nothing; a pass remembers more
+-- the call leaves marks and dirty pages unchanged, and forgets nothing; a pass adds entries in memory
 abbrev pub KeepsMarks : WorldView → WorldView → Type 0
 KeepsMarks old new = new ≡ record old { core = new.core; remembered = new.remembered }
 
--- in an open cycle, the set with a number
+-- in an open cycle, the set with this number added
 abbrev pub with_in_cycle : Bool → Set → ℕ → Set
 with_in_cycle cycle set n = if cycle then insert set n else set
 
--- a call that makes the object at an address: in an open cycle it is marked, and its page noted
+-- the call allocates the object at this address: in an open cycle it is marked, and its page becomes dirty
 abbrev pub MarksMade : WorldView → ℕ → WorldView → Type 0
 MarksMade old address new =
     new ≡ record old { core = new.core; marked = with_in_cycle old.cycle old.marked address; noted = with_in_cycle old.cycle old.noted (block_of address) }
 
--- a call that writes the word at an address: in an open cycle its page is noted
+-- the call writes the word at this address: in an open cycle its page becomes dirty
 abbrev pub NotesWritten : WorldView → ℕ → WorldView → Type 0
 NotesWritten old address new = new ≡ record old { core = new.core; noted = with_in_cycle old.cycle old.noted (block_of address) }
 
--- what a world keeps of its parts, with a number of pages
+-- the invariant of a world's parts, with this number of pages
 pub record IsWhole (objects : Map Object) (blocks : ℕ) (table : Registered) (ready : Ready) (pages : ℕ) : Type 0 where
   pub sound : AreSound objects table.registrations table.next_number ready.queue ready.held
   pub pages_are : pages ≡ blocks
   -- there is room for the entries of all registrations
   pub room : map.len table.registrations ≤ ready.room
-  -- each entry and each registration has a number of its own, so the entries of all have numbers
+  -- each entry and each registration has its own number, so there are numbers for the entries of all registrations
   pub few : length ready.queue + map.len table.registrations ≤ table.next_number
   pub numbers : table.next_number ≤ COUNT_LIMIT
 
--- what it keeps in an open cycle
+-- the invariant in an open cycle
 pub record IsMidCycle (heap : Contents) (marker : Marking) (noted : Set) : Type 0 where
-  -- a scanned object that stands on no noted page has marked children alone, and no object was scanned twice
+  -- a scanned object that lies on no dirty page has marked children only, and no object was scanned twice
   pub clean : CleanAreClosed heap.objects marker noted
   pub once : marker.scans ≤ readable_count heap.objects (contains marker.scanned)
-  -- no cell is condemned: a sweep came first
+  -- there are no dead, unswept cells: the cycle began with a sweep
   pub none_condemned : heap.condemned ≡ sets.empty
 
--- both as one word that proofs hand on whole
+-- both as one name that proofs pass on whole
 unfoldable pub IsWorld : Contents → Registered → Ready → Marking → Pages → Bool → Type 0
 IsWorld heap table ready marker pages cycle =
     IsWhole heap.objects heap.blocks table ready pages.pages × (IsTrue cycle → IsMidCycle heap marker pages.noted)
 
--- a cycle is open only where its pass has a number
+-- a cycle is open only if its pass has a number
 abbrev pub HasNumber : ℕ → Bool → Type 0
 HasNumber passes cycle = IsTrue cycle → passes + 1 < COUNT_LIMIT
 
--- the targets of links are objects, as one word
+-- the targets of links are objects, as one name
 unfoldable pub HaveTargets : Map Object → Map ℕ → Type 0
 HaveTargets objects links = AreTargets objects links

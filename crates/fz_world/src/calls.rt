@@ -1,4 +1,4 @@
-//! Calls that come as values, each made by the call of its name.
+//! Calls as values, each carried out by the method of its name.
 #![tactic(auto, using(crate::proofs::Replying::replies, crate::proofs::Replying::refuses))]
 
 ghost use Rattle.std.specs.Prelude.{◌≡◌, OnErr};
@@ -9,7 +9,7 @@ use crate::world::World;
 use fz_model::{Call, Finalizer, LinkKind, ObjKind, Place, Refusal, Reply, Slot, Word};
 
 impl World {
-    /// Makes the call, and tells its answer. It is refused as the call of its name is, and then changes nothing. Takes the time of that call.
+    /// Makes the call and returns its reply. Fails as the method of its name does; a failed call changes nothing. Takes time as the method of its name does.
     pub fn make(&mut self, call: Call) -> Result<Reply, Refusal>
         ensures told { Replies self.old call result self.new }
         ensures refused { OnErr result (self.new ≡ self.old) }
@@ -39,7 +39,7 @@ impl World {
     }
 }
 
-// Each call hands its result on as it is, so that no call pays for the results of others.
+// Each method's result is passed on directly, so no call pays for the result types of others.
 
 #[inline(never)]
 fn alloc(world: &mut World, slot: Slot, size: u64, kind: ObjKind) -> Result<Reply, Refusal>

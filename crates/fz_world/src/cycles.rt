@@ -1,4 +1,4 @@
-//! Cycles: marking in steps beside the mutators, and the pass that ends them.
+//! Collection cycles: incremental marking interleaved with mutators, and the remark and pass that end it.
 
 ghost use Rattle.std.specs.Prelude.{◌≡◌, ◌≤◌, ◌<◌, ◌+◌, ◌*◌, ◌↔◌, ℕ, false, IsTrue, IsFalse, IfOk, OnOk, OnErr};
 ghost use Rattle.std.specs.FinSet.{contains};
@@ -22,9 +22,9 @@ use fz_model::{COUNT_LIMIT, Passed, Progress, Refusal};
 
 #[tactic(auto, using(crate::proofs::Does::does_refused))]
 impl World {
-    /// Opens a cycle: marks what the roots point to, and notes from now on the pages that are written. Takes time by the heap.
+    /// Opens a collection cycle: marks what the roots point to (the initial mark), and tracks dirty pages from now on. Takes time proportional to the heap.
     ///
-    /// Refusals, in their order: `CycleOpen`, `Exhausted` at the 2^48th pass.
+    /// Fails with, in this order: `CycleOpen`, `Exhausted` at the 2^48th pass.
     pub fn begin(&mut self) -> Result<(), Refusal>
         ensures step { Does self.old (Make calls.Begin) result self.new }
         ensures caused { IsJudgedBy (causes self.old.core (Make calls.Begin)) result }
@@ -36,9 +36,10 @@ impl World {
         Ok(())
     }
 
-    /// Scans at most `budget` marked objects that weren't scanned in the cycle: `Done` where none is left. Takes time by the words of what it scans.
+    /// Scans at most `budget` marked objects that weren't scanned in this cycle, and returns `Done` if none is left. Takes time proportional to the words
+    /// that it scans.
     ///
-    /// Refusals, in their order: `BadCount` where the budget is 0, `NoCycle`.
+    /// Fails with, in this order: `BadCount` if the budget is 0, `NoCycle`.
     pub fn mark(&mut self, budget: u64) -> Result<Progress, Refusal>
         ensures step { Does self.old (Make (calls.Mark budget)) result self.new }
         ensures caused { IsJudgedBy (causes self.old.core (Make (calls.Mark budget))) result }
@@ -58,15 +59,16 @@ impl World {
         Ok(self.marked.marker.step(&self.marked.heap, budget))
     }
 
-    /// Ends the cycle: marks on from the roots as they are now, and from marked objects on noted pages, and carries out a pass. Takes time by the heap.
+    /// Ends the cycle: marks from the current roots and from marked objects on dirty pages (the remark), and carries out a pass. Takes time proportional to
+    /// the heap.
     ///
-    /// Refused `NoCycle` where no cycle is open.
+    /// Fails with `NoCycle` if no cycle is open.
     pub fn pause(&mut self) -> Result<Passed, Refusal>
         ensures step { Does self.old (Make calls.Pause) result self.new }
         ensures caused { IsJudgedBy (causes self.old.core (Make calls.Pause)) result }
         ensures refused { OnErr result (self.new ≡ self.old) }
         ensures scans { self.old.scans ≤ self.new.scans }
-        // Over the whole cycle: each object once, and at the end once more those of noted pages, of which each has no more than words.
+        // Over the whole cycle each object is scanned at most once, and those on dirty pages once more at the end. A page has no more objects than words.
         ensures few { OnOk result (self.new.scans ≤ len self.old.objects + BLOCK_WORDS * sets.len self.old.noted) }
         ensures noted { self.new.noted ≡ self.old.noted }
     {
@@ -77,9 +79,9 @@ impl World {
         Ok(self.pass())
     }
 
-    /// A whole cycle in one step, as `GC_gcollect`: finds what is reachable, and carries out a pass. Takes time by the heap.
+    /// A whole collection in one step, as `GC_gcollect`: marks what is reachable, and carries out a pass. Takes time proportional to the heap.
     ///
-    /// Refusals, in their order: `CycleOpen`, `Exhausted` at the 2^48th pass.
+    /// Fails with, in this order: `CycleOpen`, `Exhausted` at the 2^48th pass.
     pub fn collect(&mut self) -> Result<Passed, Refusal>
         ensures step { Does self.old (Make calls.Collect) result self.new }
         ensures caused { IsJudgedBy (causes self.old.core (Make calls.Collect)) result }
@@ -93,21 +95,21 @@ impl World {
         Ok(self.pass())
     }
 
-    /// How many objects were scanned in the cycle begun last; 0 before any.
+    /// How many objects were scanned in the last cycle; 0 before the first.
     pub fn scans(&self) -> u64
         ensures { result ≡ self.now.scans }
     {
         self.marked.marker.scans()
     }
 
-    /// How many pages were noted in the cycle begun last; 0 before any.
+    /// How many pages were dirty in the last cycle; 0 before the first.
     pub fn noted(&self) -> u64
         ensures { result ≡ sets.len self.now.noted }
     {
         self.dirty.count()
     }
 
-    /// Refuses to open a cycle: `CycleOpen` where one is open, `Exhausted` where passes have come to their end.
+    /// Checks that a cycle may be opened. Fails with `CycleOpen` if one is open, and with `Exhausted` if pass numbers are used up.
     fn check_begin(&self) -> Result<(), Refusal>
         ensures judged { IsJudgedBy (causes self.now.core (Make calls.Begin)) result }
         ensures idle { OnOk result (IsFalse self.now.cycle) }
@@ -122,8 +124,8 @@ impl World {
         Ok(())
     }
 
-    /// Sweeps what is condemned, forgets marks and pages, and marks what the roots point to; opens a cycle if `opens`. Asked only where none is
-    /// open, and where the next pass has a number.
+    /// Sweeps all dead cells, clears marks and dirty pages, and marks what the roots point to. Opens a cycle if `opens` is set. Requires that no cycle is
+    /// open and that another pass has a number.
     fn mark_anew(&mut self, opens: bool)
         requires idle { IsFalse self.old.cycle }
         requires few { self.old.passes + 1 < COUNT_LIMIT }
@@ -145,7 +147,7 @@ impl World {
         self.cycle = opens;
     }
 
-    /// Marks on from the roots and from objects on noted pages until the marks are closed, and closes the cycle. Asked only where one is open.
+    /// Completes marking from the roots and from objects on dirty pages, and closes the cycle. Requires an open cycle.
     fn mark_rest(&mut self)
         requires { IsTrue self.old.cycle }
         ensures core { self.new.core ≡ record self.old.core { cycle = false } }
@@ -170,7 +172,7 @@ impl World {
         self.cycle = false;
     }
 
-    /// A pass in which the marked objects are those that were found. It needs no memory: `register` made the room.
+    /// A pass whose found set is the marked objects. It takes no memory: `register` reserved the room.
     fn pass(&mut self) -> Passed
         requires idle { IsFalse self.old.cycle }
         requires roots { (a : ℕ) → IsRoot self.old.core a → IsTrue (contains self.old.marked a) }

@@ -1,4 +1,4 @@
-//! Entries of the queue, and the end of a world.
+//! Entries of the queue, and closing a world.
 
 ghost use Rattle.std.specs.Prelude.{◌≡◌, ◌≢◌, ◌≤◌, ◌<◌, ◌+◌, ◌-◌, ◌*◌, ◌⊎◌, drop, length, slice_get, Contains, Some, IsFalse, MatchOption, OnErr};
 ghost use Rattle.std.specs.List.{list_any};
@@ -20,9 +20,9 @@ use fz_model::{Entry, Refusal, Slot};
 
 #[tactic(auto, using(fz_model::proofs::Judged::judged_more, fz_model::proofs::Judged::judged_err, crate::proofs::Whole::world_finished, crate::proofs::Does::does_refused, crate::proofs::Does::does_accepted))]
 impl World {
-    /// Puts the object of a held entry into the slot.
+    /// Stores the address of a held entry's object in the slot. If the slot stays reachable, this resurrects the object.
     ///
-    /// Refusals, in their order: `BadSlot`, `NotHeld` where no held entry is the same in all its fields.
+    /// Fails with, in this order: `BadSlot`, `NotHeld` if no held entry equals this one in all fields.
     pub fn hold(&mut self, frame: u64, slot: u64, entry: &Entry) -> Result<(), Refusal>
         ensures step { Does self.old (Hold (slot_at frame slot) entry.now) result self.new }
         ensures caused { IsJudgedBy (causes self.old.core (Hold (slot_at frame slot) entry.now)) result }
@@ -35,9 +35,9 @@ impl World {
         Ok(())
     }
 
-    /// Ends the holding of an entry, which has to be held in all its fields.
+    /// Finishes a held entry, which then no longer retains its object.
     ///
-    /// Refused `NotHeld` otherwise.
+    /// Fails with `NotHeld` if no held entry equals this one in all fields.
     pub fn finish(&mut self, entry: &Entry) -> Result<(), Refusal>
         ensures step { Does self.old (Finish entry.now) result self.new }
         ensures caused { IsJudgedBy (causes self.old.core (Finish entry.now)) result }
@@ -47,10 +47,10 @@ impl World {
         self.ready.finish(entry)
     }
 
-    /// Closes the world: every registered object is a root from now on, so no pass queues anything. What is unreachable but not yet queued stays for good:
-    /// collect and finish before.
+    /// Closes the world: from now on every registered object is a root, so no pass queues anything. Objects that are unreachable but not queued yet are
+    /// retained for ever; to avoid that, collect and finish the entries first.
     ///
-    /// Refused `Closed` where the world is closed.
+    /// Fails with `Closed` if the world is closed already.
     pub fn close(&mut self) -> Result<(), Refusal>
         ensures step { Does self.old (Make calls.Close) result self.new }
         ensures caused { IsJudgedBy (causes self.old.core (Make calls.Close)) result }
@@ -64,7 +64,7 @@ impl World {
         Ok(())
     }
 
-    /// The number of held entries: those that aren't finished, taken or not.
+    /// The number of held entries: those that were queued and aren't finished, taken or not.
     pub fn outstanding(&self) -> u64
         ensures step { Does self.now (Make calls.Outstanding) (Ok result) self.now }
         ensures count { result ≡ length self.now.held }
@@ -79,7 +79,7 @@ impl World {
         self.passes
     }
 
-    /// The number of objects that were made, less those that there are.
+    /// The number of objects reclaimed so far.
     pub fn reclaimed(&self) -> u64
         ensures { result ≡ self.now.next_birth - len self.now.objects }
     {
@@ -87,7 +87,7 @@ impl World {
         heap.births().saturating_sub(heap.live())
     }
 
-    /// The entries from `forgotten` on, in their order: all that were ever queued, where none is forgotten.
+    /// The entries from number `forgotten` on, in order: all entries ever queued, if none was forgotten.
     pub fn queue(&self) -> &[Entry]
         ensures queue { result.now ≡ drop self.now.forgotten self.now.queue }
         ensures step { self.now.forgotten ≡ 0 → Does self.now Queue (Ok result.now) self.now }
@@ -103,7 +103,7 @@ impl World {
         self.ready.queued()
     }
 
-    /// The entry with this number, if it was queued and isn't both finished and forgotten: the next one for a caller that has taken `taken` entries.
+    /// The entry with this number, if it was queued and isn't both finished and forgotten. For a caller that took `taken` entries this is the next one.
     pub fn next(&self, taken: u64) -> Option<Entry>
         ensures shown { self.now.forgotten ≤ taken → result ≡ slice_get self.now.queue taken }
         ensures kept { taken < self.now.forgotten → MatchOption result ((e : Entry) → Contains self.now.held e → e.seq ≢ taken) (λ e. Contains self.now.held e × (e.seq ≡ taken)) }
@@ -112,17 +112,17 @@ impl World {
         self.ready.entry(taken)
     }
 
-    /// The number from which on `queue` shows entries. Of those before it the held ones alone are kept.
+    /// The number of the first entry that `queue` returns. Of earlier entries only the held ones are in memory.
     pub fn forgotten(&self) -> u64
         ensures { result ≡ self.now.forgotten }
     {
         self.ready.forgotten()
     }
 
-    /// Gives back the memory of finished entries, once they are more than 1 for each 16 that aren't; returns how many went. It takes no memory, and time by
-    /// the entries in memory.
+    /// Frees the memory of finished entries, if there are more than 1 for each 16 unfinished ones, and returns how many were forgotten. Takes no memory.
+    /// Takes time proportional to the entries in memory.
     ///
-    /// `queue` then shows only what is queued afterwards, and `next` and `next_held` know what isn't finished, by the numbers of old.
+    /// If any were forgotten, `queue` then returns only entries queued later. `next` and `next_held` still return every unfinished entry, by its old number.
     pub fn forget(&mut self) -> u64
         ensures same { self.new ≡ record self.old { forgotten = self.new.forgotten; remembered = self.new.remembered } }
         ensures stands { (s : State) → StandsFor self.old s → StandsFor self.new s }

@@ -1,4 +1,4 @@
-//! The frames, whose slots are roots.
+//! The root frames, whose slots are roots.
 
 ghost use Rattle.std.specs.Prelude.{◌≡◌, ◌≤◌, false, IfOk, OnOk, All, List, ℕ, length, replicate};
 ghost use Rattle.fz_model.specs.declared.limits.TheConstants.{MAX_FRAMES, SLOTS};
@@ -9,10 +9,10 @@ use fz_model::{Refusal, SLOTS, Slot, Word};
 use std::alloc::{AllocError, Global};
 use std::marker::Model;
 
-/// The slots of a frame, as the length of an array.
+/// The number of a frame's slots, as the length of an array.
 const ROW: usize = SLOTS as usize;
 
-/// Frames, whose slots hold a word each.
+/// Root frames, with one word for each slot.
 #[derive(Drop)]
 pub(crate) struct Frames {
     rows: Vec<[Word; ROW]>,
@@ -30,7 +30,7 @@ impl Model for Frames {
 }
 
 impl Frames {
-    /// So many frames, all of whose slots are zero.
+    /// This many frames, with all slots zero.
     pub(crate) fn new(alloc: Global, frames: u64) -> Result<Frames, AllocError>
         requires { frames ≤ MAX_FRAMES }
         ensures { IfOk result (λ f. f ≡ replicate frames (replicate SLOTS 0)) }
@@ -42,7 +42,7 @@ impl Frames {
         Ok(Frames { rows })
     }
 
-    /// Refuses a slot that isn't there: `BadSlot`.
+    /// Fails with `BadSlot` if the slot doesn't exist.
     pub(crate) fn check(&self, slot: Slot) -> Result<(), Refusal>
         ensures judged { IsJudgedBy (slot_causes self.now slot) result }
         ensures there { OnOk result (lacks_slot self.now slot ≡ false) }
@@ -57,7 +57,7 @@ impl Frames {
 
     /// The word of a slot.
     ///
-    /// Refused `BadSlot` where there is no such slot.
+    /// Fails with `BadSlot` if the slot doesn't exist.
     pub(crate) fn get(&self, slot: Slot) -> Result<Word, Refusal>
         ensures judged { IsJudgedBy (slot_causes self.now slot) result }
         ensures word { IfOk result (λ word. word ≡ slot_word self.now slot) }
@@ -70,7 +70,7 @@ impl Frames {
         Ok(row[slot.slot as usize])
     }
 
-    /// Puts the word into a slot. Asked only of a slot that is there.
+    /// Stores the word in a slot. Requires that the slot exists.
     pub(crate) fn set(&mut self, slot: Slot, word: Word)
         requires { lacks_slot self.old slot ≡ false }
         ensures { self.new ≡ with_slot self.old slot word }

@@ -19,8 +19,8 @@ use fz_heap::Heap;
 use fz_links::Links;
 use fz_model::{Addr, LinkAnswer, LinkKind, MoveAnswer, Place, Refusal, Slot};
 
-/// The places at an offset from where two slots point. Refusals, in their order: `BadSlot` of either slot, then `NotPointer` and `OutsideObject` of the
-/// first place, then those of the second.
+/// The addresses of two places. Fails with, in this order: `BadSlot` for either slot, then `NotPointer` and `OutsideObject` for the first place, then the
+/// same for the second.
 fn places(frames: &Frames, heap: &Heap, from: Place, to: Place) -> Result<(Addr, Addr), Refusal>
     ensures judged { IsJudgedBy (two_place_causes frames.now heap.now.objects from to) result }
     ensures first { IfOk result (λ places. places.0 ≡ address_of frames.now from) }
@@ -33,8 +33,8 @@ fn places(frames: &Frames, heap: &Heap, from: Place, to: Place) -> Result<(Addr,
     Ok((first, second))
 }
 
-/// The two ends of a link: the place at an offset from where a slot points, and the start that another slot holds. Refusals, in their order:
-/// `BadSlot` of either slot, then `NotPointer` and `OutsideObject` of the place, then `NotPointer` and `NotStart` of the target.
+/// The two ends of a link: the address of the place, and the address of the target. Fails with, in this order: `BadSlot` for either slot, then `NotPointer`
+/// and `OutsideObject` for the place, then `NotPointer` and `NotStart` for the target.
 fn ends(frames: &Frames, heap: &Heap, place: Place, target: Slot) -> Result<(Addr, Addr), Refusal>
     ensures judged { IsJudgedBy (end_causes frames.now heap.now.objects place target) result }
     ensures place { IfOk result (λ ends. ends.0 ≡ address_of frames.now place) }
@@ -48,23 +48,23 @@ fn ends(frames: &Frames, heap: &Heap, place: Place, target: Slot) -> Result<(Add
     Ok((link, start))
 }
 
-/// Makes room for the first links, where there is none yet. So the links seldom grow.
+/// Reserves room before the first link, so that the table seldom has to grow.
 fn make_first_room(links: &mut Links, heap: &Heap, passes: u64)
     ensures same { links.new.links ≡ links.old.links }
     ensures roomier { links.old.room ≤ links.new.room }
 {
     if links.is_empty() {
-        // Where so much memory can't be had, each link asks for its own.
+        // If that much memory isn't available, each link reserves its own.
         let _ = links.reserve(first_entries(heap, passes));
     }
 }
 
 #[tactic(auto, using(fz_model::proofs::Judged::judged_more, fz_model::proofs::Judged::judged_err, crate::proofs::Does::link_refused, crate::proofs::Does::link_judged, crate::proofs::Does::does_refused, crate::proofs::Does::does_accepted))]
 impl World {
-    /// Makes the word at an offset, in words, from where the slot points a link to the object that starts at the target slot's word:
-    /// `GC_general_register_disappearing_link`, or `GC_register_long_link`. A link that stands there already gets the new target.
+    /// Registers a disappearing link at `offset` words after the slot's word, whose target is the object at the target slot's word. This is
+    /// `GC_general_register_disappearing_link` or `GC_register_long_link`. If the place has a link already, only its target changes.
     ///
-    /// Refusals, in their order: `BadSlot` of either slot, `NotPointer` and `OutsideObject` of the place, `NotPointer` and `NotStart` of the target,
+    /// Fails with, in this order: `BadSlot` for either slot, `NotPointer` and `OutsideObject` for the place, `NotPointer` and `NotStart` for the target,
     /// `TableFull` for a 65,537th link of its kind, `NoMemory`.
     pub fn link(
         &mut self,
@@ -78,7 +78,7 @@ impl World {
         ensures step { Does self.old (Make (calls.Link which (place_at frame slot offset) (slot_at target_frame target_slot))) result self.new }
         ensures caused { IsJudgedOrLacks (causes self.old.core (Make (calls.Link which (place_at frame slot offset) (slot_at target_frame target_slot)))) result }
         ensures refused { OnErr result (self.new ≡ self.old) }
-        // Only a new link can want memory.
+        // Only a new link can run out of memory.
         ensures growth { IfErr result (λ r. r ≡ Refusal.NoMemory → IsNone (link_at self.old.core which (place_at frame slot offset))) }
         ensures marks { KeepsMarks self.old self.new }
     {
@@ -103,10 +103,10 @@ impl World {
         }
     }
 
-    /// Removes the link at an offset, in words, from where the slot points, and returns whether there was one:
-    /// `GC_unregister_disappearing_link`, or `GC_unregister_long_link`.
+    /// Removes the link at `offset` words after the slot's word, and returns whether there was one. This is `GC_unregister_disappearing_link` or
+    /// `GC_unregister_long_link`.
     ///
-    /// Refusals, in their order: `BadSlot`, `NotPointer`, `OutsideObject`.
+    /// Fails with, in this order: `BadSlot`, `NotPointer`, `OutsideObject`.
     pub fn unlink(
         &mut self,
         which: LinkKind,
@@ -127,9 +127,9 @@ impl World {
         })
     }
 
-    /// Moves a link, with its target, from one place to another: `GC_move_disappearing_link`, or `GC_move_long_link`. No word changes.
+    /// Moves a link from one place to another; its target stays the same, and no word changes. This is `GC_move_disappearing_link` or `GC_move_long_link`.
     ///
-    /// Refusals, in their order: `BadSlot` of either slot, `NotPointer` and `OutsideObject` of the old place, the same of the new one, `NoMemory`.
+    /// Fails with, in this order: `BadSlot` for either slot, `NotPointer` and `OutsideObject` for the old place, the same for the new one, `NoMemory`.
     pub fn move_link(
         &mut self,
         which: LinkKind,
@@ -143,7 +143,7 @@ impl World {
         ensures step { Does self.old (Make (calls.Move which (place_at frame slot offset) (place_at to_frame to_slot to_offset))) result self.new }
         ensures caused { IsJudgedOrLacks (causes self.old.core (Make (calls.Move which (place_at frame slot offset) (place_at to_frame to_slot to_offset)))) result }
         ensures refused { OnErr result (self.new ≡ self.old) }
-        // Only a link that comes to another place, where none stands, can want memory.
+        // Only a link that moves to a different place without a link can run out of memory.
         ensures growth { IfErr result (λ r. r ≡ Refusal.NoMemory → IsSome (link_at self.old.core which (place_at frame slot offset)) × IsNone (link_at self.old.core which (place_at to_frame to_slot to_offset))) }
         ensures marks { KeepsMarks self.old self.new }
     {

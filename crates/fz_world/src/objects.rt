@@ -17,7 +17,7 @@ use fz_dirty::Dirty;
 use fz_marker::Marker;
 use fz_model::{Addr, BLOCK_WORDS, HEAP_START, ObjKind, Refusal, Slot, Word};
 
-/// Notes the page of a word that was written in an open cycle.
+/// In an open cycle, makes the page of a written word dirty.
 fn note_written(dirty: &mut Dirty, cycle: bool, address: Addr)
     requires { IsInHeap dirty.old.pages address }
     ensures { dirty.new ≡ record dirty.old { noted = with_in_cycle cycle dirty.old.noted (block_of address) } }
@@ -27,7 +27,7 @@ fn note_written(dirty: &mut Dirty, cycle: bool, address: Addr)
     }
 }
 
-/// Marks an object that was made in an open cycle.
+/// In an open cycle, marks a new object.
 fn mark_new(marker: &mut Marker, cycle: bool, start: Addr, blocks: u64)
     requires size { marker.old.size ≡ BLOCK_WORDS * blocks }
     requires in_heap { IsInHeap blocks start }
@@ -40,10 +40,11 @@ fn mark_new(marker: &mut Marker, cycle: bool, start: Addr, blocks: u64)
 
 #[tactic(auto, using(fz_model::proofs::Judged::judged_more, fz_model::proofs::Judged::judged_err, crate::proofs::Targets::targets_made, crate::proofs::Targets::targets_written, crate::proofs::Whole::world_pages, crate::proofs::Whole::world_made, crate::proofs::Whole::world_written, crate::proofs::Does::does_refused, crate::proofs::Does::does_accepted, crate::proofs::Does::does_alloc))]
 impl World {
-    /// Makes an object of `size` words, all of them zero, and puts its address into the slot. Returns the address and the birth. An atomic object is one of
-    /// `GC_malloc_atomic`. In an open cycle the object is marked and its page noted. Takes time by the object's words.
+    /// Allocates an object of `size` words, all of them zero, stores its address in the slot, and returns its address and birth. An atomic object is
+    /// pointer-free, as with `GC_malloc_atomic`. In an open cycle the object is marked and its page becomes dirty. Takes time proportional to the object's
+    /// words.
     ///
-    /// Refusals, in their order: `BadSlot`, `BadSize` outside 1 to 1,024 words, `Exhausted` after 2^48 births, `NoSpace`.
+    /// Fails with, in this order: `BadSlot`, `BadSize` if the size isn't from 1 to 1,024 words, `Exhausted` after 2^48 births, `NoSpace`.
     pub fn alloc(
         &mut self,
         frame: u64,
@@ -52,7 +53,7 @@ impl World {
         kind: ObjKind,
     ) -> Result<(Addr, u64), Refusal>
         ensures step { Does self.old (Make (calls.Alloc (slot_at frame slot) size kind)) result self.new }
-        // It takes no memory, since `open` made its room: so each refusal has its cause.
+        // It allocates no memory, since `open` reserved it. So each refusal has its cause.
         ensures caused { IsJudgedBy (causes self.old.core (Make (calls.Alloc (slot_at frame slot) size kind))) result }
         ensures refused { OnErr result (self.new ≡ self.old) }
         ensures marks { IfOk result (λ made. MarksMade self.old made.0 self.new) }
@@ -70,10 +71,10 @@ impl World {
         Ok((address, birth))
     }
 
-    /// Reads the word at an offset, in words, from where the slot points into an object, and puts it into the second slot too, which may be
-    /// the first one.
+    /// Loads the word at `offset` words after the slot's word, in the object to which that points, stores it in the second slot, and returns it. The second
+    /// slot may be the first one.
     ///
-    /// Refusals, in their order: `BadSlot` of either slot, `NotPointer`, `OutsideObject` where the word plus the offset leaves the object.
+    /// Fails with, in this order: `BadSlot` for either slot, `NotPointer`, `OutsideObject` if the slot's word plus the offset lies outside the object.
     pub fn load(
         &mut self,
         frame: u64,
@@ -98,10 +99,10 @@ impl World {
         Ok(read)
     }
 
-    /// Writes the second slot's word at an offset, in words, from where the first slot points into an object. In an open cycle the page of the
-    /// written word is noted. A number is written by a `set` of a slot before.
+    /// Stores the second slot's word at `offset` words after the first slot's word, in the object to which that points. In an open cycle the page of the
+    /// written word becomes dirty (this is the write barrier). To store a number, `set` a slot to it first.
     ///
-    /// Refusals, in their order: `BadSlot` of either slot, `NotPointer`, `OutsideObject` where the word plus the offset leaves the object.
+    /// Fails with, in this order: `BadSlot` for either slot, `NotPointer`, `OutsideObject` if the slot's word plus the offset lies outside the object.
     pub fn store(
         &mut self,
         frame: u64,
@@ -125,9 +126,9 @@ impl World {
         Ok(())
     }
 
-    /// Puts the word into the slot.
+    /// Stores the word in the slot.
     ///
-    /// Refused `BadSlot` where there is no such slot.
+    /// Fails with `BadSlot` if the slot doesn't exist.
     pub fn set(&mut self, frame: u64, slot: u64, word: Word) -> Result<(), Refusal>
         ensures step { Does self.old (Make (calls.Set (slot_at frame slot) word)) result self.new }
         ensures caused { IsJudgedBy (causes self.old.core (Make (calls.Set (slot_at frame slot) word))) result }
@@ -139,9 +140,9 @@ impl World {
         Ok(())
     }
 
-    /// Puts the slot's word into the second slot.
+    /// Copies the slot's word into the second slot.
     ///
-    /// Refused `BadSlot` where there is no such slot.
+    /// Fails with `BadSlot` if either slot doesn't exist.
     pub fn copy(
         &mut self,
         frame: u64,

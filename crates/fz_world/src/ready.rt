@@ -1,4 +1,4 @@
-//! The queue of finalizers that are ready, and those of its entries that are held.
+//! The queue of finalizers, and which of its entries are held.
 
 ghost use Rattle.std.specs.Prelude.{◌≡◌, ◌≢◌, ◌≤◌, ◌<◌, ◌+◌, ◌*◌, ◌^◌, ◌⊎◌, [], ◌∷◌, ◌||◌, min, not, ℕ, drop, filter, length, slice_get, Contains, vec_len, vec_capacity, IsTrue, OnOk, OnErr, IfOk, IfErr, IfSome, MatchOption};
 ghost use Rattle.std.specs.FinSet.{contains};
@@ -24,16 +24,16 @@ use std::marker::{Model, PhantomData};
 
 /// Every entry ever queued, in order, and which of them aren't finished.
 ///
-/// In memory stand the entries from a number on, the window, and before them the held ones with smaller numbers. Contracts see the whole queue.
+/// In memory are a window, the entries from one number on, and before it the held entries with smaller numbers. The model is the whole queue.
 #[derive(Drop)]
 pub(crate) struct Ready {
     past: Past,
     entries: Vec<Entry>,
-    /// How many stand before the window.
+    /// How many entries precede the window.
     kept: usize,
     /// The number of the window's first entry.
     first: u64,
-    /// The places of the held entries, as bits in two levels: a walk over many finished entries takes a step for 4,096 of them.
+    /// The indices of the held entries, as a bitmap of two levels: a loop skips 4,096 finished entries in one step.
     held: SparseFlags,
     outstanding: u64,
     list: ReadyList,
@@ -58,7 +58,7 @@ impl Model for Ready {
     ghost invariant = { λ r. IsReady r.past.entries r.entries.items r.kept r.first r.held.members r.outstanding };
 }
 
-/// Makes room for `more` entries at the end of a queue; returns how many there may be then.
+/// Reserves room for `more` entries at the end of a queue. Returns how many the queue may have then.
 fn reserve(queue: &mut Vec<Entry>, more: usize) -> Result<u64, Refusal>
     requires { more ≤ 2 ^ 32 }
     ensures refused { IfErr result (λ r. r ≡ Refusal.NoMemory) }
@@ -74,7 +74,7 @@ fn reserve(queue: &mut Vec<Entry>, more: usize) -> Result<u64, Refusal>
 }
 
 impl Ready {
-    /// An empty queue, with no room.
+    /// An empty queue without reserved room.
     pub(crate) fn new(alloc: Global) -> Result<Ready, Refusal>
         ensures refused { IfErr result (λ r. r ≡ Refusal.NoMemory) }
         ensures empty { IfOk result (λ ready. (ready.queue ≡ []) × (ready.held ≡ [])) }
@@ -92,7 +92,7 @@ impl Ready {
         })
     }
 
-    /// The entries of the window: those from the number `forgotten` on.
+    /// The entries of the window: those from number `forgotten` on.
     pub(crate) fn queue(&self) -> &[Entry]
         ensures { result.now ≡ drop self.now.forgotten self.now.queue }
     {
@@ -154,7 +154,7 @@ impl Ready {
         Some(self.entries[place as usize])
     }
 
-    /// Makes room for further entries. `NoMemory` where an allocation failed.
+    /// Reserves room for further entries. Fails with `NoMemory` if an allocation fails.
     pub(crate) fn reserve(&mut self, more: usize) -> Result<(), Refusal>
         requires { more ≤ 2 ^ 32 }
         ensures refused { IfErr result (λ r. r ≡ Refusal.NoMemory) }
@@ -169,8 +169,8 @@ impl Ready {
         self.held.extend_to(entries.div_ceil(64))
     }
 
-    /// Carries out a pass with this number over the other parts of a world: its entries come to the end of the queue, for which there has to be
-    /// room, and are held.
+    /// Carries out the pass of this number over the other parts of a world. Its entries are appended to the queue, which must have room for them, and are
+    /// held.
     pub(crate) fn pass(
         &mut self,
         number: u64,
@@ -215,7 +215,7 @@ impl Ready {
         }
     }
 
-    /// Refuses an entry that isn't held: `NotHeld` where no held entry is the same in all its fields.
+    /// Fails with `NotHeld` if no held entry equals this one in all fields.
     pub(crate) fn check_held(&self, entry: &Entry) -> Result<(), Refusal>
         ensures { IsJudgedBy (not_held self.now.held entry.now ∷ []) result }
     {
@@ -227,9 +227,9 @@ impl Ready {
         }
     }
 
-    /// Ends the holding of an entry.
+    /// Finishes a held entry.
     ///
-    /// Refused `NotHeld` where no held entry is the same in all its fields.
+    /// Fails with `NotHeld` if no held entry equals this one in all fields.
     pub(crate) fn finish(&mut self, entry: &Entry) -> Result<(), Refusal>
         ensures judged { IsJudgedBy (not_held self.old.held entry.now ∷ []) result }
         ensures unchanged { OnErr result (self.new ≡ self.old) }
@@ -247,17 +247,17 @@ impl Ready {
         Ok(())
     }
 
-    /// Every entry ever queued, as a past.
+    /// Every entry ever queued, as a value for contracts.
     fn whole(&self) -> Past
         ensures { result.entries ≡ self.now.queue }
     {
         Past { bytes: PhantomData }
     }
 
-    /// Gives back the memory of finished entries, once they are more than 1 for each 16 that aren't finished; returns how many went. Room for `room`
-    /// further entries stays, as far as there was any.
+    /// Frees the memory of finished entries, if there are more than 1 for each 16 unfinished ones. Returns how many were forgotten. Room for `room` further
+    /// entries stays reserved, as far as it was.
     ///
-    /// So the queue has at most 64 bytes for each entry that isn't finished, and for each that it has room for.
+    /// So the queue takes at most 64 bytes for each unfinished entry, and for each entry that it has room for.
     pub(crate) fn forget(&mut self, room: usize) -> u64
         requires { room ≤ 2 ^ 32 }
         ensures same { self.new ≡ record self.old { forgotten = self.new.forgotten; remembered = self.new.remembered; room = self.new.room } }

@@ -23,7 +23,7 @@ use fz_model::{
 };
 use fz_table::Table;
 
-/// The least room that a table is given at once, so that a small one doesn't grow again and again.
+/// The least room that a table reserves at once, so that small tables don't grow repeatedly.
 const LEAST_ROOM: u64 = 1024;
 
 /// Whether the word is zero, or lies outside the heap.
@@ -33,7 +33,7 @@ fn is_off_heap(heap: &Heap, word: Word) -> bool
     word < HEAP_START || word >= HEAP_START + BLOCK_WORDS * heap.blocks()
 }
 
-/// Refuses a word that isn't the start of an object.
+/// Checks that the word is the address of an object.
 pub(crate) fn check_start(heap: &Heap, word: Word) -> Result<(), Refusal>
     ensures judged { IsJudgedBy (start_causes heap.now.objects word) result }
     ensures object { OnOk result (IsTrue (contains_key heap.now.objects word)) }
@@ -41,21 +41,21 @@ pub(crate) fn check_start(heap: &Heap, word: Word) -> Result<(), Refusal>
     let Some(start) = heap.resolve(word) else {
         return Err(Refusal::NotPointer);
     };
-    // A start points to its own object.
+    // The address of an object points to that object.
     if start != word {
         return Err(Refusal::NotStart);
     }
     Ok(())
 }
 
-/// The most registrations, or links of a kind, that there can be at one time: one for each word of the heap, up to a table's limit.
+/// The largest number of registrations, or of links of one kind, at one time: one for each word of the heap, up to a table's limit.
 pub(crate) fn most_entries(heap: &Heap) -> usize
     ensures { result ≤ TABLE_LIMIT }
 {
     (BLOCK_WORDS * heap.blocks()).min(TABLE_LIMIT) as usize
 }
 
-/// For how many registrations, or links of a kind, there is room at first: one for each object, where no pass has reclaimed any. Else a table starts small.
+/// How many registrations, or links of one kind, to reserve room for at first: before the first pass one for each object, and later a small number.
 pub(crate) fn first_entries(heap: &Heap, passes: u64) -> usize
     ensures { result ≤ TABLE_LIMIT }
 {
@@ -64,7 +64,7 @@ pub(crate) fn first_entries(heap: &Heap, passes: u64) -> usize
     wanted.min(most_entries(heap))
 }
 
-/// Makes room for the first registrations and their entries, where there is no registration yet. So tables and queue seldom grow.
+/// Reserves room before the first registration, for registrations and their entries, so that table and queue seldom have to grow.
 fn make_first_room(table: &mut Table, ready: &mut Ready, heap: &Heap, passes: u64)
     ensures registered { table.new.registered ≡ table.old.registered }
     ensures queue { (ready.new.queue ≡ ready.old.queue) × (ready.new.held ≡ ready.old.held) }
@@ -73,14 +73,14 @@ fn make_first_room(table: &mut Table, ready: &mut Ready, heap: &Heap, passes: u6
 {
     if table.is_empty() {
         let most = first_entries(heap, passes);
-        // Where so much memory can't be had, each registration asks for its own.
+        // If that much memory isn't available, each registration reserves its own.
         let _ = table.reserve(most);
         let _ = ready.reserve(most);
     }
 }
 
-/// Makes room for the entry of an object's registration, if the object isn't registered: so no pass needs memory. `NoMemory` where an allocation
-/// failed. The table is searched for the object only then.
+/// Reserves room in the queue for the entry of an object's registration, unless the object is registered. So no pass allocates memory. Fails with `NoMemory`
+/// if an allocation fails; only then it searches the table for the object.
 fn make_room(table: &Table, ready: &mut Ready, object: Addr) -> Result<(), Refusal>
     requires free { IsFalse (full table.now.registrations object).0 }
     requires room { len table.now.registrations ≤ ready.old.room }
@@ -92,7 +92,7 @@ fn make_room(table: &Table, ready: &mut Ready, object: Addr) -> Result<(), Refus
     ensures roomier { ready.old.room ≤ ready.new.room }
     ensures room { OnOk result ((r : Registration) → len (insert table.now.registrations object r) ≤ ready.new.room) }
 {
-    // Where the table is full, the object is registered.
+    // If the table is full, the object is registered already.
     let count = table.len();
     let more = (count + 1).min(count.max(TABLE_LIMIT as usize));
     let Err(refusal) = ready.reserve(more) else {
@@ -104,8 +104,8 @@ fn make_room(table: &Table, ready: &mut Ready, object: Addr) -> Result<(), Refus
     Err(refusal)
 }
 
-/// Registers an object's finalizer, once there is room for its entry; returns the number and what was replaced. Refused as `Table::register` is; a refused call
-/// leaves no more than room behind.
+/// Registers an object's finalizer after reserving room for its entry. Returns the number and what was replaced. Fails as `Table::register` does. A failed
+/// call leaves at most reserved room behind.
 fn enroll(
     table: &mut Table,
     ready: &mut Ready,
@@ -128,11 +128,11 @@ fn enroll(
 
 #[tactic(auto, using(fz_model::proofs::Judged::judged_more, fz_model::proofs::Judged::judged_err, crate::proofs::Whole::world_room, crate::proofs::Whole::world_registered, crate::proofs::Whole::world_roomier, crate::proofs::Whole::world_removed, crate::proofs::Does::start_refused, crate::proofs::Does::does_refused, crate::proofs::Does::does_accepted))]
 impl World {
-    /// Registers a finalizer of the object that starts at the slot's word, as `GC_register_finalizer` does, or by its kind the `_ignore_self` or `_no_order`
-    /// one. A pass queues what is ready by rank, then address. A word that is zero or outside the heap is answered `Outside`, and changes nothing. The first
-    /// in a world takes time by the heap.
+    /// Registers a finalizer for the object at the slot's word, as `GC_register_finalizer` or its `_ignore_self` or `_no_order` variant does. A pass queues
+    /// ready finalizers by rank, then address. A word that is zero or outside the heap has no effect, and the result is `Outside`. Takes time proportional to
+    /// the heap for the first registration in a world.
     ///
-    /// Refusals, in their order: `BadSlot`, `NotPointer`, `NotStart`, `Exhausted` after 2^48 numbers, `TableFull` for a 65,537th object, `NoMemory`.
+    /// Fails with, in this order: `BadSlot`, `NotPointer`, `NotStart`, `Exhausted` after 2^48 numbers, `TableFull` for a 65,537th object, `NoMemory`.
     pub fn register(
         &mut self,
         frame: u64,
@@ -148,7 +148,7 @@ impl World {
         self.register_finalizer(Slot { frame, slot }, finalizer)
     }
 
-    /// The same call, with slot and finalizer as values. A finalizer that names no rank has rank 0.
+    /// The same as `register`, with slot and finalizer as values. A finalizer without a rank has rank 0.
     pub fn register_finalizer(
         &mut self,
         slot: Slot,
@@ -171,10 +171,10 @@ impl World {
         Ok(RegAnswer::Number(number, old))
     }
 
-    /// Removes the registration of the object that starts at the slot's word; returns its procedure and client data: `GC_register_finalizer` with
-    /// no procedure.
+    /// Removes the registration of the object at the slot's word, and returns its procedure and client data, if it was registered. This is
+    /// `GC_register_finalizer` without a procedure.
     ///
-    /// Refusals, in their order: `BadSlot`, `NotPointer`, `NotStart`; a word that is zero or outside the heap has no registration.
+    /// Fails with, in this order: `BadSlot`, `NotPointer`, `NotStart`. A word that is zero or outside the heap has no registration.
     pub fn unregister(&mut self, frame: u64, slot: u64) -> Result<Option<Old>, Refusal>
         ensures step { Does self.old (Make (calls.Unregister (slot_at frame slot))) result self.new }
         ensures caused { IsJudgedBy (causes self.old.core (Make (calls.Unregister (slot_at frame slot)))) result }

@@ -1,7 +1,8 @@
-//! What a world shows: readers, which change nothing and take no memory.
+//! Readers of a world. They change nothing and allocate nothing.
 //!
-//! A table is read at one address, or in order of address: `next_object`, `next_registration` and `next_link` find the first row from an address on,
-//! and whoever goes on from the address behind it sees each row once. So no list is made and nothing is sorted, and each answer is exact by itself.
+//! Objects, registrations and links can be read by address, or iterated in address order: `next_object`, `next_registration` and `next_link` return the first
+//! one at or after an address. A caller that continues after each result sees each of them once. So no list is built, nothing is sorted, and each result is
+//! exact by itself.
 
 ghost use Rattle.std.specs.Prelude.{◌≡◌, ◌<◌, ◌≤◌, ◌+◌, ◌*◌, ◌^◌, ℕ, Some, IsFalse, IfOk, IfSome, MatchOption, Contains, length, option_map, slice_get};
 ghost use Rattle.std.specs.List.{list_any};
@@ -33,11 +34,11 @@ pub struct Object {
     /// In words.
     pub size: u64,
     pub kind: ObjKind,
-    /// No other object of the world has it.
+    /// No other object of the world has this birth.
     pub birth: u64,
 }
 
-/// The tables that have rows by address.
+/// The tables that can be iterated by address.
 #[derive(Clone, Copy)]
 pub(crate) enum Table {
     Objects,
@@ -48,7 +49,7 @@ pub(crate) enum Table {
 impl World {
     /// The word of a slot.
     ///
-    /// Refused `BadSlot` where there is no such slot.
+    /// Fails with `BadSlot` if the slot doesn't exist.
     pub fn slot(&self, frame: u64, slot: u64) -> Result<Word, Refusal>
         ensures judged { IsJudgedBy (slot_causes self.now.frames (slot_at frame slot)) result }
         ensures word { IfOk result (λ word. word ≡ slot_word self.now.frames (slot_at frame slot)) }
@@ -56,9 +57,9 @@ impl World {
         self.frames.get(Slot { frame, slot })
     }
 
-    /// The word at an offset, in words, from where `word` points into an object. Unlike `load` it puts the word nowhere, so it keeps nothing alive.
+    /// The word at `offset` words after `word`, in the object to which `word` points. Unlike `load` this stores the word nowhere, so it retains nothing.
     ///
-    /// Refusals, in their order: `NotPointer`, `OutsideObject` where the word plus the offset leaves the object.
+    /// Fails with, in this order: `NotPointer`, `OutsideObject` if `word` plus the offset lies outside the object.
     pub fn read(&self, word: Word, offset: u64) -> Result<Word, Refusal>
         ensures judged { IsJudgedBy (place_causes self.now.objects word offset) result }
         ensures read { IfOk result (λ read. read ≡ word_at self.now.objects (word + offset)) }
@@ -66,21 +67,22 @@ impl World {
         self.marked.heap.read(word, offset)
     }
 
-    /// How many objects there are.
+    /// The number of objects.
     pub fn live(&self) -> u64
         ensures { result ≡ len self.now.objects }
     {
         self.marked.heap.live()
     }
 
-    /// How many words the objects have: what a program may collect by, before an allocation finds no space.
+    /// The number of words that the objects have together. A program may use it to collect before an allocation fails.
     pub fn used_words(&self) -> u64
         ensures { result ≡ words_of self.now.objects }
     {
         self.marked.heap.used()
     }
 
-    /// How many words of the heap no object has. A new object may find no place among them, where they lie apart, or in blocks of another size.
+    /// The number of words of the heap that belong to no object. A new object may find no room in spite of them, if they aren't adjacent or lie in blocks of
+    /// another size.
     pub fn free_words(&self) -> u64
         ensures { words_of self.now.objects + result ≡ BLOCK_WORDS * self.now.blocks }
     {
@@ -88,14 +90,14 @@ impl World {
         BLOCK_WORDS * heap.blocks() - heap.used()
     }
 
-    /// The starts of all objects, by rising address.
+    /// The addresses of all objects, in ascending order.
     pub fn starts(&self) -> Starts<'_>
         ensures { result ≡ keys self.now.objects }
     {
         self.marked.heap.objects()
     }
 
-    /// The object that starts at the address, if one starts there.
+    /// The object with this address, if there is one.
     pub fn object(&self, start: Addr) -> Option<Object>
         ensures { result ≡ option_map (shown_object start) (get self.now.objects start) }
     {
@@ -108,7 +110,7 @@ impl World {
         })
     }
 
-    /// The object to which the word points, interior words included: gc.h's `GC_base` and `GC_size`.
+    /// The object to which the word points, if there is one; interior pointers count. This is `GC_base` and `GC_size`.
     pub fn object_of(&self, word: Word) -> Option<Object>
         ensures start { option_map (λ (o : Object). o.start) result ≡ points self.now.objects word }
         ensures object { IfSome result (λ object. option_map (shown_object object.start) (get self.now.objects object.start) ≡ Some object) }
@@ -117,14 +119,14 @@ impl World {
         self.object(start)
     }
 
-    /// The registration of the object that starts at the address, if it is registered.
+    /// The registration of the object with this address, if it is registered.
     pub fn registration(&self, object: Addr) -> Option<Registration>
         ensures { result ≡ get self.now.registrations object }
     {
         self.table.get(object)
     }
 
-    /// The start of the target of the link whose word stands at the address, if a link of that kind stands there.
+    /// The address of the target of the link of this kind at this word, if there is one.
     pub fn target(&self, which: LinkKind, place: Addr) -> Option<Addr>
         ensures { result ≡ get (links_of self.now.core which) place }
     {
@@ -134,14 +136,14 @@ impl World {
         }
     }
 
-    /// Whether the entry is held, in all its fields.
+    /// Whether a held entry equals this one in all fields.
     pub fn is_held(&self, entry: &Entry) -> bool
         ensures { result ≡ list_any (same_entry entry.now) self.now.held }
     {
         self.ready.check_held(entry).is_ok()
     }
 
-    /// The first held entry whose number is `from` or more. `queue` has the others too.
+    /// The first held entry with a number of at least `from`. `queue` also has the finished ones.
     #[inline(always)]
     pub fn next_held(&self, from: u64) -> Option<Entry>
         ensures next { MatchOption result ((e : Entry) → Contains self.now.held e → e.seq < from) (IsNextHeld self.now.held from) }
@@ -152,7 +154,7 @@ impl World {
         self.ready.next_held(from)
     }
 
-    /// The first object of the heap that starts at `from` or behind it. It looks at each block between.
+    /// The first object with an address of at least `from`. Takes time proportional to the blocks that it passes.
     pub fn next_object(&self, from: Addr) -> Option<Object>
         ensures first { MatchOption result (HasNoneFrom self.now.blocks (contains_key self.now.objects) from) (λ object. IsFirstFrom self.now.blocks (contains_key self.now.objects) from object.start) }
         ensures object { IfSome result (λ object. option_map (shown_object object.start) (get self.now.objects object.start) ≡ Some object) }
@@ -161,7 +163,8 @@ impl World {
         self.object(start)
     }
 
-    /// The first registered object of the heap from `from` on, with its registration. It looks at each block and each object between.
+    /// The first registered object with an address of at least `from`, and its registration. Takes time proportional to the blocks and objects that it
+    /// passes.
     pub fn next_registration(&self, from: Addr) -> Option<(Addr, Registration)>
         ensures first { MatchOption result (HasNoneFrom self.now.blocks (contains_key self.now.registrations) from) (λ row. IsFirstFrom self.now.blocks (contains_key self.now.registrations) from row.0) }
         ensures registration { IfSome result (λ row. get self.now.registrations row.0 ≡ Some row.1) }
@@ -171,8 +174,8 @@ impl World {
         Some((object, registration))
     }
 
-    /// The first link of that kind whose word stands in the heap at `from` or behind it: the address of its word, and the start of its target. It
-    /// looks at each address between.
+    /// The first link of this kind whose word has an address of at least `from`: the address of its word, and the address of its target. Takes time
+    /// proportional to the addresses that it passes.
     pub fn next_link(&self, which: LinkKind, from: Addr) -> Option<(Addr, Addr)>
         ensures first { MatchOption result (HasNoneFrom self.now.blocks (contains_key (links_of self.now.core which)) from) (λ row. IsFirstFrom self.now.blocks (contains_key (links_of self.now.core which)) from row.0) }
         ensures target { IfSome result (λ row. get (links_of self.now.core which) row.0 ≡ Some row.1) }
@@ -182,7 +185,7 @@ impl World {
         Some((place, target))
     }
 
-    /// Whether the table has a row at the address.
+    /// Whether the table has an entry at the address.
     fn has_row(&self, table: Table, address: Addr) -> bool
         ensures { result ≡ has_row self.now.core table address }
     {
@@ -193,7 +196,7 @@ impl World {
         }
     }
 
-    /// The next address behind one at which an object may start. The rest of a block in which none starts costs as much as one address.
+    /// The next address at which an object may start. If no object starts in the rest of the block, this skips the rest in one step.
     fn next_start(&self, address: Addr) -> Addr
         requires heap { IsInHeap self.now.blocks address }
         requires fits { address + BLOCK_WORDS < 2 ^ 64 }
@@ -208,7 +211,7 @@ impl World {
         address + 1 + u64::from(behind.trailing_zeros()).min(BLOCK_WORDS - 1 - place)
     }
 
-    /// The next address behind one at which the table may have a row.
+    /// The next address at which the table may have an entry.
     fn next_place(&self, table: Table, address: Addr) -> Addr
         requires heap { IsInHeap self.now.blocks address }
         requires fits { address + BLOCK_WORDS < 2 ^ 64 }
@@ -221,7 +224,7 @@ impl World {
         }
     }
 
-    /// The first address of the heap from one on at which the table has a row.
+    /// The first address, from one on, at which the table has an entry.
     fn first_from(&self, table: Table, from: Addr) -> Option<Addr>
         ensures { MatchOption result (HasNoneFrom self.now.blocks (has_row self.now.core table) from) (IsFirstFrom self.now.blocks (has_row self.now.core table) from) }
     {

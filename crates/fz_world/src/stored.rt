@@ -1,4 +1,4 @@
-//! The entries of a queue that are in memory, and the places of those that are held.
+//! The entries of a queue that are in memory, and which of them are held.
 
 ghost use Rattle.std.specs.Prelude.{◌≡◌, ◌≤◌, ◌<◌, ◌+◌, ◌*◌, ◌||◌, ◌&&◌, min, nat_lt, ℕ, length, slice_get, false, vec_len, vec_capacity, IsTrue};
 ghost use Rattle.std.specs.FinSet.{contains};
@@ -9,7 +9,8 @@ ghost use Rattle.fz_world.specs.Ready.{AreStored, IsPlaceOf, is_between, placed_
 use fz_bits::SparseFlags;
 use fz_model::Entry;
 
-/// The place of the first entry whose number is at least this one, or a place behind all. `kept` entries stand before the window, whose first number is `first`.
+/// The index of the first entry with a number of at least `number`; if there is none, an index after all entries. `kept` entries precede the window, whose
+/// first entry has the number `first`.
 pub(crate) fn place_of(entries: &[Entry], kept: usize, first: u64, number: u64) -> usize
     requires { AreStored entries.now kept first }
     ensures { IsPlaceOf entries.now number result }
@@ -24,7 +25,7 @@ pub(crate) fn place_of(entries: &[Entry], kept: usize, first: u64, number: u64) 
     )
 }
 
-/// Whether the entry at a place is held, and is this one in all its fields.
+/// Whether the entry at an index is held and equals this one in all fields.
 pub(crate) fn is_held_at(entries: &[Entry], held: &SparseFlags, place: usize, entry: &Entry) -> bool
     requires { IsTrue (contains held.now.members place) → place < length entries.now }
     ensures { result ≡ (contains held.now.members place && option_map_or (same_entry entry.now) (slice_get entries.now place) false) }
@@ -32,7 +33,7 @@ pub(crate) fn is_held_at(entries: &[Entry], held: &SparseFlags, place: usize, en
     held.contains(place as u64) && *entry == entries[place]
 }
 
-/// Puts each number from the first to before the end into a set, which has room for them.
+/// Adds the numbers from `first` up to but excluding `end` to a set that has room for them.
 pub(crate) fn hold(held: &mut SparseFlags, first: u64, end: u64)
     requires ordered { first ≤ end }
     requires room { first < end → end ≤ held.old.size }
@@ -44,7 +45,7 @@ pub(crate) fn hold(held: &mut SparseFlags, first: u64, end: u64)
     }
 }
 
-/// Keeps the entries at the places of a set, and no others; returns how many these are. The set then has their new places.
+/// Keeps only the entries at the indices in the set. Returns how many these are. Afterwards the set contains their new indices.
 pub(crate) fn gather(entries: &mut Vec<Entry>, held: &mut SparseFlags) -> usize
     requires { (n : ℕ) → IsTrue (contains held.old.members n) → n < length entries.old.items }
     ensures kept { entries.new.items ≡ placed_in held.old.members 0 entries.old.items }
@@ -66,7 +67,7 @@ pub(crate) fn gather(entries: &mut Vec<Entry>, held: &mut SparseFlags) -> usize
     count
 }
 
-/// Gives back what memory there is beyond room for `room` further entries, if it is more than a sixteenth.
+/// Frees memory beyond the room for `room` further entries, if that is more than a sixteenth.
 pub(crate) fn give_back(entries: &mut Vec<Entry>, held: &mut SparseFlags, room: usize)
     requires { (n : ℕ) → IsTrue (contains held.old.members n) → n < length entries.old.items }
     ensures items { entries.new.items ≡ entries.old.items }

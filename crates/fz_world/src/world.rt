@@ -1,4 +1,4 @@
-//! The world, and how it opens.
+//! The world, and opening it.
 
 ghost use Rattle.std.specs.Prelude.{◌≡◌, ◌≤◌, ◌*◌, IfOk, IfErr};
 ghost use Rattle.std.specs.FinSet.{empty};
@@ -19,20 +19,19 @@ use fz_table::Table;
 use std::alloc::Global;
 use std::marker::Model;
 
-/// How a world opens.
+/// The size of a world.
 #[derive(Clone, Copy, Debug, PartialEq, Eq)]
 pub struct Config {
     /// The heap's size in blocks of 64 words, from 1 to 4,096.
     pub blocks: u64,
-    /// The number of frames, of 16 slots each, from 1 to 8.
+    /// The number of root frames, each of 16 slots, from 1 to 8.
     pub frames: u64,
 }
 
-/// A world of objects, frames, registrations, links and entries of ready finalizers, after `gc.h`, with a mostly parallel marker.
+/// A world of objects, root frames, registrations, links and a queue of finalizers, modelled on `gc.h`, with a mostly parallel marker.
 ///
-/// A contract sees all that a state of the model keeps but what an open cycle has seen, and the marks of the cycle begun last. A refused call
-/// returns the first of its refusals that stands, and changes nothing that a contract sees. Memory is taken by `open`, `register`, `link` and
-/// `move_link` alone.
+/// Its model is the state of the model without the history of an open cycle, and the marks of the last cycle. If several refusals of a call apply, it returns
+/// the first in the documented order. A refused call changes nothing in the model. Only `open`, `register`, `link` and `move_link` allocate memory.
 pub struct World {
     pub(crate) marked: Marked,
     pub(crate) frames: Frames,
@@ -46,7 +45,7 @@ pub struct World {
     pub(crate) cycle: bool,
 }
 
-// Written out: who owns a world then drops it by one call that is proved here, not field by field at each way out of a function.
+// Written by hand, so that the owner drops it by one proved call, not field by field at each exit of a function.
 impl Drop for World {
     fn drop(self) {
         let World {
@@ -76,7 +75,7 @@ impl Model for World {
     ghost invariant = { λ w. IsWorld w.marked.heap w.table.registered w.ready w.marked.marker w.dirty w.cycle × HasNumber w.passes w.cycle × HaveTargets w.marked.heap.objects w.short.links × HaveTargets w.marked.heap.objects w.long.links };
 }
 
-/// The marker and the pages of a heap.
+/// The marker and the dirty pages of a heap.
 fn marks(alloc: Global, blocks: u64) -> Result<(Marker, Dirty), Refusal>
     requires { blocks ≤ MAX_BLOCKS }
     ensures refused { IfErr result (λ r. r ≡ Refusal.NoMemory) }
@@ -90,9 +89,9 @@ fn marks(alloc: Global, blocks: u64) -> Result<(Marker, Dirty), Refusal>
 
 #[tactic(auto, using(crate::proofs::Whole::world_opening, crate::proofs::Targets::targets_opening))]
 impl World {
-    /// Opens a world without objects, all of whose slots are zero. Heap, marks and pages have all their memory from here on. Takes time by the heap.
+    /// Opens a world without objects, with all slots zero. Allocates all memory for the heap, marks and dirty pages. Takes time proportional to the heap.
     ///
-    /// Refusals, in their order: `BadCount` where blocks or frames are outside their limits, `NoMemory` where an allocation failed.
+    /// Fails with, in this order: `BadCount` if blocks or frames are outside their limits, `NoMemory` if an allocation fails.
     pub fn open(alloc: Global, config: Config) -> Result<World, Refusal>
         ensures judged { IsJudgedOrLacks (open_causes config.blocks config.frames) result }
         ensures opened { IfOk result (λ world. StandsFor world (opening config.blocks config.frames)) }

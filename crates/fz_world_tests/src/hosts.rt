@@ -1,4 +1,4 @@
-//! Tests of finalizers over other heaps: a heap of records, and a graph that answers questions. Both run beside a world, and pick the same.
+//! Tests of finalizers over other heaps: a heap of records, and a graph that answers questions. Both are compared with a world, and queue the same objects.
 
 mod asked;
 mod beside;

@@ -1,4 +1,4 @@
-//! Tests of a world, of other hosts beside it, and of runs of scripts. They stand in one crate of their own, as those of the libraries below do.
+//! Tests of a world, of other hosts that run beside it, and of runs of scripts. They have a crate of their own, as the tests of the libraries below have.
 #![tactic(auto)]
 
 #[cfg(test)]

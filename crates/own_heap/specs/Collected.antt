@@ -1,4 +1,5 @@
 -- What a collection does.
+-- code: own_heap/src/runtime.rt (collect)
 use Rattle.std.specs.Prelude.{ℕ, Bool, false, List, Contains}
 use Rattle.fz_model.specs.State.{Map, Object}
 use Rattle.fz_pass.specs.Marks.{Marks}
@@ -12,17 +13,17 @@ use Rattle.fz_finalizers.specs.Walks.{YieldsRoots}
 use Rattle.own_heap.specs.declared.record.RecordId.{RecordId}
 use Rattle.own_heap.specs.Records.{IsLedByWord, IsLedByRoot}
 
--- a record that has one of these words leads to it
+-- a record that contains one of these words reaches it
 abbrev pub IsLedByAny : Map Object → List ℕ → ℕ → Type 0
 IsLedByAny objects words a = (word : ℕ) × Contains words word × IsLedByWord objects word a
 
--- what the finalizers' roots of a sort lead to came to the marks
+-- exactly what the finalizers' roots of this kind reach was added to the marks
 pub record MarksKept (objects : Map Object) (root : Root) (s : State) (old new : ℕ → Bool) : Type 0 where
   pub words : List ℕ
   pub yielded : YieldsRoots root s words
   pub marked : Marks (Unit {0}) objects old new (IsLedByAny objects words)
 
--- what the roots lead to was marked first, then what the finalizers keep; the rest is the decision of a pass, whose objects are left
+-- first what the roots reach was marked, then what the finalizers retain; the rest is the decision of a pass, whose retained objects remain
 pub record Collects (objects : Map Object) (roots : List RecordId) (old : State) (left : Map Object) (new : State) : Type 0 where
   pub rooted : ℕ → Bool
   pub held : ℕ → Bool

@@ -1,4 +1,4 @@
--- That fields are kept is a preorder.
+-- Preserving fields is a preorder.
 use Rattle.std.specs.Prelude.{List, Option}
 use Rattle.std.proofs.Common.{refl, ◌∙◌, inl, inr, ⊎_elim}
 use Rattle.own_heap.specs.declared.record.Record.{Record}

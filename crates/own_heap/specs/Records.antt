@@ -1,4 +1,5 @@
--- The records as the objects of the model: each has a word for each of its fields.
+-- The records as the objects of the model: each has one word for each field.
+-- code: own_heap/src/record.rt, records.rt, law.rt
 use Rattle.std.specs.Prelude.{◌≡◌, ◌≢◌, ◌⊎◌, ◌↔◌, is_some, IsTrue, ◌<◌, ◌≤◌, length, Contains, option_map, slice_set, ℕ, ◌+◌, ◌-◌, ◌*◌, ◌/◌, ◌%◌, ◌==◌, ◌&&◌, if◌then◌else◌, List, [], ◌∷◌, map, Option, Some, None, nat_le, slice_index_or}
 use Rattle.std.specs.List.{range_with_len}
 use Rattle.std.specs.FinMap.{from_entries, insert}
@@ -12,18 +13,18 @@ use Rattle.own_heap.specs.declared.record.Record.{Record}
 use Rattle.own_heap.specs.declared.record.RecordId.{RecordId}
 use Rattle.own_heap.specs.declared.record.TheConstants.{FIELDS}
 
--- the address of the record at a place, and the place of the record at an address
+-- the address of the record at an index, and the index of the record at an address
 abbrev pub address_of : ℕ → ℕ
 address_of place = (place + 1) * FIELDS
 
 unfoldable pub place_of : ℕ → Option ℕ
 place_of address = if address % FIELDS == 0 && nat_le FIELDS address then Some (address / FIELDS - 1) else None
 
--- the start of the record that would have the word
+-- the address of the record that would contain the word
 abbrev pub start_of : ℕ → ℕ
 start_of word = word - word % FIELDS
 
--- a reference is the address of its record, and any other field points nowhere
+-- a reference is the address of its record, and any other field points to nothing
 abbrev pub word_of : Field → ℕ
 word_of Nothing = 0
 word_of (Number n) = 0
@@ -35,7 +36,7 @@ words_of r = map (λ k. word_of (slice_index_or r.fields k Nothing)) (range_with
 abbrev pub object_of : Record → Object
 object_of r = record { kind = Scanned; birth = r.birth; words = words_of r }
 
--- the records from a place on, by their addresses
+-- the records from an index on, by address
 abbrev pub object_entries : ℕ → List (Option Record) → List (ℕ × Object)
 object_entries place [] = []
 object_entries place (None ∷ slots) = object_entries (place + 1) slots
@@ -44,41 +45,41 @@ object_entries place (Some r ∷ slots) = (address_of place, object_of r) ∷ ob
 unfoldable pub objects_of : List (Option Record) → Map Object
 objects_of slots = from_entries (object_entries 0 slots)
 
--- what stands at a place
+-- the record at an index
 abbrev pub slot : List (Option Record) → ℕ → Option Record
 slot slots place = slice_index_or slots place None
 
--- no place is free from one on
+-- no index is free, from one on
 abbrev pub IsFull : List (Option Record) → ℕ → Type 0
 IsFull slots from = (place : ℕ) → from ≤ place → place < length slots → slot slots place ≢ None
 
--- a record was made at a place that was free
+-- a record was made at a free index
 pub record IsMade (old new : List (Option Record)) (id : RecordId) (made : Record) : Type 0 where
   pub within : id.place < length old
   pub free : slot old id.place ≡ None
   pub is : new ≡ slice_set old id.place (Some made)
 
--- a record with another value in a field
+-- a record with another value in one field
 abbrev pub with_field : ℕ → Field → Record → Record
 with_field k value r = record r { fields = slice_set r.fields k value }
 
--- the field at a place, if a record stands there
+-- the field of the record at an index, if there is one
 abbrev pub field_at : List (Option Record) → ℕ → ℕ → Option Field
 field_at slots place k = option_map (λ (r : Record). slice_index_or r.fields k Nothing) (slot slots place)
 
--- each field is what it was, or is empty now
+-- each field is unchanged or was cleared
 abbrev pub AreFieldsKept : List (Option Record) → List (Option Record) → Type 0
 AreFieldsKept old new = (place k : ℕ) → (field_at new place k ≡ field_at old place k) ⊎ (field_at new place k ≡ Some Nothing)
 
--- the record that has the word leads to it
+-- the record that contains the word reaches it
 abbrev pub IsLedByWord : Map Object → ℕ → ℕ → Type 0
 IsLedByWord objects word a = (from : ℕ) × (points objects word ≡ Some from) × Leads objects from a
 
--- one of these records does
+-- one of these records reaches it
 abbrev pub IsLedByRoot : Map Object → List RecordId → ℕ → Type 0
 IsLedByRoot objects roots a = (id : RecordId) × Contains roots id × IsLedByWord objects (address_of id.place) a
 
--- a field of a record refers to one that stands
+-- a field of one record refers to another record that exists
 pub record RefersTo (slots : List (Option Record)) (a b : RecordId) : Type 0 where
   pub from : Record
   pub at : slot slots a.place ≡ Some from
@@ -91,6 +92,6 @@ pub record RefersTo (slots : List (Option Record)) (a b : RecordId) : Type 0 whe
 abbrev pub ReferencesAreChildren : List (Option Record) → Type 0
 ReferencesAreChildren slots = (a b : RecordId) → RefersTo slots a b ↔ Child (objects_of slots) (address_of a.place) (address_of b.place)
 
--- a record that is made is an object more
+-- making a record adds exactly one object
 abbrev pub MadeIsInserted : List (Option Record) → List (Option Record) → Type 0
 MadeIsInserted old new = (id : RecordId) (made : Record) → IsMade old new id made → objects_of new ≡ insert (objects_of old) (address_of id.place) (object_of made)

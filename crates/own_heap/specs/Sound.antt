@@ -1,4 +1,5 @@
--- What is registered are objects, so are the targets of links, and so is what an entry has that isn't finished.
+-- Registered addresses, the targets of links and the objects of unfinished entries are addresses of existing records.
+-- code: own_heap/src/runtime.rt
 use Rattle.std.specs.Prelude.{◌≡◌, ℕ, Some, Contains, IsTrue}
 use Rattle.std.specs.FinMap.{get, contains_key}
 use Rattle.fz_model.specs.declared.answers.Entry.{Entry}
@@ -6,7 +7,7 @@ use Rattle.fz_model.specs.State.{Map, Object}
 use Rattle.fz_pass.specs.Marks.{AreRegistered, AreTargets}
 use Rattle.fz_finalizers.specs.States.{State}
 
--- the objects of the entries that were taken and aren't finished stand
+-- the objects of the entries that were taken and aren't finished exist
 abbrev pub HeldStand : Map Object → State → Type 0
 HeldStand objects s = (number : ℕ) (e : Entry) → get s.held number ≡ Some e → IsTrue (contains_key objects e.obj)
 

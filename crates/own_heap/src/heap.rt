@@ -13,16 +13,16 @@ use crate::records::Records;
 use fz_model::Addr;
 use std::alloc::{AllocError, Global};
 
-/// Records, the marks of a collection, and the roots. No call but `new` takes memory.
+/// Records, the marks of a collection, and the roots. Only `new` allocates.
 #[derive(Drop)]
 pub struct Heap {
     pub(crate) records: Records,
     pub(crate) marks: Marks,
-    /// What a collection keeps, with all that it leads to.
+    /// The roots of a collection.
     pub roots: Vec<RecordId>,
-    /// How many records were made.
+    /// How many records were ever made.
     pub(crate) births: u64,
-    /// Each place before it was taken since the last sweep.
+    /// No index before this one has been free since the last sweep.
     pub(crate) cursor: usize,
     pub(crate) ghost few: { length records.slots.items ≤ 2 ^ 32 },
     pub(crate) ghost size: { length marks.marked.items ≡ length records.slots.items },
@@ -30,7 +30,7 @@ pub struct Heap {
 }
 
 impl Heap {
-    /// An empty heap with places for `size` records.
+    /// An empty heap with room for `size` records.
     pub fn new(alloc: Global, size: u32) -> Result<Heap, AllocError>
         ensures records { IfOk result (λ h. h.records.slots.items ≡ replicate size None) }
         ensures roots { IfOk result (λ h. h.roots.items ≡ []) }
@@ -49,7 +49,7 @@ impl Heap {
         })
     }
 
-    /// Makes a record at a free place. `None` where no place is free until the next sweep, or where 2^64 - 1 records were made.
+    /// Makes a record at a free index. Returns `None` if no index is free until the next sweep, or if 2^64 - 1 records were made.
     pub fn make(&mut self, fields: [Field; FIELDS]) -> Option<RecordId>
         ensures made { MatchOption result (self.new ≡ self.old) (λ id. IsMade self.old.records.slots.items self.new.records.slots.items id (record { fields = fields; birth = self.old.births })) }
         ensures full { result ≡ None → IsFull self.old.records.slots.items self.old.cursor ⊎ (self.old.births + 1 ≡ 2 ^ 64) }
@@ -70,21 +70,21 @@ impl Heap {
         })
     }
 
-    /// The record, or `None` where it was swept.
+    /// The record, or `None` if it was swept.
     pub fn get(&self, id: RecordId) -> Option<&Record>
         ensures { option_copied result ≡ slot self.now.records.slots.items id.place }
     {
         self.records.slots.get(id.place as usize)?.as_ref()
     }
 
-    /// Whether the record stands.
+    /// Whether the record exists.
     pub fn stands(&self, id: RecordId) -> bool
         ensures { result ≡ is_some (slot self.now.records.slots.items id.place) }
     {
         self.get(id).is_some()
     }
 
-    /// Writes a field of a record. Does nothing where it was swept.
+    /// Writes a field of a record. Does nothing if the record was swept.
     pub fn set(&mut self, id: RecordId, field: usize, value: Field)
         requires { field < FIELDS }
         ensures set { self.new.records.slots.items ≡ slice_set self.old.records.slots.items id.place (option_map (with_field field value) (slot self.old.records.slots.items id.place)) }
@@ -93,7 +93,7 @@ impl Heap {
         self.records.set(id.place as usize, field, value);
     }
 
-    /// Marks all that a word leads to, which is the address of a record, or of one of its fields.
+    /// Marks everything that a word reaches. The word is the address of a record or of one of its fields.
     pub fn mark_word(&mut self, word: Addr)
         requires closed { IsClosed (objects_of self.old.records.slots.items) (is_marked self.old.marks) }
         ensures rest { (self.new.records ≡ self.old.records) × (self.new.roots ≡ self.old.roots) × (self.new.births ≡ self.old.births) }
@@ -105,7 +105,7 @@ impl Heap {
         }
     }
 
-    /// Begins a collection: marks all that the roots lead to, and nothing else.
+    /// Begins a collection: clears all marks, then marks everything that the roots reach.
     pub fn mark_roots(&mut self)
         ensures rest { (self.new.records ≡ self.old.records) × (self.new.roots ≡ self.old.roots) × (self.new.births ≡ self.old.births) }
         ensures marked { MarksOf (Unit {0}) (objects_of self.old.records.slots.items) (λ a. false) (is_marked self.new.marks) (IsLedByRoot (objects_of self.old.records.slots.items) self.old.roots.items) }
@@ -117,7 +117,7 @@ impl Heap {
         }
     }
 
-    /// Ends a collection: frees the places of the records that aren't marked.
+    /// Ends a collection: frees the unmarked records.
     pub fn sweep(&mut self)
         ensures objects { objects_of self.new.records.slots.items ≡ retain_keys (objects_of self.old.records.slots.items) (is_marked self.old.marks) }
         ensures rest { (self.new.roots ≡ self.old.roots) × (self.new.births ≡ self.old.births) }

@@ -1,4 +1,4 @@
-//! The heap, as a pass sees it.
+//! The heap as the host of a pass.
 
 ghost use Rattle.std.specs.Prelude.{◌≡◌, refl};
 ghost use Rattle.std.proofs.Common.{◌∙◌};

@@ -1,8 +1,7 @@
-//! A small mark-and-sweep heap of records, as the model for a host of your own, and a runtime that gives its records finalizers.
+//! A small mark-and-sweep heap of records, as a template for a host of your own, and a runtime that gives its records finalizers.
 //!
-//! Records have typed fields, and are named by their places. A pass knows a record by an address that is made of its place, and a field by the
-//! record's address and the field's number, so that no two records have one address. To the model, a reference is its record's address, and any other
-//! field is 0.
+//! Records have typed fields, and are named by their index. For a pass, a record's address is computed from its index, and a field's address is the record's
+//! address plus the field's number. So no two records have the same address. In the model a reference is the address of its record, and any other field is 0.
 #![tactic(auto)]
 
 mod heap;

@@ -1,4 +1,4 @@
-//! Marks what records lead to.
+//! Marking what records reach.
 
 ghost use Rattle.std.specs.Prelude.{◌≡◌, ◌+◌, ◌↔◌, ◌⊎◌, [], ℕ, cond, count_by, length, not, IsTrue};
 ghost use Rattle.own_heap.specs.Records.{objects_of};
@@ -20,7 +20,7 @@ impl Marks {
         self.marked.get(place).copied().unwrap_or(false)
     }
 
-    /// Marks a record, which then doesn't wait. Returns whether it is new.
+    /// Marks a record without pushing it. Returns whether the mark is new.
     pub(crate) fn insert(&mut self, object: Addr) -> bool
         requires { IsAmong (length self.old.marked.items) object }
         ensures new { result ≡ not (is_marked self.old object) }
@@ -37,7 +37,7 @@ impl Marks {
         new
     }
 
-    /// Marks a record. A new one waits.
+    /// Marks a record. A newly marked record is pushed onto the mark stack.
     pub(crate) fn add(&mut self, object: Addr)
         requires { IsAmong (length self.old.marked.items) object }
         ensures { Gains self.old self.new (λ a. a ≡ object) }
@@ -49,7 +49,7 @@ impl Marks {
 }
 
 impl Records {
-    /// Marks the record to which a field of an object refers, or any but itself.
+    /// Marks the record to which a field of an object refers. With `but_itself` a reference to the object itself is skipped.
     fn add_target(&self, marks: &mut Marks, field: Field, object: Addr, but_itself: bool)
         requires { length marks.old.marked.items ≡ length self.now.slots.items }
         ensures { Gains marks.old marks.new (IsTargetBut (objects_of self.now.slots.items) but_itself object field) }
@@ -62,7 +62,7 @@ impl Records {
         }
     }
 
-    /// Marks the records to which an object refers, or all but itself.
+    /// Marks the records to which an object refers. With `but_itself` the object itself is skipped.
     pub(crate) fn add_children(&self, marks: &mut Marks, object: Addr, but_itself: bool)
         requires { length marks.old.marked.items ≡ length self.now.slots.items }
         ensures { Gains marks.old marks.new (IsChildBut (objects_of self.now.slots.items) but_itself object) }
@@ -75,7 +75,7 @@ impl Records {
         }
     }
 
-    /// Reads the records that wait, until none does.
+    /// Scans the records on the mark stack until it is empty.
     pub(crate) fn close(&self, marks: &mut Marks)
         requires size { length marks.old.marked.items ≡ length self.now.slots.items }
         requires traced { IsTracing (objects_of self.now.slots.items) marks.old marks.old }

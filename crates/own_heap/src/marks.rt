@@ -1,10 +1,10 @@
-//! Marks, and the marked records that wait to be read.
+//! Mark bits and a mark stack.
 
 ghost use Rattle.std.specs.Prelude.{◌+◌, ◌≤◌, count_by, length, not, vec_capacity};
 
 use fz_model::Addr;
 
-/// Which records are marked, by their places, and which of them wait. The list has room for all.
+/// Which records are marked, by index, and which of them wait to be scanned. The mark stack has room for all records, so it can't overflow.
 #[derive(Drop)]
 pub(crate) struct Marks {
     pub(crate) marked: Vec<bool>,

@@ -1,45 +1,45 @@
-//! Records, and the addresses by which finalizers know them.
+//! Records, and the addresses by which finalizers name them.
 
 ghost use Rattle.std.specs.Prelude.{◌≡◌, ◌+◌, ◌<◌, Option};
 ghost use Rattle.own_heap.specs.Records.{address_of, place_of, word_of};
 
 use fz_model::{Addr, Word};
 
-/// How many fields a record has.
+/// The number of fields of a record.
 pub const FIELDS: usize = 4;
 
-/// Names a record by its place in the heap.
+/// Names a record by its index in the heap.
 #[derive(Clone, Copy, Debug, PartialEq, Eq)]
 pub struct RecordId {
     pub(crate) place: u32,
 }
 
-/// What a field holds.
+/// The content of a field.
 #[derive(Clone, Copy, Debug, PartialEq, Eq)]
 pub enum Field {
     Nothing,
     Number(u64),
-    /// To a record, which stays as long as this one does.
+    /// A reference to a record, which retains it.
     Reference(RecordId),
 }
 
-/// A record, as it stands in the heap.
+/// A record in the heap.
 #[derive(Clone, Copy, Debug, PartialEq, Eq)]
 pub struct Record {
     pub fields: [Field; FIELDS],
-    /// Tells it from the records that had its place before.
+    /// Distinguishes it from earlier records with the same index.
     pub birth: u64,
 }
 
 impl RecordId {
-    /// The number of the record for finalizers, which is never 0.
+    /// The record's address for finalizers, which is never 0.
     pub fn address(self) -> Addr
         ensures { result ≡ address_of self.place }
     {
         (u64::from(self.place) + 1) * FIELDS as u64
     }
 
-    /// The number of one of its fields, as the word of a link.
+    /// The address of one of its fields, which is used as the word of a link.
     pub fn word(self, field: usize) -> Addr
         requires { field < FIELDS }
         ensures { result ≡ address_of self.place + field }
@@ -49,7 +49,7 @@ impl RecordId {
 }
 
 impl Field {
-    /// The address of the record to which it refers, or 0.
+    /// The address of the record to which the field refers, or 0.
     pub(crate) fn word(self) -> Word
         ensures { result ≡ word_of self }
     {
@@ -60,7 +60,7 @@ impl Field {
     }
 }
 
-/// The place of the record with the address, if it is one's.
+/// The index of the record with this address, if it is the address of one.
 #[tactic(auto, unfolding(crate::specs::Records::place_of))]
 pub(crate) fn place_of(address: Addr) -> Option<usize>
     ensures { result ≡ place_of address }

@@ -1,4 +1,4 @@
-//! The records, by their places.
+//! The records, by index.
 
 ghost use Rattle.std.specs.Prelude.{◌≡◌, ◌+◌, ◌<◌, None, Some, option_map, length, slice_set, MatchOption};
 ghost use Rattle.std.specs.FinMap.{get, contains_key};
@@ -8,14 +8,14 @@ ghost use Rattle.own_heap.specs.Records.{object_of, objects_of, slot, with_field
 use crate::record::{FIELDS, Field, Record, place_of};
 use fz_model::{Addr, Word};
 
-/// The records of a heap by their places, of which some are free.
+/// The records of a heap by index; some indices are free.
 #[derive(Drop)]
 pub(crate) struct Records {
     pub(crate) slots: Vec<Option<Record>>,
 }
 
 impl Records {
-    /// The first free place from one on.
+    /// The first free index that is at least `from`.
     pub(crate) fn free_from(&self, from: usize) -> Option<usize>
         ensures { MatchOption result (IsFull self.now.slots.items from) (λ place. (place < length self.now.slots.items) × (slot self.now.slots.items place ≡ None)) }
     {
@@ -27,14 +27,14 @@ impl Records {
         None
     }
 
-    /// The record with the address, if there is one.
+    /// The record with this address, if there is one.
     pub(crate) fn at(&self, address: Addr) -> Option<&Record>
         ensures { get (objects_of self.now.slots.items) address ≡ option_map (λ r. object_of r.now) result }
     {
         self.slots.get(place_of(address)?)?.as_ref()
     }
 
-    /// The record that has the word among its fields.
+    /// The record that contains this field address.
     pub(crate) fn holder(&self, word: Addr) -> Option<Addr>
         ensures { result ≡ points (objects_of self.now.slots.items) word }
     {
@@ -42,7 +42,7 @@ impl Records {
         self.at(start).is_some().then_some(start)
     }
 
-    /// Writes a field of the record at a place, if one stands there.
+    /// Writes a field of the record at an index, if there is one.
     pub(crate) fn set(&mut self, place: usize, field: usize, value: Field)
         requires { field < FIELDS }
         ensures { self.new.slots.items ≡ slice_set self.old.slots.items place (option_map (with_field field value) (slot self.old.slots.items place)) }
@@ -55,7 +55,7 @@ impl Records {
         }
     }
 
-    /// Empties the field with the word.
+    /// Clears the field with this address.
     pub(crate) fn clear(&mut self, word: Addr)
         ensures objects { objects_of self.new.slots.items ≡ written word 0 (objects_of self.old.slots.items) }
         ensures fields { AreFieldsKept self.old.slots.items self.new.slots.items }

@@ -16,7 +16,7 @@ use fz_finalizers::{
 };
 use std::alloc::{AllocError, Global};
 
-/// Marks all that the finalizers' roots of a sort lead to.
+/// Marks everything that one kind of the finalizers' roots reaches.
 fn mark_kept(heap: &mut Heap, finalizers: &Finalizers, root: Root)
     requires { IsClosed (objects_of heap.old.records.slots.items) (is_marked heap.old.marks) }
     ensures rest { (heap.new.records ≡ heap.old.records) × (heap.new.roots ≡ heap.old.roots) × (heap.new.births ≡ heap.old.births) }
@@ -36,7 +36,7 @@ pub struct Runtime {
 }
 
 impl Runtime {
-    /// A heap with places for `size` records, and nothing that is registered.
+    /// A heap with room for `size` records, and no registrations.
     pub fn new(alloc: Global, size: u32) -> Result<Runtime, AllocError>
         ensures records { IfOk result (λ r. r.heap.records.slots.items ≡ replicate size None) }
         ensures roots { IfOk result (λ r. r.heap.roots.items ≡ []) }
@@ -64,7 +64,7 @@ impl Runtime {
         Ok(())
     }
 
-    /// Takes back the root that was made last.
+    /// Removes the root that was added last.
     pub fn pop_root(&mut self) -> Option<RecordId>
         ensures roots { MatchOption result (self.old.heap.roots.items ≡ []) (λ id. self.old.heap.roots.items ≡ self.new.heap.roots.items ++ id ∷ []) }
         ensures rest { (self.new.heap.records ≡ self.old.heap.records) × (self.new.finalizers ≡ self.old.finalizers) }
@@ -72,14 +72,14 @@ impl Runtime {
         self.heap.roots.pop()
     }
 
-    /// Makes a record: `Heap::make`.
+    /// Makes a record, as `Heap::make` does.
     pub fn make(&mut self, fields: [Field; FIELDS]) -> Option<RecordId>
         ensures { MatchOption result (self.new ≡ self.old) (λ id. IsMade self.old.heap.records.slots.items self.new.heap.records.slots.items id (record { fields = fields; birth = self.old.heap.births })) }
     {
         self.heap.make(fields)
     }
 
-    /// Writes a field of a record: `Heap::set`.
+    /// Writes a field of a record, as `Heap::set` does.
     pub fn set(&mut self, id: RecordId, field: usize, value: Field)
         requires { field < FIELDS }
         ensures { self.new.heap.records.slots.items ≡ slice_set self.old.heap.records.slots.items id.place (option_map (with_field field value) (slot self.old.heap.records.slots.items id.place)) }
@@ -87,7 +87,7 @@ impl Runtime {
         self.heap.set(id, field, value);
     }
 
-    /// Makes room for registrations and links: `Finalizers::reserve`.
+    /// Reserves room for registrations and links, as `Finalizers::reserve` does.
     pub fn reserve(
         &mut self,
         registrations: usize,
@@ -100,7 +100,7 @@ impl Runtime {
         self.finalizers.reserve(registrations, shorts, longs)
     }
 
-    /// Registers a finalizer of a record that stands.
+    /// Registers a finalizer for an existing record.
     pub fn register(
         &mut self,
         id: RecordId,
@@ -112,7 +112,7 @@ impl Runtime {
         self.finalizers.register(id.address(), finalizer)
     }
 
-    /// Makes a field of a record a link to a record that stands.
+    /// Makes a field of a record a link to an existing record.
     pub fn link(
         &mut self,
         kind: LinkKind,
@@ -127,22 +127,21 @@ impl Runtime {
         self.finalizers.link(kind, id.word(field), target.address())
     }
 
-    /// Takes the first entry that waits. Its record stands until the entry is finished.
+    /// Takes the first waiting entry. Its record is retained until the entry is finished.
     pub fn take(&mut self) -> Option<Entry>
         ensures { IfSome result (λ entry. Follows self.old.finalizers.state (Take entry) self.new.finalizers.state) }
     {
         self.finalizers.take()
     }
 
-    /// Ends the holding of an entry.
+    /// Finishes an entry, which then no longer retains its record.
     pub fn finish(&mut self, entry: &Entry) -> Result<(), Refused>
         ensures { IfOk result (λ _. Follows self.old.finalizers.state (Finish entry.now) self.new.finalizers.state) }
     {
         self.finalizers.finish(entry)
     }
 
-    /// A collection: marks what the roots, the entries that aren't finished and the client data lead to, lets finalizers have their pass, and frees
-    /// the places of the other records.
+    /// A collection: marks what the roots, the unfinished entries and the client data reach, runs the finalizers' pass, and frees all other records.
     pub fn collect(&mut self) -> Passed
         ensures collected { Collects (objects_of self.old.heap.records.slots.items) self.old.heap.roots.items self.old.finalizers.state (objects_of self.new.heap.records.slots.items) self.new.finalizers.state }
         ensures held { HeldStand (objects_of self.new.heap.records.slots.items) self.new.finalizers.state }

@@ -1,11 +1,11 @@
-//! A bare lock, to compare with.
+//! A bare lock, for comparison.
 
 use std::io;
 use std::rt::Clock;
 use std::sync::{Mutex, Wait};
 use std::time::Instant;
 
-/// The nanoseconds in which a lock is taken `count` times, and a word under it written each time.
+/// The nanoseconds for taking a lock `count` times, and writing a word under it each time.
 pub(crate) fn lock_bare<R: Clock + Wait>(rt: &R, count: u64) -> io::Result<u128> {
     let lock = Mutex::new(0u64);
     let start = Instant::now(rt)?;

@@ -1,4 +1,4 @@
-//! What workers do with an entry.
+//! The work of the workers.
 
 use fz_model::Entry;
 use fz_service::Proc;
@@ -20,11 +20,11 @@ impl Proc for Nothing {
     }
 }
 
-/// How often a busy procedure turns its word: for about 2 microseconds at 3 GHz, since a turn is six instructions that wait for each other.
+/// How many turns a busy procedure makes. They take about 2 microseconds at 3 GHz, since a turn is six dependent instructions.
 const TURNS: u64 = 1_000;
 
-/// A procedure that works for about 2 microseconds, as that of `bench/bdwgc.c` does. No compiler leaves the work out, since each entry's begins where
-/// the one before ended, and a worker calls it without knowing which procedure it is.
+/// A procedure that works for about 2 microseconds, as the one in `bench/bdwgc.c` does. No compiler can remove the work: each entry's work begins with the
+/// result of the one before, and a worker calls the procedure indirectly.
 #[derive(Drop)]
 pub(crate) struct Busy {
     pub(crate) word: u64,

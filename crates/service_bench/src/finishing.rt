@@ -10,7 +10,7 @@ use std::thread::Threads;
 use std::time::Instant;
 use std::{io, mem};
 
-/// Makes `count` objects of one word, each registered, to which nothing leads. Returns whether all calls were accepted.
+/// Allocates `count` unreachable objects of one word, each registered. Returns whether all calls succeeded.
 pub(crate) fn make<O: Opening, R: Wait>(rt: &R, service: &Service<O>, count: u64) -> bool {
     let mut locked = service.enter(rt);
     for _ in 0..count {
@@ -23,7 +23,7 @@ pub(crate) fn make<O: Opening, R: Wait>(rt: &R, service: &Service<O>, count: u64
     locked.set(0, 0, 0).is_ok()
 }
 
-/// The nanoseconds from a collection until workers with these procedures have finished all entries that it queued, with the seats.
+/// The nanoseconds from a collection until workers with these procedures have finished all entries that it queued; and the seats.
 fn time<O: Opening + Send + Sync, R: Clock + Threads + Wait + Sync>(
     rt: &R,
     alloc: Global,
@@ -41,8 +41,8 @@ fn time<O: Opening + Send + Sync, R: Clock + Threads + Wait + Sync>(
     Ok(elapsed?.as_nanos())
 }
 
-/// The nanoseconds from a collection of `count` registered objects until workers with this procedure have finished all of their entries, with the seats;
-/// nothing where there is no room for the objects.
+/// The nanoseconds from a collection of `count` registered objects until workers with this procedure have finished all their entries; and the seats. `None`
+/// if there is no room for the objects.
 pub(crate) fn finish_all<O: Opening + Send + Sync, R: Clock + Threads + Wait + Sync>(
     rt: &R,
     alloc: Global,

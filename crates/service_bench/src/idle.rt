@@ -1,4 +1,4 @@
-//! Workers that have nothing to do, and how soon one that sleeps takes an entry.
+//! Idle workers, and how soon a sleeping worker takes an entry.
 
 use crate::finalizers::Nothing;
 use crate::finishing::make;
@@ -11,10 +11,10 @@ use std::thread::Threads;
 use std::time::{Duration, Instant};
 use std::{io, mem, thread};
 
-/// For how many milliseconds the workers have nothing to do before an entry comes, so that all of them sleep.
+/// How many milliseconds the workers are idle before an entry is queued, so that all of them sleep.
 const PAUSE: u64 = 5;
 
-/// A gate that notes when it was told of an entry, in nanoseconds from its start on.
+/// A hook that records when it was called for an entry, in nanoseconds since its creation.
 #[derive(Drop)]
 struct Watch<'a, R> {
     rt: &'a R,
@@ -37,7 +37,7 @@ impl<R: Clock> Gate for Watch<'_, R> {
     }
 }
 
-/// The nanoseconds in which workers had nothing to do for this number of milliseconds, with their start and end.
+/// The nanoseconds during which workers were idle for this number of milliseconds, including their start and end.
 pub(crate) fn idle<O: Opening + Send + Sync, R: Clock + Threads + Wait + Sync>(
     rt: &R,
     alloc: Global,
@@ -57,7 +57,7 @@ pub(crate) fn idle<O: Opening + Send + Sync, R: Clock + Threads + Wait + Sync>(
     Ok(elapsed?.as_nanos())
 }
 
-/// Collects one registered object while all workers sleep. Returns the nanoseconds until one of them has taken its entry.
+/// Collects one registered object while all workers sleep. Returns the nanoseconds until one of them took its entry.
 fn wake_one<O: Opening, R: Clock + Wait>(rt: &R, service: &Service<O>, watch: &Watch<R>) -> u64 {
     make(rt, service, 1);
     thread::sleep(rt, Duration::from_millis(PAUSE));
@@ -74,7 +74,7 @@ fn wake_one<O: Opening, R: Clock + Wait>(rt: &R, service: &Service<O>, watch: &W
     unreachable!()
 }
 
-/// The nanoseconds of this number of entries, each from its collection on until a worker that slept has taken it.
+/// The nanoseconds for this number of entries, each from its collection until a sleeping worker took it.
 fn wake_each<O: Opening, R: Clock + Wait>(
     rt: &R,
     alloc: Global,
@@ -89,7 +89,7 @@ fn wake_each<O: Opening, R: Clock + Wait>(
     Ok(delays)
 }
 
-/// The middle of them, where workers serve that have nothing else to do; nothing where there are none.
+/// The median of these, for workers without other work. `None` if there are none.
 pub(crate) fn wake<O: Opening + Send + Sync, R: Clock + Threads + Wait + Sync>(
     rt: &R,
     alloc: Global,

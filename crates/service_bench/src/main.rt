@@ -1,15 +1,14 @@
 //! service_bench TEST WORKERS COUNT: prints the nanoseconds that a test of the service takes.
 //!
-//! `mutex` takes a bare lock COUNT times and writes a word each time. `step` enters a service COUNT times and sets a slot each time. `workers` collects
-//! COUNT registered objects to which nothing leads, beside WORKERS workers on threads of their own, and ends when the workers have finished all of their
-//! entries. `busy` is the same with a procedure that works for about 2 microseconds. `mutex` and `step` have no use for workers. It stands beside
-//! `bench/run`, which calls it.
+//! `mutex` takes a bare lock COUNT times and writes a word each time. `step` enters a service COUNT times and sets a slot each time. `workers` collects COUNT
+//! unreachable registered objects while WORKERS workers run on threads of their own, and ends when they have finished all entries. `busy` is the same with a
+//! procedure that works for about 2 microseconds. `mutex` and `step` use no workers. `bench/run` calls this program.
 //!
-//! `idle` leaves WORKERS workers with nothing to do for COUNT milliseconds, and `wake` tells the middle of the nanoseconds from a collection that queues an
-//! entry, while all workers sleep, until one has taken it, of COUNT of them.
+//! `idle` leaves WORKERS workers idle for COUNT milliseconds. `wake` prints a median over COUNT entries: the nanoseconds from a collection that queues an
+//! entry while all workers sleep, until one of them has taken it.
 //!
-//! `soak` finalizes COUNT objects in rounds, and forgets their entries after each: by a service with WORKERS workers, or in a world alone where WORKERS is 0.
-//! It gives up the first of each 100,000 entries, and then says how many there were, so that `tests/soak-memory` sees what memory it has.
+//! `soak` finalizes COUNT objects in rounds, and forgets their entries after each round: with a service and WORKERS workers, or in a world alone if WORKERS
+//! is 0. It abandons the first of each 100,000 entries, and then prints how many there were, so that `tests/soak-memory` can measure its memory.
 #![tactic(auto)]
 
 mod bare;
@@ -71,7 +70,7 @@ fn main(rt: HostRuntime) -> io::Result<ExitCode> {
     Ok(ExitCode::from(0))
 }
 
-/// Whether a soak by a service went well, whose last seat is the program's own.
+/// Whether a soak by a service succeeded. Its last seat belongs to the program itself.
 fn soak_by_workers<R: Print + Threads + Wait + Sync>(
     rt: &R,
     alloc: Global,
@@ -84,7 +83,7 @@ fn soak_by_workers<R: Print + Threads + Wait + Sync>(
     }
 }
 
-/// The status of a soak.
+/// The exit status of a soak.
 fn soaked(all: bool) -> io::Result<ExitCode> {
     Ok(ExitCode::from(u8::from(!all)))
 }
@@ -96,7 +95,7 @@ fn wrong(rt: &impl Eprint) -> io::Result<ExitCode> {
     Ok(ExitCode::from(2))
 }
 
-/// The nanoseconds of a test over a service; nothing where the test is too large for one.
+/// The nanoseconds of a test over a service; `None` if the test is too large.
 fn of_service<R: Clock + Threads + Wait + Sync>(
     rt: &R,
     alloc: Global,

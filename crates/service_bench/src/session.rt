@@ -22,7 +22,7 @@ pub(crate) enum Test {
     Wake,
 }
 
-/// The nanoseconds of the test; nothing where it is too large, or where not all of its entries were finished.
+/// The nanoseconds of the test; `None` if it is too large, or if not all of its entries were finished.
 pub(crate) fn run<O: Opening + Send + Sync, R: Clock + Threads + Wait + Sync>(
     rt: &R,
     alloc: Global,

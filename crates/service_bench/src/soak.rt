@@ -1,4 +1,4 @@
-//! A world that lives long: objects that are finalized in rounds, whose entries are forgotten.
+//! Long-lived worlds: objects are finalized in rounds, and their entries are forgotten.
 
 ghost use Rattle.std.specs.Prelude.{◌≡◌};
 
@@ -12,19 +12,19 @@ use std::sync::Wait;
 use std::thread::Threads;
 use std::{io, thread};
 
-/// How many objects are made, dropped and finalized in a round.
+/// How many objects are allocated, dropped and finalized in a round.
 const ROUND: u64 = 10_000;
 
-/// The entries of a part. The first of a part is given up, and the count of entries is printed behind it.
+/// The entries of a part. The first entry of a part is abandoned, and the number of entries is printed after it.
 const PART: u64 = 100_000;
 
-/// The world of one soak.
+/// The size of a soak's world.
 pub(crate) const CONFIG: Config = Config {
     blocks: 1_024,
     frames: 1,
 };
 
-/// Makes the objects of a round, each registered, to which nothing leads. Returns whether all calls were accepted.
+/// Allocates a round's unreachable objects, each registered. Returns whether all calls succeeded.
 fn make(world: &mut World) -> bool {
     for _ in 0..ROUND {
         let made = world.alloc(0, 0, 1, ObjKind::Atomic).is_ok()
@@ -36,7 +36,7 @@ fn make(world: &mut World) -> bool {
     world.set(0, 0, 0).is_ok()
 }
 
-/// Finishes the entries from a number on, but for those that are given up, and forgets them. Returns how many were ever queued.
+/// Finishes the entries from a number on, except for those that are abandoned, and forgets them. Returns how many were ever queued.
 fn finish_from(world: &mut World, from: u64) -> u64 {
     let end = world.queued();
     for number in from..end {
@@ -50,7 +50,7 @@ fn finish_from(world: &mut World, from: u64) -> u64 {
     end
 }
 
-/// Says how many entries there were, after each part.
+/// Prints the number of entries after each part.
 fn report<R: Print>(rt: &R, queued: u64) -> io::Result<()> {
     if queued % PART == 0 {
         println!(rt; "{queued}")?;
@@ -58,7 +58,7 @@ fn report<R: Print>(rt: &R, queued: u64) -> io::Result<()> {
     Ok(())
 }
 
-/// Finalizes `count` objects in a world alone. Returns whether all calls were accepted.
+/// Finalizes `count` objects in a world alone. Returns whether all calls succeeded.
 pub(crate) fn soak_world<R: Print>(rt: &R, alloc: Global, count: u64) -> io::Result<bool> {
     let Ok(mut world) = World::open(alloc, CONFIG) else {
         return Ok(false);
@@ -74,7 +74,7 @@ pub(crate) fn soak_world<R: Print>(rt: &R, alloc: Global, count: u64) -> io::Res
     Ok(true)
 }
 
-/// Takes the first entry of the line, if there is one, and gives it up.
+/// Takes the first entry of the line, if there is one, and abandons it.
 fn give_up<O: Opening>(seat: Seat<O>) -> Seat<O> {
     match seat.take() {
         Take::Taken(duty) => duty.forfeit(),
@@ -82,7 +82,7 @@ fn give_up<O: Opening>(seat: Seat<O>) -> Seat<O> {
     }
 }
 
-/// Makes a round of objects and collects. Returns how many entries were ever queued, if all calls were accepted.
+/// Allocates a round of objects and collects. Returns how many entries were ever queued, if all calls succeeded.
 fn collect_round<O: Opening, R: Wait>(rt: &R, service: &Service<O>) -> Option<u64> {
     if !make_registered(rt, service, ROUND) {
         return None;
@@ -92,7 +92,7 @@ fn collect_round<O: Opening, R: Wait>(rt: &R, service: &Service<O>) -> Option<u6
     Some(locked.queued())
 }
 
-/// Waits until the workers have finished all entries but those that were given up, and forgets them.
+/// Waits until the workers have finished all entries but the abandoned ones, and forgets them.
 fn forget_round<O: Opening, R: Wait>(rt: &R, service: &Service<O>, given_up: u64) {
     for _ in rt.forever() {
         if service.enter(rt).outstanding() <= given_up {
@@ -103,7 +103,7 @@ fn forget_round<O: Opening, R: Wait>(rt: &R, service: &Service<O>, given_up: u64
     service.enter(rt).forget();
 }
 
-/// Finalizes the other objects of a part by the workers. Returns how many entries were ever queued, if all calls were accepted.
+/// Finalizes the remaining objects of a part by the workers. Returns how many entries were ever queued, if all calls succeeded.
 fn run_rounds<O: Opening, R: Wait>(rt: &R, service: &Service<O>, given_up: u64) -> Option<u64> {
     forget_round(rt, service, given_up);
     let mut queued = 0;
@@ -114,8 +114,8 @@ fn run_rounds<O: Opening, R: Wait>(rt: &R, service: &Service<O>, given_up: u64) 
     Some(queued)
 }
 
-/// Finalizes objects by workers, until `count` entries were queued. Before each part it takes an entry by its own seat, and gives it up. Returns the
-/// seats, its own behind the others, and whether all calls were accepted.
+/// Finalizes objects by workers until `count` entries were queued. Before each part it takes an entry by its own seat, and abandons it. Returns the seats,
+/// its own last, and whether all calls succeeded.
 fn run_parts<O: Opening + Send + Sync, R: Print + Threads + Wait + Sync>(
     rt: &R,
     service: &Service<O>,
@@ -148,7 +148,7 @@ fn run_parts<O: Opening + Send + Sync, R: Print + Threads + Wait + Sync>(
     (seats, own, Ok(true))
 }
 
-/// Finalizes `count` objects by a service with workers, which leaves none but those that are given up. Returns whether all was so.
+/// Finalizes `count` objects by a service with workers, which leaves only the abandoned entries. Returns whether that succeeded.
 pub(crate) fn soak_service<O: Opening + Send + Sync, R: Print + Threads + Wait + Sync>(
     rt: &R,
     alloc: Global,

@@ -1,4 +1,4 @@
-//! Steps, each in a hold of the lock of its own.
+//! Steps, each under the lock by itself.
 
 use fz_service::{Opening, Service};
 use std::io;
@@ -6,7 +6,7 @@ use std::rt::Clock;
 use std::sync::Wait;
 use std::time::Instant;
 
-/// The nanoseconds in which a service is entered `count` times, and a slot set each time.
+/// The nanoseconds for entering a service `count` times, and setting a slot each time.
 pub(crate) fn enter_and_set<O: Opening, R: Clock + Wait>(
     rt: &R,
     service: &Service<O>,

@@ -1,4 +1,4 @@
-//! two_mutators: two threads make objects, each in a frame of its own, while two workers run the finalizers of those that were let go.
+//! two_mutators: two threads allocate objects, each in a frame of its own, while two workers run the finalizers of dropped objects.
 #![tactic(auto)]
 
 ghost use Rattle.std.specs.Prelude.{◌≡◌};
@@ -16,7 +16,7 @@ use std::sync::{Arc, Wait};
 use std::thread;
 use std::thread::Threads;
 
-/// A finalizer, which counts what it is called for. It is procedure 0.
+/// A finalizer that counts its calls. It is procedure 0.
 #[derive(Drop)]
 struct Counts(Arc<AtomicU64, Global>);
 
@@ -26,7 +26,7 @@ impl Proc for Counts {
     }
 }
 
-/// Makes an object in the frame's slot 0, and registers it. While the heap is full of objects that wait for workers, it waits for these.
+/// Allocates an object into slot 0 of the frame, and registers it. While the heap is full of objects that wait for workers, it yields and tries again.
 fn make<O: Opening, R: Wait>(
     rt: &R,
     service: &Service<O>,
@@ -46,7 +46,7 @@ fn make<O: Opening, R: Wait>(
     unreachable!()
 }
 
-/// Makes 100 objects, each of which takes the place of the one before, and lets go of the last.
+/// Allocates 100 objects, each of which replaces the one before, and drops the last.
 fn mutate<O: Opening, R: Wait>(rt: &R, service: &Service<O>, frame: u64) -> Result<(), Refusal> {
     for number in 0..100 {
         make(rt, service, frame, number)?;
@@ -54,7 +54,7 @@ fn mutate<O: Opening, R: Wait>(rt: &R, service: &Service<O>, frame: u64) -> Resu
     service.enter(rt).set(frame, 0, 0)
 }
 
-/// Collects until all is finished, and nothing more is queued.
+/// Collects until every entry is finished and nothing more is queued.
 fn settle<O: Opening, R: Wait>(rt: &R, service: &Service<O>) -> Result<(), Refusal> {
     for _ in rt.forever() {
         let mut locked = service.enter(rt);
@@ -68,7 +68,7 @@ fn settle<O: Opening, R: Wait>(rt: &R, service: &Service<O>) -> Result<(), Refus
     unreachable!()
 }
 
-/// Lets two mutators run, and settles when both have ended.
+/// Runs two mutators, and settles after both have ended.
 fn run_both<O: Opening + Send + Sync, R: Threads + Wait + Sync>(
     rt: &R,
     service: &Service<O>,

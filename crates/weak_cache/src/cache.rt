@@ -20,16 +20,16 @@ use fz_world::{Config, World};
 use std::alloc::Global;
 use std::marker::Model;
 
-/// The slot of the list.
+/// The slot that points to the list.
 const LIST: u64 = 0;
 
-/// The slot of the object in hand.
+/// The slot that points to the current object.
 const HAND: u64 = 1;
 
-/// A weak cache, with objects of its own: each is cached under its key until a collection finds it unreachable.
+/// A weak cache that allocates its objects: each is cached under its key until a collection finds it unreachable.
 ///
-/// The list is an object with a word for each key. It is atomic, so it keeps nothing alive; and a short link stands at each word in use, so
-/// the collection that doesn't find its target clears it.
+/// The list is an object with one word for each key. It is pointer-free, so it retains nothing. Each used word has a short link, so a collection clears it
+/// when its target is unreachable.
 #[derive(Drop)]
 pub(crate) struct Cache {
     world: World,
@@ -50,9 +50,9 @@ impl Model for Cache {
 
 #[tactic(auto, using(crate::proofs::Keeping::quiet_calls))]
 impl Cache {
-    /// A cache for the keys below a number, in a heap of this many blocks. Nothing is cached.
+    /// An empty cache for keys below `keys`, in a heap of this many blocks.
     ///
-    /// Refusals, in their order: `BadCount` of the blocks, `NoMemory`, `BadSize` of the keys, which are 1 to 1,024, and `NoSpace` for their list.
+    /// Errors, in order: `BadCount` for the blocks, `NoMemory`, `BadSize` if the number of keys isn't from 1 to 1,024, and `NoSpace` for their list.
     pub(crate) fn open(alloc: Global, blocks: u64, keys: u64) -> Result<Cache, Refusal>
         ensures judged { IsOpenedFor blocks keys result }
         ensures keys { IfOk result (λ cache. cache.keys ≡ keys) }
@@ -63,7 +63,8 @@ impl Cache {
         Ok(Cache { world, keys })
     }
 
-    /// Makes an object, in hand, with a finalizer that is told the client data. Where that is refused, an object without one may be in hand.
+    /// Allocates an object, which becomes the current object, and registers a finalizer with this client data. If that fails, the current object may be a new
+    /// one without a finalizer.
     pub(crate) fn make(&mut self, client_data: u64) -> Result<(), Refusal>
         ensures made { OnOk result (Makes self.old.world client_data self.new.world) }
         ensures refused { IfErr result (MakesNone self.old.world client_data self.new.world) }
@@ -75,7 +76,7 @@ impl Cache {
         Ok(())
     }
 
-    /// Caches the object in hand under the key. Refused where the link from the list to it is.
+    /// Caches the current object under the key. Fails if the link from the list can't be registered.
     pub(crate) fn put(&mut self, key: u64) -> Result<(), Refusal>
         ensures judged { IsJudgedOrLacks (causes self.old.world.core (Make (Link Short (place_at 0 LIST key) (slot_at 0 HAND)))) result }
         ensures refused { OnErr result (self.new ≡ self.old) }
@@ -87,7 +88,7 @@ impl Cache {
         self.world.store(0, LIST, key, 0, HAND)
     }
 
-    /// The address of the object under the key, which is in hand then; nothing is in hand where none is cached.
+    /// The address of the object under the key, which becomes the current object. If none is cached, there is no current object.
     pub(crate) fn get(&mut self, key: u64) -> Result<Option<Addr>, Refusal>
         ensures judged { IsJudgedBy (causes self.old.world.core (Make (Load (place_at 0 LIST key) (slot_at 0 HAND)))) result }
         ensures refused { OnErr result (self.new ≡ self.old) }
@@ -96,7 +97,7 @@ impl Cache {
         ensures same { KeepsCached self.old.world self.new.world }
         ensures keys { self.new.keys ≡ self.old.keys }
     {
-        // For the prover alone: the laws of the definitions.
+        // Runs no code: it provides the prover with the laws of the definitions.
         every_call();
         let word = self.world.load(0, LIST, key, 0, HAND)?;
         if word == 0 {
@@ -105,7 +106,7 @@ impl Cache {
         Ok(Some(word))
     }
 
-    /// Lets go of the object in hand.
+    /// Drops the current object.
     pub(crate) fn let_go(&mut self) -> Result<(), Refusal>
         ensures step { Does self.old.world (Make (Set (slot_at 0 HAND) 0)) result self.new.world }
         ensures same { KeepsCached self.old.world self.new.world }
@@ -114,21 +115,21 @@ impl Cache {
         self.world.set(0, HAND, 0)
     }
 
-    /// Collects: what isn't found is cached no more.
+    /// Collects. Unreachable objects are no longer cached.
     pub(crate) fn collect(&mut self) -> Result<Passed, Refusal>
         ensures step { Does self.old.world (Make Collect) result self.new.world }
-        // What is cached afterwards was cached before, under the same key. So an empty key stays empty.
+        // An object cached afterwards was cached before, under the same key. So an empty key stays empty.
         ensures kept { (key a : ℕ) → cached self.new key ≡ Some a → cached self.old key ≡ Some a }
-        // What is reachable stays cached.
+        // A reachable object stays cached.
         ensures reachable { (key a : ℕ) → key < self.old.keys → cached self.old key ≡ Some a → IsReachable self.old.world.core a → cached self.new key ≡ Some a }
         ensures keys { self.new.keys ≡ self.old.keys }
     {
-        // For the prover alone: the laws of the definitions.
+        // Runs no code: it provides the prover with the laws of the definitions.
         every_call();
         self.world.collect()
     }
 
-    /// The next entry for a caller that has taken `taken` entries.
+    /// The next entry for a caller that took `taken` entries before.
     pub(crate) fn next(&self, taken: u64) -> Option<Entry>
         ensures { result ≡ slice_get self.now.world.queue taken }
     {

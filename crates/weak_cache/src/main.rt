@@ -1,4 +1,5 @@
-//! weak_cache: a weak cache over a world, on one thread. It prints what is cached before and after each collection, and what is finalized.
+//! weak_cache: a weak cache over a world, single-threaded. It prints the cache's content before and after each collection, and what is finalized. The file
+//! `stdout` beside `src` has its output.
 #![tactic(auto)]
 
 mod cache;
@@ -19,7 +20,7 @@ fn show<R: Print>(rt: &R, cache: &mut Cache, keys: u64) -> Result<()> {
     Ok(())
 }
 
-/// Takes a number of entries one after another, prints what is finalized, and finishes them.
+/// Takes a number of entries one by one, prints which objects are finalized, and finishes the entries.
 fn finalize<R: Print>(rt: &R, cache: &mut Cache, entries: u64) -> Result<()> {
     for taken in 0..entries {
         let Some(entry) = cache.next(taken) else {

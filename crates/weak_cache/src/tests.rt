@@ -1,4 +1,4 @@
-//! A cache of 1,000 keys, and what is refused.
+//! A cache with 1,000 keys, and requests that fail.
 
 use crate::cache::Cache;
 use fz_model::{Addr, BLOCK_WORDS, HEAP_START, Passed, Refusal};
@@ -8,25 +8,25 @@ use std::test::*;
 
 const KEYS: u64 = 1_000;
 
-/// The blocks of the list, and those of as many objects.
+/// The number of blocks for the list, and for that many objects.
 const BLOCKS: u64 = (KEYS + BLOCK_WORDS - 1) / BLOCK_WORDS;
 
-/// The key of the object that is kept.
+/// The key of the object that is retained.
 const KEPT: u64 = 500;
 
-/// Stops the test where a value isn't the one that is wanted. The assert stands here alone, since it is proved again at each place where it stands.
+/// Fails the test if a value isn't the expected one. The assert is in a function of its own, because it is proved again wherever it occurs.
 fn must_be<T: PartialEq + Debug + Drop>(rt: &impl Abort, what: &str, found: T, want: T) {
     assert_eq!(rt; found, want, "{what}");
 }
 
-/// The object that was made for a key.
+/// The address of the object that was allocated for a key.
 fn object_of(key: u64) -> Addr {
     HEAP_START
         .wrapping_add(BLOCK_WORDS * BLOCKS)
         .wrapping_add(key)
 }
 
-/// Makes an object for each key, and caches it.
+/// Allocates an object for each key, and caches it.
 fn fill(rt: &impl Abort, cache: &mut Cache) {
     for key in 0..KEYS {
         must_be(rt, "make", cache.make(key), Ok(()));
@@ -49,7 +49,7 @@ fn fill(rt: &impl Abort, cache: &mut Cache) {
     );
 }
 
-/// A collection that queues and reclaims as many.
+/// A collection that queues and reclaims these numbers of objects.
 fn collects(rt: &impl Abort, cache: &mut Cache, pass: u64, picked: u64, reclaimed: u64) {
     let passed = Passed {
         pass,
@@ -59,7 +59,7 @@ fn collects(rt: &impl Abort, cache: &mut Cache, pass: u64, picked: u64, reclaime
     must_be(rt, "collect", cache.collect(), Ok(passed));
 }
 
-/// Each key that was collected is told to its finalizer, once and in order, and nothing is cached under it.
+/// The finalizer of each collected key is called once, in order, and nothing is cached under the key.
 fn finalize(rt: &impl Abort, cache: &mut Cache) {
     let mut taken = 0;
     for key in 0..KEYS {
@@ -80,7 +80,7 @@ fn finalize(rt: &impl Abort, cache: &mut Cache) {
     must_be(rt, "one entry more", cache.next(taken), None);
 }
 
-/// All objects but one in hand are finalized, then that one, and then there is room for as many again.
+/// All objects but the current one are finalized, then that one; then there is room for the same number again.
 #[test]
 fn a_thousand_keys(rt: HostRuntime) -> Result<(), Refusal> {
     let mut cache = Cache::open(rt.alloc(), 2 * BLOCKS, KEYS)?;
@@ -101,7 +101,7 @@ fn a_thousand_keys(rt: HostRuntime) -> Result<(), Refusal> {
     Ok(())
 }
 
-/// Blocks and keys, and why there is no cache of them.
+/// Blocks and keys, and the error for them.
 const REFUSED: [(u64, u64, Refusal); 5] = [
     (0, 1, Refusal::BadCount),
     (4_097, 1, Refusal::BadCount),
@@ -118,7 +118,7 @@ fn openings_are_refused(rt: HostRuntime) {
     }
 }
 
-/// A heap of one block beside the list has room for 64 objects.
+/// A heap with one block in addition to the list has room for 64 objects.
 #[test]
 fn a_full_heap_refuses_objects(rt: HostRuntime) -> Result<(), Refusal> {
     let mut cache = Cache::open(rt.alloc(), BLOCKS + 1, KEYS)?;

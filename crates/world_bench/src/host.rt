@@ -1,4 +1,4 @@
-//! Runs of finalizers over a heap of records, for a C program that times them.
+//! Benchmarks of finalizers over a heap of records, called by a C program that times them.
 
 use fz_finalizers::{Finalizer, Kind, LinkKind, Refused};
 use own_heap::{FIELDS, Field, RecordId, Runtime};
@@ -10,13 +10,13 @@ use std::alloc::Global;
 pub struct HostPlan {
     /// How many records it makes.
     pub records: u32,
-    /// Whether each of them is a root.
+    /// Whether each record is a root.
     pub live: bool,
-    /// How many finalizers it registers, of the records that the order names.
+    /// How many finalizers it registers, for the records that `order` names.
     pub registered: u64,
-    /// How many short links it makes: from a field of one record after another to the records that the order names.
+    /// How many short links it registers, each from a field of the next record to the next record that `order` names.
     pub linked: u64,
-    /// Whether it only looks for these records, and enters none.
+    /// Whether it only looks these records up, and registers nothing.
     pub only_looks: bool,
     /// How many times it collects.
     pub collections: u64,
@@ -24,7 +24,7 @@ pub struct HostPlan {
     pub finished: u64,
 }
 
-/// What the calls of a run returned, so that C can tell whether they did what the plan says.
+/// What the calls of a run returned, so that C can check that they did what the plan says.
 #[repr(C)]
 #[derive(Clone, Copy)]
 pub struct HostOutcome {
@@ -32,13 +32,13 @@ pub struct HostOutcome {
     pub numbers: u64,
     /// How many entries the collections queued.
     pub queued: u64,
-    /// The sum of the objects in the entries that were finished.
+    /// The sum of the objects in the finished entries.
     pub finished: u64,
-    /// Whether no call was refused. The other fields mean nothing if one was.
+    /// Whether every call succeeded. If not, the other fields have no meaning.
     pub done: bool,
 }
 
-/// Carries the plan out over a new heap, which it drops at the end. `order` names as many records as the plan registers, or links, by their places.
+/// Carries out the plan over a new heap, which it drops at the end. `order` names as many records, by index, as the plan registers or links.
 #[unsafe(no_mangle)]
 pub extern "C" fn host_bench_run(alloc: Global, plan: &HostPlan, order: &[u64]) -> HostOutcome {
     match run(alloc, plan, order) {
@@ -68,7 +68,7 @@ fn run(alloc: Global, plan: &HostPlan, order: &[u64]) -> Result<HostOutcome, Ref
     })
 }
 
-/// Makes the records, and returns their names by their places.
+/// Makes the records, and returns their names by index.
 fn make(alloc: Global, runtime: &mut Runtime, plan: &HostPlan) -> Result<Vec<RecordId>, Refused> {
     let mut ids = Vec::new(alloc);
     for _ in 0..plan.records {
@@ -83,13 +83,13 @@ fn make(alloc: Global, runtime: &mut Runtime, plan: &HostPlan) -> Result<Vec<Rec
     Ok(ids)
 }
 
-/// The record that the order has at a place.
+/// The record at this position of `order`.
 fn named(ids: &[RecordId], order: &[u64], place: u64) -> Result<RecordId, Refused> {
     let index = *order.get(place as usize).ok_or(Refused::Zero)?;
     ids.get(index as usize).copied().ok_or(Refused::Zero)
 }
 
-/// Registers finalizers. Returns the sum of their numbers.
+/// Registers finalizers. Returns the sum of the registration numbers.
 fn register(
     runtime: &mut Runtime,
     plan: &HostPlan,
@@ -113,7 +113,7 @@ fn register(
     Ok(sum)
 }
 
-/// Makes links, from the first field of one record after another.
+/// Registers links, each from the first field of the next record.
 fn link(
     runtime: &mut Runtime,
     plan: &HostPlan,
@@ -130,7 +130,7 @@ fn link(
     Ok(())
 }
 
-/// Collects that many times. Returns how many entries came.
+/// Collects this many times. Returns how many entries were queued.
 fn collect(runtime: &mut Runtime, collections: u64) -> u64 {
     let mut queued = 0u64;
     for _ in 0..collections {
@@ -139,7 +139,7 @@ fn collect(runtime: &mut Runtime, collections: u64) -> u64 {
     queued
 }
 
-/// Takes and finishes that many entries, or all where fewer wait. Returns the sum of their objects.
+/// Takes and finishes this many entries, or fewer if fewer wait. Returns the sum of their objects.
 fn finish(runtime: &mut Runtime, count: u64) -> Result<u64, Refused> {
     let mut sum = 0u64;
     for _ in 0..count {

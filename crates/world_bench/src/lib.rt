@@ -1,7 +1,7 @@
-//! Runs of a world's calls, and of finalizers over a heap of records, for C programs that time them.
+//! Benchmarks of a world's calls, and of finalizers over a heap of records, called by C programs that time them.
 //!
-//! One export carries out a plan: it opens a world of its own, makes the calls, and drops the world. So the time of a call is the difference
-//! between the times of two plans, of which one has the call and the other hasn't.
+//! One export carries out a plan: it opens a world of its own, makes the calls, and drops the world. So the time of a call is the difference between the
+//! times of two plans, one with the call and one without.
 #![tactic(auto)]
 
 mod host;

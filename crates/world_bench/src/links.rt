@@ -1,4 +1,4 @@
-//! Links of a run, all of them short.
+//! The links of a run, all of them short.
 
 use crate::plan::Plan;
 use crate::run::OBJECT;
@@ -12,13 +12,13 @@ fn slot_of(holder: u64) -> (u64, u64) {
     (1 + holder / SLOTS, holder % SLOTS)
 }
 
-/// Where a word of the holders is, all of whose words are counted as one row: the frame and the slot of its holder, and its offset there.
+/// The place of a word of the holders, numbered across all holders: the frame and the slot of its holder, and the offset within it.
 fn place_of(word: u64) -> (u64, u64, u64) {
     let (frame, slot) = slot_of(word / MAX_OBJECT_WORDS);
     (frame, slot, word % MAX_OBJECT_WORDS)
 }
 
-/// Makes the holders.
+/// Allocates the holders.
 pub(crate) fn make_holders(world: &mut World, count: u64) -> Result<(), Refusal> {
     for holder in 0..count {
         let (frame, slot) = slot_of(holder);
@@ -42,7 +42,7 @@ pub(crate) fn link(world: &mut World, plan: &Plan) -> Result<u64, Refusal> {
     Ok(count)
 }
 
-/// Moves the links of the holders' first words, from the last on, each to the word after its own. Returns how many were there, and are moved.
+/// Moves the links of the holders' first words, from the last on, each to the next word. Returns how many links existed and were moved.
 pub(crate) fn move_links(world: &mut World, count: u64) -> Result<u64, Refusal> {
     let mut moved = 0u64;
     for word in (0..count).rev() {
@@ -57,7 +57,7 @@ pub(crate) fn move_links(world: &mut World, count: u64) -> Result<u64, Refusal> 
     Ok(moved)
 }
 
-/// Removes the links of the holders' first words. Returns how many were there.
+/// Removes the links of the holders' first words. Returns how many existed.
 pub(crate) fn unlink(world: &mut World, count: u64) -> Result<u64, Refusal> {
     let mut removed = 0u64;
     for word in 0..count {

@@ -10,11 +10,11 @@ pub struct Plan {
     pub blocks: u64,
     /// The frames of the world, from 1 to 8: one for each 16 holders, and frame 0.
     pub frames: u64,
-    /// How many scanned objects it makes.
+    /// How many scanned objects it allocates.
     pub objects: u64,
-    /// How many words each of them has: a divisor of 64, so that their words lie one after another from the heap's first word on.
+    /// The size of each in words: a divisor of 64, so that their words are adjacent from the heap's first word on.
     pub size: u64,
-    /// How many rounds come first: each makes and registers the objects, drops them, finishes their entries and forgets these.
+    /// How many rounds come first. Each allocates and registers the objects, drops them, finishes their entries and forgets these.
     pub rounds: u64,
     /// How many of the objects it registers, from the first on, without client data.
     pub registered: u64,
@@ -22,15 +22,15 @@ pub struct Plan {
     pub no_order: bool,
     /// Whether they have the ranks 0 to 255 in turn. All have rank 0 otherwise.
     pub ranked: bool,
-    /// How many holders it makes: atomic objects of 1,024 words, each in a slot of its own, in whose words links stand.
+    /// How many holders it allocates: pointer-free objects of 1,024 words, each in a slot of its own, whose words have links.
     pub holders: u64,
-    /// How many short links it registers: from one word of the holders after another to one object after another.
+    /// How many short links it registers, each from the next word of the holders to the next object.
     pub linked: u64,
     /// The word of the only slot of frame 0 that isn't zero while it collects.
     pub root: Word,
     /// How many times it collects.
     pub collections: u64,
-    /// The number of links that it moves, the last of them first: each to the word after its own.
+    /// How many links it moves, each to the next word, beginning with the last.
     pub moved: u64,
     /// In how many words of the holders it removes a link, from the first on.
     pub unlinked: u64,
@@ -38,13 +38,13 @@ pub struct Plan {
     pub begun: bool,
     /// Of how many objects it loads the last word, from the first object on.
     pub loaded: u64,
-    /// Whether it stores the first object's address into each word of such an object before.
+    /// Whether it first stores the first object's address in each word of these objects.
     pub stored: bool,
     /// How many entries of the queue it reads and finishes, from the first on.
     pub finished: u64,
 }
 
-/// What the calls of a run returned, so that C can tell whether they did what the plan says.
+/// What the calls of a run returned, so that C can check that they did what the plan says.
 #[repr(C)]
 #[derive(Clone, Copy)]
 pub struct Outcome {
@@ -56,7 +56,7 @@ pub struct Outcome {
     pub linked: u64,
     /// How many entries the collections queued.
     pub queued: u64,
-    /// How many objects they reclaimed.
+    /// How many objects the collections reclaimed.
     pub reclaimed: u64,
     /// How many links were moved.
     pub moved: u64,
@@ -64,10 +64,10 @@ pub struct Outcome {
     pub unlinked: u64,
     /// The sum of the words that were loaded.
     pub loaded: u64,
-    /// How many pages were noted.
+    /// How many pages were dirty.
     pub noted: u64,
-    /// The sum of the addresses in the entries that were finished.
+    /// The sum of the addresses in the finished entries.
     pub finished: u64,
-    /// Whether no call was refused. The other fields mean nothing if one was.
+    /// Whether every call succeeded. If not, the other fields have no meaning.
     pub done: bool,
 }

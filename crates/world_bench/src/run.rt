@@ -1,4 +1,4 @@
-//! A run: a plan carried out in a world of its own.
+//! Carrying out a plan in a world of its own.
 
 use crate::links::{link, make_holders, move_links, unlink};
 use crate::plan::{Outcome, Plan};
@@ -8,14 +8,14 @@ use fz_model::{HEAP_START, Refusal, RegAnswer, RegKind, Word};
 use fz_world::{Config, World};
 use std::alloc::Global;
 
-/// The slot of frame 0 that points to the object of a call, and to the root while the world collects.
+/// The slot of frame 0 that points to a call's object, and to the root during a collection.
 pub(crate) const OBJECT: u64 = 0;
 
 /// The slot of frame 0 whose word is stored.
 pub(crate) const STORED: u64 = 1;
 
-/// Carries the plan out in a new world, which it drops at the end. `words` are what the objects' words are set to, from the heap's first word
-/// on: as many as the plan's objects have, or none.
+/// Carries out the plan in a new world, which it drops at the end. The objects' words are set to `words`, from the heap's first word on. There are as many as
+/// the plan's objects have, or none.
 #[unsafe(no_mangle)]
 pub extern "C" fn world_bench_run(alloc: Global, plan: &Plan, words: &[Word]) -> Outcome {
     match run(alloc, plan, words) {
@@ -47,7 +47,7 @@ fn run(alloc: Global, plan: &Plan, words: &[Word]) -> Result<Outcome, Refusal> {
     carry_out(&mut world, plan, words)
 }
 
-/// Carries the plan out in a world that was just opened.
+/// Carries out the plan in a newly opened world.
 fn carry_out(world: &mut World, plan: &Plan, words: &[Word]) -> Result<Outcome, Refusal> {
     live(world, plan)?;
     let addresses = make(world, plan.objects, plan.size)?;
@@ -91,7 +91,7 @@ fn live(world: &mut World, plan: &Plan) -> Result<(), Refusal> {
     Ok(())
 }
 
-/// Makes `count` objects of this size. Returns the sum of their addresses.
+/// Allocates `count` objects of this size. Returns the sum of their addresses.
 fn make(world: &mut World, count: u64, size: u64) -> Result<u64, Refusal> {
     let mut sum = 0u64;
     for _ in 0..count {
@@ -113,7 +113,7 @@ fn write(world: &mut World, words: &[Word]) -> Result<(), Refusal> {
     Ok(())
 }
 
-/// Registers the plan's first objects. Returns the sum of the numbers.
+/// Registers the plan's first objects. Returns the sum of the registration numbers.
 fn register(world: &mut World, plan: &Plan) -> Result<u64, Refusal> {
     let kind = if plan.no_order {
         RegKind::NoOrder
@@ -134,7 +134,7 @@ fn register(world: &mut World, plan: &Plan) -> Result<u64, Refusal> {
     Ok(sum)
 }
 
-/// Collects a given number of times. Returns how many entries were queued, and how many objects reclaimed.
+/// Collects this many times. Returns how many entries were queued, and how many objects were reclaimed.
 fn collect(world: &mut World, times: u64) -> Result<(u64, u64), Refusal> {
     let mut queued = 0u64;
     let mut reclaimed = 0u64;
@@ -146,7 +146,7 @@ fn collect(world: &mut World, times: u64) -> Result<(u64, u64), Refusal> {
     Ok((queued, reclaimed))
 }
 
-/// Finishes a given number of entries of the queue, each read by its place. Returns the sum of their objects' addresses.
+/// Finishes this many entries of the queue, each read by its index. Returns the sum of their objects' addresses.
 fn finish(world: &mut World, count: u64) -> Result<u64, Refusal> {
     let mut sum = 0u64;
     for index in 0..count {

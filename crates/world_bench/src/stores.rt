@@ -1,14 +1,14 @@
-//! Stores of a run, within a cycle or outside.
+//! The stores of a run, inside or outside a cycle.
 
 use crate::plan::Plan;
 use crate::run::{OBJECT, STORED};
 use fz_model::{HEAP_START, Refusal};
 use fz_world::World;
 
-/// The slot of frame 0 into which a word is loaded.
+/// The slot of frame 0 into which words are loaded.
 const LOADED: u64 = 2;
 
-/// Opens a cycle if it is to; then stores to the plan's objects, if it is to, and loads the last word of each. Returns the sum of what it loaded.
+/// Opens a cycle, if the plan says so; stores in the plan's objects, if it says so; then loads the last word of each. Returns the sum of the loaded words.
 pub(crate) fn store_and_load(world: &mut World, plan: &Plan) -> Result<u64, Refusal> {
     if plan.begun {
         world.begin()?;
@@ -27,7 +27,7 @@ pub(crate) fn store_and_load(world: &mut World, plan: &Plan) -> Result<u64, Refu
     Ok(sum)
 }
 
-/// Stores into each word of the object of a call.
+/// Stores in each word of a call's object.
 fn store(world: &mut World, size: u64) -> Result<(), Refusal> {
     for offset in 0..size {
         world.store(0, OBJECT, offset, 0, STORED)?;

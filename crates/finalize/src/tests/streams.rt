@@ -1,4 +1,4 @@
-//! Streams: what a call hands over or takes at once.
+//! Streams: how many bytes one call reads or writes.
 
 ghost use Rattle.std.specs.Prelude.{◌≡◌};
 
@@ -9,13 +9,12 @@ use std::marker::Brand;
 use std::process::Abort;
 use std::sync::ledger::{Blank, Ledger};
 
-/// Stops the test where a call doesn't give this number of bytes. The assert stands here alone, since it is proved again at each place where it
-/// stands.
+/// Fails the test if a call returns another number of bytes. The assert is in a function of its own, because it is proved again wherever it occurs.
 fn must_give(rt: &impl Abort, bytes: usize, found: Option<usize>, want: Option<usize>) {
     assert_eq!(rt; found, want, "of {bytes} bytes");
 }
 
-/// As many bytes as a writer in memory has room for are written in one call, and after that none.
+/// One call writes as many bytes as a writer in memory has room for. The next call writes none.
 fn writes<L: Ledger>(rt: &impl Abort, ledger: Blank)
     requires name { ledger.name ≡ L.name }
     requires parts { (ledger.parts ≡ L.parts) × (L.parts ≡ 1) }
@@ -30,7 +29,7 @@ fn writes<L: Ledger>(rt: &impl Abort, ledger: Blank)
     must_give(rt, 0, stream.write(&[]), Some(0));
 }
 
-/// As many bytes as there is room for are read in one call.
+/// One call reads as many bytes as there is room for.
 fn reads<L: Ledger>(rt: &impl Abort, ledger: Blank)
     requires name { ledger.name ≡ L.name }
     requires parts { (ledger.parts ≡ L.parts) × (L.parts ≡ 1) }

@@ -1,4 +1,4 @@
-//! Sessions come out of handles, and go into them.
+//! Moving sessions out of handles and into them.
 
 ghost use Rattle.std.specs.Prelude.{◌≡◌, Some, None, MatchOption};
 
@@ -20,7 +20,7 @@ impl LineHandle {
             .into_box()
     }
 
-    /// Puts a session into a handle, which is to be empty.
+    /// Puts a session into an empty handle.
     pub(crate) fn put(&mut self, session: Box<LineSession, Global>)
         ensures { self.new.value ≡ Some session.value }
     {
@@ -39,7 +39,7 @@ impl SeatHandle {
             .into_box()
     }
 
-    /// Puts a session into a handle, which is to be empty.
+    /// Puts a session into an empty handle.
     pub(crate) fn put(&mut self, session: Box<SeatSession, Global>)
         ensures { self.new.value ≡ Some session.value }
     {

@@ -1,4 +1,4 @@
-//! Calls of a map, each held against what it has to answer, and what a map holds against what it has to hold.
+//! Calls of a map with the results that they have to return, and the content that a map has to have.
 
 use fz_blocks::BlockMap;
 use fz_model::{Addr, HEAP_START, ObjKind, Refusal, Word};
@@ -6,13 +6,13 @@ use std::alloc::{AllocError, Global};
 use std::fmt::Debug;
 use std::process::Abort;
 
-/// What was answered has to be what was wanted. A failure says what was asked. All go through here, since an assertion takes far
-/// longer to prove than a call.
+/// The result has to be the expected one. A failure prints the arguments. All tests use this function, since an assertion takes much longer to prove than a
+/// call.
 fn must_equal<T: PartialEq + Debug, A: Debug>(rt: &impl Abort, got: &T, want: &T, asked: &A) {
     assert_eq!(rt; got, want, "asked: {asked:?}");
 }
 
-/// Maps of these numbers of blocks have to be refused.
+/// Opening a map with each of these numbers of blocks has to fail.
 pub(crate) fn must_refuse(rt: &impl Abort, alloc: Global, counts: &[u64]) {
     for blocks in counts.iter() {
         let refusal = BlockMap::new(alloc, *blocks).err();
@@ -25,7 +25,7 @@ pub(crate) fn must_have_blocks(rt: &impl Abort, map: &BlockMap, want: u64) {
     must_equal(rt, &map.blocks(), &want, &"blocks");
 }
 
-/// Claims a cell or a run, which has to have this answer.
+/// Claims a cell or a run. The call has to return this result.
 fn must_answer(
     rt: &impl Abort,
     map: &mut BlockMap,
@@ -36,7 +36,7 @@ fn must_answer(
     must_equal(rt, &map.claim(size, kind), &want, &("claim", size, kind));
 }
 
-/// Claims one after the other: each a size, a kind and the answer that it has to have.
+/// Claims in sequence: each entry has a size, a kind and the expected result.
 pub(crate) fn must_claim(
     rt: &impl Abort,
     map: &mut BlockMap,
@@ -47,7 +47,7 @@ pub(crate) fn must_claim(
     }
 }
 
-/// Claims `count` objects of one size and kind, which have to stand side by side from the heap's first word on.
+/// Claims `count` objects of one size and kind. They have to be adjacent, from the heap's first word on.
 pub(crate) fn must_claim_row(
     rt: &impl Abort,
     map: &mut BlockMap,
@@ -62,7 +62,7 @@ pub(crate) fn must_claim_row(
     }
 }
 
-/// Condemns the object at the start, if one starts there.
+/// Removes the object with this address, if there is one.
 fn condemn(map: &mut BlockMap, start: Addr) -> bool {
     if map.extent_at(start).is_none() {
         return false;
@@ -71,19 +71,19 @@ fn condemn(map: &mut BlockMap, start: Addr) -> bool {
     true
 }
 
-/// Condemns the object that has to start here, or finds that none does.
+/// Removes the object that has to have this address, or checks that there is none.
 fn must_condemn_one(rt: &impl Abort, map: &mut BlockMap, start: Addr, want: bool) {
     must_equal(rt, &condemn(map, start), &want, &("object at", start));
 }
 
-/// Condemns objects one after the other, which have to start here.
+/// Removes objects in sequence. They have to have these addresses.
 pub(crate) fn must_condemn(rt: &impl Abort, map: &mut BlockMap, starts: &[Addr]) {
     for start in starts.iter() {
         must_condemn_one(rt, map, *start, true);
     }
 }
 
-/// Condemns `count` objects, which have to start word by word from the heap's first on.
+/// Removes `count` objects of one word, from the heap's first word on.
 pub(crate) fn must_condemn_row(rt: &impl Abort, map: &mut BlockMap, count: u64) {
     let mut start = HEAP_START;
     for _ in 0..count {
@@ -92,12 +92,12 @@ pub(crate) fn must_condemn_row(rt: &impl Abort, map: &mut BlockMap, count: u64) 
     }
 }
 
-/// No object may start here.
+/// There may be no object with this address.
 pub(crate) fn must_not_condemn(rt: &impl Abort, map: &mut BlockMap, start: Addr) {
     must_condemn_one(rt, map, start, false);
 }
 
-/// Words, each with the start of the object in which it has to lie.
+/// Words, each with the address of the object in which it has to lie.
 pub(crate) fn must_lie(rt: &impl Abort, map: &BlockMap, words: &[(Word, Option<Addr>)]) {
     for (word, want) in words.iter() {
         let start = map.cell_of(*word).map(|(start, _)| start);
@@ -105,7 +105,7 @@ pub(crate) fn must_lie(rt: &impl Abort, map: &BlockMap, words: &[(Word, Option<A
     }
 }
 
-/// Words, each with the size and the kind of the object that has to start there.
+/// Words, each with the size and the kind of the object that has to have this address.
 pub(crate) fn must_start(
     rt: &impl Abort,
     map: &BlockMap,
@@ -119,7 +119,7 @@ pub(crate) fn must_start(
     }
 }
 
-/// All objects have to start here, in this order.
+/// These have to be the addresses of all objects, in this order.
 pub(crate) fn must_have_starts(
     rt: &impl Abort,
     alloc: Global,
@@ -131,7 +131,7 @@ pub(crate) fn must_have_starts(
     Ok(())
 }
 
-/// The starts in a block, if the map has it.
+/// The words of a block at which objects start, if the map has the block.
 fn starts_in(map: &BlockMap, block: u64) -> u64 {
     if block >= map.blocks() {
         return 0;
@@ -139,7 +139,7 @@ fn starts_in(map: &BlockMap, block: u64) -> u64 {
     map.starts_in(block)
 }
 
-/// The places of a block where objects start have to be these, a bit each.
+/// The words of a block at which objects start, as bits, have to be these.
 pub(crate) fn must_start_in(rt: &impl Abort, map: &BlockMap, block: u64, want: u64) {
     must_equal(
         rt,
@@ -149,12 +149,12 @@ pub(crate) fn must_start_in(rt: &impl Abort, map: &BlockMap, block: u64, want: u
     );
 }
 
-/// So many cells have to be condemned, at this point of the test.
+/// There have to be this many dead, unswept cells at this point of the test.
 pub(crate) fn must_have_condemned(rt: &impl Abort, map: &BlockMap, want: u64, when: &str) {
     must_equal(rt, &map.condemned(), &want, &("condemned", when));
 }
 
-/// Condemns by bits in a block, if the map has it.
+/// Removes objects of a block by bits, if the map has the block.
 fn condemn_in(map: &mut BlockMap, block: u64, places: u64) -> u64 {
     if block >= map.blocks() {
         return 0;
@@ -162,7 +162,7 @@ fn condemn_in(map: &mut BlockMap, block: u64, places: u64) -> u64 {
     map.condemn_in(block, places)
 }
 
-/// Condemns by bits in a block, where this number of objects has to start.
+/// Removes objects of a block by bits. This many have to start there.
 pub(crate) fn must_condemn_in(
     rt: &impl Abort,
     map: &mut BlockMap,

@@ -1,4 +1,4 @@
-//! Worked examples of a block map: where cells go, and which cell a word lies in.
+//! Worked examples of a block map: where cells are placed, and in which cell a word lies.
 
 use crate::blocks::calls::{
     must_claim, must_claim_row, must_condemn, must_condemn_in, must_condemn_row, must_have_blocks,
@@ -56,7 +56,7 @@ fn another_class_takes_the_next_bare_block(rt: HostRuntime) -> Result<(), Fail> 
         &map,
         &[
             (65_603, Some((3, Atomic))),
-            (65_604, None), // an interior word is no start
+            (65_604, None), // an interior pointer isn't an address of an object
             (65_606, None), // a free cell
         ],
     );
@@ -151,7 +151,7 @@ fn sizes_and_blocks_have_limits(rt: HostRuntime) -> Result<(), Fail> {
             (0, Scanned, Err(Refusal::BadSize)),
             (1_025, Scanned, Err(Refusal::BadSize)),
             (64, Atomic, Ok(65_536)),
-            (u64::MAX, Atomic, Err(Refusal::BadSize)), // tested before the room
+            (u64::MAX, Atomic, Err(Refusal::BadSize)), // checked before the room
         ],
     );
     Ok(())
@@ -243,7 +243,7 @@ fn a_run_crosses_the_words_of_a_set(rt: HostRuntime) -> Result<(), Fail> {
         ],
     );
     must_condemn(&rt, &mut map, &[69_376]);
-    // A condemned run's block.
+    // A block of a dead run.
     must_lie(&rt, &map, &[(69_440, None)]);
     must_claim(
         &rt,
@@ -270,7 +270,7 @@ fn condemned_cells_are_counted_and_swept(rt: HostRuntime) -> Result<(), Fail> {
     must_lie(&rt, &map, &[(65_600, None)]);
     sweep(&mut map, 0);
     must_have_condemned(&rt, &map, 1, "after block 0");
-    // Objects stay.
+    // The objects are unchanged.
     must_lie(&rt, &map, &[(65_556, Some(65_556))]);
     sweep(&mut map, 2);
     must_have_condemned(&rt, &map, 1, "the run starts in block 1");
@@ -287,7 +287,7 @@ fn a_claim_sweeps_its_blocks_alone(rt: HostRuntime) -> Result<(), Fail> {
     }
     must_condemn(&rt, &mut map, &[65_537, 65_539, 65_600]);
     must_have_condemned(&rt, &map, 3, "before the claims");
-    // The least cell.
+    // The lowest cell.
     must_claim(&rt, &mut map, &[(1, Scanned, Ok(65_537))]);
     must_have_condemned(&rt, &map, 1, "those of block 1 wait");
     must_claim(
@@ -319,7 +319,7 @@ fn objects_of_a_block_are_condemned_by_bits(rt: HostRuntime) -> Result<(), Fail>
     must_lie(&rt, &map, &[(65_699, None)]);
     must_condemn_in(&rt, &mut map, 0, u64::MAX, 4);
     must_have_condemned(&rt, &map, 7, "all objects");
-    // All blocks are bare.
+    // All blocks are empty.
     must_claim(&rt, &mut map, &[(256, Scanned, Ok(65_536))]);
     must_have_condemned(&rt, &map, 0, "its blocks are swept");
     Ok(())

@@ -1,4 +1,4 @@
-//! Calls of a heap, each held against what it has to answer, and what a heap holds against what it has to hold.
+//! Calls of a heap with the results that they have to return, and the content that a heap has to have.
 
 use fz_heap::Heap;
 use fz_model::{Addr, BLOCK_WORDS, HEAP_START, ObjKind, Refusal, Word};
@@ -6,8 +6,8 @@ use std::alloc::{AllocError, Global};
 use std::fmt::Debug;
 use std::process::Abort;
 
-/// What was answered has to be what was wanted. A failure says what was asked. All go through here, since an assertion takes far
-/// longer to prove than a call.
+/// The result has to be the expected one. A failure prints the arguments. All tests use this function, since an assertion takes much longer to prove than a
+/// call.
 pub(crate) fn must_equal<T: PartialEq + Debug, A: Debug>(
     rt: &impl Abort,
     got: &T,
@@ -17,7 +17,7 @@ pub(crate) fn must_equal<T: PartialEq + Debug, A: Debug>(
     assert_eq!(rt; got, want, "asked: {asked:?}");
 }
 
-/// Heaps of these numbers of blocks have to be refused.
+/// Opening a heap with each of these numbers of blocks has to fail.
 pub(crate) fn must_refuse(rt: &impl Abort, alloc: Global, counts: &[u64]) {
     for blocks in counts.iter() {
         let refusal = Heap::new(alloc, *blocks).err();
@@ -25,7 +25,7 @@ pub(crate) fn must_refuse(rt: &impl Abort, alloc: Global, counts: &[u64]) {
     }
 }
 
-/// Allocations one after the other: each a size, a kind and the answer that it has to have.
+/// Allocations in sequence: each entry has a size, a kind and the expected result.
 pub(crate) fn must_alloc(
     rt: &impl Abort,
     heap: &mut Heap,
@@ -37,7 +37,7 @@ pub(crate) fn must_alloc(
     }
 }
 
-/// Condemns the object at the start, if one starts there, and sweeps its cell.
+/// Removes the object with this address, if there is one, and sweeps its cell.
 fn free(heap: &mut Heap, start: Addr) -> bool {
     if heap.facts(start).is_none() {
         return false;
@@ -47,17 +47,17 @@ fn free(heap: &mut Heap, start: Addr) -> bool {
     true
 }
 
-/// Frees the object that has to start here.
+/// Frees the object that has to have this address.
 pub(crate) fn must_free(rt: &impl Abort, heap: &mut Heap, start: Addr) {
     must_equal(rt, &free(heap, start), &true, &("object at", start));
 }
 
-/// No object may start here.
+/// There may be no object with this address.
 pub(crate) fn must_not_free(rt: &impl Abort, heap: &mut Heap, start: Addr) {
     must_equal(rt, &free(heap, start), &false, &("object at", start));
 }
 
-/// Reads: each a word, an offset and the answer that it has to have.
+/// Reads: each entry has a word, an offset and the expected result.
 pub(crate) fn must_read(
     rt: &impl Abort,
     heap: &Heap,
@@ -69,7 +69,7 @@ pub(crate) fn must_read(
     }
 }
 
-/// Writes one after the other: each a word, an offset, a value and the answer that it has to have.
+/// Writes in sequence: each entry has a word, an offset, a value and the expected result.
 pub(crate) fn must_write(
     rt: &impl Abort,
     heap: &mut Heap,
@@ -81,14 +81,14 @@ pub(crate) fn must_write(
     }
 }
 
-/// Words, each with the start of the object to which it has to point.
+/// Words, each with the address of the object to which it has to point.
 pub(crate) fn must_resolve(rt: &impl Abort, heap: &Heap, words: &[(Word, Option<Addr>)]) {
     for (word, want) in words.iter() {
         must_equal(rt, &heap.resolve(*word), want, &("object round", *word));
     }
 }
 
-/// Addresses, each with the size, the kind and the birth of the object that has to start there.
+/// Addresses, each with the size, the kind and the birth of the object that has to have it.
 pub(crate) fn must_have_facts(
     rt: &impl Abort,
     heap: &Heap,
@@ -99,7 +99,7 @@ pub(crate) fn must_have_facts(
     }
 }
 
-/// All objects have to start here, in this order.
+/// These have to be the addresses of all objects, in this order.
 pub(crate) fn must_have_objects(
     rt: &impl Abort,
     alloc: Global,

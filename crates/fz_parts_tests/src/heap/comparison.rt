@@ -1,4 +1,4 @@
-//! The heap against the plain list of its objects, over random calls.
+//! The heap compared with a plain list of its objects, over random calls.
 
 ghost use Rattle.std.specs.Prelude.{◌<◌, ◌≤◌};
 ghost use Rattle.fz_model.specs.declared.limits.TheConstants.{MAX_BLOCKS};
@@ -12,7 +12,7 @@ use std::alloc::Global;
 use std::process::Abort;
 use std::test::Fail;
 
-/// Random numbers by a xorshift of 64 bits, the same ones each time.
+/// Pseudorandom numbers by a 64-bit xorshift, the same in every run.
 #[derive(Drop)]
 struct Random {
     state: u64,
@@ -33,7 +33,7 @@ impl Random {
         self.next() % bound
     }
 
-    /// Mostly a few words, at times up to 200, which take up to four blocks; now and then none, or about as many as an object may have.
+    /// Mostly a few words, sometimes up to 200, which take up to four blocks; occasionally zero, or about the limit.
     fn size(&mut self) -> u64 {
         match self.below(32) {
             0 => MAX_OBJECT_WORDS + self.below(3) - 1,
@@ -46,7 +46,7 @@ impl Random {
         if self.below(2) == 0 { Scanned } else { Atomic }
     }
 
-    /// Mostly an address in the heap or close to it, at times any word.
+    /// Mostly an address in the heap or close to it, sometimes any word.
     fn word(&mut self, blocks: u64) -> Word
         requires { blocks ≤ MAX_BLOCKS }
     {
@@ -57,7 +57,7 @@ impl Random {
         }
     }
 
-    /// Mostly one inside an object, at times any.
+    /// Mostly an offset inside an object, sometimes any.
     fn offset(&mut self) -> u64 {
         if self.below(16) == 0 {
             self.next()
@@ -67,7 +67,7 @@ impl Random {
     }
 }
 
-/// Condemns the object at the start, if one starts there.
+/// Removes the object with this address, if there is one.
 pub(crate) fn condemn(heap: &mut Heap, start: Addr) -> bool {
     if heap.facts(start).is_none() {
         return false;
@@ -76,7 +76,7 @@ pub(crate) fn condemn(heap: &mut Heap, start: Addr) -> bool {
     true
 }
 
-/// Both read the same word, or refuse for the same cause.
+/// Both read the same word, or fail with the same error.
 fn must_read_alike(rt: &impl Abort, heap: &Heap, plain: &PlainHeap, word: Word, offset: u64) {
     let expected = plain.read(word, offset);
     must_equal(
@@ -87,13 +87,13 @@ fn must_read_alike(rt: &impl Abort, heap: &Heap, plain: &PlainHeap, word: Word, 
     );
 }
 
-/// Both tell the same facts of the object that starts here, or that none does.
+/// Both return the same facts about the object with this address, or that there is none.
 fn must_tell_alike(rt: &impl Abort, heap: &Heap, plain: &PlainHeap, start: Addr) {
     let expected = plain.facts(start);
     must_equal(rt, &heap.facts(start), &expected, &("facts at", start));
 }
 
-/// Both give the same words of the object that starts here.
+/// Both return the same words of the object with this address.
 fn must_point_alike(rt: &impl Abort, heap: &Heap, plain: &PlainHeap, start: Addr) {
     let expected = plain.pointers(start);
     must_equal(
@@ -104,7 +104,7 @@ fn must_point_alike(rt: &impl Abort, heap: &Heap, plain: &PlainHeap, start: Addr
     );
 }
 
-/// One random call of both that leaves the objects as they are. The answers have to be the same.
+/// One random call of both that changes no object. The results have to be equal.
 fn ask_both(
     rt: &impl Abort,
     heap: &mut Heap,
@@ -131,7 +131,7 @@ fn ask_both(
     Ok(())
 }
 
-/// One random call of both that takes objects away, or sweeps a block. The answers have to be the same.
+/// One random call of both that removes objects or sweeps a block. The results have to be equal.
 fn clear_both(
     rt: &impl Abort,
     heap: &mut Heap,
@@ -162,7 +162,7 @@ fn clear_both(
     Ok(())
 }
 
-/// One random call of both, whose answers have to be the same.
+/// One random call of both. The results have to be equal.
 fn call_both(
     rt: &impl Abort,
     heap: &mut Heap,
@@ -184,7 +184,7 @@ fn call_both(
     Ok(())
 }
 
-/// Whether the bits of its block name the object at the start.
+/// Whether the bits of its block include the object.
 fn is_named(heap: &Heap, start: Addr) -> bool {
     if heap.facts(start).is_none() {
         return false;
@@ -193,7 +193,7 @@ fn is_named(heap: &Heap, start: Addr) -> bool {
     heap.starts_in(offset / BLOCK_WORDS) >> (offset % BLOCK_WORDS) & 1 == 1
 }
 
-/// How many objects the bits of all blocks name.
+/// How many objects the bits of all blocks include.
 fn named(heap: &Heap) -> u64 {
     let mut count = 0u64;
     for block in 0..heap.blocks() {
@@ -202,7 +202,7 @@ fn named(heap: &Heap) -> u64 {
     count
 }
 
-/// The objects, their facts and their words are the same.
+/// Both have the same objects with the same facts and words.
 fn compare_all(rt: &impl Abort, alloc: Global, heap: &Heap, plain: &PlainHeap) -> Result<(), Fail> {
     let starts: Vec<Addr> = heap.objects().collect(alloc)?;
     let expected = plain.starts()?;

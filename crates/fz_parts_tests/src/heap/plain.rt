@@ -1,5 +1,5 @@
-//! The heap as a plain list of its objects: slow, and each call reads as its rule. Tests hold the real heap against it.
-//! It is proved to be safe and to end, no more: nothing but a test rests on it.
+//! The heap as a plain list of its objects. It is slow, and each call is written as its rule reads. Tests compare the real heap with it. It is proved to be
+//! safe and to terminate, and nothing else; only tests use it.
 
 ghost use Rattle.std.specs.Prelude.{◌≡◌, ◌<◌, ◌+◌, ◌*◌, IfSome};
 ghost use Rattle.fz_model.specs.declared.limits.TheConstants.{BLOCK_WORDS, HEAP_START};
@@ -10,7 +10,7 @@ use fz_model::{
 };
 use std::alloc::{AllocError, Global};
 
-/// An object: the words from a start on.
+/// An object: the words from its address on.
 #[derive(Drop)]
 struct Object {
     start: Addr,
@@ -19,7 +19,7 @@ struct Object {
     words: Vec<Word>,
 }
 
-/// The objects by rising start, the starts of condemned cells in any order, and the number of blocks.
+/// The objects in address order, the addresses of dead cells in any order, and the number of blocks.
 #[derive(Drop)]
 pub(crate) struct PlainHeap {
     alloc: Global,
@@ -36,7 +36,7 @@ fn block_start(block: u32) -> Addr
     HEAP_START + BLOCK_WORDS * u64::from(block)
 }
 
-/// The place of the address in the block, if it stands there.
+/// The index of the address within the block, if it lies there.
 fn place_in(address: u64, block: u32) -> Option<u64>
     ensures { IfSome result (λ place. place < BLOCK_WORDS) }
 {
@@ -44,7 +44,7 @@ fn place_in(address: u64, block: u32) -> Option<u64>
     (place < BLOCK_WORDS).then_some(place)
 }
 
-/// Whether the address stands in the block, at one of these places: a bit each, the first place's lowest.
+/// Whether the address lies in the block at a word whose bit is set; the lowest bit is the first word.
 fn stands_at(address: u64, block: u32, places: u64) -> bool {
     match place_in(address, block) {
         Some(place) => places >> place & 1 == 1,
@@ -70,14 +70,14 @@ impl Object {
         self.starts_in(block) || self.covers(block_start(block))
     }
 
-    /// The place, among its words, of the word at an offset from a word that points into it.
+    /// The index, among the object's words, of the word at an offset from a word that points into it.
     fn place(&self, word: Word, offset: u64) -> Option<usize> {
         let place = word.checked_sub(self.start)?.checked_add(offset)?;
         Some(place as usize)
     }
 }
 
-/// The condemned cells lose those in blocks that the object meets.
+/// Removes the dead cells in blocks where the object lies.
 fn sweep_under(condemned: &mut Vec<Addr>, blocks: u32, object: &Object) {
     for block in 0..blocks {
         if object.meets(block) {
@@ -100,7 +100,7 @@ impl PlainHeap {
         })
     }
 
-    /// The least free cell of a block with cells of this size.
+    /// The lowest free cell of a block with cells of this size.
     fn free_cell(&self, block: u32, size: u64) -> Option<Addr>
         requires { 0 < size }
     {
@@ -113,7 +113,7 @@ impl PlainHeap {
         None
     }
 
-    /// The least free cell of the blocks with objects of this size and kind.
+    /// The lowest free cell of the blocks with objects of this size and kind.
     fn place_in_class(&self, size: u64, kind: ObjKind) -> Option<Addr>
         requires { 0 < size }
     {
@@ -144,7 +144,7 @@ impl PlainHeap {
         bare as u64 == count
     }
 
-    /// The start of the least run of blocks without objects in which the words fit.
+    /// The start of the lowest run of empty blocks in which the words fit.
     fn place_in_bare(&self, size: u64) -> Option<Addr> {
         let count = size.div_ceil(BLOCK_WORDS);
         for block in 0..self.blocks {
@@ -220,7 +220,7 @@ impl PlainHeap {
         Ok(())
     }
 
-    /// Condemns the objects at these places of a block; returns their number.
+    /// Removes the objects at these words of a block. Returns their number.
     pub(crate) fn condemn_in(&mut self, block: u32, places: u64) -> Result<u64, AllocError> {
         let mut starts = self.starts()?;
         starts.retain(|start| stands_at(*start, block, places));
@@ -239,7 +239,7 @@ impl PlainHeap {
         self.condemned.len() as u64
     }
 
-    /// The words of a scanned object; none of an atomic one.
+    /// The words of a scanned object; none for a pointer-free one.
     pub(crate) fn pointers(&self, start: Addr) -> &[Word] {
         match self.objects.iter().find(|object| object.start == start) {
             Some(object) => match object.kind {
@@ -255,7 +255,7 @@ impl PlainHeap {
         Some((object.size(), object.kind, object.birth))
     }
 
-    /// The starts of all objects, by rising address.
+    /// The addresses of all objects, in ascending order.
     pub(crate) fn starts(&self) -> Result<Vec<Addr>, AllocError> {
         self.objects
             .iter()

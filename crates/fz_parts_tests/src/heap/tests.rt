@@ -1,4 +1,4 @@
-//! Worked examples of a heap: births, the words of objects, and which refusal comes first. Where objects go, the tests of blocks say.
+//! Worked examples of a heap: births, the words of objects, and which error comes first. The tests of blocks check where objects go.
 
 use crate::heap::calls::{
     must_alloc, must_equal, must_free, must_have_facts, must_have_objects, must_not_free,
@@ -22,12 +22,12 @@ fn births_count_the_objects(rt: HostRuntime) -> Result<(), Fail> {
             (3, Scanned, Ok((65_536, 0))),
             (3, Atomic, Ok((65_600, 1))),
             (4, Scanned, Err(NoSpace)),
-            (MAX_OBJECT_WORDS + 1, Scanned, Err(BadSize)), // tested before the room
-            (3, Scanned, Ok((65_539, 2))), // a refused call takes no birth
+            (MAX_OBJECT_WORDS + 1, Scanned, Err(BadSize)), // checked before the room
+            (3, Scanned, Ok((65_539, 2))), // a failed call uses no birth
         ],
     );
     must_free(&rt, &mut heap, 65_536);
-    // Nor is a birth given twice.
+    // A birth isn't reused.
     must_alloc(&rt, &mut heap, &[(3, Scanned, Ok((65_536, 3)))]);
     Ok(())
 }
@@ -51,7 +51,7 @@ fn one_object_fills_a_block(rt: HostRuntime) -> Result<(), Fail> {
 fn an_object_takes_neighbouring_blocks(rt: HostRuntime) -> Result<(), Fail> {
     let mut heap = Heap::new(rt.alloc(), 3)?;
     must_alloc(&rt, &mut heap, &[(65, Scanned, Ok((65_536, 0)))]);
-    // From its second block.
+    // Through an interior pointer to its second block.
     must_write(&rt, &mut heap, &[(65_600, 0, 7, Ok(()))]);
     must_read(
         &rt,
@@ -71,7 +71,7 @@ fn an_object_takes_neighbouring_blocks(rt: HostRuntime) -> Result<(), Fail> {
     must_free(&rt, &mut heap, 65_536);
     must_resolve(&rt, &heap, &[(65_600, None)]);
     must_alloc(&rt, &mut heap, &[(128, Atomic, Ok((65_536, 2)))]);
-    // Zero where a 7 was.
+    // Zero, where a 7 was before.
     must_read(&rt, &heap, &[(65_600, 0, Ok(0))]);
     Ok(())
 }
@@ -103,16 +103,16 @@ fn a_new_object_is_zero_where_another_was(rt: HostRuntime) -> Result<(), Fail> {
     Ok(())
 }
 
-/// Outside two objects of 4 words, which fill 65,536 to 65,543, nothing is read or written.
+/// Outside two objects of 4 words each, which take 65,536 to 65,543, nothing can be read or written.
 fn must_refuse_outside(rt: &impl Abort, heap: &mut Heap) {
     must_write(rt, heap, &[(65_539, 1, 1, Err(OutsideObject))]);
     // Nothing was written.
     must_read(rt, heap, &[(65_540, 0, Ok(0))]);
-    // Past all addresses.
+    // Beyond all addresses.
     must_read(rt, heap, &[(65_536, u64::MAX, Err(OutsideObject))]);
     must_write(rt, heap, &[(65_536, u64::MAX, 1, Err(OutsideObject))]);
     must_read(rt, heap, &[(65_544, 0, Err(NotPointer))]);
-    // The word itself has to point.
+    // The word itself has to point to an object.
     must_write(rt, heap, &[(0, 65_536, 1, Err(NotPointer))]);
     must_read(rt, heap, &[(u64::MAX, u64::MAX, Err(NotPointer))]);
 }
@@ -126,7 +126,7 @@ fn words_are_read_where_they_were_written(rt: HostRuntime) -> Result<(), Fail> {
         &rt,
         &heap,
         &[
-            (65_539, Some(65_536)), // an interior word
+            (65_539, Some(65_536)), // an interior pointer
             (65_544, None), // a free cell
         ],
     );
@@ -134,7 +134,7 @@ fn words_are_read_where_they_were_written(rt: HostRuntime) -> Result<(), Fail> {
         &rt,
         &mut heap,
         &[
-            (65_537, 2, 7, Ok(())), // from an interior word
+            (65_537, 2, 7, Ok(())), // through an interior pointer
             (65_540, 3, u64::MAX, Ok(())),
         ],
     );
@@ -172,7 +172,7 @@ fn objects_come_by_address(rt: HostRuntime) -> Result<(), Fail> {
             (65_600, Some((2, Atomic, 1))),
             (65_602, Some((2, Atomic, 2))),
             (65_664, Some((40, Scanned, 3))),
-            (65_601, None), // an interior word is no start
+            (65_601, None), // an interior pointer isn't an address of an object
         ],
     );
     Ok(())
@@ -218,7 +218,7 @@ fn an_object_stands_in_each_block(rt: HostRuntime) -> Result<(), Fail> {
     Ok(())
 }
 
-/// Makes objects of this size until none has a place.
+/// Allocates objects of this size until there is no room.
 fn fill(heap: &mut Heap, size: u64) {
     for _ in 0..BLOCK_WORDS * MAX_BLOCKS {
         if heap.alloc(size, Scanned).is_err() {
@@ -227,7 +227,7 @@ fn fill(heap: &mut Heap, size: u64) {
     }
 }
 
-/// Makes one object of each size up to a block's, and some of more blocks.
+/// Allocates one object of each size up to a block's, and some of several blocks.
 fn one_of_each(heap: &mut Heap) -> Result<(), Refusal> {
     for size in 1..=BLOCK_WORDS {
         heap.alloc(size, Scanned)?;
@@ -238,7 +238,7 @@ fn one_of_each(heap: &mut Heap) -> Result<(), Refusal> {
     Ok(())
 }
 
-/// Condemns every other object; returns their sizes.
+/// Removes every other object. Returns their sizes.
 fn drop_every_other(alloc: Global, heap: &mut Heap) -> Result<Vec<u64>, AllocError> {
     let starts: Vec<Addr> = heap.objects().collect(alloc)?;
     let mut sizes = Vec::new(alloc);

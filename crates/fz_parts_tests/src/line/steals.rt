@@ -1,11 +1,11 @@
-//! What a take answers where its steal gives `Retry`, which no test can bring a deque to do, `Empty` or an entry.
+//! What a take returns if its steal gives `Retry`, which no test can force, `Empty` or an entry.
 
 use super::{counts, entry, must_be};
 use fz_line::{Deque, Front, Seat, Steal, Take, Taker, line, retire_all};
 use fz_model::Entry;
 use std::test::*;
 
-/// Gives these answers, one a take, and then those of the line. A task comes from the line too.
+/// A front that returns these results, one for each take, and afterwards those of the line. A taken entry comes from the line, too.
 #[derive(Drop)]
 struct Told<'a> {
     answers: &'a [Steal<()>],
@@ -25,7 +25,7 @@ impl Front for Told<'_> {
     }
 }
 
-/// What a take answered, with the number of its entry, and the seat, which gave the entry up.
+/// What a take returned, with the number of its entry, and the seat, which forfeited the entry.
 fn answered(taken: Take) -> (Steal<u64>, Seat) {
     match taken {
         Take::Empty(same) => (Steal::Empty, same),

@@ -1,5 +1,5 @@
-//! Workers that sleep, and what wakes them. What a ring spares is time alone: a worker that missed one looks again after 50 milliseconds. So each test here
-//! rings so often that it takes longer than a test may, where rings are missed.
+//! Sleeping workers, and what wakes them. Waking only saves time: a worker that missed a wake-up looks again after 50 milliseconds. So each test here wakes
+//! workers so often that it exceeds its time limit if wake-ups are missed.
 
 ghost use Rattle.std.specs.Prelude.{◌≡◌};
 
@@ -16,18 +16,18 @@ use std::thread::{Parker, Threads};
 use std::time::Duration;
 use std::{mem, thread};
 
-/// How many rings there are in a test.
+/// The number of wake-ups in a test.
 const RINGS: u64 = 1_500;
 
-/// How often the program looks whether an entry was finished, at most.
+/// How often the program checks at most whether an entry was finished.
 const LOOKS: u32 = 10_000_000;
 
-/// Waits until workers without work have begun to sleep.
+/// Waits until idle workers have begun to sleep.
 fn wait<R: Wait>(rt: &R) {
     Parker::new().park_timeout(rt, Duration::from_millis(1));
 }
 
-/// Waits until nothing is held. Returns whether it came to that.
+/// Waits until no entry is held. Returns whether that happened.
 fn is_finished_soon<O: Opening, R: Wait>(rt: &R, service: &Service<O>) -> bool {
     for _ in 0..LOOKS {
         if service.enter(rt).outstanding() == 0 {
@@ -38,7 +38,7 @@ fn is_finished_soon<O: Opening, R: Wait>(rt: &R, service: &Service<O>) -> bool {
     false
 }
 
-/// Queues an entry while the workers sleep, and waits until it is finished, again and again.
+/// Repeatedly queues an entry while the workers sleep, and waits until it is finished.
 fn wakes_for_each_entry<O: Opening + Send + Sync, R: Abort + Wait + Threads + Sync>(
     rt: &R,
     prepared: Prepared,
@@ -67,7 +67,7 @@ fn an_entry_wakes_a_worker(rt: HostRuntime) {
     wakes_for_each_entry::<Brand, HostRuntime>(&rt, prepared);
 }
 
-/// Runs the workers until they have slept for a while, and stops them, with a ring or without.
+/// Runs the workers until they have slept for a while, and stops them, with a wake-up or without.
 fn stops_once<O: Opening + Send + Sync, R: Abort + Wait + Threads + Sync>(
     rt: &R,
     alloc: Global,
@@ -96,7 +96,7 @@ fn stops_once<O: Opening + Send + Sync, R: Abort + Wait + Threads + Sync>(
     back
 }
 
-/// Stops two workers that sleep, again and again.
+/// Repeatedly stops two sleeping workers.
 fn stops_each_time<O: Opening + Send + Sync, R: Abort + Wait + Threads + Sync>(
     rt: &R,
     alloc: Global,

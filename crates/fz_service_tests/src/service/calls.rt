@@ -1,4 +1,4 @@
-//! Calls under the lock as a program writes them, with what they answer.
+//! Calls under the lock as a program writes them, with their results.
 
 ghost use Rattle.std.specs.Prelude.{◌≡◌};
 
@@ -17,7 +17,7 @@ use std::process::Abort;
 use std::sync::Wait;
 use std::test::*;
 
-/// The births of two objects, and the second one's address by way of the first one's second word.
+/// The births of two objects, and the second object's address, read from the first object's second word.
 fn words<O: Opening>(locked: &mut Locked<O>) -> Result<(u64, u64, Word), Refusal> {
     let (_, first) = locked.alloc(0, 0, 2, Scanned)?;
     let (_, second) = locked.alloc_or_collect(0, 1, 1, Atomic)?;
@@ -27,7 +27,7 @@ fn words<O: Opening>(locked: &mut Locked<O>) -> Result<(u64, u64, Word), Refusal
     Ok((first, second, word))
 }
 
-/// A link is made, moved from the first word to the second, and removed.
+/// A link is registered, moved from the first word to the second, and removed.
 fn links<O: Opening>(locked: &mut Locked<O>) -> Result<(LinkAnswer, MoveAnswer, bool), Refusal> {
     let linked = locked.link(Short, 0, 0, 0, 0, 1)?;
     let moved = locked.move_link(Short, 0, 0, 0, 0, 0, 1)?;
@@ -52,7 +52,7 @@ fn cycle<O: Opening>(locked: &mut Locked<O>) -> Result<(Progress, Passed, u64), 
     Ok((progress, passed, scans))
 }
 
-/// What the world counts: held entries, forgotten ones, and pages noted in the last cycle.
+/// The world's counters: held entries, forgotten entries, and dirty pages of the last cycle.
 fn counts<O: Opening>(locked: &mut Locked<O>) -> Result<(Reply, u64, u64), Refusal> {
     let reply = locked.make(Call::Outstanding)?;
     let forgotten = locked.forgotten();

@@ -1,4 +1,4 @@
-//! Eight workers at once, each with a list of six procedures.
+//! Eight workers at the same time, each with a list of six procedures.
 
 ghost use Rattle.std.specs.Prelude.{◌≡◌};
 
@@ -16,13 +16,13 @@ use std::sync::{Arc, Wait};
 use std::test::*;
 use std::thread::Threads;
 
-/// The number of workers, and of the entries of a round.
+/// The number of workers, and of the entries in a round.
 const WORKERS: u64 = 8;
 
-/// The number of rounds. The entries of each have a procedure of their own.
+/// The number of rounds. Each round's entries have a procedure of their own.
 const ROUNDS: u64 = 6;
 
-/// A gate that lets a round's entries pass once all of them are there, one for each worker. So each worker has one entry of each round.
+/// A hook that lets a round's entries proceed after all of them have arrived, one for each worker. So each worker has one entry of each round.
 #[derive(Drop)]
 pub(super) struct Rounds {
     workers: u64,
@@ -50,7 +50,7 @@ impl Gate for Rounds {
     }
 }
 
-/// The procedure of a round, which writes down its calls.
+/// A round's procedure, which records its calls.
 #[derive(Drop)]
 struct OfRound {
     round: u64,
@@ -69,7 +69,7 @@ impl Proc for OfRound {
     }
 }
 
-/// Each seat finished an entry of each round.
+/// Each seat finished one entry of each round.
 fn finished_in_each_round<O: Opening>(rt: &impl Abort, seats: &[Seat<O>]) {
     for seat in seats {
         same(rt, "finished by a seat", seat.finished(), ROUNDS);

@@ -1,4 +1,4 @@
-//! Each number of workers, all that is called of an entry in one log, and thousands of entries queued at once.
+//! Each number of workers, all calls for an entry in one log, and thousands of entries queued at once.
 
 ghost use Rattle.std.specs.Prelude.{◌≡◌};
 
@@ -21,8 +21,8 @@ use std::test::*;
 use std::thread::{Parker, Threads};
 use std::time::Duration;
 
-/// Serves an entry for each worker with a thread a seat, once the workers were told to stop. No entry passes before each worker has one, and all have to
-/// be finished.
+/// Serves one entry for each worker, with one thread per seat, after the workers were told to stop. No entry proceeds before each worker has one, and all
+/// have to be finished.
 fn serves_one_each<O: Opening + Send + Sync, R: Abort + Wait + Threads + Sync>(
     rt: &R,
     prepared: Prepared,
@@ -53,7 +53,7 @@ fn each_number_of_workers_serves(rt: HostRuntime) {
     }
 }
 
-/// A gate that writes down the entries that it is told of, as calls of part 0.
+/// A hook that records the entries for which it is called, as calls of part 0.
 #[derive(Drop)]
 struct Logged(Arc<Calls, Global>);
 
@@ -81,7 +81,7 @@ fn serves_two<O: Opening, R: Abort + Wait>(
     let _ = ended(rt, service, seats);
 }
 
-/// Of each entry the gate is told first, then `work` is called, and then `run`.
+/// For each entry the hook is called first, then `work`, and then `run`.
 #[test]
 fn the_gate_is_told_before_work_and_work_before_run(rt: HostRuntime) -> Result<(), Fail> {
     let calls = Arc::new(rt.alloc(), Calls::with_room(rt.alloc(), 6)?)?;
@@ -102,14 +102,14 @@ fn the_gate_is_told_before_work_and_work_before_run(rt: HostRuntime) -> Result<(
     Ok(())
 }
 
-/// Makes `count` objects, registers each, and drops them.
+/// Allocates `count` objects, registers each, and drops them.
 fn make_and_drop_all<O: Opening>(rt: &impl Abort, locked: &mut Locked<O>, count: u64) {
     for _object in 0..count {
         make_and_drop(rt, locked);
     }
 }
 
-/// A cycle in steps whose pass queues `picked` entries, after which all is sent.
+/// A cycle in steps whose pass queues `picked` entries, after which every entry is sent.
 fn pauses<O: Opening>(rt: &impl Abort, locked: &mut Locked<O>, picked: u64) {
     accepted(rt, "begin", locked.begin());
     same(rt, "mark", locked.mark(u64::MAX), Ok(Progress::Done));
@@ -122,7 +122,7 @@ fn pauses<O: Opening>(rt: &impl Abort, locked: &mut Locked<O>, picked: u64) {
     same(rt, "not sent after a pause", locked.outbox().len(), 0);
 }
 
-/// Queues 64 entries, 2,000 at once by a collection, and 2,100 by a pause. All are sent at once, and one worker finishes them.
+/// Queues 64 entries, then 2,000 by a collection, and 2,100 by a pause. All are sent at once, and one worker finishes them.
 fn sends_thousands<O: Opening, R: Abort + Wait>(rt: &R, prepared: Prepared)
     requires { prepared ≡ O.origin }
 {
@@ -149,7 +149,7 @@ fn thousands_are_sent_at_once(rt: HostRuntime) {
     sends_thousands::<Brand, HostRuntime>(&rt, prepared);
 }
 
-/// A thousand entries at a time, 70,000 in all, are sent at once and finished by one seat. Then the service ends.
+/// 70,000 entries, a thousand at a time, are sent at once and finished by one seat. Then the service ends.
 fn serves_for_long<O: Opening, R: Abort + Wait>(rt: &R, prepared: Prepared)
     requires { prepared ≡ O.origin }
 {
@@ -211,7 +211,7 @@ fn each_of_eight_seats_takes_again(rt: HostRuntime) {
     takes_again::<Brand, HostRuntime>(&rt, prepared);
 }
 
-/// A service ends with 1,001 entries that nobody took, which are told in order.
+/// A service ends with 1,001 entries that nobody took. They are returned in order.
 fn leaves_many<O: Opening, R: Abort + Wait>(rt: &R, prepared: Prepared)
     requires { prepared ≡ O.origin }
 {
@@ -239,7 +239,7 @@ fn a_thousand_and_one_are_left(rt: HostRuntime) {
     leaves_many::<Brand, HostRuntime>(&rt, prepared);
 }
 
-/// A procedure that collects, and may have work to do before that.
+/// A procedure that collects, and may have work to do before.
 #[derive(Drop)]
 struct Collects {
     has_work: bool,
@@ -278,7 +278,7 @@ fn takes_what_was_collected<O: Opening, R: Abort + Wait>(
     let _ = ended(rt, service, seats);
 }
 
-/// In one hold of the lock with the others, and in a hold of its own.
+/// First with all entries under one hold of the lock, then with a hold of its own.
 #[test]
 fn a_seat_takes_what_its_procedure_collected(rt: HostRuntime) -> Result<(), Fail> {
     for has_work in [false, true] {
@@ -290,7 +290,7 @@ fn a_seat_takes_what_its_procedure_collected(rt: HostRuntime) -> Result<(), Fail
     Ok(())
 }
 
-/// Two workers find nothing for more than two seconds, and then an entry, which one of them finishes.
+/// Two workers are idle for more than two seconds. Then an entry is queued, which one of them finishes.
 fn serves_after_idling<O: Opening + Send + Sync, R: Abort + Wait + Threads + Sync>(
     rt: &R,
     prepared: Prepared,
@@ -312,7 +312,7 @@ fn workers_serve_after_idling(rt: HostRuntime) {
     serves_after_idling::<Brand, HostRuntime>(&rt, prepared);
 }
 
-/// A service can't end without its seats. With them it does.
+/// Ending a service fails without its seats, and succeeds with them.
 fn refuses_to_end_without_seats<O: Opening>(rt: &impl Abort, alloc: Global, prepared: Prepared)
     requires { prepared ≡ O.origin }
 {

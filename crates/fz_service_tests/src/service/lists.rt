@@ -1,4 +1,4 @@
-//! Lists of procedures of unequal lengths, and a worker without one.
+//! Lists of procedures with different lengths, and a worker without one.
 
 ghost use Rattle.std.specs.Prelude.{◌≡◌};
 
@@ -19,7 +19,7 @@ use std::thread::Threads;
 /// The procedures of ten entries.
 const NUMBERS: [u64; 10] = [0, 0, 1, 1, 2, 0, 1, 1, 2, 2];
 
-/// A gate by which one of three workers has entry 0 alone, one has entries 2, 3 and 4, and one has all others.
+/// A hook that makes one of three workers take only entry 0, one take entries 2, 3 and 4, and one take all others.
 #[derive(Drop)]
 struct Shared(Arrivals);
 
@@ -33,7 +33,7 @@ impl Gate for Shared {
     }
 }
 
-/// How many entries of each procedure a worker has, by how many it has in all.
+/// How many entries of each procedure a worker gets, given how many entries it gets in all.
 fn shares(rt: &impl Abort, finished: u64) -> [u64; 3] {
     match finished {
         1 => [1, 0, 0],
@@ -46,13 +46,13 @@ fn shares(rt: &impl Abort, finished: u64) -> [u64; 3] {
 /// How workers are run.
 #[derive(Clone, Copy, PartialEq, Eq)]
 enum Way {
-    /// Once all entries are sent, and the workers are told to stop.
+    /// After all entries are sent, and the workers are told to stop.
     Alone,
-    /// Beside the thread that queues the entries.
+    /// Concurrently with the thread that queues the entries.
     Beside,
 }
 
-/// How many each of three seats finished.
+/// How many entries each of three seats finished.
 fn finished_by_three<O: Opening>(rt: &impl Abort, seats: &[Seat<O>]) -> [u64; 3] {
     count_seats(rt, seats, 3);
     [
@@ -62,7 +62,7 @@ fn finished_by_three<O: Opening>(rt: &impl Abort, seats: &[Seat<O>]) -> [u64; 3]
     ]
 }
 
-/// Serves all entries with three workers. Returns how many each seat finished.
+/// Three workers serve all entries. Returns how many each seat finished.
 fn serves<O: Opening + Send + Sync, R: Abort + Wait + Threads + Sync>(
     rt: &R,
     prepared: Prepared,
@@ -90,7 +90,7 @@ fn serves<O: Opening + Send + Sync, R: Abort + Wait + Threads + Sync>(
     finished
 }
 
-/// A list of this number of procedures, which write their calls down.
+/// A list of this many procedures, which record their calls.
 fn list_of(
     alloc: Global,
     length: u64,
@@ -104,7 +104,7 @@ fn list_of(
     Ok(list)
 }
 
-/// Of each entry whose procedure the list has, two calls were made.
+/// Two calls were made for each entry whose procedure is in the list.
 fn calls_its_own(rt: &impl Abort, calls: &Calls, length: usize, finished: u64) {
     let mut wanted = shares(rt, finished);
     for (number, count) in wanted.iter_mut().enumerate() {
@@ -153,7 +153,7 @@ fn workers_beside_a_program_have_the_lists_of_their_places(rt: HostRuntime) -> R
     Ok(())
 }
 
-/// A procedure that writes its work down, and waits where it has the first entry until the work of three entries has begun.
+/// A procedure that records its calls. With the first entry it waits until the work of three entries has begun.
 #[derive(Drop)]
 struct Waits {
     arrivals: Arc<Arrivals, Global>,
@@ -167,7 +167,7 @@ impl Proc for Waits {
     }
 }
 
-/// Queues five entries, of the first procedure and of the second in turn.
+/// Queues five entries, alternating between the first procedure and the second.
 #[derive(Drop)]
 struct Queues;
 
@@ -177,7 +177,7 @@ impl<R: Abort + Wait> Program<R, ()> for Queues {
     }
 }
 
-/// Adds the procedure that waits to a list.
+/// Adds the waiting procedure to a list.
 fn push_waits(
     alloc: Global,
     list: &mut Vec<Box<dyn Proc + Send>>,
@@ -192,7 +192,7 @@ fn push_waits(
     Ok(())
 }
 
-/// The first list has the first procedure alone. One worker has the first entry, and the other the rest.
+/// The first list has only the first procedure. One worker has the first entry, and the other the rest.
 #[test]
 fn a_program_has_lists_of_unequal_lengths(rt: HostRuntime) -> Result<(), Fail> {
     let alloc = rt.alloc();

@@ -1,4 +1,4 @@
-//! When a worker holds the lock: not while a procedure works, and for no more than 32 entries in a row.
+//! When a worker holds the lock: not while a procedure works, and for at most 32 entries in a row.
 
 ghost use Rattle.std.specs.Prelude.{◌≡◌};
 
@@ -18,7 +18,7 @@ use std::test::*;
 use std::thread;
 use std::thread::Threads;
 
-/// A thread that asks for the lock whenever it is told to.
+/// A thread that takes the lock on request.
 #[derive(Drop)]
 struct Visits {
     asked: Arrivals,
@@ -33,7 +33,7 @@ impl Visits {
         }
     }
 
-    /// Takes the lock and gives it back, this number of times, each once it is told to.
+    /// Takes and releases the lock this many times, each time on request.
     fn visit<O: Opening, R: Wait>(&self, rt: &R, service: &Service<O>, times: u64) {
         for number in 0..times {
             self.asked.wait(number.saturating_add(1));
@@ -47,7 +47,7 @@ impl Visits {
     }
 }
 
-/// The entries that have work, and as many that have none.
+/// How many entries have work; the same number have none.
 const TIMES: u64 = 20;
 
 /// A procedure that works until another thread has had the lock.
@@ -65,7 +65,7 @@ impl Proc for Works {
     }
 }
 
-/// A procedure without work, which counts what is called.
+/// A procedure without work, which counts its calls.
 #[derive(Drop)]
 struct Runs {
     works: Arc<AtomicU64, Global>,
@@ -87,7 +87,7 @@ impl Proc for Runs {
     }
 }
 
-/// One worker serves entries that have no work and entries that have some in turn.
+/// One worker serves entries alternately with and without work.
 fn serves_in_turn<O: Opening + Send + Sync, R: Abort + Wait + Threads + Sync>(
     rt: &R,
     prepared: Prepared,
@@ -126,11 +126,11 @@ fn the_lock_is_free_while_a_procedure_works(rt: HostRuntime) -> Result<(), Fail>
     Ok(())
 }
 
-/// How many entries one worker serves in a hold, at most.
+/// The largest number of entries that one worker serves under one hold of the lock.
 const ENTRIES_OF_A_HOLD: u64 = 32;
 
-/// A procedure without work. It is asked for that before each entry: at the second one it calls for the other thread, and after a hold's entries it
-/// waits until that has had the lock.
+/// A procedure without work. Before each entry the worker asks whether it has work: at the second entry this calls for the other thread, and after as many
+/// entries as one hold may serve it waits until that thread has had the lock.
 #[derive(Drop)]
 struct Waits {
     visits: Arc<Visits, Global>,

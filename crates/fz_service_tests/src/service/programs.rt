@@ -25,7 +25,7 @@ impl Proc for Counts {
     }
 }
 
-/// Queues this number of entries, and tells it.
+/// Queues this number of entries, and returns it.
 #[derive(Drop)]
 struct Queues(u64);
 
@@ -79,7 +79,7 @@ fn collects_alone(world: &mut World) -> Result<Passed, Refusal>
     world.collect()
 }
 
-/// What is queued while the world is lent is sent; an end without all seats is refused.
+/// Entries queued while the caller uses the world are sent; ending the service without all seats fails.
 fn lends_the_world<O: Opening, R: Abort + Wait>(rt: &R, prepared: Prepared)
     requires { prepared ≡ O.origin }
 {

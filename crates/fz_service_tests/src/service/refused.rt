@@ -1,5 +1,5 @@
-//! Services whose line is full, from their opening to their end. A call that is refused for want of memory is made again at once, and then all is as if memory
-//! had never been short: `tests/refused-allocations` makes allocations of these tests fail, up to four in a row, and wants a push to be among them.
+//! Services whose line is full, from their opening to their end. A call that runs out of memory is repeated at once, and then everything is as if there had
+//! been enough memory: `tests/refused-allocations` makes allocations of these tests fail, up to four in a row, and checks that a push is among them.
 
 ghost use Rattle.std.specs.Prelude.{◌≡◌};
 
@@ -16,10 +16,10 @@ use std::process::Abort;
 use std::sync::Wait;
 use std::test::*;
 
-/// How many objects the first pass queues: as many as the line has room for from its opening.
+/// How many objects the first pass queues: as many as the line has room for when it is opened.
 const FIRST: u64 = TABLE_LIMIT;
 
-/// How many objects are registered and dropped. The second pass queues those after the first ones, for which the line has to grow.
+/// How many objects are registered and dropped. The second pass queues those beyond the first ones, for which the line has to grow.
 const OBJECTS: u64 = FIRST + 1_000;
 
 /// Room for the objects: one word each.
@@ -28,10 +28,10 @@ const CONFIG: Config = Config {
     frames: 1,
 };
 
-/// The most calls that are refused, since no more allocations fail.
+/// The largest number of failed calls: no more allocations fail in a row.
 const MOST_REFUSALS: u64 = 4;
 
-/// What becomes of the entries.
+/// What happens to the entries.
 #[derive(Clone, Copy, PartialEq, Eq)]
 enum Way {
     /// Two seats finish all entries, and the world is closed before the end.
@@ -40,7 +40,7 @@ enum Way {
     Leave,
 }
 
-/// The entry at this place in the queue.
+/// The entry at this index of the queue.
 fn entry_at(place: u64) -> Entry {
     Entry {
         seq: place,
@@ -53,7 +53,7 @@ fn entry_at(place: u64) -> Entry {
     }
 }
 
-/// Entries that end before this place in the queue, in order, and how many they are.
+/// The entries end just before this index of the queue, are in order, and have this count.
 fn are_before(rt: &impl Abort, entries: &[Entry], end: u64, count: u64) {
     same(rt, "entries", entries.len() as u64, count);
     let mut place = end.wrapping_sub(count);
@@ -73,7 +73,7 @@ fn prepared_again(rt: &impl Abort, alloc: Global, refusals: &mut u64) -> Prepare
     Service::prepare(alloc, CONFIG, 2).expect(rt, "memory")
 }
 
-/// Registers the object in hand with this procedure.
+/// Registers the current object with this procedure.
 fn register_again<O: Opening>(
     rt: &impl Abort,
     locked: &mut Locked<O>,
@@ -89,7 +89,7 @@ fn register_again<O: Opening>(
     accepted(rt, "register", locked.register(0, 0, Normal, proc, 0, 0));
 }
 
-/// Makes, registers and drops the objects from one number to before another, and collects. What couldn't be sent is the rest of the queue.
+/// Allocates, registers and drops the objects of a range of numbers, and collects. The entries that couldn't be sent are the rest of the queue.
 fn queue_from<O: Opening>(
     rt: &impl Abort,
     locked: &mut Locked<O>,
@@ -111,7 +111,7 @@ fn queue_from<O: Opening>(
     are_before(rt, locked.queue(), end, end);
 }
 
-/// Queues the objects of both passes. All of the first are sent at once, and of the second perhaps none.
+/// Queues the objects of both passes. All entries of the first are sent at once, and of the second perhaps none.
 fn queue_all<O: Opening, R: Abort + Print>(rt: &R, locked: &mut Locked<O>, refusals: &mut u64) {
     queue_from(rt, locked, 0, FIRST, refusals);
     same(rt, "not sent of the first", locked.outbox().len(), 0);
@@ -124,7 +124,7 @@ fn queue_all<O: Opening, R: Abort + Print>(rt: &R, locked: &mut Locked<O>, refus
     }
 }
 
-/// Sends what is in the outbox.
+/// Sends the overflow queue.
 fn send_all<O: Opening>(rt: &impl Abort, locked: &mut Locked<O>, refusals: &mut u64) {
     for _ in 0..MOST_REFUSALS {
         let waiting = locked.outbox().len() as u64;
@@ -136,7 +136,7 @@ fn send_all<O: Opening>(rt: &impl Abort, locked: &mut Locked<O>, refusals: &mut 
     same(rt, "not sent", locked.outbox().len(), 0);
 }
 
-/// Finishes all entries by both seats in turn, and closes the world.
+/// Both seats in turn finish all entries; then the world is closed.
 fn serve_all<O: Opening, R: Abort + Wait>(rt: &R, service: &Service<O>, seats: &mut Vec<Seat<O>>) {
     for place in 0..OBJECTS {
         count_seats(rt, seats.as_slice(), 2);
@@ -150,7 +150,7 @@ fn serve_all<O: Opening, R: Abort + Wait>(rt: &R, service: &Service<O>, seats: &
     accepted(rt, "close", service.enter(rt).close());
 }
 
-/// Ends the service. A refused end leaves the world as open or closed as it was.
+/// Ends the service. A failed end leaves the world open or closed as it was.
 fn ended_again<O: Opening, R: Abort + Wait>(
     rt: &R,
     service: Service<O>,
@@ -176,7 +176,7 @@ fn ended_again<O: Opening, R: Abort + Wait>(
     ended(rt, service, seats)
 }
 
-/// What the service tells of this way at its end.
+/// What the service returns at its end, in this case.
 fn ends_so(rt: &impl Abort, way: Way, end: &Final) {
     let finished = if way == Way::Serve { OBJECTS } else { 0 };
     let counts = (end.enqueued, end.taken, end.finished, end.forfeited);
@@ -192,7 +192,7 @@ fn ends_so(rt: &impl Abort, way: Way, end: &Final) {
     );
 }
 
-/// Takes a service from its opening to its end; false where there was no memory to open it.
+/// Runs a service from its opening to its end. Returns false if memory ran out at the opening.
 fn is_opened<O: Opening, R: Abort + Wait + Print>(
     rt: &R,
     prepared: Prepared,
@@ -214,7 +214,7 @@ fn is_opened<O: Opening, R: Abort + Wait + Print>(
     true
 }
 
-/// Takes a service this way, and again where it couldn't be opened. No more than `MOST_REFUSALS` calls are refused as allocations fail.
+/// Runs a service in this case, and again if it couldn't be opened. At most `MOST_REFUSALS` calls fail when allocations fail.
 fn lives<R: Abort + Wait + Print + Alloc<A = Global>>(rt: &R, way: Way) {
     let mut refusals = 0;
     for _ in 0..=MOST_REFUSALS {
@@ -227,13 +227,13 @@ fn lives<R: Abort + Wait + Print + Alloc<A = Global>>(rt: &R, way: Way) {
     assert!(rt; refusals <= MOST_REFUSALS, "{refusals} calls are refused");
 }
 
-/// What waits in the outbox is published, and two seats take all.
+/// The overflow queue is published, and two seats take everything.
 #[test]
 fn a_full_service_is_served(rt: HostRuntime) {
     lives(&rt, Way::Serve);
 }
 
-/// What waits in the outbox is told at the end, behind what waits in the line.
+/// At the end, the overflow queue is returned after the entries that wait in the line.
 #[test]
 fn a_full_service_is_left(rt: HostRuntime) {
     lives(&rt, Way::Leave);

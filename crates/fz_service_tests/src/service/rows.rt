@@ -33,7 +33,7 @@ const SECOND: Entry = Entry {
     cd: 0,
 };
 
-/// Makes an object that is wanted to be at this address and to have this birth.
+/// Allocates an object, which has to have this address and this birth.
 fn makes<O: Opening>(
     rt: &impl Abort,
     locked: &mut Locked<O>,
@@ -45,7 +45,7 @@ fn makes<O: Opening>(
     same(rt, "address and birth", made, Ok(wanted));
 }
 
-/// Registers the object of a slot, which is wanted to have this number.
+/// Registers the object of a slot. The registration has to get this number.
 fn registers<O: Opening>(
     rt: &impl Abort,
     locked: &mut Locked<O>,
@@ -58,7 +58,7 @@ fn registers<O: Opening>(
     same(rt, "registration", answer, Ok(wanted));
 }
 
-/// Makes three objects and registers two of them, which a pass each finds.
+/// Allocates three objects and registers two of them. One pass for each finds it unreachable.
 fn queue_two<O: Opening>(rt: &impl Abort, locked: &mut Locked<O>) {
     makes(rt, locked, 0, 1, (65_536, 0));
     makes(rt, locked, 1, 2, (65_600, 1));
@@ -71,7 +71,7 @@ fn queue_two<O: Opening>(rt: &impl Abort, locked: &mut Locked<O>) {
     collects(rt, locked, 2, 1, 0);
 }
 
-/// What is held keeps its cell until it is finished, and is finished once.
+/// A held object keeps its cell until its entry is finished, and an entry is finished only once.
 fn finish_two<O: Opening, R: Abort + Wait>(
     rt: &R,
     service: &Service<O>,

@@ -1,4 +1,4 @@
-//! A service that stops after each take and each finish.
+//! A service that stops after each possible number of takes and finishes.
 
 ghost use Rattle.std.specs.Prelude.{◌≡◌};
 
@@ -11,7 +11,7 @@ use std::process::Abort;
 use std::sync::Wait;
 use std::test::*;
 
-/// How many entries are queued.
+/// The number of queued entries.
 const ENTRIES: u64 = 20;
 
 /// A seat, or a duty.
@@ -21,7 +21,7 @@ enum Hand<O: Opening> {
 }
 
 impl<O: Opening> Hand<O> {
-    /// Takes an entry, or finishes the one in hand.
+    /// Takes an entry, or finishes the one in flight.
     fn step<R: Abort + Wait>(self, rt: &R, service: &Service<O>) -> Hand<O> {
         match self {
             Hand::Idle(seat) => Hand::Busy(must_take(rt, seat)),
@@ -29,7 +29,7 @@ impl<O: Opening> Hand<O> {
         }
     }
 
-    /// The seat, for which an entry in hand is given up.
+    /// The seat; an entry in flight is forfeited.
     fn stop(self) -> Seat<O> {
         match self {
             Hand::Idle(seat) => seat,
@@ -38,7 +38,7 @@ impl<O: Opening> Hand<O> {
     }
 }
 
-/// Two seats in turn take an entry each, finish it, and so on, for a number of steps. What is in hand then is given up.
+/// Two seats alternately take and finish entries, for a number of steps. Entries in flight are then forfeited.
 fn step_by_turns<O: Opening, R: Abort + Wait>(
     rt: &R,
     service: &Service<O>,
@@ -58,7 +58,7 @@ fn step_by_turns<O: Opening, R: Abort + Wait>(
     seats
 }
 
-/// The counts of a service that ended after a number of steps.
+/// The counts of a service that ended after this many steps.
 fn counts(rt: &impl Abort, steps: u64, end: &Final, taken: u64, finished: u64) {
     let forfeited = taken.wrapping_sub(finished);
     assert_eq!(rt;
@@ -78,7 +78,7 @@ fn lists_the_rest(rt: &impl Abort, steps: u64, left: &[Entry], taken: u64) {
     assert_eq!(rt; seq, ENTRIES, "after {steps} steps");
 }
 
-/// Of four steps two are takes and then two are finishes; so the counts are known wherever the service stops.
+/// Of every four steps, the first two are takes and the last two are finishes, so the counts are known wherever the service stops.
 fn stops_after<O: Opening, R: Abort + Wait>(rt: &R, prepared: Prepared, steps: u64)
     requires { prepared ≡ O.origin }
 {

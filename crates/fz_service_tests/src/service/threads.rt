@@ -1,4 +1,4 @@
-//! Threads that take while another collects.
+//! Threads that take entries while another collects.
 
 ghost use Rattle.std.specs.Prelude.{◌≡◌, length};
 
@@ -12,7 +12,7 @@ use std::test::*;
 use std::thread;
 use std::thread::Threads;
 
-/// In each of a number of rounds, makes objects, drops them and collects.
+/// In each of several rounds, allocates objects, drops them and collects.
 fn collect_rounds<O: Opening, R: Abort + Wait>(
     rt: &R,
     service: &Service<O>,
@@ -27,7 +27,7 @@ fn collect_rounds<O: Opening, R: Abort + Wait>(
     }
 }
 
-/// A seat on its way to a thread. A closure that holds it may be let go, and then the seat is retired.
+/// A seat that is sent to a thread. If a closure that owns it is dropped, the seat is retired.
 pub(super) struct Taker<O: Opening> {
     pub(super) seat: Seat<O>,
 }
@@ -45,7 +45,7 @@ impl<O: Opening> Taker<O> {
         seat
     }
 
-    /// Gives up what it takes, for a given number of takes.
+    /// Takes this many times, and forfeits every entry.
     fn take(self, takes: u64) -> Taker<O> {
         let mut seat = self.seat();
         for _ in 0..takes {
@@ -58,7 +58,7 @@ impl<O: Opening> Taker<O> {
     }
 }
 
-/// Two threads take while a third collects.
+/// Two threads take entries while a third collects.
 fn takes_beside_collects<O: Opening + Send + Sync, R: Abort + Wait + Threads + Sync>(
     rt: &R,
     prepared: Prepared,

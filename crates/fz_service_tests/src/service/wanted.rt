@@ -1,5 +1,4 @@
-//! What stops a test where an answer isn't the wanted one, and tells which. An assertion is proved anew wherever it stands, so what many tests
-//! assert stands here.
+//! Assertions that fail a test and say which result was wrong. An assertion is proved again wherever it occurs, so those that several tests need are here.
 
 ghost use Rattle.std.specs.Prelude.{◌≡◌, length};
 
@@ -13,18 +12,18 @@ pub(crate) fn same<T: PartialEq + Debug + Drop>(rt: &impl Abort, what: &str, got
     assert_eq!(rt; got, want, "{what}");
 }
 
-/// The answer of a call that is accepted.
+/// The call has to succeed.
 pub(crate) fn accepted<T: Drop>(rt: &impl Abort, what: &str, answer: Result<T, Refusal>) {
     assert!(rt; answer.is_ok(), "{what} is refused");
 }
 
-/// A seat comes back to the others, for which there has to be room.
+/// Puts a seat back to the others. There has to be room for it.
 pub(crate) fn put_back<O: Opening>(rt: &impl Abort, seats: &mut Vec<Seat<O>>, seat: Seat<O>) {
     assert!(rt; seats.len() < seats.capacity());
     seats.push_reserved(seat);
 }
 
-/// As many seats as this.
+/// There have to be this many seats.
 pub(crate) fn count_seats<O: Opening>(rt: &impl Abort, seats: &[Seat<O>], count: usize)
     ensures { length seats.now ≡ count }
 {
@@ -32,7 +31,7 @@ pub(crate) fn count_seats<O: Opening>(rt: &impl Abort, seats: &[Seat<O>], count:
     assert!(rt; length == count, "{length} seats, not {count}");
 }
 
-/// A collection that carries out this pass, after which all is sent.
+/// A collection has to carry out this pass, after which every entry is sent.
 pub(crate) fn collects<O: Opening>(
     rt: &impl Abort,
     locked: &mut Locked<O>,

@@ -16,10 +16,10 @@ use std::test::*;
 use std::thread;
 use std::thread::Threads;
 
-/// How often a worker that waits for another yields at most.
+/// How often a worker yields at most while it waits for another.
 pub(super) const TURNS: u32 = 1_000_000;
 
-/// Where workers wait for one another.
+/// A barrier for workers.
 #[derive(Drop)]
 pub(super) struct Arrivals {
     came: AtomicU64,
@@ -34,13 +34,13 @@ impl Arrivals {
         }
     }
 
-    /// Comes, and waits until this number have come.
+    /// Arrives, and waits until this many workers have arrived.
     pub(super) fn come(&self, wanted: u64) {
         self.came.fetch_add(1, Ordering::SeqCst);
         self.wait(wanted);
     }
 
-    /// Waits until this number have come.
+    /// Waits until this many workers have arrived.
     pub(super) fn wait(&self, wanted: u64) {
         for _ in 0..TURNS {
             if self.came.load(Ordering::SeqCst) >= wanted {
@@ -51,13 +51,13 @@ impl Arrivals {
         self.missed.store(true, Ordering::SeqCst);
     }
 
-    /// Whether any waited in vain.
+    /// Whether a wait timed out.
     pub(super) fn missed(&self) -> bool {
         self.missed.load(Ordering::SeqCst)
     }
 }
 
-/// The calls of procedures, in their order: each tells the procedure, the entry, and whether it is `run`.
+/// The calls of procedures, in order: for each the procedure, the entry, and whether it was `run`.
 #[derive(Drop)]
 pub(super) struct Calls {
     count: AtomicU64,
@@ -93,14 +93,14 @@ impl Calls {
     }
 }
 
-/// A call in one number: three digits, the last of them 1 for `work` and 2 for `run`.
+/// A call as one number of three digits, the last of which is 1 for `work` and 2 for `run`.
 pub(super) fn call(proc: u64, seq: u64, part: u64) -> u64 {
     proc.wrapping_mul(100)
         .wrapping_add(seq.wrapping_mul(10))
         .wrapping_add(part)
 }
 
-/// A procedure that writes down its calls.
+/// A procedure that records its calls.
 #[derive(Drop)]
 pub(super) struct Recorded {
     pub(super) number: u64,
@@ -118,7 +118,7 @@ impl Proc for Recorded {
     }
 }
 
-/// Where the workers of two entries meet: that of the first waits until that of the last has come.
+/// Where the workers of two entries meet: the first entry's worker waits until the last entry's worker has arrived.
 #[derive(Drop)]
 struct Meeting {
     first: u64,
@@ -166,7 +166,7 @@ impl Gate for Meeting {
     }
 }
 
-/// A procedure whose work is to come to a meeting.
+/// A procedure whose work is to arrive at a meeting.
 #[derive(Drop)]
 struct Meets(Arc<Meeting, Global>);
 
@@ -176,14 +176,14 @@ impl Proc for Meets {
     }
 }
 
-/// How many each of two seats finished.
+/// How many entries each of two seats finished.
 fn finished_by_two<O: Opening>(rt: &impl Abort, seats: &[Seat<O>]) -> [u64; 2] {
     count_seats(rt, seats, 2);
     [seats[0].finished(), seats[1].finished()]
 }
 
-/// Serves entries of these procedures with a thread a seat, once they are all sent and the workers told to stop. All have to be finished.
-/// Returns how many each seat finished.
+/// Serves entries of these procedures with one thread per seat, after they were all sent and the workers were told to stop. All have to be finished. Returns
+/// how many each seat finished.
 fn serve_all<O: Opening + Send + Sync, G: Gate + Sync, R: Abort + Wait + Threads + Sync>(
     rt: &R,
     prepared: Prepared,
@@ -231,7 +231,7 @@ fn one_worker_enters_while_another_works(rt: HostRuntime) -> Result<(), Fail> {
     Ok(())
 }
 
-/// One of two workers finished one entry of eight, and the other the rest, each with two calls an entry.
+/// One of two workers finished one entry of eight, and the other the rest, with two calls for each entry.
 fn one_serves_one(rt: &impl Abort, finished: [u64; 2], calls: [u64; 2]) {
     assert!(rt;
         finished == [1, 7] && calls == [2, 14] || finished == [7, 1] && calls == [14, 2],
@@ -244,8 +244,8 @@ fn lists_of_one(rt: &impl Abort, procs: &[Vec<Box<dyn Proc + Send>>]) {
     assert!(rt; procs.iter().all(|list| list.len() == 1));
 }
 
-/// The worker of entry 0 waits until the other has entered all the rest, so one of them serves one entry. Each has the list at its own place,
-/// which it gives back there.
+/// The worker of entry 0 waits until the other has begun all the rest, so one of them serves one entry. Each has the list at its own index, and gives it back
+/// there.
 #[test]
 fn each_worker_has_its_own_list(rt: HostRuntime) -> Result<(), Fail> {
     let gate = Meeting::new(0, 7);
@@ -273,7 +273,7 @@ fn each_worker_has_its_own_list(rt: HostRuntime) -> Result<(), Fail> {
     Ok(())
 }
 
-/// Five entries, of which one worker calls two procedures. The number of the third entry is outside the list.
+/// Five entries; one worker calls two procedures for them. The third entry's number is outside the list.
 fn invokes_in_order<O: Opening, R: Abort + Wait>(
     rt: &R,
     prepared: Prepared,
@@ -295,7 +295,7 @@ fn invokes_in_order<O: Opening, R: Abort + Wait>(
     same(rt, "queued, finished and left", counts, (5, 5, 0));
 }
 
-/// Calls for these procedures and entries, of each first `work` and then `run`.
+/// For each of these procedures and entries, `work` was called first and then `run`.
 fn calls_each_twice(rt: &impl Abort, calls: &Calls, want: &[(u64, u64)])
     requires { length want.now < 2 ^ 8 }
 {
@@ -321,7 +321,7 @@ fn procedures_run_in_order(rt: HostRuntime) -> Result<(), Fail> {
     Ok(())
 }
 
-/// Entries of these procedures, all of which one worker serves in one call.
+/// One worker serves all entries of these procedures in one call.
 fn invokes_all<O: Opening, R: Abort + Wait>(
     rt: &R,
     prepared: Prepared,

@@ -1,4 +1,4 @@
-//! Readers and writers that fail, and such as take a byte at a time.
+//! Readers and writers that fail, or transfer one byte per call.
 
 use super::files::{FOUR_MUTATORS, KEPT_OBJECT, NO_FRAMES, NO_OPENING};
 use super::wanted::{ends, prints_and_ends, runs_row, runs_rows};
@@ -14,7 +14,7 @@ fn a_byte_at_a_time(rt: HostRuntime) -> Result<(), Fail> {
     Ok(())
 }
 
-/// Each read fails in turn, that of the file's end too: nothing is written.
+/// Each read fails in turn, including the one at the end of the file: nothing is written.
 #[test]
 fn each_read_fails(rt: HostRuntime) -> Result<(), Fail> {
     let file = KEPT_OBJECT.file;
@@ -26,7 +26,7 @@ fn each_read_fails(rt: HostRuntime) -> Result<(), Fail> {
     Ok(())
 }
 
-/// No byte is read after the line feed of a malformed line.
+/// No byte is read after the LF of a malformed line.
 #[test]
 fn reading_stops_at_a_malformed_line(rt: HostRuntime) -> Result<(), Fail> {
     let file = b"open 1 1 1\nsettle 101\nmutator\n";
@@ -43,7 +43,7 @@ fn reading_stops_at_a_malformed_line(rt: HostRuntime) -> Result<(), Fail> {
 /// A summary, a malformed line and a refused opening.
 const WRITTEN: [Row; 3] = [KEPT_OBJECT, NO_OPENING, NO_FRAMES];
 
-/// Each write fails in turn, and what was written is a beginning of what was due.
+/// Each write fails in turn, and what was written is a prefix of the output.
 #[test]
 fn each_write_fails(rt: HostRuntime) -> Result<(), Fail> {
     let refused = fault(Refusal::Output, 0);
@@ -57,7 +57,7 @@ fn each_write_fails(rt: HostRuntime) -> Result<(), Fail> {
     Ok(())
 }
 
-/// A writer that takes all that it is offered is called once.
+/// A writer that accepts everything is called once.
 #[test]
 fn all_is_one_write(rt: HostRuntime) -> Result<(), Fail> {
     for (place, row) in WRITTEN.iter().enumerate() {

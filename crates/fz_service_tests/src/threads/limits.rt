@@ -6,7 +6,7 @@ use fz_model::{Refusal, TABLE_LIMIT};
 use std::alloc::{AllocError, Global};
 use std::test::Fail;
 
-/// Seven mutators register 70,000 objects at one time.
+/// Seven mutators together register 70,000 objects.
 const SEVEN_CHURNS: &[u8] = b"open 4096 8 8\n\
   settle 1\n\
   mutator\n\
@@ -24,7 +24,7 @@ const SEVEN_CHURNS: &[u8] = b"open 4096 8 8\n\
   mutator\n\
   churn 10000 6 0 1 scanned normal 0\n";
 
-/// Objects for which the table has no room are refused, and reclaimed by the pass that queues the others.
+/// Registrations that exceed the table are refused. Their objects are reclaimed by the pass that queues the others.
 #[test]
 fn a_full_table_refuses_the_others(rt: HostRuntime) -> Result<(), Fail> {
     let outcome = run(&rt, SEVEN_CHURNS)?;
@@ -44,7 +44,7 @@ fn a_full_table_refuses_the_others(rt: HostRuntime) -> Result<(), Fail> {
     Ok(())
 }
 
-/// A file of 4,096 lines. All but the first three ask for a step that is refused.
+/// A file of 4,096 lines. All but the first three are steps that are refused.
 fn longest(alloc: Global) -> Result<Vec<u8>, AllocError> {
     let mut file = joined(alloc, &[b"open 1 1 1\nsettle 0\nmutator\n"])?;
     for _line in 3..4_096 {
@@ -63,7 +63,7 @@ fn the_longest_file_is_carried_out(rt: HostRuntime) -> Result<(), Fail> {
     Ok(())
 }
 
-/// A further line is malformed, be it a step, a comment or empty.
+/// One more line is malformed, whether it is a step, a comment or empty.
 #[test]
 fn a_longer_file_is_malformed(rt: HostRuntime) -> Result<(), Fail> {
     let lines: [&[u8]; 4] = [b"set 0 0 0\n", b"set 0 0 0", b"#", b"\n"];

@@ -1,4 +1,4 @@
-//! Files that aren't carried out: what is written of them, and the line in their fault.
+//! Files that aren't carried out: what is written for them, and the line of their fault.
 
 use super::wanted::prints_and_ends;
 use super::{fault, joined, run};
@@ -9,7 +9,7 @@ use std::sync::Wait;
 use std::test::Fail;
 use std::thread::Threads;
 
-/// Runs the threads file: that this line of it is malformed is all that is written, and the fault. The place tells which file of a test it is.
+/// Runs the threads file. The only output is that this line is malformed, and the fault has this line. `place` is the file's index in its test.
 fn stops_at<R: AllocGlobal + Abort + Threads + Wait + Sync>(
     rt: &R,
     place: usize,
@@ -24,7 +24,7 @@ fn stops_at<R: AllocGlobal + Abort + Threads + Wait + Sync>(
     Ok(())
 }
 
-/// The same for each of these files, which stands with the line.
+/// The same for each of these files and lines.
 fn each_stops_at<R: AllocGlobal + Abort + Threads + Wait + Sync>(
     rt: &R,
     files: &[(&[u8], u64)],
@@ -35,7 +35,7 @@ fn each_stops_at<R: AllocGlobal + Abort + Threads + Wait + Sync>(
     Ok(())
 }
 
-/// The same for each of these lines, which is the line of a file between two parts.
+/// The same for each of these lines, which is inserted between two parts of a file.
 fn each_line_stops<R: AllocGlobal + Abort + Threads + Wait + Sync>(
     rt: &R,
     lines: &[&[u8]],
@@ -70,7 +70,7 @@ const FILES: [(&[u8], u64); 28] = [
     (b"open 4 1 1\nopen 4 1 1\nsettle 1\n", 2),
     (b"open 4 1 1\nsettle 1\nopen 4 1 1\n", 3),
     (b"open 4 1 1\nsettle 1\nsettle 1\n", 3),
-    // no section
+    // a step before the first section
     (b"open 4 1 1\nsettle 1\nset 0 0 0\n", 3),
     (b"open 4 1 1\nsettle 1\n\ncollect\n", 4),
     (b"open 4 1 1\nsettle 1\nchurn 1 0 0 1 scanned normal 0\n", 3),
@@ -80,7 +80,7 @@ const FILES: [(&[u8], u64); 28] = [
     (b"open 4 1 1\nsettle 01\n", 2),
     (b"open 4 1 1\nsettle -1\n", 2),
     (b"open 4 1 1\nsettle\n", 2),
-    // a malformed line is told where the opening is outside its limits, too
+    // a malformed line is reported even if the opening is outside its limits
     (b"open 0 1 1\nsettle 1\nmutator \n", 3),
     (b"open 0 1 1\n", 2),
     // line ends
@@ -173,7 +173,7 @@ fn lines_that_no_collector_has(rt: HostRuntime) -> Result<(), Fail> {
     Ok(())
 }
 
-/// Eight mutators and a collector are the most, in any order.
+/// Eight mutators and one collector are the limit, in any order.
 #[test]
 fn too_many_sections(rt: HostRuntime) -> Result<(), Fail> {
     let files: [(&[u8], u64); 4] = [
@@ -195,7 +195,7 @@ fn too_many_sections(rt: HostRuntime) -> Result<(), Fail> {
     Ok(())
 }
 
-/// Openings outside the limits, each in the line after a number of others.
+/// Openings outside the limits, each with its line number.
 const REFUSED: [(&[u8], u64); 6] = [
     (b"open 4 0 1\nsettle 1\n", 1),
     (b"open 4 1 0\nsettle 1\n", 1),
@@ -211,7 +211,7 @@ const REFUSED: [(&[u8], u64); 6] = [
     ),
 ];
 
-/// Openings of one more than each limit.
+/// Openings with one more than each limit.
 const TOO_MANY: [(u64, u64, u64); 4] = [
     (MAX_BLOCKS + 1, 1, 1),
     (4, MAX_FRAMES + 1, 1),
@@ -219,7 +219,7 @@ const TOO_MANY: [(u64, u64, u64); 4] = [
     (MAX_BLOCKS + 1, MAX_FRAMES + 1, MAX_WORKERS + 1),
 ];
 
-/// Runs the threads file: that its opening is refused in this line is all that comes of it. The place tells which file of a test it is.
+/// Runs the threads file. The only effect is that its opening in this line is refused. `place` is the file's index in its test.
 fn is_outside<R: AllocGlobal + Abort + Threads + Wait + Sync>(
     rt: &R,
     place: usize,

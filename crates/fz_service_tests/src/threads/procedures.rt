@@ -15,14 +15,14 @@ use std::sync::Arc;
 use std::sync::atomic::{AtomicU64, Ordering};
 use std::test::Fail;
 
-/// The only entry of a queue.
+/// The only entry of the queue.
 fn only(rt: &impl Abort, queue: &[Entry]) -> Entry {
     assert_eq!(rt; queue.len(), 1, "entries");
     queue[0]
 }
 
-/// Drops a registered object and collects, then runs the procedure on its entry and finishes that. Returns the world, and how many objects the
-/// next collection reclaims.
+/// Drops a registered object and collects, then runs the procedure with its entry and finishes it. Returns the world, and how many objects the next
+/// collection reclaims.
 fn after<P: Proc>(rt: &impl Abort, alloc: Global, mut procedure: P) -> (World, u64) {
     let config = Config {
         blocks: 1,
@@ -100,7 +100,7 @@ const THREE_PROCEDURES: &[u8] = b"open 8 2 2\n\
     mutator\n\
     churn 20 1 0 1 scanned normal 1\n";
 
-/// How the summary begins: all entries are finished, after two passes.
+/// The beginning of the summary: all entries are finished, after two passes.
 const ALL_FINISHED: &[u8] = b"enqueued 55\nfinished 55\nforfeited 0\nleft 0\npasses 2\n";
 
 fn finishes_all(rt: &impl Abort, outcome: &Outcome) {
@@ -108,7 +108,7 @@ fn finishes_all(rt: &impl Abort, outcome: &Outcome) {
     same(rt, "all entries are finished", finished, true);
 }
 
-/// Each of two workers has the two procedures, so it plays no part which of them takes an entry.
+/// Both workers have the two procedures, so it doesn't matter which of them takes an entry.
 #[test]
 fn each_entry_has_its_procedure_called_once(rt: HostRuntime) -> Result<(), Fail> {
     let zero = Arc::new(rt.alloc(), Calls::none())?;

@@ -1,4 +1,4 @@
-//! What the summaries of whole runs say.
+//! The summaries of whole runs.
 
 use super::files::{ALL_ACTORS, MUTATORS_AND_COLLECTOR, ROWS};
 use super::wanted::{prints, runs_rows};
@@ -16,13 +16,13 @@ fn rows_are_summarized(rt: HostRuntime) -> Result<(), Fail> {
     Ok(())
 }
 
-/// The number that stands between these two parts of the text.
+/// The number between these two parts of the text.
 fn number_between(text: &[u8], before: &[u8], after: &[u8]) -> Option<u64> {
     let digits = text.strip_prefix(before)?.strip_suffix(after)?;
     str::from_utf8(digits).ok()?.parse::<u64>().ok()
 }
 
-/// Whether the outcome is a summary of the row.
+/// Whether the outcome is a possible summary of the row.
 fn fits(outcome: &Outcome, row: FreeRow) -> bool {
     match number_between(outcome.text.as_slice(), row.before, row.after) {
         Some(number) => number <= row.most && outcome.result == Ok(()),
@@ -30,7 +30,7 @@ fn fits(outcome: &Outcome, row: FreeRow) -> bool {
     }
 }
 
-/// Runs the row's threads file twenty times, and each outcome fits.
+/// Runs the row's threads file twenty times. Each outcome has to be possible.
 fn always_fits<R: AllocGlobal + Abort + Threads + Wait + Sync>(
     rt: &R,
     row: FreeRow,
@@ -54,7 +54,7 @@ fn all_actors_run_side_by_side(rt: HostRuntime) -> Result<(), Fail> {
     Ok(())
 }
 
-/// Runs a threads file of passes alone, which makes this number.
+/// Runs a threads file without objects, which makes this number of passes.
 fn makes_passes<R: AllocGlobal + Abort + Threads + Wait + Sync>(
     rt: &R,
     collections: u64,
@@ -71,7 +71,7 @@ fn makes_passes<R: AllocGlobal + Abort + Threads + Wait + Sync>(
     Ok(())
 }
 
-/// No pass more than the file asks for: its collections, and one where a section left a cycle open.
+/// A run makes no more passes than the file specifies: its collections, and one if a section left a cycle open.
 #[test]
 fn each_number_of_collections_is_made(rt: HostRuntime) -> Result<(), Fail> {
     for collections in 0..=10u64 {
@@ -89,11 +89,11 @@ fn each_number_of_collections_is_made(rt: HostRuntime) -> Result<(), Fail> {
     Ok(())
 }
 
-/// What a mutator does before one pass, with how many entries that queues and how many objects it reclaims.
+/// A mutator's lines before one pass, with how many entries that queues and how many objects it reclaims.
 const ONE_PASS: [(&[u8], u64, u64); 12] = [
-    // objects that nothing holds, one of them in the slot's old word
+    // unreachable objects; one of them was overwritten in its slot
     (b"new 0 0 1 scanned\nnew 0 0 1 atomic\nset 0 0 0\n", 0, 2),
-    // a word of a frame holds its object, wherever the word came from
+    // a word in a frame retains its object, wherever the word came from
     (
         b"new 0 0 2 scanned\nnew 0 1 1 scanned\nstore 0 0 1 0 1\nset 0 1 0\ncopy 0 0 1 0\nset 0 0 0\n",
         0,
@@ -115,13 +115,13 @@ const ONE_PASS: [(&[u8], u64, u64); 12] = [
         0,
         1,
     ),
-    // client data holds the object
+    // client data retains the object
     (
         b"new 0 0 1 scanned\nregister 0 0 normal 0 65536\nset 0 0 0\n",
         0,
         0,
     ),
-    // an object that leads to itself, by kind
+    // an object that points to itself, for each kind
     (
         b"new 0 0 1 scanned\nstore 0 0 0 0 0\nregister 0 0 normal 0 0\nset 0 0 0\n",
         0,
@@ -137,7 +137,7 @@ const ONE_PASS: [(&[u8], u64, u64); 12] = [
         1,
         0,
     ),
-    // of two in a chain the second waits
+    // in a chain of two the second object waits
     (
         b"new 0 0 1 scanned\nnew 0 1 1 scanned\nstore 0 0 0 0 1\nregister 0 0 normal 0 0\nregister 0 1 normal 0 0\n\
         set 0 0 0\nset 0 1 0\n",
@@ -153,7 +153,7 @@ const ONE_PASS: [(&[u8], u64, u64); 12] = [
     (b"mutator\nmutator\nnew 1 0 1 scanned\n", 0, 0),
 ];
 
-/// Runs a threads file of one pass, which queues this number of entries and reclaims that of objects. The place tells which file of a test it is.
+/// Runs a threads file of one pass, which queues and reclaims these numbers. `place` is the file's index in its test.
 fn passes_once<R: AllocGlobal + Abort + Threads + Wait + Sync>(
     rt: &R,
     place: usize,
@@ -179,7 +179,7 @@ fn one_pass_over_what_a_mutator_did(rt: HostRuntime) -> Result<(), Fail> {
     Ok(())
 }
 
-/// Two normal objects that lead to one another, and an object for links.
+/// Two normal objects that point to each other, and an object for links.
 const LOOP: &[u8] = b"open 8 1 1\n\
     settle 1\n\
     mutator\n\
@@ -193,7 +193,7 @@ const LOOP: &[u8] = b"open 8 1 1\n\
 
 const DROPPED: &[u8] = b"set 0 0 0\nset 0 1 0\n";
 
-/// Links, with how many of the two objects a pass queues: one, if a short link stands where the first leads to the second, and else none.
+/// Links, with how many of the two objects a pass queues: one if the first object's reference to the second is a short link, and else none.
 const LINKS: [(&[u8], u64); 7] = [
     (b"", 0),
     (b"link short 0 0 0 0 1\n", 1),

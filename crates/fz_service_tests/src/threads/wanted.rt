@@ -1,5 +1,4 @@
-//! What stops a test where an answer isn't the wanted one, and tells which. An assertion is proved anew wherever it stands, so what many tests
-//! assert stands here.
+//! Assertions that fail a test and say which result was wrong. An assertion is proved again wherever it occurs, so those that several tests need are here.
 
 use super::{Outcome, Row, run_within};
 use fz_devices::Limits;
@@ -16,17 +15,17 @@ pub(crate) fn same<T: PartialEq + Debug + Drop>(rt: &impl Abort, what: &str, got
     assert_eq!(rt; got, want, "{what}");
 }
 
-/// The answer of a call that is accepted.
+/// The call has to succeed.
 pub(crate) fn accepted<T: Drop>(rt: &impl Abort, what: &str, answer: Result<T, Refusal>) {
     assert!(rt; answer.is_ok(), "{what} is refused");
 }
 
-/// A run that printed this text.
+/// The run has to write this text.
 pub(crate) fn prints(rt: &impl Abort, what: &str, number: u64, outcome: &Outcome, text: &[u8]) {
     assert_eq!(rt; outcome.text.as_slice(), text, "at {what} {number}");
 }
 
-/// A run with this result.
+/// The run has to have this result.
 pub(crate) fn ends(
     rt: &impl Abort,
     what: &str,
@@ -37,7 +36,7 @@ pub(crate) fn ends(
     assert!(rt; outcome.result == end, "at {what} {number}");
 }
 
-/// A run that printed this text and has this result.
+/// The run has to write this text and to have this result.
 pub(crate) fn prints_and_ends(
     rt: &impl Abort,
     what: &str,
@@ -50,8 +49,8 @@ pub(crate) fn prints_and_ends(
     ends(rt, what, number, outcome, end);
 }
 
-/// Runs the row's threads file, over devices with these limits: it prints the row's text and ends with the row's fault. The place tells which row of
-/// a test it is.
+/// Runs the row's threads file, over devices with these limits. It has to write the row's text and to end with the row's fault. `place` is the row's index in
+/// its test.
 pub(crate) fn runs_row<R: AllocGlobal + Abort + Threads + Wait + Sync>(
     rt: &R,
     place: usize,

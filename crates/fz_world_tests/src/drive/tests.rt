@@ -58,14 +58,14 @@ fn fault(refusal: Refusal, line: u64) -> Result<Summary, DriveFault> {
     Err(DriveFault { refusal, line })
 }
 
-/// The number of lines that end in these bytes.
+/// The number of lines that end within these bytes.
 fn lines_in(bytes: &[u8]) -> usize
     ensures { result ≤ length bytes.now }
 {
     bytes.iter().filter(|byte| **byte == b'\n').count()
 }
 
-/// The first lines, as many as are asked for.
+/// The first `count` lines.
 fn first_lines(bytes: &[u8], count: usize) -> &[u8] {
     if count == 0 {
         return &[];
@@ -82,17 +82,17 @@ fn first_lines(bytes: &[u8], count: usize) -> &[u8] {
     bytes
 }
 
-/// Stops the test where a run has another report. Here and in the next two stand the only asserts, since each is proved again wherever it stands.
+/// Fails the test if a run has another report. Only this function and the next two contain asserts, because each is proved again wherever it occurs.
 fn must_report(rt: &impl Abort, outcome: &Outcome, report: &[u8], row: usize) {
     assert_eq!(rt; outcome.text.as_slice(), report, "row {row}");
 }
 
-/// Stops the test where a run ends otherwise.
+/// Fails the test if a run ends in another way.
 fn must_end(rt: &impl Abort, outcome: &Outcome, end: Result<Summary, DriveFault>, row: usize) {
     assert!(rt; outcome.result == end, "row {row}");
 }
 
-/// Stops the test where something isn't so.
+/// Fails the test if a condition doesn't hold.
 fn must_hold(rt: &impl Abort, holds: bool, row: usize, place: usize) {
     assert!(rt; holds, "row {row}, place {place}");
 }
@@ -139,7 +139,7 @@ fn a_summary_has_the_numbers_of_the_end(rt: HostRuntime) {
     must_end(&rt, &outcome, Ok(summary), 0);
 }
 
-/// Whether a run of the script ends with this fault, in the line after the given ones, and has written just this text.
+/// Whether a run of the script ends with this fault, in the line after the given ones, and has written exactly this text.
 fn fails(alloc: Global, limits: Limits, refusal: Refusal, lines: usize, text: &[u8]) -> bool
     requires { lines < 2 ^ 32 }
 {
@@ -147,7 +147,7 @@ fn fails(alloc: Global, limits: Limits, refusal: Refusal, lines: usize, text: &[
     outcome.result == fault(refusal, lines as u64 + 1) && outcome.text.as_slice() == text
 }
 
-/// Each read of the script fails in turn: whole lines before it are answered, and nothing else.
+/// Each read of the script fails in turn: complete lines before it get their replies, and nothing else is written.
 #[test]
 fn each_read_fails(rt: HostRuntime) {
     let Row { script, report, .. } = ONE_OBJECT;
@@ -173,7 +173,7 @@ fn each_write_fails(rt: HostRuntime) {
     }
 }
 
-/// A writer that takes all that it is offered is called once for each line.
+/// A writer that accepts everything is called once for each line.
 #[test]
 fn a_reply_is_one_write(rt: HostRuntime) {
     let row = ONE_OBJECT;
@@ -194,7 +194,7 @@ fn a_reply_is_one_write(rt: HostRuntime) {
     must_run(&rt, rt.alloc(), row, limits, 0);
 }
 
-/// Ends each of these scripts behind any of its lines, with and without the line feed.
+/// Truncates each of these scripts after each of its lines, with and without the LF.
 fn must_end_alike(rt: &impl Abort, alloc: Global, rows: &[Row]) {
     for (number, row) in rows.iter().enumerate() {
         if row.fault.is_some() {
@@ -214,7 +214,7 @@ fn a_last_line_needs_no_line_feed(rt: HostRuntime) {
     must_end_alike(&rt, rt.alloc(), &LAST_SMALL);
 }
 
-/// Whether the script ends alike before and behind the line feed at this place, with the replies to its lines so far.
+/// Whether the script ends in the same way before and after the LF at this index, with the replies to the lines so far.
 fn ends_alike(alloc: Global, row: Row, place: usize) -> bool
     requires { place < length row.script.now }
 {
@@ -285,7 +285,7 @@ fn malformed_lines(rt: HostRuntime) {
     }
 }
 
-/// A comment of 200 bytes is skipped, and one of 201 is malformed as soon as its last byte was read.
+/// A comment of 200 bytes is skipped, and one of 201 is malformed as soon as its last byte is read.
 #[test]
 fn long_lines(rt: HostRuntime) {
     let mut bytes = [b'#'; 202];
@@ -303,7 +303,7 @@ fn long_lines(rt: HostRuntime) {
     }
 }
 
-/// Blocks, frames and workers, one of them outside its limits.
+/// Blocks, frames and workers, one of which is outside its limits.
 const OUTSIDE: [(u64, u64, u64); 6] = [
     (0, 1, 1),
     (MAX_BLOCKS + 1, 1, 1),
@@ -313,7 +313,7 @@ const OUTSIDE: [(u64, u64, u64); 6] = [
     (1, 1, MAX_WORKERS + 1),
 ];
 
-/// The same, all within their limits: each number of workers, and some of frames.
+/// The same, all within their limits: each number of workers, and several numbers of frames.
 const WITHIN: [(u64, u64, u64); 8] = [
     (1, 1, MAX_WORKERS),
     (2, 2, 7),
@@ -325,7 +325,7 @@ const WITHIN: [(u64, u64, u64); 8] = [
     (MAX_BLOCKS, MAX_FRAMES, 1),
 ];
 
-/// Runs a script that opens a world, and does no more.
+/// Runs a script that only opens a world.
 fn opened(alloc: Global, opening: (u64, u64, u64)) -> Result<Outcome, AllocError> {
     let (blocks, frames, workers) = opening;
     let script = format!(in alloc; "open {blocks} {frames} {workers}\n")?;
@@ -351,7 +351,7 @@ fn openings_within_the_limits(rt: HostRuntime) -> Result<(), Fail> {
     Ok(())
 }
 
-/// What the workers are refused, and what stays in their hands.
+/// Which steps of workers are refused, and which entries stay in their hands.
 #[test]
 fn workers_are_refused(rt: HostRuntime) {
     let script =

@@ -1,4 +1,4 @@
-//! A graph of numbered objects whose finalizers ask, as those of a host in C do.
+//! A graph of numbered objects whose finalizers ask questions, as those of a host in C do.
 
 use crate::hosts::equal::must_be;
 use fz_finalizers::{Entry, Finalizer, Kind, LinkKind, Passed, Root};
@@ -8,13 +8,13 @@ use std::alloc::Global;
 use std::process::Abort;
 use std::test::*;
 
-/// How many objects there may be.
+/// The largest number of objects.
 const OBJECTS: usize = 16;
 
 /// The first word of the first object.
 const FIRST_WORD: u64 = 1_000;
 
-/// Objects, numbered from 1 on, whose words lead to others, or are 0.
+/// Objects, numbered from 1 on, whose words refer to others or are 0.
 #[derive(Drop)]
 pub(crate) struct Graph {
     words: [[u64; FIELDS]; OBJECTS],
@@ -30,7 +30,7 @@ impl Graph {
         }
     }
 
-    /// Marks what the words of an object lead to, but for the object where that is asked.
+    /// Marks the objects to which the words of an object refer, optionally without the object itself.
     fn mark_words(&mut self, object: u64, but_itself: bool) {
         let Some(words) = self.words.get(object.wrapping_sub(1) as usize).copied() else {
             return;
@@ -42,7 +42,7 @@ impl Graph {
         }
     }
 
-    /// Marks all that marked objects lead to.
+    /// Marks everything that marked objects reach.
     fn close(&mut self) {
         for _ in 0..OBJECTS {
             for object in 1..=OBJECTS as u64 {
@@ -60,7 +60,7 @@ impl Graph {
             .unwrap_or(false)
     }
 
-    /// Whether the object that has the word is marked.
+    /// Whether the object that contains the word is marked.
     fn is_holder_marked(&self, word: u64) -> bool {
         self.is_marked(word.wrapping_sub(FIRST_WORD) / FIELDS as u64 + 1)
     }
@@ -74,7 +74,7 @@ impl Graph {
         }
     }
 
-    /// Answers a question about one object or word, or does what it says.
+    /// Answers a question about one object or word, or carries out a command.
     fn answer(&mut self, ask: Ask, about: u64) -> bool {
         match ask {
             Ask::IsMarked => self.is_marked(about),
@@ -128,19 +128,19 @@ impl Asked {
         }
     }
 
-    /// Makes a word of an object lead to another.
+    /// Stores a reference to another object in a word of an object.
     pub(crate) fn refer(&mut self, object: u64, field: usize, to: u64) {
         self.graph.set(object, field, to);
     }
 
-    /// Keeps an object for good.
+    /// Makes an object a root for ever.
     pub(crate) fn add_root(&mut self, object: u64) {
         if let Some(root) = self.graph.roots.get_mut(object.wrapping_sub(1) as usize) {
             *root = true;
         }
     }
 
-    /// Whether no collection has reclaimed the object.
+    /// Whether the object exists: no collection has reclaimed it.
     pub(crate) fn stands(&self, object: u64) -> bool {
         !self
             .graph
@@ -150,14 +150,14 @@ impl Asked {
             .unwrap_or(true)
     }
 
-    /// Registers an object that stands.
+    /// Registers an existing object.
     pub(crate) fn register(&mut self, rt: &impl Abort, object: u64, finalizer: Finalizer) {
         self.machine
             .register(object, finalizer)
             .expect(rt, "a registration");
     }
 
-    /// Makes a word of an object a link to another that stands.
+    /// Makes a word of an object a link to another existing object.
     pub(crate) fn link(
         &mut self,
         rt: &impl Abort,
@@ -177,12 +177,12 @@ impl Asked {
         self.machine.take().expect(rt, "no open pass")
     }
 
-    /// Ends the holding of an entry.
+    /// Finishes an entry.
     pub(crate) fn finish(&mut self, rt: &impl Abort, entry: &Entry) {
         self.machine.finish(entry).expect(rt, "the end");
     }
 
-    /// Marks what roots lead to.
+    /// Marks what roots reach.
     fn mark_roots(&mut self) {
         self.graph.marked = self.graph.roots;
         for root in [Root::HeldObject, Root::HeldData, Root::RegisteredData].iter() {
@@ -197,7 +197,7 @@ impl Asked {
     fn pass(&mut self, rt: &impl Abort) -> Passed {
         self.machine.begin().expect(rt, "no other pass");
         let mut answers = [false; BATCH];
-        // No pass of so few objects asks so much.
+        // No pass of so few objects asks this many questions.
         for _ in 0..1_000 {
             match self.machine.next(&answers).expect(rt, "an open pass") {
                 Next::Asks(question) => answers = answers_of(&mut self.graph, &question),
@@ -223,7 +223,7 @@ impl Asked {
     }
 }
 
-/// The answers to a question, one after another.
+/// The answers to a question, in order.
 fn answers_of(graph: &mut Graph, question: &Question) -> [bool; BATCH] {
     let mut answers = [false; BATCH];
     for (answer, about) in answers
@@ -256,7 +256,7 @@ fn a_pass_that_is_open_takes_answers_alone(rt: HostRuntime) {
     asked.machine.reserve(100, 10, 10).expect(&rt, "room");
 }
 
-/// A pass of objects of which none is marked, with these answers, as many to each question.
+/// A pass of unmarked objects with these answers, the same number to each question.
 fn pass_of_unmarked(rt: &impl Abort, machine: &mut Machine, answers: &[bool]) -> Passed {
     machine.begin().expect(rt, "no other pass");
     for _ in 0..1_000 {
@@ -276,7 +276,7 @@ fn take_of(rt: &impl Abort, machine: &mut Machine, object: u64) {
     machine.finish(&entry).expect(rt, "the end");
 }
 
-/// Forty objects, each fourth of which comes late, are picked in turn, whichever number of answers comes at a time.
+/// Forty objects, one in four of kind unreachable, are queued in turn, whatever number of answers comes at a time.
 fn forty_are_picked(rt: &impl Abort, alloc: Global, answers: &[bool]) {
     let mut machine = Machine::new(alloc);
     for object in 1..=40 {
@@ -309,5 +309,40 @@ fn lists_are_longer_than_questions(rt: HostRuntime) {
     let answers = [false; BATCH];
     for count in [1, 7, BATCH].iter() {
         forty_are_picked(&rt, rt.alloc(), &answers[..*count]);
+    }
+}
+
+/// Twenty objects, whose pass is abandoned once it has told so many questions: what it has queued waits, and the next pass queues the others.
+fn twenty_are_picked_by_two_passes(rt: &impl Abort, alloc: Global, questions: u64) {
+    let mut machine = Machine::new(alloc);
+    for object in 1..=20 {
+        let finalizer = Finalizer {
+            kind: Kind::Normal,
+            procedure: object,
+            client_data: 0,
+            rank: 0,
+        };
+        machine.register(object, finalizer).expect(rt, "memory");
+    }
+    machine.begin().expect(rt, "no other pass");
+    for _ in 0..questions {
+        let next = machine.next(&[false; BATCH]).expect(rt, "an open pass");
+        must_be(rt, matches!(next, Next::Asks(_)), true, "a question");
+    }
+    machine.abandon().expect(rt, "an open pass");
+    must_be(rt, machine.abandon().is_err(), true, "none is open");
+    let left = machine.finalizers().registrations();
+    must_be(rt, machine.finalizers().waiting() + left, 20, "all stay");
+    let passed = pass_of_unmarked(rt, &mut machine, &[false; BATCH]);
+    must_be(rt, passed.picked, left, "the others are picked");
+    for object in 1..=20 {
+        take_of(rt, &mut machine, object);
+    }
+}
+
+#[test]
+fn a_pass_is_abandoned_at_each_question(rt: HostRuntime) {
+    for questions in 0..=8 {
+        twenty_are_picked_by_two_passes(&rt, rt.alloc(), questions);
     }
 }

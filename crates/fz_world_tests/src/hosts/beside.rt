@@ -1,4 +1,5 @@
-//! The heap of records, and a graph whose finalizers ask, beside a world: over the same graphs they pick the same, and keep the same.
+//! The heap of records, and a graph whose finalizers ask questions, compared with a world: for the same graphs they queue the same objects and retain the
+//! same.
 
 use crate::hosts::asked::Asked;
 use crate::hosts::equal::must_be;
@@ -13,15 +14,15 @@ use std::alloc::Global;
 use std::process::Abort;
 use std::test::*;
 
-/// How many objects a graph has: as many as a frame has slots.
+/// The number of objects of a graph, which is the number of a frame's slots.
 const OBJECTS: u64 = 16;
 
-/// Numbers that look random: Knuth's linear congruential ones.
+/// Pseudorandom numbers by Knuth's linear congruential generator.
 #[derive(Drop)]
 struct Random(u64);
 
 impl Random {
-    /// The next one, below a limit.
+    /// The next number, below a limit.
     fn below(&mut self, limit: u64) -> u64 {
         self.0 = self
             .0
@@ -31,8 +32,8 @@ impl Random {
     }
 }
 
-/// A world, a heap of records and a graph with the same objects. Each object stands in the slot of its number, until that is emptied; in the graph its number
-/// is one more.
+/// A world, a heap of records and a graph with the same objects. Each object is in the slot of its number, until that slot is cleared; in the graph its
+/// number is one more.
 #[derive(Drop)]
 struct All {
     world: World,
@@ -74,7 +75,7 @@ fn id_of(rt: &impl Abort, all: &All, object: u64) -> RecordId {
         .expect(rt, "an object")
 }
 
-/// Writes a reference to an object into a field of another.
+/// Stores a reference to an object in a field of another.
 fn refer(rt: &impl Abort, all: &mut All, object: u64, field: u64, to: u64) {
     all.world
         .store(0, object, field, 0, to)
@@ -90,7 +91,7 @@ fn refer(rt: &impl Abort, all: &mut All, object: u64, field: u64, to: u64) {
     );
 }
 
-/// Registers an object, in one of the kinds that all have, with client data that may refer to another.
+/// Registers an object, with a kind that all three have, and client data that may refer to another object.
 fn register(rt: &impl Abort, all: &mut All, object: u64, random: &mut Random) {
     let (kind, same_kind) = match random.below(3) {
         0 => (RegKind::Normal, Kind::Normal),
@@ -126,7 +127,7 @@ fn register(rt: &impl Abort, all: &mut All, object: u64, random: &mut Random) {
         .register(rt, object.saturating_add(1), asked_finalizer);
 }
 
-/// Makes a field of an object a link to another.
+/// Registers a link at a field of an object, to another object.
 fn link(rt: &impl Abort, all: &mut All, object: u64, to: u64, random: &mut Random) {
     let kind = if random.below(2) == 0 { Short } else { Long };
     let field = random.below(FIELDS as u64);
@@ -149,7 +150,7 @@ fn link(rt: &impl Abort, all: &mut All, object: u64, to: u64, random: &mut Rando
     );
 }
 
-/// Edges, registrations and links of an object.
+/// Creates edges, a registration and links for an object.
 fn furnish(rt: &impl Abort, all: &mut All, object: u64, random: &mut Random) {
     for field in 0..FIELDS as u64 {
         if random.below(5) == 0 {
@@ -164,7 +165,7 @@ fn furnish(rt: &impl Abort, all: &mut All, object: u64, random: &mut Random) {
     }
 }
 
-/// Leaves an object to what leads to it, or makes it a root.
+/// Drops an object from its slot, or makes it a root.
 fn settle(rt: &impl Abort, all: &mut All, object: u64, random: &mut Random) {
     if random.below(8) == 0 {
         let id = id_of(rt, all, object);
@@ -175,7 +176,7 @@ fn settle(rt: &impl Abort, all: &mut All, object: u64, random: &mut Random) {
     }
 }
 
-/// Takes what all have queued, in their order, and finishes it. Returns how many entries were taken so far.
+/// Takes what all three have queued, in order, and finishes it. Returns how many entries were taken so far.
 fn take_same(rt: &impl Abort, all: &mut All, taken: u64) -> u64 {
     for number in taken..u64::MAX {
         let Some(entry) = all.world.next(number) else {
@@ -202,7 +203,7 @@ fn take_same(rt: &impl Abort, all: &mut All, taken: u64) -> u64 {
     taken
 }
 
-/// The same objects stand.
+/// All three have the same objects.
 fn stand_same(rt: &impl Abort, all: &All) {
     for (start, id) in all.starts.iter().zip(all.ids.iter()) {
         let stands = all.world.object(*start).is_some();
@@ -214,7 +215,7 @@ fn stand_same(rt: &impl Abort, all: &All) {
     }
 }
 
-/// A graph that looks random, and collections of it. Returns how many picks there were.
+/// A random graph, and collections of it. Returns how many objects were queued.
 fn collect_same(rt: &impl Abort, alloc: Global, seed: u64) -> u64 {
     let mut random = Random(seed);
     let mut all = objects(rt, alloc);

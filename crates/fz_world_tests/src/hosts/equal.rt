@@ -1,9 +1,9 @@
-//! What the tests assert.
+//! Assertions of the tests.
 
 use std::fmt::Debug;
 use std::process::Abort;
 
-/// Stops the test where a value isn't the one that is wanted. The assert stands here alone, since it is proved again at each place where it stands.
+/// Fails the test if a value isn't the expected one. The assert is in a function of its own, because it is proved again wherever it occurs.
 pub(crate) fn must_be<T: Copy + Debug + PartialEq>(rt: &impl Abort, found: T, want: T, what: &str) {
     assert_eq!(rt; found, want, "{what}");
 }

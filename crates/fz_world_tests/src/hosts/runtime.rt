@@ -22,14 +22,14 @@ fn made(rt: &impl Abort, runtime: &mut Runtime, fields: [Field; FIELDS]) -> Reco
     runtime.make(fields).expect(rt, "a record")
 }
 
-/// Registers a record that stands.
+/// Registers an existing record.
 fn register(rt: &impl Abort, runtime: &mut Runtime, id: RecordId, finalizer: Finalizer) {
     if runtime.heap().stands(id) {
         runtime.register(id, finalizer).expect(rt, "a finalizer");
     }
 }
 
-/// Makes the second field of a record a short link to one that stands.
+/// Makes the second field of a record a short link to an existing record.
 fn link(rt: &impl Abort, runtime: &mut Runtime, id: RecordId, target: RecordId) {
     if runtime.heap().stands(target) {
         runtime

@@ -1,4 +1,4 @@
-//! Calls as a program writes them, with what they answer.
+//! Calls as a program writes them, with their results.
 
 use fz_model::LinkKind::Long;
 use fz_model::ObjKind::{Atomic, Scanned};
@@ -10,7 +10,7 @@ use fz_model::{
 use fz_world::{Config, Object, World};
 use std::alloc::Global;
 
-/// A world with a scanned object of two words in slot 0, and an atomic one of a word in slot 1.
+/// A world with a scanned object of two words in slot 0, and a pointer-free one of one word in slot 1.
 fn two_objects(alloc: Global) -> Result<World, Refusal> {
     let config = Config {
         blocks: 4,
@@ -22,7 +22,7 @@ fn two_objects(alloc: Global) -> Result<World, Refusal> {
     Ok(world)
 }
 
-/// A third object's address and birth, the first one's word that leads to it, and what stands there.
+/// A third object's address and birth, the first object's word that points to it, and the object at that word.
 fn words(alloc: Global) -> Result<(Addr, u64, Word, Option<Object>), Refusal> {
     let mut world = two_objects(alloc)?;
     let (made, birth) = world.alloc(0, 2, 3, Scanned)?;
@@ -45,7 +45,7 @@ fn a_word_is_read_back(rt: HostRuntime) {
     assert_eq!(rt; words(rt.alloc()), Ok(want));
 }
 
-/// How many objects there are, how many words they have, and how many no object has.
+/// The number of objects, of their words, and of free words.
 fn counts(alloc: Global) -> Result<(u64, u64, u64), Refusal> {
     let world = two_objects(alloc)?;
     let objects = world.live();
@@ -59,7 +59,7 @@ fn objects_and_words_are_counted(rt: HostRuntime) {
     assert_eq!(rt; counts(rt.alloc()), Ok((2, 3, 4 * BLOCK_WORDS - 3)));
 }
 
-/// A link is made, moved from the first word to the second, and removed.
+/// A link is registered, moved from the first word to the second, and removed.
 fn links(alloc: Global) -> Result<(LinkAnswer, MoveAnswer, Option<Addr>, bool), Refusal> {
     let mut world = two_objects(alloc)?;
     let linked = world.link(Long, 0, 0, 0, 0, 1)?;
@@ -76,7 +76,7 @@ fn a_link_moves_and_goes(rt: HostRuntime) {
     assert_eq!(rt; links(rt.alloc()), Ok(want));
 }
 
-/// The second object is registered, registered again as a value, and then no more.
+/// The second object is registered, registered again by a call as a value, and then unregistered.
 fn registrations(
     alloc: Global,
 ) -> Result<(RegAnswer, RegAnswer, Option<Registration>, Option<Old>), Refusal> {
@@ -114,7 +114,7 @@ fn a_registration_is_replaced_and_removed(rt: HostRuntime) {
     assert_eq!(rt; registrations(rt.alloc()), Ok(want));
 }
 
-/// The first object is let go of. A cycle in steps queues its entry, whose object comes back into its slot.
+/// The first object is dropped. A cycle in steps queues its entry, whose object is stored in its slot again.
 fn cycle(alloc: Global) -> Result<(Progress, Passed, Word, bool), Refusal> {
     let mut world = two_objects(alloc)?;
     world.register(0, 0, Normal, 5, 7, 0)?;

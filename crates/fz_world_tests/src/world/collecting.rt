@@ -1,4 +1,4 @@
-//! Allocations that collect where there is no space.
+//! Allocations that collect if there is no room.
 
 use super::tests::{opened, registered};
 use fz_model::ObjKind::{Atomic, Scanned};
@@ -7,7 +7,7 @@ use fz_model::{Addr, BLOCK_WORDS, HEAP_START, Refusal};
 use fz_world::World;
 use std::alloc::Global;
 
-/// A world of a block, all of which is an object that nothing leads to.
+/// A world of one block, which is filled by one unreachable object.
 fn filled(alloc: Global, is_registered: bool) -> Result<World, Refusal> {
     let mut world = opened(alloc, 1, 1)?;
     world.alloc(0, 0, BLOCK_WORDS, Scanned)?;
@@ -18,7 +18,7 @@ fn filled(alloc: Global, is_registered: bool) -> Result<World, Refusal> {
     Ok(world)
 }
 
-/// Whether an allocation finds no space, one that collects has it, and a further one finds none in what is still led to.
+/// Whether an allocation finds no room, one that collects succeeds, and a further one fails because everything is reachable.
 fn allocations_answer(alloc: Global) -> Result<[bool; 3], Refusal> {
     let mut world = filled(alloc, false)?;
     let has_no_space = world.alloc(0, 0, 1, Atomic) == Err(Refusal::NoSpace);
@@ -35,7 +35,7 @@ fn an_allocation_collects(rt: HostRuntime) {
     assert_eq!(rt; allocations_answer(rt.alloc()), Ok([true; 3]));
 }
 
-/// Finishes all that waits, and forgets it.
+/// Finishes all waiting entries, and forgets them.
 fn run_ready(world: &mut World) -> Result<(), Refusal> {
     for _entry in 0..world.outstanding() {
         let Some(entry) = world.next_held(0) else {
@@ -47,7 +47,7 @@ fn run_ready(world: &mut World) -> Result<(), Refusal> {
     Ok(())
 }
 
-/// Makes an object. Where all that was let go is registered, a first collection only queues it, and a second one reclaims it.
+/// Allocates an object. If all unreachable objects are registered, a first collection only queues them, and a second one reclaims them.
 fn make(world: &mut World) -> Result<(Addr, u64), Refusal> {
     let mut ran = Ok(());
     let made = world.alloc_or_collect(0, 0, BLOCK_WORDS, Scanned, |world| ran = run_ready(world));
@@ -58,7 +58,7 @@ fn make(world: &mut World) -> Result<(Addr, u64), Refusal> {
     world.alloc_or_collect(0, 0, BLOCK_WORDS, Scanned, |_| {})
 }
 
-/// What is made in a world that was filled.
+/// The object that is allocated in a world that was full.
 fn made_where_all_is_registered(alloc: Global) -> Result<(Addr, u64), Refusal> {
     make(&mut filled(alloc, true)?)
 }

@@ -1,4 +1,4 @@
-//! What a world shows, beside what its calls told.
+//! What the readers of a world return, compared with what its calls returned.
 
 use fz_model::{Addr, Entry, HEAP_START, LinkKind, ObjKind, Refusal, RegKind, Registration, Word};
 use fz_world::{Config, Object, World};
@@ -26,7 +26,7 @@ const REGISTRATION: Registration = Registration {
     rank: 9,
 };
 
-/// A world with a registered atomic object, to which a long link leads from the second word of a scanned one.
+/// A world with a registered pointer-free object. The second word of a scanned object has a long link to it.
 fn pair(alloc: Global) -> Result<World, Refusal> {
     let config = Config {
         blocks: 4,
@@ -122,7 +122,7 @@ fn links_in_order(rt: HostRuntime) {
     assert_eq!(rt; links(rt.alloc()), Ok(want));
 }
 
-/// The held entry of a world after its pass, from numbers 0 and 1 on, and once it is finished.
+/// The held entry of a world after its pass, found from number 0 and from number 1 on, and after it is finished.
 fn held(alloc: Global) -> Result<[Option<Entry>; 3], Refusal> {
     let mut world = pair(alloc)?;
     world.set(0, 0, 0)?;

@@ -1,6 +1,6 @@
-//! Lives of objects from end to end as tables of steps, and the limits of a world. A call that is refused for want of memory is made again at once,
-//! and then every answer is as if nothing had been short: `tests/refused-allocations` makes allocations of these tests fail, up to four in a row. The tests
-//! whose names end in `with_ample_memory` ask once, so that a call that wants memory without cause fails them.
+//! The lives of objects as tables of steps, and the limits of a world. A call that runs out of memory is repeated at once, and then every result is the same
+//! as if there had been enough: `tests/refused-allocations` makes allocations of these tests fail, up to four in a row. Tests whose names end in
+//! `with_ample_memory` make each call once, so that they fail if a call needs memory without reason.
 
 use fz_model::LinkKind::{Long, Short};
 use fz_model::ObjKind::{Atomic, Scanned};
@@ -13,19 +13,19 @@ use fz_model::{
 use fz_world::{Config, World};
 use std::alloc::Global;
 
-/// A call and the answer that it is to give. All slots are those of the first frame.
+/// A call and its expected result. All slots are in the first frame.
 #[derive(Clone, Copy)]
 enum Step {
-    /// An object of that many words goes into the slot.
+    /// Allocates an object of this many words into the slot.
     New(u64, u64, ObjKind, Result<u64, Refusal>),
-    /// A word of what the first slot points to becomes the second slot's.
+    /// Stores the second slot's word in a word of the object at the first slot.
     Store(u64, u64, u64, Result<(), Refusal>),
-    /// A word of what the first slot points to goes into the second.
+    /// Loads a word of the object at the first slot into the second slot.
     Load(u64, u64, u64, Result<u64, Refusal>),
     Set(u64, u64),
-    /// The registration of what the slot holds has the next number, which is given last, and replaces none.
+    /// Registers the object at the slot. The number, given last, is the next one, and no registration is replaced.
     Register(u64, RegKind, u8, u64),
-    /// The answer to a registration of the kind normal and of rank 0.
+    /// The result of registering a finalizer of kind normal and rank 0.
     Registers(u64, Result<RegAnswer, Refusal>),
     Unregister(u64, Result<Option<Old>, Refusal>),
     Link(LinkKind, u64, u64, u64, LinkAnswer),
@@ -33,20 +33,20 @@ enum Step {
     Move(LinkKind, u64, u64, u64, MoveAnswer),
     Begin(Result<(), Refusal>),
     Mark(u64, Progress),
-    /// The number of the pass, and how much it picks and reclaims.
+    /// The number of the pass, and how many objects it queues and reclaims.
     Pause(u64, u64, u64),
     Collect(u64, u64, u64),
-    /// The slot holds the object of the entry at a place of the queue.
+    /// Stores the object of the entry at an index of the queue in the slot.
     Hold(u64, usize),
-    /// The entry at a place of the queue is finished, and has this object.
+    /// Finishes the entry at an index of the queue. It has this object.
     Finish(usize, Result<u64, Refusal>),
     Close(Result<(), Refusal>),
     Outstanding(u64),
-    /// So many entries go, and the queue is shown from this number on.
+    /// This many entries are forgotten, and the queue is shown from this number on.
     Forget(u64, u64),
     Scans(u64),
     Noted(u64),
-    /// So many pairs of entries are finished, whose objects are the second and the third of each three blocks.
+    /// Finishes this many pairs of entries. Their objects are the second and the third of every three blocks.
     FinishPairs(u32),
 }
 
@@ -55,7 +55,7 @@ use Step::{
     Outstanding, Pause, Register, Registers, Scans, Set, Store, Unlink, Unregister,
 };
 
-/// The most refusals of a call, since no more allocations fail.
+/// The largest number of failures of one call: no more allocations fail in a row.
 const MOST_REFUSALS: u64 = 4;
 
 pub(super) fn opened(alloc: Global, blocks: u64, frames: u64) -> Result<World, Refusal> {
@@ -69,12 +69,12 @@ pub(super) fn opened(alloc: Global, blocks: u64, frames: u64) -> Result<World, R
     World::open(alloc, config)
 }
 
-/// Makes an object into a slot of the first frame; returns its address.
+/// Allocates an object into a slot of the first frame. Returns its address.
 fn made(world: &mut World, slot: u64, size: u64, kind: ObjKind) -> Result<u64, Refusal> {
     Ok(world.alloc(0, slot, size, kind)?.0)
 }
 
-/// Registers what a slot of the first frame holds, with procedure 7 and no client data.
+/// Registers the object at a slot of the first frame, with procedure 7 and no client data.
 pub(super) fn registered(
     world: &mut World,
     slot: u64,
@@ -90,7 +90,7 @@ pub(super) fn registered(
     world.register(0, slot, kind, 7, 0, rank)
 }
 
-/// Makes a word of what a slot of the first frame points to a link to the object in another slot.
+/// Registers a link at a word of the object at one slot of the first frame, to the object at another slot.
 fn linked(
     world: &mut World,
     which: LinkKind,
@@ -107,7 +107,7 @@ fn linked(
     world.link(which, 0, slot, offset, 0, target)
 }
 
-/// Moves a link between two words of what a slot of the first frame points to.
+/// Moves a link between two words of the object at a slot of the first frame.
 fn moved(
     world: &mut World,
     which: LinkKind,
@@ -124,7 +124,7 @@ fn moved(
     world.move_link(which, 0, slot, from, 0, slot, to)
 }
 
-/// What a pass answers.
+/// The result of a pass.
 fn passed(pass: u64, picked: u64, reclaimed: u64) -> Result<Passed, Refusal> {
     Ok(Passed {
         pass,
@@ -133,30 +133,30 @@ fn passed(pass: u64, picked: u64, reclaimed: u64) -> Result<Passed, Refusal> {
     })
 }
 
-/// What a new registration answers.
+/// The result of a new registration.
 fn number(number: u64) -> Result<RegAnswer, Refusal> {
     Ok(RegAnswer::Number(number, None))
 }
 
-/// The entry at a place of the queue.
+/// The entry at an index of the queue.
 fn entry_at(world: &World, place: usize) -> Result<Entry, Refusal> {
     world.next(place as u64).ok_or(Refusal::NotHeld)
 }
 
-/// Finishes the entry at a place of the queue; returns its object.
+/// Finishes the entry at an index of the queue. Returns its object.
 fn finished(world: &mut World, place: usize) -> Result<u64, Refusal> {
     let entry = entry_at(world, place)?;
     world.finish(&entry)?;
     Ok(entry.obj)
 }
 
-/// Puts the object of the entry at a place of the queue into a slot of the first frame.
+/// Stores the object of the entry at an index of the queue in a slot of the first frame.
 fn held(world: &mut World, slot: u64, place: usize) -> Result<(), Refusal> {
     let entry = entry_at(world, place)?;
     world.hold(0, slot, &entry)
 }
 
-/// Whether a step gives its answer.
+/// Whether a step returns the expected result.
 fn answers(world: &mut World, step: Step) -> bool {
     match step {
         New(slot, size, kind, want) => made(world, slot, size, kind) == want,
@@ -184,7 +184,7 @@ fn answers(world: &mut World, step: Step) -> bool {
     }
 }
 
-/// The place of the first step that gives another answer.
+/// The index of the first step that returns another result.
 fn first_wrong(world: &mut World, steps: &[Step]) -> Option<usize> {
     for (place, step) in steps.iter().enumerate() {
         if !answers(world, *step) {
@@ -194,7 +194,7 @@ fn first_wrong(world: &mut World, steps: &[Step]) -> Option<usize> {
     None
 }
 
-/// The same for a world that was just made. It is dropped here, at one place.
+/// The same for a new world. It is dropped here, in one place.
 fn first_wrong_of(made: Result<World, Refusal>, steps: &[Step]) -> Result<Option<usize>, Refusal> {
     let mut world = made?;
     Ok(first_wrong(&mut world, steps))
@@ -216,7 +216,7 @@ const ONE_OBJECT_LIFE: [Step; 13] = [
     Collect(4, 0, 1),
 ];
 
-/// The object is made, registered, dropped, finalized, held again by a slot, dropped and reclaimed.
+/// An object is allocated, registered, dropped, finalized, stored in a slot again, dropped and reclaimed.
 #[test]
 fn one_object_life(rt: HostRuntime) {
     let made = opened(rt.alloc(), 4, 1);
@@ -253,7 +253,7 @@ const FORGOTTEN_ENTRIES: [Step; 27] = [
     Forget(0, 3),
 ];
 
-/// What is finished is forgotten, and what isn't stays with its number, also where it is the first.
+/// A finished entry is forgotten; an unfinished one keeps its number, even if it is the first.
 #[test]
 fn forgotten_entries(rt: HostRuntime) {
     let made = opened(rt.alloc(), 4, 1);
@@ -275,7 +275,7 @@ const CHAIN_IN_ORDER: [Step; 12] = [
     Finish(1, Ok(HEAP_START + 1)),
 ];
 
-/// An object that leads to another is ready before it, whatever their ranks.
+/// An object that points to another is queued first, whatever their ranks are.
 #[test]
 fn chain_in_order(rt: HostRuntime) {
     let made = opened(rt.alloc(), 4, 1);
@@ -302,7 +302,7 @@ const RANKS_IN_ORDER: [Step; 17] = [
     Finish(3, Ok(HEAP_START)),
 ];
 
-/// One pass queues by rank, and objects of one rank by address.
+/// One pass queues by rank, and objects of equal rank by address.
 #[test]
 fn ranks_in_order(rt: HostRuntime) {
     let made = opened(rt.alloc(), 4, 1);
@@ -325,7 +325,7 @@ const SHORT_LINK_BREAKS_A_CYCLE: [Step; 13] = [
     Finish(1, Ok(HEAP_START)),
 ];
 
-/// A short link's word is zero before the order is decided: so of two registered objects that point to each other one is ready.
+/// The word of a short link is cleared before the order is decided: of two registered objects that point to each other one is queued.
 #[test]
 fn short_link_breaks_a_cycle(rt: HostRuntime) {
     let made = opened(rt.alloc(), 4, 1);
@@ -351,7 +351,7 @@ const LONG_LINK_WAITS_FOR_ITS_TARGET: [Step; 16] = [
     Unlink(Long, 0, 1, false),
 ];
 
-/// Of two links to a queued object the short one's word is zero at once, and the long one's when the object is reclaimed.
+/// Of two links to a queued object, the short one's word is cleared at once, and the long one's when the object is reclaimed.
 #[test]
 fn long_link_waits_for_its_target(rt: HostRuntime) {
     let made = opened(rt.alloc(), 4, 1);
@@ -376,7 +376,7 @@ const MOVED_LINK: [Step; 12] = [
     Load(0, 1, 2, Ok(0)),
 ];
 
-/// A link clears the word at which it stands last.
+/// A moved link clears the word at its last place.
 #[test]
 fn moved_link(rt: HostRuntime) {
     let made = opened(rt.alloc(), 4, 1);
@@ -395,7 +395,7 @@ const LINK_IN_GARBAGE: [Step; 9] = [
     Unlink(Long, 0, 0, false),
 ];
 
-/// A link goes with the object in which it stands: a new object at the same place has none.
+/// A link is removed with the object that contains it: a new object at the same address has none.
 #[test]
 fn link_in_garbage(rt: HostRuntime) {
     let made = opened(rt.alloc(), 4, 1);
@@ -418,7 +418,7 @@ const CLOSE_IN_A_CYCLE: [Step; 13] = [
     Outstanding(0),
 ];
 
-/// A world that closes in a cycle queues nothing at its end, nor later. What is no longer registered is reclaimed.
+/// A world that is closed within a cycle queues nothing at its end or later. Unregistered objects are reclaimed.
 #[test]
 fn close_in_a_cycle(rt: HostRuntime) {
     let made = opened(rt.alloc(), 4, 1);
@@ -468,7 +468,7 @@ const STORE_BEHIND_THE_MARKER: [Step; 24] = [
     Collect(2, 0, 0),
 ];
 
-/// Two objects swap what they point to while one of them is scanned and the other is not: nothing is lost.
+/// Two objects exchange their references while one of them is scanned and the other isn't: nothing is lost.
 #[test]
 fn store_behind_the_marker(rt: HostRuntime) {
     let made = opened(rt.alloc(), 4, 1);
@@ -507,7 +507,7 @@ const STORE_BEHIND_THE_MARKER_ON_A_SECOND_PAGE: [Step; 24] = [
     Collect(2, 0, 0),
 ];
 
-/// So too on the second page of large objects.
+/// The same on the second page of large objects.
 #[test]
 fn store_behind_the_marker_on_a_second_page(rt: HostRuntime) {
     let made = opened(rt.alloc(), 8, 1);
@@ -517,7 +517,7 @@ fn store_behind_the_marker_on_a_second_page(rt: HostRuntime) {
     );
 }
 
-/// Makes a chain of one-word objects, whose first is in the first slot.
+/// Allocates a chain of one-word objects, of which the first slot has the first.
 fn make_chain(world: &mut World, count: u64) -> Result<(), Refusal> {
     made(world, 0, 1, Scanned)?;
     world.copy(0, 0, 0, 1)?;
@@ -530,7 +530,7 @@ fn make_chain(world: &mut World, count: u64) -> Result<(), Refusal> {
     world.set(0, 2, 0)
 }
 
-/// A world of a chain alone.
+/// A world that contains only a chain.
 fn chained(alloc: Global, count: u64) -> Result<World, Refusal> {
     let mut world = opened(alloc, 4, 1)?;
     make_chain(&mut world, count)?;
@@ -555,14 +555,14 @@ const SCANS_OF_A_CHAIN: [Step; 15] = [
     Scans(1),
 ];
 
-/// A chain of two pages is scanned once; a pause scans again what stands on the page of a store.
+/// A chain of two pages is scanned once; a pause scans the objects on a stored page again.
 #[test]
 fn scans_of_a_chain(rt: HostRuntime) {
     let made = chained(rt.alloc(), 100);
     assert_eq!(rt; first_wrong_of(made, &SCANS_OF_A_CHAIN), Ok(None));
 }
 
-/// Makes one-word objects and registers each. It asks once.
+/// Allocates one-word objects and registers each. Every call is made once.
 fn registered_many(world: &mut World, count: u64) -> Result<(), Refusal> {
     for _ in 0..count {
         made(world, 0, 1, Scanned)?;
@@ -588,14 +588,14 @@ const FULL_TABLE: [Step; 4] = [
     ),
 ];
 
-/// The table holds registrations of 65,536 objects. Then it has no room for another object's, but takes a new one of one of them.
+/// The table has registrations of 65,536 objects. It has no room for another object's, but one of these can be replaced.
 #[test]
 fn full_table_with_ample_memory(rt: HostRuntime) {
     let made = filled(rt.alloc());
     assert_eq!(rt; first_wrong_of(made, &FULL_TABLE), Ok(None));
 }
 
-/// A heap of objects of 1,024 words. The first slot holds the last of them, which ends in the last block, and the second slot the first.
+/// A heap of objects of 1,024 words. The first slot has the last of them, which ends in the last block, and the second slot the first.
 fn filled_with_large(alloc: Global) -> Result<World, Refusal> {
     let mut world = opened(alloc, MAX_BLOCKS, 1)?;
     for _ in 0..BLOCK_WORDS * MAX_BLOCKS / MAX_OBJECT_WORDS {
@@ -605,7 +605,7 @@ fn filled_with_large(alloc: Global) -> Result<World, Refusal> {
     Ok(world)
 }
 
-/// The first word of the last object that doesn't become a link when it is asked once.
+/// The first word of the last object at which a link can't be registered at the first try.
 fn first_unlinked(world: &mut World, which: LinkKind) -> Option<u64> {
     for word in 0..MAX_OBJECT_WORDS {
         if world.link(which, 0, 0, word, 0, 1) != Ok(LinkAnswer::Success) {
@@ -615,7 +615,7 @@ fn first_unlinked(world: &mut World, which: LinkKind) -> Option<u64> {
     None
 }
 
-/// The first word of the object in a slot whose link doesn't move to the same word of the object in another, asked once.
+/// The first word of the object in a slot whose link can't be moved to the same word of the object in another slot at the first try.
 fn first_unmoved(world: &mut World, which: LinkKind, from: u64, to: u64) -> Option<u64> {
     for word in 0..MAX_OBJECT_WORDS {
         if world.move_link(which, 0, from, word, 0, to, word) != Ok(MoveAnswer::Success) {
@@ -625,26 +625,26 @@ fn first_unmoved(world: &mut World, which: LinkKind, from: u64, to: u64) -> Opti
     None
 }
 
-/// Whether each word of the last object becomes a link, and the links move to the first object and back.
+/// Whether a link can be registered at each word of the last object, and all links can be moved to the first object and back.
 fn are_linked_and_moved(world: &mut World, which: LinkKind) -> bool {
     first_unlinked(world, which).is_none()
         && first_unmoved(world, which, 0, 1).is_none()
         && first_unmoved(world, which, 1, 0).is_none()
 }
 
-/// Whether this is so of links of both kinds.
+/// Whether this holds for links of both kinds.
 fn all_are_linked_and_moved(alloc: Global) -> Result<bool, Refusal> {
     let mut world = filled_with_large(alloc)?;
     Ok(are_linked_and_moved(&mut world, Short) && are_linked_and_moved(&mut world, Long))
 }
 
-/// Links of each word of the largest objects, the last word of the heap among them.
+/// Links at each word of the largest objects, including the last word of the heap.
 #[test]
 fn links_of_large_objects_with_ample_memory(rt: HostRuntime) {
     assert_eq!(rt; all_are_linked_and_moved(rt.alloc()), Ok(true));
 }
 
-/// Makes and drops an object that points to itself and is registered.
+/// Allocates, registers and drops an object that points to itself.
 fn made_and_dropped(world: &mut World, kind: RegKind) -> Result<(), Refusal> {
     made(world, 0, BLOCK_WORDS, Scanned)?;
     world.store(0, 0, 0, 0, 0)?;
@@ -652,7 +652,7 @@ fn made_and_dropped(world: &mut World, kind: RegKind) -> Result<(), Refusal> {
     world.set(0, 0, 0)
 }
 
-/// Makes and drops such objects, of each kind in turn.
+/// Allocates and drops such objects, of each kind in turn.
 fn many_of_each_kind(world: &mut World, count: u64) -> Result<(), Refusal> {
     for _ in 0..count {
         made_and_dropped(world, Normal)?;
@@ -662,7 +662,7 @@ fn many_of_each_kind(world: &mut World, count: u64) -> Result<(), Refusal> {
     Ok(())
 }
 
-/// The place of the first of many entries that isn't held or has another object than its turn. Of three objects, a block each, two are queued.
+/// The index of the first of many entries that isn't held or has the wrong object. Of every three objects, one block each, two are queued.
 fn first_out_of_turn(world: &mut World, pairs: u32) -> Option<u32> {
     for pair in 0..pairs {
         let first = HEAP_START + 3 * BLOCK_WORDS * pair as u64;
@@ -692,7 +692,7 @@ const THOUSANDS_OF_PICKS: [Step; 5] = [
     Collect(2, 0, 2_000),
 ];
 
-/// Of three thousand objects that point to themselves, of each kind in turn, those of the kind normal wait for themselves.
+/// Of three thousand objects that point to themselves, of each kind in turn, those of kind normal wait for themselves.
 #[test]
 fn thousands_of_picks(rt: HostRuntime) {
     let made = filled_with_garbage(rt.alloc());
@@ -702,7 +702,7 @@ fn thousands_of_picks(rt: HostRuntime) {
 /// How many objects each pass of a long life queues.
 const PICKS: u64 = 64;
 
-/// Makes as many objects, registers and drops them, collects, and finishes the entries. The pass reclaims the objects of the one before.
+/// Allocates that many objects, registers and drops them, collects, and finishes the entries. The pass reclaims the objects of the one before.
 fn lives_through(world: &mut World, pass: u64) -> Result<bool, Refusal> {
     registered_many(world, PICKS)?;
     world.set(0, 0, 0)?;
@@ -724,7 +724,7 @@ fn forgets(world: &mut World, pass: u64) -> bool {
     are_gone && world.forgotten() == PICKS.wrapping_mul(pass) && world.queue().is_empty()
 }
 
-/// Lives through this number of passes, and forgets after each if it is to; returns the first that answers wrongly.
+/// Makes this number of passes, and forgets after each if asked to. Returns the first pass with a wrong result.
 fn first_wrong_pass(
     alloc: Global,
     passes: u64,
@@ -746,7 +746,7 @@ fn a_long_life_with_ample_memory(rt: HostRuntime) {
     assert_eq!(rt; first_wrong_pass(rt.alloc(), 2_400, false), Ok(None));
 }
 
-/// As many go through one that forgets them.
+/// The same number of entries go through a world that forgets them.
 #[test]
 fn a_long_life_that_forgets_with_ample_memory(rt: HostRuntime) {
     assert_eq!(rt; first_wrong_pass(rt.alloc(), 2_400, true), Ok(None));
@@ -761,7 +761,7 @@ const EDGE_OF_THE_HEAP: [Step; 6] = [
     Load(0, 0, 1, Err(Refusal::NotPointer)),
 ];
 
-/// A word at the end of the heap lies outside it.
+/// A word just after the heap lies outside it.
 #[test]
 fn edge_of_the_heap(rt: HostRuntime) {
     let made = opened(rt.alloc(), MAX_BLOCKS, 1);

@@ -1,4 +1,4 @@
-//! Scripts that are cut, or have a byte changed: the lines before that place get their replies, and the line there is a step or malformed.
+//! Scripts that are truncated, or have one byte changed. The lines before that point get their replies, and the line there is a step or malformed.
 
 ghost use Rattle.std.specs.Prelude.{◌≤◌, length};
 
@@ -13,22 +13,22 @@ use std::alloc::{AllocError, Global};
 use std::process::Abort;
 use std::test::Fail;
 
-/// What stands before the first line feed.
+/// The bytes before the first LF.
 fn first_line(bytes: &[u8]) -> &[u8] {
     bytes.split(|byte| *byte == b'\n').next().unwrap_or(bytes)
 }
 
-/// What stands behind the last line feed.
+/// The bytes after the last LF.
 fn last_line(bytes: &[u8]) -> &[u8] {
     bytes.rsplit(|byte| *byte == b'\n').next().unwrap_or(bytes)
 }
 
-/// Whether a line is a registration's, but for a rank.
+/// Whether a line is a registration without a rank.
 fn can_have_a_rank(line: &[u8]) -> bool {
     line.starts_with(b"register ") && line.iter().filter(|byte| **byte == b' ').count() == 5
 }
 
-/// Whether a cut line is no fault: nothing is left of it, or nothing was cut off, or its rank was, or digits of its last number.
+/// Whether a truncated line is no error: it is empty, or complete, or it lost only its rank or digits of its last number.
 fn is_no_fault(line: &[u8], cut_off: &[u8]) -> bool {
     match (line, cut_off) {
         ([], _) => true,
@@ -40,7 +40,7 @@ fn is_no_fault(line: &[u8], cut_off: &[u8]) -> bool {
     }
 }
 
-/// Whether the run stopped at this line, which is malformed, with these replies before it.
+/// Whether the run stopped at this line, which is malformed, after these replies.
 fn stops_at(
     alloc: Global,
     outcome: &Outcome,
@@ -54,7 +54,7 @@ fn stops_at(
     Ok(rest == told.as_str().as_bytes() && outcome.result == fault(Refusal::BadLine, line as u64))
 }
 
-/// Whether the run came to its end after this many replies, of which these are the first.
+/// Whether the run ended after this many replies, of which these are the first.
 fn ends_after(outcome: &Outcome, replies: &[u8], steps: usize) -> bool {
     let text = outcome.text.as_slice();
     let Some(lines) = text.strip_suffix(b"\n") else {
@@ -66,7 +66,7 @@ fn ends_after(outcome: &Outcome, replies: &[u8], steps: usize) -> bool {
         && last_line(lines).starts_with(b"end enqueued ")
 }
 
-/// Whether the first bytes of the row's script, this many, get the report that they should.
+/// Whether this prefix of the row's script gets the right report.
 fn is_cut_well(alloc: Global, row: Row, place: usize) -> Result<bool, AllocError>
     requires { place ≤ length row.script.now }
 {
@@ -79,7 +79,7 @@ fn is_cut_well(alloc: Global, row: Row, place: usize) -> Result<bool, AllocError
     let (line, cut_off) = (last_line(script), first_line(rest));
     let whole = lines_in(script);
     let number = whole.saturating_add(1);
-    // A script has an opening.
+    // A script needs an opening.
     if script.is_empty() || !is_no_fault(line, cut_off) {
         return stops_at(alloc, &outcome, first_lines(row.report, whole), number);
     }
@@ -88,7 +88,7 @@ fn is_cut_well(alloc: Global, row: Row, place: usize) -> Result<bool, AllocError
     Ok(ends_after(&outcome, first_lines(row.report, known), steps))
 }
 
-/// Cuts the row's script after each of its bytes.
+/// Truncates the row's script after each of its bytes.
 fn cut_everywhere(
     rt: &impl Abort,
     alloc: Global,
@@ -122,7 +122,7 @@ fn the_last_scripts_are_cut(rt: HostRuntime) -> Result<(), Fail> {
     Ok(())
 }
 
-/// What is dropped inside a cycle is found by either of two passes, in a script that is cut too.
+/// An object dropped inside a cycle is found unreachable by one of two passes. The script is truncated, too.
 #[test]
 fn what_is_dropped_inside_a_cycle_is_found(rt: HostRuntime) -> Result<(), Fail> {
     let next = DROPPED_IN_A_CYCLE;
@@ -137,8 +137,7 @@ fn what_is_dropped_inside_a_cycle_is_found(rt: HostRuntime) -> Result<(), Fail> 
     Ok(())
 }
 
-/// Whether a carriage return in place of this byte of the row's script makes the byte's line malformed. The line goes on behind a line feed that it
-/// takes the place of.
+/// Whether replacing this byte of the row's script by a carriage return makes its line malformed. If the byte is an LF, the line continues after it.
 fn is_malformed_by_a_return(alloc: Global, row: Row, place: usize) -> Result<bool, AllocError>
     requires { place ≤ length row.script.now }
 {

@@ -1,0 +1,103 @@
+-- A host that answers for a graph is asked only what it may be asked.
+use Rattle.std.proofs.Common.{◌≡◌, ◌⊎◌, ◌∷◌, [], ℕ, List, refl, sym, ap, subst, inl, inr, is_some, not, IsTrue}
+use Rattle.fz_model.specs.declared.kinds.RegKind.{RegKind}
+use Rattle.fz_model.specs.declared.kinds.RegKind.TheVariants as table
+use Rattle.fz_model.specs.State.{Map, Object}
+use Rattle.fz_pass.specs.Leading.{IsLeading}
+use Rattle.fz_pass.specs.Marks.{IsLastToMark}
+use Rattle.fz_pass.proofs.Both.{in_first, in_second}
+use Rattle.fz_pass.proofs.Marking.{last_to_mark}
+use Rattle.fz_finalizers.specs.declared.kinds.Kind.{Kind}
+use Rattle.fz_finalizers.specs.declared.kinds.Kind.TheVariants.{Normal, IgnoreSelf, NoOrder, Unreachable}
+use Rattle.fz_finalizers.specs.Kinds.{of_table}
+use Rattle.fz_finalizers.specs.States.{State}
+use Rattle.fz_machine.specs.declared.item.Item.{Item}
+use Rattle.fz_machine.specs.declared.phase.Phase.{Phase}
+use Rattle.fz_machine.specs.declared.phase.Phase.TheVariants.{ShortTargets, ShortWords, Objects, Children, Again, Picks, LateAgain, LatePicks, LongTargets, LongWords, ShortHolders, LongHolders}
+use Rattle.fz_machine.specs.declared.question.Ask.TheVariants.{MarkAlone}
+use Rattle.fz_machine.specs.Graph.{Graph, CanMark, MayAsk, MayBeAsked}
+use Rattle.fz_machine.specs.Phases.{asks, child_ask, pick_ask, subject, after, keeps}
+use Rattle.fz_machine.specs.Runs.{AreAskable, AsksRightly}
+use Rattle.fz_machine.proofs.Begun.{HasBegun, late_led, late_registered, others_led, registered}
+use Rattle.fz_machine.proofs.Entered.{IsOfEither}
+use Rattle.fz_machine.proofs.Keeping.{keep}
+use Rattle.fz_machine.proofs.Led.{can_mark}
+use Rattle.fz_machine.proofs.Phased.{IsIn, LeadsOn, PicksLate, PicksOn, clear}
+use Rattle.fz_machine.proofs.Phasing.{kept_on}
+use Rattle.fz_machine.proofs.Choosing as choosing
+use Rattle.fz_machine.proofs.Ran.{where_it_is}
+
+child_may : (k : Kind) (o : ℕ) (h : Graph) → CanMark h o → MayBeAsked (child_ask k) o h
+child_may Normal o h can = can
+child_may IgnoreSelf o h can = can
+child_may NoOrder o h can = tt
+child_may Unreachable o h can = can
+
+module _ (E : Type 0) (b : State) (before : Graph) (begin : HasBegun b before) where
+  abbrev clearly : Map Object
+  clearly = clear E b before
+
+  alone_may : (o : ℕ) (h : Graph) (kind : RegKind) → (kind ≡ table.Normal) ⊎ (kind ≡ table.IgnoreSelf) → h.objects ≡ clearly → CanMark h o → ((a : ℕ) → IsLeading clearly o kind a → IsTrue (h.marked a)) → MayAsk MarkAlone o h
+  alone_may o h kind is objects can led = (can, subst (λ (m : Map Object). IsLastToMark m h.marked o) (sym objects) (last_to_mark E clearly h.marked o kind is led))
+
+  pick_may : (o : ℕ) (h : Graph) (kind : RegKind) → h.objects ≡ clearly → CanMark h o → ((a : ℕ) → IsLeading clearly o kind a → IsTrue (h.marked a)) → MayBeAsked (pick_ask (of_table kind)) o h
+  pick_may o h table.Normal objects can led = alone_may o h table.Normal (inl refl) objects can led
+  pick_may o h table.IgnoreSelf objects can led = alone_may o h table.IgnoreSelf (inr refl) objects can led
+  pick_may o h table.NoOrder objects can led = can
+
+  children_may : (s : State) (kept left : List Item) (item : Item) (h : Graph) → LeadsOn E b before s kept (item ∷ left) h → MayBeAsked (child_ask item.kind) item.object h
+  children_may s kept left item h p = by p.left_are.0.0
+    where
+      by : IsOfEither b.registrations b.late item → MayBeAsked (child_ask item.kind) item.object h
+      by (inl (r, here, is)) =
+          child_may item.kind item.object h
+          (can_mark E clearly b.registrations b.late before.marked (registered E b before begin) (late_registered E b before begin) begin.apart begin.normal item left h h p.are p.left_are.0.1 r (in_first b.registrations b.late item.object r here))
+      by (inr (r, here, is)) =
+          child_may item.kind item.object h
+          (can_mark E clearly b.registrations b.late before.marked (registered E b before begin) (late_registered E b before begin) begin.apart begin.normal item left h h p.are p.left_are.0.1 r
+          (in_second b.registrations b.late item.object r (λ on. begin.apart item.object on (ap is_some here)) here))
+
+  picks_may : (s : State) (kept left : List Item) (item : Item) (h : Graph) → PicksOn E b before s kept (item ∷ left) h → MayBeAsked (pick_ask item.kind) item.object h
+  picks_may s kept left item h p = by p.left_are.0.0
+    where
+      by : IsOfEither b.registrations b.late item → MayBeAsked (pick_ask item.kind) item.object h
+      by (inl (r, here, is)) =
+          subst (λ (k : Kind). MayBeAsked (pick_ask k) item.object h) (sym (ap (λ (i : Item). i.kind) is))
+          (pick_may item.object h r.kind p.are.objects
+          (choosing.can_mark E clearly item.object h h p.are.objects p.are.closed (registered E b before begin item.object r here))
+          (λ a leads. p.are.least a (others_led E b before begin p.leading item.object r here (ap not p.left_are.0.1) a leads)))
+      by (inr late) = subst (λ (k : Kind). MayBeAsked (pick_ask k) item.object h) (sym (ap (λ (i : Item). i.kind) late.2)) tt
+
+  late_may : (s : State) (left : List Item) (item : Item) (h : Graph) → PicksLate E b before s (item ∷ left) h → MayAsk MarkAlone item.object h
+  late_may s left item h p =
+      let r = p.left_are.0.0.0 in
+      let here = p.left_are.0.0.1 in
+      alone_may item.object h r.kind (inl (begin.normal item.object r here)) p.are.objects
+      (choosing.can_mark E clearly item.object h h p.are.objects p.are.closed (late_registered E b before begin item.object r here))
+      (λ a leads. p.are.least a (late_led E b before begin p.first item.object r here (ap not p.left_are.0.1) a leads))
+
+  may : (phase : Phase) (s : State) (kept left : List Item) (item : Item) (h : Graph) → IsIn E b before phase s kept (item ∷ left) h → MayBeAsked (asks phase item) (subject phase item) h
+  may ShortTargets s kept left item h p = tt
+  may ShortWords s kept left item h p = tt
+  may Objects s kept left item h p = tt
+  may Children s kept left item h p = children_may s kept left item h p
+  may Again s kept left item h p = tt
+  may Picks s kept left item h p = picks_may s kept left item h p
+  may LateAgain s kept left item h p = tt
+  may LatePicks s kept left item h p = late_may s left item h p
+  may LongTargets s kept left item h p = tt
+  may LongWords s kept left item h p = tt
+  may ShortHolders s kept left item h p = tt
+  may LongHolders s kept left item h p = tt
+
+  pub askable : (phase : Phase) (s : State) (kept left : List Item) (h : Graph) → IsIn E b before phase s kept left h → AreAskable E phase left h
+  askable phase s kept [] h p = tt
+  askable phase s kept (item ∷ left) h p = (
+    may phase s kept left item h p,
+    λ answer between honest. askable phase (after phase item answer s) (kept_on (keeps phase item answer) kept item) left between (keep E b before begin phase s kept left item h between p answer honest),
+  )
+
+pub asks_rightly : (E : Type 0) → AsksRightly E
+asks_rightly E old begun new past before after_it phase reached is may_begin runs at =
+    let w = where_it_is E old begun new past before after_it reached is may_begin runs in
+    askable E w.0 before w.1 phase new.finalizers.state new.walk.kept new.walk.left after_it (w.2 phase at)

@@ -1,0 +1,151 @@
+//! Walks over registrations and links, a part at a time. Nothing changes by them, and a pass may be open.
+
+ghost use Rattle.std.specs.Prelude.{◌≡◌, ◌≤◌, ◌<◌, ◌+◌, length, map, min, take};
+ghost use Rattle.fz_machine_c.specs.Codes.{Behind};
+ghost use Rattle.fz_machine_c.specs.Shows.{ShowsLinks, ShowsRegistrations, link_told, registration_told};
+ghost use Rattle.fz_machine_c.specs.Told.{link_kind_of};
+
+use crate::codes::{Code, EMPTY, NOT_OPEN, OK};
+use crate::handle::Handle;
+use crate::linking::kind_for;
+use crate::shown::Registration;
+use fz_finalizers::Finalizers;
+use fz_table::Pairs;
+use std::alloc::Global;
+
+/// How many registrations or links C gets at a time.
+const PART: usize = 64;
+
+/// Registrations of a walk, and how many there are.
+#[repr(C)]
+#[derive(Clone, Copy)]
+pub struct Registrations {
+    pub registrations: [Registration; PART],
+    pub count: u64,
+}
+
+/// A link.
+#[repr(C)]
+#[derive(Clone, Copy)]
+pub struct Linked {
+    pub word: u64,
+    pub target: u64,
+}
+
+/// Links of a walk, and how many there are.
+#[repr(C)]
+#[derive(Clone, Copy)]
+pub struct Links {
+    pub links: [Linked; PART],
+    pub count: u64,
+}
+
+/// What the buffer of registrations has before it is filled.
+const NO_REGISTRATION: Registration = Registration {
+    object: 0,
+    number: 0,
+    proc: 0,
+    cd: 0,
+    kind: 0,
+    rank: 0,
+};
+
+/// What the buffer of links has before it is filled.
+const NO_LINK: Linked = Linked { word: 0, target: 0 };
+
+/// Writes the next registrations into the buffer, as many as it holds or are left; returns how many.
+fn fill_registrations(
+    shown: &Finalizers,
+    walk: fz_finalizers::Registrations<'_>,
+    buffer: &mut [Registration],
+) -> usize
+    ensures count { result ≡ min (length buffer.old) (length walk.entry) }
+    ensures filled { take result buffer.new ≡ take result (map (registration_told shown.now.state) walk.entry) }
+{
+    let mut left = walk;
+    let mut filled = 0;
+    for place in buffer.iter_mut() {
+        let Some((object, registration)) = left.next() else {
+            return filled;
+        };
+        *place = Registration::of(object, &registration, shown.kind(object));
+        filled += 1;
+    }
+    filled
+}
+
+/// Writes the next links into the buffer, as many as it holds or are left; returns how many.
+fn fill_links(walk: Pairs<'_, u64, u64>, buffer: &mut [Linked]) -> usize
+    ensures count { result ≡ min (length buffer.old) (length walk.entry) }
+    ensures filled { take result buffer.new ≡ take result (map link_told walk.entry) }
+{
+    let mut left = walk;
+    let mut filled = 0;
+    for place in buffer.iter_mut() {
+        let Some((word, target)) = left.next() else {
+            return filled;
+        };
+        *place = Linked { word, target };
+        filled += 1;
+    }
+    filled
+}
+
+/// `Finalizers::iter`: the registrations of the walk from a place on, as many as there is room for. A call takes the same time at each place.
+#[unsafe(no_mangle)]
+pub extern "C" fn fz_machine_registrations(
+    alloc: Global,
+    finalizers: &mut Handle,
+    from: u64,
+    registrations: &mut Registrations,
+) -> Code
+    ensures { Behind finalizers.old.value finalizers.new.value result (registrations.new ≡ registrations.old) (λ m n. (n ≡ m) × ShowsRegistrations m.finalizers from result registrations.old registrations.new) }
+{
+    let Some(session) = finalizers.take(alloc) else {
+        return NOT_OPEN;
+    };
+    let shown = session.machine.finalizers();
+    let mut found = [NO_REGISTRATION; PART];
+    let left = shown.iter().from_place(from as usize);
+    let count = fill_registrations(shown, left, &mut found);
+    finalizers.put(session);
+    if count == 0 {
+        return EMPTY;
+    }
+    *registrations = Registrations {
+        registrations: found,
+        count: count as u64,
+    };
+    OK
+}
+
+/// `Finalizers::iter_links`: the links of the walk from a place on, as many as there is room for. A call takes the same time at each place.
+#[unsafe(no_mangle)]
+pub extern "C" fn fz_machine_links(
+    alloc: Global,
+    finalizers: &mut Handle,
+    is_long: bool,
+    from: u64,
+    links: &mut Links,
+) -> Code
+    ensures { Behind finalizers.old.value finalizers.new.value result (links.new ≡ links.old) (λ m n. (n ≡ m) × ShowsLinks (link_kind_of is_long) m.finalizers from result links.old links.new) }
+{
+    let Some(session) = finalizers.take(alloc) else {
+        return NOT_OPEN;
+    };
+    let shown = session.machine.finalizers();
+    let mut found = [NO_LINK; PART];
+    let left = shown
+        .iter_links(kind_for(is_long))
+        .from_place(from as usize);
+    let count = fill_links(left, &mut found);
+    finalizers.put(session);
+    if count == 0 {
+        return EMPTY;
+    }
+    *links = Links {
+        links: found,
+        count: count as u64,
+    };
+    OK
+}

@@ -1,0 +1,94 @@
+//! What no clause says: that words at equal distances spread over the groups of a map, as `AddressHasher` chooses them.
+
+ghost use Rattle.std.specs.Prelude.{◌≡◌, ◌<◌, length};
+
+use crate::equal::must_be;
+use fz_model::{Addr, HEAP_START};
+use fz_table::AddressHasher;
+use std::alloc::{AllocError, Global};
+use std::hash::BuildHasher;
+use std::test::Fail;
+
+/// How many words a group of a map holds, and how many of each are put in before the last one, with which the map is full.
+const LANES: u8 = 12;
+
+const BEFORE_LAST: usize = 8;
+
+/// The group that a map of so many groups tries first for a word.
+fn own_group(word: Addr, count: usize) -> usize
+    requires { 0 < count }
+    ensures { result < count }
+{
+    let hash = AddressHasher::new().hash_one(word);
+    ((hash ^ (hash >> 32)) & 0xFFFF_FFFF) as usize % count
+}
+
+/// Puts a word into the first group from its own on that isn't full; returns how many full ones it passed.
+fn put(groups: &mut [u8], word: Addr) -> usize
+    requires { 0 < length groups.old }
+    ensures { length groups.new ≡ length groups.old }
+{
+    let count = groups.len();
+    let own = own_group(word, count);
+    for passed in 0..count {
+        let place = own.wrapping_add(passed) % count;
+        if groups[place] < LANES {
+            groups[place] += 1;
+            return passed;
+        }
+    }
+    count
+}
+
+/// Puts in so many words, each a stride behind the last; returns how many full groups they passed.
+fn put_each(groups: &mut [u8], first: Addr, stride: u64, words: usize) -> usize
+    requires { 0 < length groups.old }
+    ensures { length groups.new ≡ length groups.old }
+{
+    let mut passed = 0usize;
+    let mut word = first;
+    for _ in 0..words {
+        passed = passed.saturating_add(put(groups, word));
+        word = word.wrapping_add(stride);
+    }
+    passed
+}
+
+/// Fills a map of so many groups; returns how many full ones the last ninth of the words passed.
+fn passed_at_last(alloc: Global, stride: u64, count: usize) -> Result<usize, AllocError>
+    requires { 0 < count }
+{
+    let mut groups = Vec::new(alloc);
+    groups.resize(count, 0u8)?;
+    let early = BEFORE_LAST.wrapping_mul(count);
+    put_each(groups.as_mut_slice(), HEAP_START, stride, early);
+    let next = HEAP_START.wrapping_add(stride.wrapping_mul(early as u64));
+    Ok(put_each(groups.as_mut_slice(), next, stride, count))
+}
+
+/// At the strides that are powers of two the words of the last ninth pass two full groups on average at the most, in maps of up to 36,864 words.
+#[test]
+fn words_of_a_full_map_find_their_groups(rt: HostRuntime) -> Result<(), Fail> {
+    for power in 0..14u32 {
+        for groups in 0..13u32 {
+            let count = 1usize << groups;
+            let passed = passed_at_last(rt.alloc(), 1u64 << power, count)?;
+            let is_short = passed <= 2 * count;
+            must_be(&rt, is_short, true, "at most two full groups a word");
+        }
+    }
+    Ok(())
+}
+
+/// Of all strides up to 8,192 words, at most one in a hundred has words that pass more than four on average, in a map of 288 words.
+#[test]
+fn few_strides_fill_groups_unevenly(rt: HostRuntime) -> Result<(), Fail> {
+    let count = 32usize;
+    let mut uneven = 0u64;
+    for stride in 1..8_193u64 {
+        let passed = passed_at_last(rt.alloc(), stride, count)?;
+        uneven = uneven.saturating_add((4 * count < passed) as u64);
+    }
+    must_be(&rt, uneven <= 82, true, "few strides pass many groups");
+    Ok(())
+}
