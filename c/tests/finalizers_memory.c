@@ -244,6 +244,7 @@ static uint64_t scattered(uint64_t n) { return (n + 1) * UINT64_C(0x9e3779b97f4a
 /* Only a new link uses a reserved place: moves, links that are replaced and links that are removed use none up. */
 static void reserved_places(derrimas_finalizers_link_kind kind, uint64_t before, uint64_t reserved_links)
 {
+    const bool unlinks = chance(3) == 0;
     bool has[SLOTS] = {false};
     uint64_t left = reserved_links;
 
@@ -267,7 +268,7 @@ static void reserved_places(derrimas_finalizers_link_kind kind, uint64_t before,
             has[to] = true;
             before++;
             left--;
-        } else if (what == 5 && before > 1) {
+        } else if (what == 5 && before > 1 && unlinks) {
             OK(derrimas_finalizers_unlink(&finalizers, kind, scattered(from), NULL));
             has[from] = false;
             before--;
@@ -277,11 +278,15 @@ static void reserved_places(derrimas_finalizers_link_kind kind, uint64_t before,
     closes();
 }
 
+/* Also where the places are as many as a table has at most. */
 static void reserved_in_fuzz(void)
 {
-    for (uint64_t round = 1; round <= 60; round++) {
+    for (uint64_t round = 1; round <= 80; round++) {
+        const uint64_t most = round % 4 ? UINT64_C(9) << round % 7 : 1 + chance(600);
+        uint64_t before;
         seed = round * UINT64_C(0x9e3779b97f4a7c15);
-        reserved_places((derrimas_finalizers_link_kind)(round % 2), chance(600), chance(500));
+        before = chance(most);
+        reserved_places((derrimas_finalizers_link_kind)(round % 2), before, most - before);
     }
 }
 
