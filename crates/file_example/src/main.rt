@@ -2,7 +2,8 @@
 //!
 //! One thread is the mutator: it opens each file, allocates an object that owns it, and stores the object in a list that retains it and in a weak cache. Then
 //! it drops objects and collects. Workers run concurrently: each file whose object became unreachable is closed, once, while the files of all other objects
-//! stay readable. The program prints what it opened, what the cache contains after each collection, and the totals at the end.
+//! stay readable. The program prints what it opened, what the cache contains after each collection, and the totals at the end. The file `stdout` beside `src`
+//! has its output.
 #![tactic(auto)]
 
 mod close;

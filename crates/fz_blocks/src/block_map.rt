@@ -14,7 +14,7 @@ use std::marker::Model;
 /// Only `new` allocates: 32 bytes for each block, and 129 sets for finding a free cell, each of 48 bytes and 8 more for every 64 blocks begun. So the map of
 /// one block takes about 7 KB, and the map of 4,096 blocks 203 KB.
 ///
-/// A condemned object is dead: it is no longer in the map. Its cell can't be used until it is swept or claimed again.
+/// A condemned object is dead: it is no longer in the map. Its cell stays dead until it is swept or claimed again.
 pub struct BlockMap {
     blocks: Blocks,
 }

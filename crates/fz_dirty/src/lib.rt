@@ -1,4 +1,4 @@
-//! The dirty pages of a heap: those written since the last scan.
+//! The dirty pages of a heap: those written since the set was last cleared.
 #![tactic(auto)]
 
 ghost use Rattle.std.specs.Prelude.{◌≡◌, ◌≤◌, ◌<◌, filter, ℕ, IsFalse, IfOk, IfErr, IfSome, MatchOption};

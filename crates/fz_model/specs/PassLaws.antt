@@ -23,7 +23,7 @@ HasLost old new place = HasLink old place × (get new place ≡ None)
 abbrev pub StandsAround : Map Object → Map Object → ℕ → Type 0
 StandsAround old new place = (container : ℕ) × (points old place ≡ Some container) × Stands new container
 
--- ---- what stays
+-- ---- what is retained
 
 -- an object after a pass is the same as before, with the same words, except that the word of a removed link is zero
 pub record IsSameBut (old new : State) (a : ℕ) (before after : Object) : Type 0 where
@@ -113,7 +113,7 @@ pub record WhatIsQueued (old : State) (seen : ℕ → Type 0) (new : State) : Ty
   pub ready : (e : Entry) → Contains gained e → (l : IsLedToBy old (IsReachable old.core) e.obj) → seen l.from
   pub waits : (a : ℕ) (r : Registration) → get new.registrations a ≡ Some r → seen a ⊎ ((l : IsLedToBy old seen a) × (IsReachable old.core l.from → ⊥))
 
--- ---- the answer
+-- ---- the result
 
 -- the result counts the entries that the queue gained and the objects that were reclaimed
 pub record Answers (old : State) (passed : Passed) (new : State) : Type 0 where

@@ -14,6 +14,9 @@ use fz_model::Addr;
 ///
 /// Objects and words are numbers that a pass only compares and passes back. The host knows what they mean. The contracts of these methods refer to the host's
 /// objects as the model defines them, by address: which words point to which objects, and in which object a word lies.
+///
+/// A host also defines four ghost members, and proves that `is_same` is reflexive and transitive. A host whose marking is exact defines `is_exact` as
+/// `Unit {0}`, and one that may mark more as `⊥`. The heap of records in `own_heap/src/host.rt` is an example.
 pub trait Host {
     /// Its objects, by address.
     ghost objects: { Self → Map Object };
@@ -44,7 +47,7 @@ pub trait Host {
         ensures marked { Marks is_exact (objects self.old) (marked self.old) (marked self.new) (Leads (objects self.old) object) }
         ensures same { is_same self.old self.new };
 
-    /// Marks an object. Requires that everything else that it reaches is marked already.
+    /// Marks an object, of which everything else that it reaches is marked already.
     fn mark_alone(&mut self, object: Addr)
         requires object { IsTrue (contains_key (objects self.old) object) }
         requires closed { IsClosed (objects self.old) (marked self.old) }
@@ -53,7 +56,7 @@ pub trait Host {
         ensures marked { Marks is_exact (objects self.old) (marked self.old) (marked self.new) (λ a. a ≡ object) }
         ensures same { is_same self.old self.new };
 
-    /// Marks an object's children and everything that they reach. With `but_itself` the object itself is skipped as a child.
+    /// Marks an object's children, or with `but_itself` its children other than itself, and everything that they reach.
     fn mark_children(&mut self, object: Addr, but_itself: bool)
         requires object { IsTrue (contains_key (objects self.old) object) }
         requires closed { IsClosed (objects self.old) (marked self.old) }
@@ -67,7 +70,9 @@ pub trait Host {
         ensures marked { marked self.new ≡ marked self.old }
         ensures same { is_same self.old self.new };
 
+    /// Nothing changes from a host to itself.
     ghost reflexive: { (h : Self) → is_same h h };
 
+    /// What doesn't change in two steps doesn't change in both together.
     ghost transitive: { (f g h : Self) → is_same f g → is_same g h → is_same f h };
 }

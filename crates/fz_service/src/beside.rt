@@ -23,8 +23,8 @@ use std::thread::Threads;
 use std::{mem, thread};
 
 impl<O: Opening> Service<O> {
-    /// Runs workers as `run_workers` does, and `main` on the calling thread meanwhile. When `main` has ended, the workers take what was sent, and stop.
-    /// Returns the seats, in order, and what `main` returned. May block.
+    /// Runs workers as `run_workers` does, and meanwhile `main` on the calling thread; returns the seats, in order, and what `main` returned. When `main` has
+    /// ended, the workers take what was sent, and stop. May block.
     pub fn run_beside<T, F: FnOnce() -> T, G: Gate + Sync, R: Threads + Wait + Sync>(
         &self,
         seats: Vec<Seat<O>>,

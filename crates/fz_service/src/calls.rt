@@ -41,7 +41,7 @@ fn ends_cycle(call: Call) -> bool
 
 /// Each method is the world's method of the same name. It leaves the line unchanged, except that `pause` and `collect` send what they queued.
 impl<O: Opening> Locked<O> {
-    /// Makes the call and returns its reply. `pause` and `collect` send what they queued. Takes time as the method of the call's name does.
+    /// Makes the call and returns its reply. `pause` and `collect` send what they queued. Takes time as the method of its name does.
     ///
     /// Fails as the method of the call's name does.
     pub fn make(&mut self, call: Call) -> Result<Reply, Refusal>
@@ -57,8 +57,8 @@ impl<O: Opening> Locked<O> {
         Ok(reply)
     }
 
-    /// Allocates an object of `size` words, all of them zero, and stores its address in the slot. Returns the address and the birth. Takes time proportional
-    /// to the object's words.
+    /// Allocates an object of `size` words, all of them zero, stores its address in the slot, and returns its address and birth. Takes time proportional to
+    /// the object's words.
     ///
     /// Fails with, in this order: `BadSlot`, `BadSize`, `Exhausted`, `NoSpace`.
     pub fn alloc(
@@ -102,7 +102,7 @@ impl<O: Opening> Locked<O> {
         self.alloc(frame, slot, size, kind)
     }
 
-    /// Loads the word at `offset` words after the slot's word, in the object to which that points. Stores it in the second slot, and returns it.
+    /// Loads the word at `offset` words after the slot's word, in the object to which that points, stores it in the second slot, and returns it.
     ///
     /// Fails with, in this order: `BadSlot` for either slot, `NotPointer`, `OutsideObject`.
     pub fn load(
@@ -192,7 +192,7 @@ impl<O: Opening> Locked<O> {
         self.world.register(frame, slot, kind, proc, cd, rank)
     }
 
-    /// Removes the registration of the object at the slot's word. Returns its procedure and client data, if it was registered.
+    /// Removes the registration of the object at the slot's word, and returns its procedure and client data, if it was registered.
     ///
     /// Fails with, in this order: `BadSlot`, `NotPointer`, `NotStart`.
     pub fn unregister(&mut self, frame: u64, slot: u64) -> Result<Option<Old>, Refusal>
@@ -205,7 +205,8 @@ impl<O: Opening> Locked<O> {
         self.world.unregister(frame, slot)
     }
 
-    /// Registers a disappearing link: the word at `offset` words after the slot's word. Its target is the object at the target slot's word.
+    /// Registers a disappearing link at `offset` words after the slot's word, whose target is the object at the target slot's word. If the place has a link
+    /// already, only its target changes.
     ///
     /// Fails with, in this order: `BadSlot` for either slot, `NotPointer` and `OutsideObject` for the place, `NotPointer` and `NotStart` for the target,
     /// `TableFull`, `NoMemory`.
@@ -285,8 +286,8 @@ impl<O: Opening> Locked<O> {
         self.world.begin()
     }
 
-    /// Scans at most `budget` marked objects that weren't scanned in this cycle. Returns `Done` if none is left. Takes time proportional to the words that it
-    /// scans.
+    /// Scans at most `budget` marked objects that weren't scanned in this cycle, and returns `Done` if none is left. Takes time proportional to the words
+    /// that it scans.
     ///
     /// Fails with, in this order: `BadCount` if the budget is 0, `NoCycle`.
     pub fn mark(&mut self, budget: u64) -> Result<Progress, Refusal>
@@ -393,7 +394,7 @@ impl<O: Opening> Locked<O> {
         self.world.forgotten()
     }
 
-    /// Frees the memory of finished entries, as the world's `forget` does, if all entries were sent, and else nothing. Returns how many were forgotten. Takes
+    /// Frees the memory of finished entries, as the world's `forget` does, if all entries were sent, and else nothing; returns how many were forgotten. Takes
     /// time proportional to the entries in memory.
     pub fn forget(&mut self) -> u64
         ensures line { KeepsLine self.old self.new }

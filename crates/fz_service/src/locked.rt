@@ -116,7 +116,7 @@ impl<O: Opening> Locked<O> {
         count
     }
 
-    /// Lends the world to `work`, which may read it and make calls, as a procedure's `run` does. Then sends what these queued.
+    /// Lends the world to `work`, which may read it and make calls, as a procedure's `run` does, and then sends what these queued.
     pub fn with_world<T, F: FnOnce(&mut World) -> T>(&mut self, work: F) -> T
         requires callable { F.IsAlwaysCallable work }
         requires calls { (old : WorldView) (answer : T) (new : WorldView) → FnOnceReturnsAtMut F.FnOnce work old answer new → RunsCalls old new }

@@ -120,7 +120,7 @@ impl<O: Opening> Service<O> {
         (seat, finished, None)
     }
 
-    /// Takes entries and finishes them, until it took `limit` or a take returns none. Returns the seat, and how many it finished. May block.
+    /// Takes entries and finishes them, until it took `limit` or a take returns none; returns the seat, and how many it finished. May block.
     ///
     /// For each entry the hook and then `work` of its procedure are called without the lock, and then `run` of its procedure under the lock. An entry's
     /// procedure number is an index into the list, counted from 0; if the list is shorter, there is no procedure. If finishing an entry is refused, it is

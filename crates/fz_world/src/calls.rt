@@ -9,7 +9,7 @@ use crate::world::World;
 use fz_model::{Call, Finalizer, LinkKind, ObjKind, Place, Refusal, Reply, Slot, Word};
 
 impl World {
-    /// Makes the call and returns its reply. Fails as the method of its name does; a failed call changes nothing. Takes time as that method does.
+    /// Makes the call and returns its reply. Fails as the method of its name does; a failed call changes nothing. Takes time as the method of its name does.
     pub fn make(&mut self, call: Call) -> Result<Reply, Refusal>
         ensures told { Replies self.old call result self.new }
         ensures refused { OnErr result (self.new ≡ self.old) }

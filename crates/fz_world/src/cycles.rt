@@ -36,8 +36,8 @@ impl World {
         Ok(())
     }
 
-    /// Scans at most `budget` marked objects that weren't scanned in this cycle. Returns `Done` if none is left. Takes time proportional to the words that it
-    /// scans.
+    /// Scans at most `budget` marked objects that weren't scanned in this cycle, and returns `Done` if none is left. Takes time proportional to the words
+    /// that it scans.
     ///
     /// Fails with, in this order: `BadCount` if the budget is 0, `NoCycle`.
     pub fn mark(&mut self, budget: u64) -> Result<Progress, Refusal>

@@ -87,7 +87,7 @@ impl World {
         heap.births().saturating_sub(heap.live())
     }
 
-    /// The entries from number `forgotten` on, in order. These are all entries ever queued, if none was forgotten.
+    /// The entries from number `forgotten` on, in order: all entries ever queued, if none was forgotten.
     pub fn queue(&self) -> &[Entry]
         ensures queue { result.now ≡ drop self.now.forgotten self.now.queue }
         ensures step { self.now.forgotten ≡ 0 → Does self.now Queue (Ok result.now) self.now }
@@ -119,8 +119,8 @@ impl World {
         self.ready.forgotten()
     }
 
-    /// Frees the memory of finished entries, if there are more than 1 for each 16 unfinished ones. Returns how many were forgotten. Takes no memory. Takes
-    /// time proportional to the entries in memory.
+    /// Frees the memory of finished entries, if there are more than 1 for each 16 unfinished ones, and returns how many were forgotten. Takes no memory.
+    /// Takes time proportional to the entries in memory.
     ///
     /// If any were forgotten, `queue` then returns only entries queued later. `next` and `next_held` still return every unfinished entry, by its old number.
     pub fn forget(&mut self) -> u64

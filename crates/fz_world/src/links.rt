@@ -61,7 +61,7 @@ fn make_first_room(links: &mut Links, heap: &Heap, passes: u64)
 
 #[tactic(auto, using(fz_model::proofs::Judged::judged_more, fz_model::proofs::Judged::judged_err, crate::proofs::Does::link_refused, crate::proofs::Does::link_judged, crate::proofs::Does::does_refused, crate::proofs::Does::does_accepted))]
 impl World {
-    /// Registers a disappearing link: the word at `offset` words after the slot's word. Its target is the object at the target slot's word. This is
+    /// Registers a disappearing link at `offset` words after the slot's word, whose target is the object at the target slot's word. This is
     /// `GC_general_register_disappearing_link` or `GC_register_long_link`. If the place has a link already, only its target changes.
     ///
     /// Fails with, in this order: `BadSlot` for either slot, `NotPointer` and `OutsideObject` for the place, `NotPointer` and `NotStart` for the target,

@@ -40,7 +40,7 @@ fn mark_new(marker: &mut Marker, cycle: bool, start: Addr, blocks: u64)
 
 #[tactic(auto, using(fz_model::proofs::Judged::judged_more, fz_model::proofs::Judged::judged_err, crate::proofs::Targets::targets_made, crate::proofs::Targets::targets_written, crate::proofs::Whole::world_pages, crate::proofs::Whole::world_made, crate::proofs::Whole::world_written, crate::proofs::Does::does_refused, crate::proofs::Does::does_accepted, crate::proofs::Does::does_alloc))]
 impl World {
-    /// Allocates an object of `size` words, all of them zero, and stores its address in the slot. Returns the address and the birth. An atomic object is
+    /// Allocates an object of `size` words, all of them zero, stores its address in the slot, and returns its address and birth. An atomic object is
     /// pointer-free, as with `GC_malloc_atomic`. In an open cycle the object is marked and its page becomes dirty. Takes time proportional to the object's
     /// words.
     ///
@@ -71,8 +71,8 @@ impl World {
         Ok((address, birth))
     }
 
-    /// Loads the word at `offset` words after the slot's word, in the object to which that points. Stores it in the second slot, which may be the same, and
-    /// returns it.
+    /// Loads the word at `offset` words after the slot's word, in the object to which that points, stores it in the second slot, and returns it. The second
+    /// slot may be the first one.
     ///
     /// Fails with, in this order: `BadSlot` for either slot, `NotPointer`, `OutsideObject` if the slot's word plus the offset lies outside the object.
     pub fn load(

@@ -55,8 +55,7 @@ pub(crate) fn most_entries(heap: &Heap) -> usize
     (BLOCK_WORDS * heap.blocks()).min(TABLE_LIMIT) as usize
 }
 
-/// How many registrations, or links of one kind, to reserve room for at first: one for each object, as long as no pass has reclaimed any. Later, tables start
-/// small.
+/// How many registrations, or links of one kind, to reserve room for at first: before the first pass one for each object, and later a small number.
 pub(crate) fn first_entries(heap: &Heap, passes: u64) -> usize
     ensures { result ≤ TABLE_LIMIT }
 {
@@ -172,7 +171,7 @@ impl World {
         Ok(RegAnswer::Number(number, old))
     }
 
-    /// Removes the registration of the object at the slot's word. Returns its procedure and client data, if it was registered. This is
+    /// Removes the registration of the object at the slot's word, and returns its procedure and client data, if it was registered. This is
     /// `GC_register_finalizer` without a procedure.
     ///
     /// Fails with, in this order: `BadSlot`, `NotPointer`, `NotStart`. A word that is zero or outside the heap has no registration.

@@ -1,4 +1,5 @@
-//! weak_cache: a weak cache over a world, single-threaded. It prints the cache's content before and after each collection, and what is finalized.
+//! weak_cache: a weak cache over a world, single-threaded. It prints the cache's content before and after each collection, and what is finalized. The file
+//! `stdout` beside `src` has its output.
 #![tactic(auto)]
 
 mod cache;

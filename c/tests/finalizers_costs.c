@@ -1,0 +1,106 @@
+/* finalizers_costs N STRIDE: registrations, links, walks and look-ups of N objects so many numbers apart. c/run counts the instructions of each function here
+ * whose name begins with `cost_`: for each of N, or of 10,000 calls where it finds something, they don't grow with N.
+ */
+#include "check.h"
+#include "derrimas_finalizers.h"
+#include <stdlib.h>
+
+enum { CALLS = 10000, PART = 64 };
+
+static const uint64_t first = 65536;
+
+static derrimas_finalizers finalizers;
+static uint64_t size, stride, wrong;
+
+static uint64_t object_at(uint64_t n) { return first + stride * n; }
+
+/* The n-th of the calls, all over the table. */
+static uint64_t some_object(uint64_t n) { return object_at(n * 7919 % size); }
+
+#define COST __attribute__((noinline)) static void
+
+COST cost_registering(void)
+{
+    for (uint64_t n = 0; n < size; n++)
+        wrong += derrimas_finalizers_register(&finalizers, object_at(n), DERRIMAS_FINALIZERS_NORMAL, n, n, 0, NULL, NULL) != DERRIMAS_FINALIZERS_OK;
+}
+
+COST cost_linking(void)
+{
+    for (uint64_t n = 0; n < size; n++)
+        wrong += derrimas_finalizers_link(&finalizers, DERRIMAS_FINALIZERS_LONG, object_at(n), n + 1, NULL) != DERRIMAS_FINALIZERS_OK;
+}
+
+COST cost_finding_registrations(void)
+{
+    derrimas_finalizers_registration_at it;
+
+    for (uint64_t n = 0; n < CALLS; n++)
+        wrong += derrimas_finalizers_registration(&finalizers, some_object(n), &it) != DERRIMAS_FINALIZERS_OK;
+}
+
+COST cost_finding_targets(void)
+{
+    uint64_t target;
+
+    for (uint64_t n = 0; n < CALLS; n++)
+        wrong += derrimas_finalizers_target(&finalizers, DERRIMAS_FINALIZERS_LONG, some_object(n), &target) != DERRIMAS_FINALIZERS_OK;
+}
+
+COST cost_walking_registrations(void)
+{
+    derrimas_finalizers_registration_at some[PART];
+    uint64_t from = 0;
+    size_t count;
+
+    while (derrimas_finalizers_registrations(&finalizers, &from, some, PART, &count) == DERRIMAS_FINALIZERS_OK)
+        continue;
+    wrong += from != size;
+}
+
+COST cost_walking_links(void)
+{
+    derrimas_finalizers_link_at some[PART];
+    uint64_t from = 0;
+    size_t count;
+
+    while (derrimas_finalizers_links(&finalizers, DERRIMAS_FINALIZERS_LONG, &from, some, PART, &count) == DERRIMAS_FINALIZERS_OK)
+        continue;
+    wrong += from != size;
+}
+
+COST cost_walking_roots(void)
+{
+    uint64_t from = 0, some[PART * 8];
+    size_t count;
+
+    while (derrimas_finalizers_roots(&finalizers, DERRIMAS_FINALIZERS_REGISTERED_DATA, &from, some, PART * 8, &count) == DERRIMAS_FINALIZERS_OK)
+        continue;
+    wrong += from != size;
+}
+
+/* As many moves as there are links, to words that are new. */
+COST cost_moving(void)
+{
+    for (uint64_t n = 0; n < size; n++)
+        wrong += derrimas_finalizers_move_link(&finalizers, DERRIMAS_FINALIZERS_LONG, object_at(n), object_at(size + n), NULL) != DERRIMAS_FINALIZERS_OK;
+}
+
+int main(int count, char **words)
+{
+    size = count > 1 ? strtoull(words[1], NULL, 10) : 1000;
+    stride = count > 2 ? strtoull(words[2], NULL, 10) : 8;
+    OK(derrimas_finalizers_open(&finalizers, NULL));
+    OK(derrimas_finalizers_reserve(&finalizers, size, 0, size)); /* else growth counts, which comes at some sizes */
+    cost_registering();
+    cost_linking();
+    cost_finding_registrations();
+    cost_finding_targets();
+    cost_walking_registrations();
+    cost_walking_links();
+    cost_walking_roots();
+    cost_moving();
+    derrimas_finalizers_destroy(&finalizers);
+    IS(wrong, 0);
+    return told();
+}
