@@ -67,7 +67,7 @@ def signature(lines, number):
             break
     head = re.sub(r'[ {};]+$', '', head.strip())
     head = re.sub(r"&(?:'a )?(?:mut )?self(?:, )?|\b(?:mut )?self, |\(self\)", lambda found: '()' if found[0] == '(self)' else '', head)
-    head = re.sub(r'^(?:pub )?(?:const )?fn ', '', head)
+    head = re.sub(r'\bmut (?=\w+: )', '', re.sub(r'^(?:pub )?(?:const )?fn ', '', head))
     return re.sub(r'\( ', '(', re.sub(r',? \)', ')', head))
 
 
