@@ -1,4 +1,4 @@
-/* counters: what finalization tells bdwgc's pacing, over the replaced library alone: how many objects are registered, and how many bytes a collection queued.
+/* counters: the counts of finalization by which bdwgc paces itself, over the replaced library alone: how many objects are registered, and how many bytes a collection queued.
  * Bdwgc collects earlier by both. The program reads them from bdwgc's own variables.
  */
 #include "private/gc_priv.h"
