@@ -6,6 +6,8 @@ PAGE = 'docs/reference/CALLS.md'
 # The types whose calls it has, each with its crate.
 TYPES = [('World', 'fz_world'), ('Service', 'fz_service'), ('Locked', 'fz_service'), ('Seat', 'fz_service'), ('Duty', 'fz_service'), ('Proc', 'fz_service'),
          ('Gate', 'fz_service'), ('Program', 'fz_service'), ('Finalizers', 'fz_finalizers'), ('Host', 'fz_pass'), ('Machine', 'fz_machine')]
+# The crates whose functions it has, beside the calls of types.
+FUNCTIONS = ['fz_service']
 # Where the types of answers stand, but for those of a crate itself.
 SHARED = 'fz_model'
 # What begins a block of calls in a source, a call, and a type with fields or variants.
@@ -25,6 +27,7 @@ source. `tests/documents --write` writes this page from the sources, and the gat
 - Errors are listed in the order in which they are tested. Unless its text says otherwise, a call that returns an error has no effect.
 - Unless stated otherwise a call takes O(log n) time, amortized over the growth of tables.
 - `Addr` and `Word` are `u64`. The [last part](#answers) has the fields of what calls take and return.
+- The calls for C are in the headers `derrimas.h` and `derrimas_finalizers.h`, and in the manual pages that `c/install` installs.
 
 '''
 
@@ -64,7 +67,7 @@ def signature(lines, number):
             break
     head = re.sub(r'[ {};]+$', '', head.strip())
     head = re.sub(r"&(?:'a )?(?:mut )?self(?:, )?|\b(?:mut )?self, |\(self\)", lambda found: '()' if found[0] == '(self)' else '', head)
-    head = re.sub(r'^(?:pub )?(?:const )?fn ', '', head)
+    head = re.sub(r'\bmut (?=\w+: )', '', re.sub(r'^(?:pub )?(?:const )?fn ', '', head))
     return re.sub(r'\( ', '(', re.sub(r',? \)', ')', head))
 
 
@@ -78,6 +81,15 @@ def calls_of(name, crate):
             if block or line.startswith('}'):
                 owner, is_trait = block and block[1], line.startswith('pub trait')
             if not block and call and owner == name and (call[1] or is_trait):
+                yield signature(lines, number), in_short(comment)
+
+
+def functions_of(crate):
+    """The public functions of a crate that belong to no type, each as its signature and what is said of it."""
+    for file in sorted(glob.glob(f'crates/{crate}/src/*.rt')):
+        lines = open(file).read().split('\n')
+        for number, line, comment in documented(lines):
+            if line.startswith('pub fn '):
                 yield signature(lines, number), in_short(comment)
 
 
@@ -127,6 +139,8 @@ def page():
             heads += head + '\n'
             text += item(f'`{head}`: {told}')
         text += '\n'
+    for crate in FUNCTIONS:
+        text += f'## Functions of {crate}\n\n' + ''.join(item(f'`{head}`: {told}') for head, told in functions_of(crate)) + '\n'
     text += '## Answers\n\n'
     for name, crate, comment, parts in answers([SHARED, *dict.fromkeys(crate for _, crate in TYPES)], heads):
         text += item(f'`{name}` in `{crate}`: {comment}')

@@ -4,8 +4,8 @@ tests/edits.d/verdicts has a line for each edit that was refused: its name, a su
 edit; the text and the proof of each function that it edits, or of the laws that a wrong definition makes false; the contracts, types, specs and lemma files of
 the crate without the bodies and proofs of its other functions; the same of the crates below; the toolchain's logic; and the text of tests/edits and of what it
 imports. An edit that was tried over the whole crate has a sum of the whole crate. Lines that are comments, and empty ones, count for nothing."""
-import collections, glob, hashlib, os
-from toolchain import logic, rt
+import collections, hashlib, os
+from toolchain import logic
 
 COMMENT = {'.rt': '//', '.antt': '--', '.edit': '#', '.py': '#', '': '#'}
 # An edit in so many is tried again whatever its line says, so that a line that isn't true is found within some runs.
@@ -32,12 +32,12 @@ def is_drawn(name, tree):
 
 
 class Sums:
-    """The sums of what checks read. `owners` has the crates by their names, and `laws` the functions of a crate that wrong definitions make false."""
+    """The sums of what checks read. `owners` has the crates by their names."""
 
-    def __init__(self, owners, laws):
+    def __init__(self, owners):
         tools = [os.path.join(os.path.dirname(os.path.abspath(__file__)), it) for it in ('edits', 'verdicts.py', 'toolchain.py')]
         self.rules = sum_of(logic(), [without_comments(it, text_of(it).split('\n')) for it in tools])
-        self.owners, self.laws, self.files, self.faces = owners, laws, {}, {}
+        self.owners, self.files, self.faces = owners, {}, {}
 
     def file(self, owner, path, left_out=()):
         """The sum of a file without the bodies of these functions."""
@@ -68,7 +68,7 @@ class Sums:
     def of(self, edit, is_of_whole):
         """The sum of what a check of the edit reads: with its own functions, or else of the whole crate."""
         owner = edit.owner
-        laws = self.laws.get(owner.crate.name, []) if edit.laws else []
+        laws = owner.laws if edit.laws else []
         tried = [it for it in owner.functions if it in edit.functions or it.path in laws]
         left_out = [] if is_of_whole else [it for it in owner.functions if it.is_plain and it not in tried and owner.has_proof_of_its_own(it)]
         faces = [self.face(self.owners[it.name]) for it in sorted(owner.crate.below(), key=lambda it: it.name)]

@@ -1,4 +1,4 @@
-/* scripts run FILE: carries out a script of docs/SCRIPT.md by the calls of derrimas.h, and writes its report: `finalize run FILE` written in C. */
+/* scripts run FILE: carries out a script of docs/reference/SCRIPT.md by the calls of derrimas.h, and writes its report: `finalize run FILE` written in C. */
 #include "derrimas.h"
 #include <inttypes.h>
 #include <stdio.h>
