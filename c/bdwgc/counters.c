@@ -1,5 +1,5 @@
-/* counters: what finalization tells bdwgc's pacing, over the replaced library alone: how many objects are registered, and how many bytes a collection queued.
- * Bdwgc collects earlier by both. The program reads them from bdwgc's own variables.
+/* counters: the counts of finalization by which bdwgc paces its collections, over the replaced library alone: how many objects are registered, and how many
+ * bytes a collection queued. The program reads them from bdwgc's own variables.
  */
 #include "private/gc_priv.h"
 #undef GC_MALLOC

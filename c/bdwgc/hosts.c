@@ -1,6 +1,6 @@
-/* hosts: two hosts of the library in one process, one of them the shared libgc over it. This program links the archive for a handle of its own, whose memory is
- * bdwgc's, under the lock that bdwgc holds as it calls the library: so it hangs where bdwgc's finalizers take memory by this allocator. It also defines the names
- * by which the library's proved part takes memory, which nobody calls.
+/* hosts: two hosts of the library in one process, one of them the shared libgc over it. This program links the archive for a handle of its own, whose
+ * memory is bdwgc's, under the lock that bdwgc holds as it calls the library: so it hangs where bdwgc's finalizers take memory by this allocator. It also
+ * defines the names by which the library's proved part takes memory. No call comes to them.
  */
 #include <pthread.h>
 #include "derrimas_finalizers.h"

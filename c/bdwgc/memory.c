@@ -1,5 +1,5 @@
 /* memory: the library is refused memory, over its own bdwgc alone, by the linker's --wrap of its opening. The collector's procedure for that is asked once a
- * call, and what it gives is given back; then the call is made again. Without that a call changes nothing. And bdwgc's allocator, by itself.
+ * call, and the memory that it found is freed; then the call is made again. Without that a call changes nothing. And bdwgc's allocator, by itself.
  */
 #include "derrimas_finalizers.h"
 #include "graph.h"
@@ -107,7 +107,7 @@ static void *find_by_collecting(size_t size)
     return GC_malloc(size);
 }
 
-/* An object to which nothing leads, with a long link that tells of its loss. */
+/* An object that nothing reaches, with a long link that is cleared once it is lost. */
 APART static void *fresh(void **aux)
 {
     *aux = GC_MALLOC(16);
@@ -184,7 +184,7 @@ static bool has(const struct block *it, size_t size)
     return true;
 }
 
-/* A block that is given back is the next one of its size. */
+/* A block that is freed is the next one of its size. */
 static void give_back(struct block *it)
 {
     void *again;

@@ -268,9 +268,9 @@ derrimas_finalizers_code derrimas_finalizers_next(derrimas_finalizers *finalizer
                                                   derrimas_question *question, derrimas_finalizers_passed *passed)
     DERRIMAS_FINALIZERS_NONNULL(1, 3);
 
-/* Ends the open pass before its last question. What it has queued stays queued. A link stays whose CLEAR wasn't answered,
- * and so does the registration of an object that wasn't queued. Objects may be marked by then that nothing reaches: so the
- * host reclaims nothing before its next pass has ended.
+/* Ends the open pass before its last question. What it has queued stays queued. A link whose CLEAR wasn't answered stays a
+ * link, and an object that wasn't queued stays registered. The host reclaims nothing before its next pass has ended: what
+ * that would have retained may be unmarked.
  * Refused: NOT_OPEN, NO_PASS. */
 derrimas_finalizers_code derrimas_finalizers_abandon(derrimas_finalizers *finalizers) DERRIMAS_FINALIZERS_NONNULL(1);
 

@@ -1,4 +1,4 @@
-/* derrimas_finalizers.h over the proved exports: their C types, places for results that nobody reads, kinds and options that are checked, each handle's
+/* derrimas_finalizers.h over the proved exports: their C types, places for results that may be NULL, kinds and options that are checked, each handle's
  * allocator, roots in the host's buffer, and how many entries wait, which is read without the lock. Nothing here is proved; c/tests runs each line of it.
  */
 #include "finalizers_exports.h"

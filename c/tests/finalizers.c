@@ -493,7 +493,7 @@ static void endings(void)
 
 enum { SMALL = 48 };
 
-/* A graph of chance, of few objects: references, roots, registrations, and links in words and outside of them. */
+/* A small random graph: references, roots, registrations and links. */
 static void chance_graph(uint64_t seed)
 {
     memset(&all, 0, sizeof all);
@@ -510,7 +510,7 @@ static void chance_graph(uint64_t seed)
     }
 }
 
-/* What a pass did by its answers so far: entries, by MARK and MARK_ALONE, and links that went, by CLEAR and where the holder isn't marked. */
+/* What a pass has done by its answers: it queued entries, by MARK and MARK_ALONE, and removed links, by CLEAR and where the holder isn't marked. */
 struct done {
     uint64_t queued, links;
 };
@@ -528,7 +528,7 @@ static struct done answered_with(const derrimas_question *question, uint64_t ans
     return done;
 }
 
-/* Abandons a pass after so many questions, the last of which isn't answered. False where it has no so many. */
+/* Abandons a pass after so many questions, the last of which isn't answered. False if it has fewer. */
 static bool abandoned_after(uint64_t seed, uint64_t questions)
 {
     derrimas_finalizers_counts before, after;

@@ -10,10 +10,10 @@ enum { HEAD = 16, ROOM = 1 << 28 };
 
 /* What an allocator's `data` points to. */
 typedef struct heap {
-    unsigned char *memory;    /* all of it: what is given back isn't given again */
+    unsigned char *memory;    /* all of it: what is freed isn't used again */
     size_t used;              /* of it */
     long granted;             /* how many allocations are granted yet; none is refused where it is negative */
-    unsigned asked, standing; /* how often the three were called; how many blocks aren't given back */
+    unsigned asked, standing; /* how often the three were called; how many blocks aren't freed */
     size_t live;              /* the bytes of those */
     unsigned strange;         /* how often something came that wasn't given here */
     void (*within)(void);     /* called by each, if it isn't NULL */
@@ -228,7 +228,7 @@ static uint64_t chance(uint64_t below)
 
 enum { SLOTS = 1200 };
 
-/* A word of chance with a link, or with none, of those of `has`. */
+/* A random word that has a link, or none. */
 static uint64_t some_word(const bool *has, bool linked)
 {
     uint64_t n = chance(SLOTS);
@@ -300,7 +300,7 @@ static bool finds(uint64_t object)
     return is_found;
 }
 
-/* After a peak a shrink gives back all but what is needed: as much as a fresh handle takes, and half of that. Where it is refused memory, things stay as they are. */
+/* After a peak and a shrink no more bytes are allocated than one and a half times those of a fresh handle. Refused memory, it changes nothing that is seen. */
 static uint64_t of_peak(uint64_t peak, uint64_t left, bool shrinks)
 {
     uint64_t live;
