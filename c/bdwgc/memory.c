@@ -221,7 +221,7 @@ static void allocate_all(void)
     for (unsigned turn = 0; turn < CHANGES; turn++)
         change(&blocks[chance(BLOCKS)]);
     own.release(own.data, NULL);
-    printf("the allocator: wrong %u\n", wrong);
+    printf("the allocator: tried, wrong %u\n", wrong);
 }
 
 int main(void)

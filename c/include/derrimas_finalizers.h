@@ -27,12 +27,12 @@
  * - Before the host frees, reuses or moves the memory of a link's word, it unlinks or moves the link. A pass writes to the
  *   word of each link that it clears, also where no object has the word.
  *
- * Memory is taken by derrimas_finalizers_open, .._reserve, .._shrink, and by a new registration and a new link alone, by the
- * handle's allocator; and it is freed by those and by .._destroy alone. All other calls may be made while other threads are stopped
- * at any place. By .._reserve memory comes beforehand. A registration is new, too, where one of kind UNREACHABLE takes the
- * place of one of another kind, or the other way round. Each new registration takes room for its entry, so that a pass, a
- * take and a move of a link never lack memory. Where the list of a pass has no room left, .._register and .._link make it
- * grow, even if they replace what there is or are refused.
+ * Memory is taken by derrimas_finalizers_open, .._reserve, .._shrink, and by a new registration and a new link alone, by
+ * the handle's allocator; and it is freed by those and by .._destroy alone. All other calls may be made while other
+ * threads are stopped at any place. By .._reserve memory comes beforehand. A registration is new, too, where one of kind
+ * UNREACHABLE takes the place of one of another kind, or the other way round. Each new registration takes room for its
+ * entry, so that a pass, a take and a move of a link never lack memory. Where the list of a pass has no room left,
+ * .._register and .._link make it grow, even if they replace what there is or are refused.
  *
  * Unless a comment says otherwise a call takes constant time: .._register and .._link amortized over the growth of tables,
  * .._move_link over as many moves as there are links of its kind. */
@@ -60,19 +60,19 @@ extern "C" {
 
 /* What a call returns. */
 typedef enum derrimas_finalizers_code {
-    DERRIMAS_FINALIZERS_OK = 0,        /* the call was accepted */
-    DERRIMAS_FINALIZERS_ZERO = 1,      /* the object or the word is 0 */
-    DERRIMAS_FINALIZERS_EXHAUSTED = 2, /* 2^48 registrations have been numbered */
-    DERRIMAS_FINALIZERS_FULL = 3,      /* there are 2^32 of this kind already */
-    DERRIMAS_FINALIZERS_NO_MEMORY = 4, /* the handle's allocator returned NULL */
-    DERRIMAS_FINALIZERS_NOT_HELD = 5,  /* no entry that is held is the same in all fields */
-    DERRIMAS_FINALIZERS_PASS_OPEN = 6, /* a pass is open: .._begin came, and its last question didn't */
-    DERRIMAS_FINALIZERS_NO_PASS = 7,   /* no pass is open */
-    DERRIMAS_FINALIZERS_NOT_OPEN = 8,  /* the handle isn't open: it never was, or it is destroyed */
-    DERRIMAS_FINALIZERS_IS_OPEN = 9,   /* the handle is open already */
-    DERRIMAS_FINALIZERS_EMPTY = 10,    /* there is none, or no further one, of what was asked for */
-    DERRIMAS_FINALIZERS_BAD_KIND = 11, /* the kind is none of its enum */
-    DERRIMAS_FINALIZERS_BAD_OPTIONS = 12 /* the options' size isn't known here, or the allocator lacks a function */
+    DERRIMAS_FINALIZERS_OK = 0,           /* the call was accepted */
+    DERRIMAS_FINALIZERS_ZERO = 1,         /* the object or the word is 0 */
+    DERRIMAS_FINALIZERS_EXHAUSTED = 2,    /* 2^48 registrations have been numbered */
+    DERRIMAS_FINALIZERS_FULL = 3,         /* there are 2^32 of this kind already */
+    DERRIMAS_FINALIZERS_NO_MEMORY = 4,    /* the handle's allocator returned NULL */
+    DERRIMAS_FINALIZERS_NOT_HELD = 5,     /* no entry that is held is the same in all fields */
+    DERRIMAS_FINALIZERS_PASS_OPEN = 6,    /* a pass is open: .._begin came, and its last question didn't */
+    DERRIMAS_FINALIZERS_NO_PASS = 7,      /* no pass is open */
+    DERRIMAS_FINALIZERS_NOT_OPEN = 8,     /* the handle isn't open: it never was, or it is destroyed */
+    DERRIMAS_FINALIZERS_IS_OPEN = 9,      /* the handle is open already */
+    DERRIMAS_FINALIZERS_EMPTY = 10,       /* there is none, or no further one, of what was asked for */
+    DERRIMAS_FINALIZERS_BAD_KIND = 11,    /* the kind is none of its enum */
+    DERRIMAS_FINALIZERS_BAD_OPTIONS = 12  /* the options' size isn't known here, or the allocator lacks a function */
 } derrimas_finalizers_code;
 
 /* When the finalizer of an unreachable object is ready: GC_register_finalizer, .._ignore_self, .._no_order, and
@@ -87,7 +87,10 @@ typedef enum derrimas_finalizers_kind {
 
 /* Links whose words are cleared when the target is unreachable, and when not even a finalizer retains it any more:
  * GC_general_register_disappearing_link and GC_register_long_link. */
-typedef enum derrimas_finalizers_link_kind { DERRIMAS_FINALIZERS_SHORT = 0, DERRIMAS_FINALIZERS_LONG = 1 } derrimas_finalizers_link_kind;
+typedef enum derrimas_finalizers_link_kind {
+    DERRIMAS_FINALIZERS_SHORT = 0,
+    DERRIMAS_FINALIZERS_LONG = 1
+} derrimas_finalizers_link_kind;
 
 /* What became of a link. The numbers are no codes; DERRIMAS_FINALIZERS_GC_ANSWER makes gc.h's of them: GC_SUCCESS,
  * GC_DUPLICATE and GC_NOT_FOUND. */
@@ -234,11 +237,9 @@ derrimas_finalizers_code derrimas_finalizers_unregister(derrimas_finalizers *fin
  * DUPLICATE, else LINKED; it may be NULL. A pass clears the word once the target is unreachable, and the link goes. It also
  * goes, its word untouched, once the object that has the word isn't marked.
  * Refused: BAD_KIND, NOT_OPEN, PASS_OPEN, ZERO, FULL, NO_MEMORY. */
-DERRIMAS_FINALIZERS_CHECKED derrimas_finalizers_code derrimas_finalizers_link(derrimas_finalizers *finalizers,
-                                                                              derrimas_finalizers_link_kind kind, uint64_t word,
-                                                                              uint64_t target,
-                                                                              derrimas_finalizers_linked *answer)
-    DERRIMAS_FINALIZERS_NONNULL(1);
+DERRIMAS_FINALIZERS_CHECKED derrimas_finalizers_code
+derrimas_finalizers_link(derrimas_finalizers *finalizers, derrimas_finalizers_link_kind kind, uint64_t word, uint64_t target,
+                         derrimas_finalizers_linked *answer) DERRIMAS_FINALIZERS_NONNULL(1);
 
 /* Removes the link of this kind at the word, and tells in *was, which may be NULL, whether there was one.
  * Refused: BAD_KIND, NOT_OPEN, PASS_OPEN. */

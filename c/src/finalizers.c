@@ -23,13 +23,37 @@ static void set_waiting(derrimas_finalizers *finalizers, uint64_t waiting) { __a
 
 /* ---- memory */
 
-/* The allocator of the handle whose call this thread makes. The model "initial-exec" reads it without a call: others may allocate in their first access,
- * by malloc, which may be a collector's own. */
+/* The allocator of the handle of this thread's last call that may take or free memory. The model "initial-exec" reads it without a call: others may allocate in
+ * their first access, by malloc, which may be a collector's own. */
 static __thread const derrimas_allocator *current __attribute__((tls_model("initial-exec")));
 
-void *derrimas_malloc(size_t size) { return current->allocate(current->data, size); }
-void *derrimas_realloc(void *memory, size_t size) { return current->reallocate(current->data, memory, size); }
-void derrimas_free(void *memory) { current->release(current->data, memory); }
+/* An allocator's function may make calls on another handle: so each names its own again. */
+
+void *derrimas_malloc(size_t size)
+{
+    const derrimas_allocator *own = current;
+    void *memory = own->allocate(own->data, size);
+
+    current = own;
+    return memory;
+}
+
+void *derrimas_realloc(void *memory, size_t size)
+{
+    const derrimas_allocator *own = current;
+    void *other = own->reallocate(own->data, memory, size);
+
+    current = own;
+    return other;
+}
+
+void derrimas_free(void *memory)
+{
+    const derrimas_allocator *own = current;
+
+    own->release(own->data, memory);
+    current = own;
+}
 
 static void *allocate_by_libc(void *data, size_t size)
 {
@@ -51,21 +75,6 @@ static void release_by_libc(void *data, void *memory)
 
 static const derrimas_allocator libc = {allocate_by_libc, reallocate_by_libc, release_by_libc, NULL};
 
-/* Names the allocator from now on. Returns the one before, for .._left: an allocator's function may make calls on another handle. */
-static const derrimas_allocator *entered(const derrimas_allocator *allocator)
-{
-    const derrimas_allocator *before = current;
-
-    current = allocator;
-    return before;
-}
-
-static code left(const derrimas_allocator *before, code it)
-{
-    current = before;
-    return it;
-}
-
 /* ---- opening */
 
 static bool is_known(const derrimas_finalizers_options *options)
@@ -75,40 +84,37 @@ static bool is_known(const derrimas_finalizers_options *options)
 
 code derrimas_finalizers_open(derrimas_finalizers *finalizers, const derrimas_finalizers_options *options)
 {
-    const derrimas_allocator *allocator = options ? &options->allocator : &libc, *before;
     code it;
 
     if (options && !is_known(options))
         return DERRIMAS_FINALIZERS_BAD_OPTIONS;
-    before = entered(allocator);
-    it = left(before, fz_machine_open(finalizers));
+    current = options ? &options->allocator : &libc;
+    it = fz_machine_open(finalizers);
     if (it == DERRIMAS_FINALIZERS_OK)
-        finalizers->allocator = *allocator;
+        finalizers->allocator = *current;
     return it;
 }
 
 void derrimas_finalizers_destroy(derrimas_finalizers *finalizers)
 {
-    const derrimas_allocator *before = entered(&finalizers->allocator), none = {NULL, NULL, NULL, NULL};
+    const derrimas_allocator none = {NULL, NULL, NULL, NULL};
 
+    current = &finalizers->allocator;
     fz_machine_destroy(finalizers);
-    current = before;
     finalizers->allocator = none;
     set_waiting(finalizers, 0);
 }
 
 code derrimas_finalizers_reserve(derrimas_finalizers *finalizers, uint64_t registrations, uint64_t shorts, uint64_t longs)
 {
-    const derrimas_allocator *before = entered(&finalizers->allocator);
-
-    return left(before, fz_machine_reserve(finalizers, registrations, shorts, longs));
+    current = &finalizers->allocator;
+    return fz_machine_reserve(finalizers, registrations, shorts, longs);
 }
 
 code derrimas_finalizers_shrink(derrimas_finalizers *finalizers)
 {
-    const derrimas_allocator *before = entered(&finalizers->allocator);
-
-    return left(before, fz_machine_shrink(finalizers));
+    current = &finalizers->allocator;
+    return fz_machine_shrink(finalizers);
 }
 
 /* ---- registrations and links */
@@ -116,14 +122,13 @@ code derrimas_finalizers_shrink(derrimas_finalizers *finalizers)
 code derrimas_finalizers_register(derrimas_finalizers *finalizers, uint64_t object, derrimas_finalizers_kind kind, uint64_t proc, uint64_t cd,
                                   uint8_t rank, uint64_t *number, derrimas_finalizers_old *old)
 {
-    const derrimas_allocator *before;
     fz_machine_registered registered;
     code it;
 
     if (!is_kind(kind))
         return DERRIMAS_FINALIZERS_BAD_KIND;
-    before = entered(&finalizers->allocator);
-    it = left(before, fz_machine_register(finalizers, object, (uint8_t)kind, proc, cd, rank, &registered));
+    current = &finalizers->allocator;
+    it = fz_machine_register(finalizers, object, (uint8_t)kind, proc, cd, rank, &registered);
     if (it == DERRIMAS_FINALIZERS_OK && number)
         *number = registered.number;
     if (it == DERRIMAS_FINALIZERS_OK && old) { /* word by word, as the export wrote them: a processor waits where two are read as one */
@@ -152,14 +157,13 @@ static code answered(code it, uint8_t found, derrimas_finalizers_linked *answer)
 code derrimas_finalizers_link(derrimas_finalizers *finalizers, derrimas_finalizers_link_kind kind, uint64_t word, uint64_t target,
                               derrimas_finalizers_linked *answer)
 {
-    const derrimas_allocator *before;
     uint8_t found = 0;
     code it;
 
     if (!is_links(kind))
         return DERRIMAS_FINALIZERS_BAD_KIND;
-    before = entered(&finalizers->allocator);
-    it = left(before, fz_machine_link(finalizers, kind == DERRIMAS_FINALIZERS_LONG, word, target, &found));
+    current = &finalizers->allocator;
+    it = fz_machine_link(finalizers, kind == DERRIMAS_FINALIZERS_LONG, word, target, &found);
     return answered(it, found, answer);
 }
 

@@ -63,7 +63,7 @@ uint8_t fz_machine_links(derrimas_finalizers *finalizers, bool is_long, uint64_t
 uint8_t fz_machine_registration(derrimas_finalizers *finalizers, uint64_t object, fz_machine_registration_at *registration);
 uint8_t fz_machine_target(derrimas_finalizers *finalizers, bool is_long, uint64_t word, uint64_t *target);
 
-/* What c/build names in the place of malloc, realloc and free: the allocator of the handle whose call this thread makes. */
+/* What c/build names in the place of malloc, realloc and free: by the allocator of the handle whose call this thread makes. */
 void *derrimas_malloc(size_t size);
 void *derrimas_realloc(void *memory, size_t size);
 void derrimas_free(void *memory);

@@ -1,5 +1,5 @@
 # Writes NAME.h as a manual page about `what`: its comments as text, its declarations as they stand, and a section for each line of `/* ---- TITLE`.
-function plain(text) { gsub(/\\/, "\\e", text); gsub(/-/, "\\-", text); if (text ~ /^[.']/) text = "\\\\&" text; return text }
+function plain(text) { gsub(/\\/, "\\e", text); gsub(/-/, "\\-", text); if (text ~ /^[.']/) text = "\\&" text; return text }
 function code(on) { if (on != in_code) print on ? ".PP\n.nf" : ".fi"; in_code = on }
 BEGIN {
     printf ".TH %s 3 \"\" \"derrimas %s\" \"Library calls\"\n", toupper(name), version
@@ -10,7 +10,9 @@ BEGIN {
 /^#ifndef DERRIMAS_.*H$/ { begun = 1 }
 /^\{$/ && !in_comment { in_body = 1 }
 in_body { in_body = !/^\}$/; next }
-/^#|^extern "C" \{|^\}$/ && !in_comment { next }
+is_continued { is_continued = /\\$/; next }
+/^#/ && !in_comment { is_continued = /\\$/; next }
+/^extern "C" \{|^\}$/ && !in_comment { next }
 /^\/\*/ && !in_comment {
     code(0)
     in_comment = 1

@@ -216,6 +216,80 @@ static void reserved(void)
     closes();
 }
 
+static uint64_t seed;
+
+static uint64_t chance(uint64_t below)
+{
+    seed ^= seed << 13;
+    seed ^= seed >> 7;
+    seed ^= seed << 17;
+    return (seed >> 20) % below;
+}
+
+enum { SLOTS = 1200 };
+
+/* A word of chance with a link, or with none, of those of `has`. */
+static uint64_t some_word(const bool *has, bool linked)
+{
+    uint64_t n = chance(SLOTS);
+
+    while (has[n] != linked)
+        n = (n + 1) % SLOTS;
+    return n;
+}
+
+/* Words that fill some groups of a table and leave others free. */
+static uint64_t scattered(uint64_t n) { return (n + 1) * UINT64_C(0x9e3779b97f4a7c15) >> 8; }
+
+/* Only a new link uses a reserved place: moves, links that are replaced and links that are removed use none up. */
+static void reserved_places(derrimas_finalizers_link_kind kind, uint64_t before, uint64_t reserved_links)
+{
+    const bool unlinks = chance(3) == 0;
+    bool has[SLOTS] = {false};
+    uint64_t left = reserved_links;
+
+    OK(derrimas_finalizers_open(&finalizers, &options));
+    for (uint64_t n = 0; n < before; n++) {
+        has[n] = true;
+        OK(derrimas_finalizers_link(&finalizers, kind, scattered(n), 8, NULL));
+    }
+    OK(derrimas_finalizers_reserve(&finalizers, 0, kind == DERRIMAS_FINALIZERS_SHORT ? left : 0, kind == DERRIMAS_FINALIZERS_LONG ? left : 0));
+    first.granted = 0;
+    for (unsigned turn = 0; turn < 4000 || left > 0; turn++) {
+        const uint64_t what = before > 0 ? chance(8) : 0, from = before > 0 ? some_word(has, true) : 0, to = some_word(has, false);
+        if (what < 4 && before > 0) {
+            OK(derrimas_finalizers_move_link(&finalizers, kind, scattered(from), scattered(to), NULL));
+            has[from] = false;
+            has[to] = true;
+        } else if (what == 4) {
+            OK(derrimas_finalizers_link(&finalizers, kind, scattered(from), 16, NULL));
+        } else if (left > 0 && turn % 3 == 0) {
+            OK(derrimas_finalizers_link(&finalizers, kind, scattered(to), 24, NULL));
+            has[to] = true;
+            before++;
+            left--;
+        } else if (what == 5 && before > 1 && unlinks) {
+            OK(derrimas_finalizers_unlink(&finalizers, kind, scattered(from), NULL));
+            has[from] = false;
+            before--;
+        }
+    }
+    first.granted = -1;
+    closes();
+}
+
+/* Also where the places are as many as a table has at most. */
+static void reserved_in_fuzz(void)
+{
+    for (uint64_t round = 1; round <= 80; round++) {
+        const uint64_t most = round % 4 ? UINT64_C(9) << round % 7 : 1 + chance(600);
+        uint64_t before;
+        seed = round * UINT64_C(0x9e3779b97f4a7c15);
+        before = chance(most);
+        reserved_places((derrimas_finalizers_link_kind)(round % 2), before, most - before);
+    }
+}
+
 static bool finds(uint64_t object)
 {
     derrimas_finalizers_registration_at it;
@@ -457,6 +531,7 @@ int main(void)
         replacing((derrimas_finalizers_kind)(kind / 4), (derrimas_finalizers_kind)(kind % 4));
     too_much();
     reserved();
+    reserved_in_fuzz();
     shrinks();
     others();
     constant();

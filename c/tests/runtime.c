@@ -303,13 +303,13 @@ static void finalized_all(void)
     derrimas_destroy(&w);
 }
 
-/* Registers an object of a higher rank and address, which is live, and one that the next collection finds; and that collection. */
+/* Registers two objects behind the others, of which one is live, and the other is queued by a collection. */
 static void two_more(derrimas_world *world, const derrimas_entry *e, void *data)
 {
     noted(world, e, data);
     for (uint64_t n = 0; n < 2; n++) {
         OK(derrimas_alloc(world, n ? B : C, 1, DERRIMAS_SCANNED, NULL));
-        OK(derrimas_register(world, n ? B : C, DERRIMAS_NORMAL, 0, 200 + n, 200, NULL));
+        OK(derrimas_register(world, n ? B : C, DERRIMAS_NORMAL, 0, 200 + n, 7, NULL));
     }
     OK(derrimas_set(world, B, 0));
     OK(derrimas_collect(world, NULL));

@@ -1,5 +1,5 @@
 -- Links that move.
-use Rattle.std.proofs.Common.{◌≡◌, ◌≢◌, ℕ, zero, suc, ◌+◌, ◌-◌, cond, is_some, List, [], ◌∷◌, ◌++◌, slice_get, Option, Some, None, nat_eq, sym, ap, subst, ◌∙◌, ⊎_elim, arith}
+use Rattle.std.proofs.Common.{◌≡◌, ◌≢◌, ℕ, zero, suc, ◌+◌, ◌-◌, cond, is_some, true≢false, false, refl, List, [], ◌∷◌, ◌++◌, slice_get, Option, Some, None, nat_eq, sym, ap, subst, ◌∙◌, ⊎_elim, arith}
 use Rattle.std.proofs.lemmas.Bool.{cases_eq}
 use Rattle.std.proofs.lemmas.Option.{none-some}
 use Rattle.std.specs.Map.{lookup}
@@ -32,6 +32,14 @@ module _ {X : Type 0} where
       let there = ap is_some (get-insert_other m n x k (λ same. apart (sym same)) ∙ old) in
       let less = len-remove nat_cmp_total (insert m n x) k ∙ ap (λ b. cond b (len (insert m n x) - 1) (len (insert m n x))) there in
       omega (arith, grown, less)
+
+  -- a key without a value has none when another goes
+  pub absent_after : (m : Map X) (k n : ℕ) → is_some (get m n) ≡ false → get (remove m k) n ≡ None
+  absent_after m k n free = ⊎_elim (λ (is : n ≡ k). ap (get (remove m k)) is ∙ get-remove_same m k) (λ (ne : n ≢ k). get-remove_other m k n ne ∙ none (get m n) free) (cases_eq n k)
+    where
+      none : (o : Option X) → is_some o ≡ false → o ≡ None
+      none None e = refl
+      none (Some x) e = absurd (true≢false e)
 
   -- what a look-up among the entries finds
   pub looked_up : (es : List (ℕ × X)) (m : Map X) (k : ℕ) (o : Option X) → from_entries es ≡ m → o ≡ lookup (nat_eq k) es → get m k ≡ o

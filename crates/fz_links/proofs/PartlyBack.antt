@@ -18,12 +18,12 @@ one_if b = cond b 1 0
 abbrev pub one_in : ℕ → List (ℕ × ℕ) → ℕ
 one_in one es = one_if (is_some (get (from_entries {R = nat_cmp} es) one))
 
--- the last of all are back, but for the one, and as many places are free as others are left, and one more where the one was passed
-pub record IsPartlyBack (one : ℕ) (all left back : List (ℕ × ℕ)) (spare : ℕ) : Type 0 where
+-- the last of all are back, but for the one, and more places are free than others are left, by so many, and by another where the one was passed
+pub record IsPartlyBack (one more : ℕ) (all left back : List (ℕ × ℕ)) (spare : ℕ) : Type 0 where
   pub last : List (ℕ × ℕ)
   pub apart : all ≡ left ++ last
   pub made : from_entries {R = nat_cmp} back ≡ remove (from_entries last) one
-  pub room : length left + one_in one last ≤ spare
+  pub room : length left + one_in one last + more ≤ spare
 
 none_removed : (k : ℕ) → empty ≡ remove (empty {K = ℕ} {X = ℕ} {R = nat_cmp}) k
 none_removed k = same_map nat_cmp_total nat_cmp-IsAntisymmetric _ _ (λ q. get-empty nat_cmp q ∙ sym (⊎_elim (at_key q) (λ (ne : q ≢ k). get-remove_other empty k q ne ∙ get-empty nat_cmp q) (cases_eq q k)))
@@ -53,8 +53,8 @@ pub none_left : (left : List (ℕ × ℕ)) (len : ℕ) (popped : Option (ℕ × 
 none_left [] len popped none is some = refl
 none_left (e ∷ left) len popped none is some = absurd (true≢false (sym (some.1 (omega (arith, is))) ∙ ap is_some none))
 
-module _ (one : ℕ) (all : List (ℕ × ℕ)) where
-  pub none_back : (back : List (ℕ × ℕ)) (spare : ℕ) → back ≡ [] → length all ≤ spare → IsPartlyBack one all all back spare
+module _ (one more : ℕ) (all : List (ℕ × ℕ)) where
+  pub none_back : (back : List (ℕ × ℕ)) (spare : ℕ) → back ≡ [] → length all + more ≤ spare → IsPartlyBack one more all all back spare
   none_back back spare is room = record {
     last = [];
     apart = sym (append-nil all);
@@ -63,39 +63,39 @@ module _ (one : ℕ) (all : List (ℕ × ℕ)) where
   }
 
   -- the one is passed
-  pub one_passed : (front back : List (ℕ × ℕ)) (target spare : ℕ) → IsPartlyBack one all (front ++ (one, target) ∷ []) back spare → IsPartlyBack one all front back spare
+  pub one_passed : (front back : List (ℕ × ℕ)) (target spare : ℕ) → IsPartlyBack one more all (front ++ (one, target) ∷ []) back spare → IsPartlyBack one more all front back spare
   one_passed front back target spare was = record {
     last = (one, target) ∷ was.last;
     apart = was.apart ∙ append_assoc front ((one, target) ∷ []) was.last;
     made = was.made ∙ again_removed (from_entries was.last) one target;
     room =
         let here = ap (λ (o : Option ℕ). one_if (is_some o)) (get-insert_same (from_entries was.last) one target) in
-        let more = shorter front (one, target) in
-        let room = was.room in omega (arith, here, more, room);
+        let longer = shorter front (one, target) in
+        let room = was.room in omega (arith, here, longer, room);
   }
 
   -- another comes back
-  pub another_back : (front back new_back : List (ℕ × ℕ)) (link target spare new_spare : ℕ) → link ≢ one → IsPartlyBack one all (front ++ (link, target) ∷ []) back spare
-      → ((q : ℕ) → lookup (nat_eq q) new_back ≡ cond (nat_eq link q) (Some target) (lookup (nat_eq q) back)) → spare ≤ new_spare + 1 → IsPartlyBack one all front new_back new_spare
+  pub another_back : (front back new_back : List (ℕ × ℕ)) (link target spare new_spare : ℕ) → link ≢ one → IsPartlyBack one more all (front ++ (link, target) ∷ []) back spare
+      → ((q : ℕ) → lookup (nat_eq q) new_back ≡ cond (nat_eq link q) (Some target) (lookup (nat_eq q) back)) → spare ≤ new_spare + 1 → IsPartlyBack one more all front new_back new_spare
   another_back front back new_back link target spare new_spare ne was updated less = record {
     last = (link, target) ∷ was.last;
     apart = was.apart ∙ append_assoc front ((link, target) ∷ []) was.last;
     made = made_inserted back new_back link target updated ∙ ap (λ m. insert m link target) was.made ∙ sym (moved_turns (from_entries was.last) one link target ne);
     room =
         let same = ap (λ (o : Option ℕ). one_if (is_some o)) (get-insert_other (from_entries was.last) link target one (λ is. ne (sym is))) in
-        let more = shorter front (link, target) in
-        let room = was.room in omega (arith, same, more, room, less);
+        let longer = shorter front (link, target) in
+        let room = was.room in omega (arith, same, longer, room, less);
   }
 
   -- there is a place for one that is left
-  pub place_left : (front back : List (ℕ × ℕ)) (e : ℕ × ℕ) (spare : ℕ) → IsPartlyBack one all (front ++ e ∷ []) back spare → 0 < spare
-  place_left front back e spare was = let more = shorter front e in let room = was.room in omega (arith, more, room)
+  pub place_left : (front back : List (ℕ × ℕ)) (e : ℕ × ℕ) (spare : ℕ) → IsPartlyBack one more all (front ++ e ∷ []) back spare → 0 < spare
+  place_left front back e spare was = let longer = shorter front e in let room = was.room in omega (arith, longer, room)
 
-  pub all_back : (back : List (ℕ × ℕ)) (spare : ℕ) → IsPartlyBack one all [] back spare → from_entries {R = nat_cmp} back ≡ remove (from_entries all) one
+  pub all_back : (back : List (ℕ × ℕ)) (spare : ℕ) → IsPartlyBack one more all [] back spare → from_entries {R = nat_cmp} back ≡ remove (from_entries all) one
   all_back back spare was = was.made ∙ ap (λ es. remove (from_entries {R = nat_cmp} es) one) (sym was.apart)
 
   -- and in the end one for another
-  pub place_free : (back : List (ℕ × ℕ)) (spare : ℕ) → IsPartlyBack one all [] back spare → IsSome (get (from_entries {R = nat_cmp} all) one) → 0 < spare
+  pub place_free : (back : List (ℕ × ℕ)) (spare : ℕ) → IsPartlyBack one more all [] back spare → IsSome (get (from_entries {R = nat_cmp} all) one) → more + 1 ≤ spare
   place_free back spare was known = let here = one_there all known ∙ ap (one_in one) was.apart in let room = was.room in omega (arith, here, room)
     where
       one_some : (o : Option ℕ) → IsSome o → one_if true ≡ one_if (is_some o)

@@ -1,6 +1,6 @@
 //! Rebuilding a table of links in the memory that it has.
 
-ghost use Rattle.std.specs.Prelude.{◌≡◌, ◌≤◌, ◌<◌, [], length, vec_capacity, IsSome};
+ghost use Rattle.std.specs.Prelude.{◌≡◌, ◌≤◌, ◌+◌, [], length, vec_capacity, IsSome};
 ghost use Rattle.std.specs.Ordering.{nat_cmp};
 ghost use Rattle.std.specs.FinMap.{get, remove, from_entries};
 ghost use Rattle.indexmap.specs.IndexMap.{spare};
@@ -21,7 +21,7 @@ pub(crate) fn list_all(links: &IndexMap<Addr, Addr, AddressHasher>, list: &mut V
     }
 }
 
-/// Inserts the listed links except one into an empty table, which has room for them. Afterwards there is room for another link.
+/// Inserts the listed links except one into an empty table, which has room for them. Afterwards there is one place less.
 pub(crate) fn insert_but(
     links: &mut IndexMap<Addr, Addr, AddressHasher>,
     list: &mut Vec<(Addr, Addr)>,
@@ -30,7 +30,7 @@ pub(crate) fn insert_but(
     requires empty { links.old.entries ≡ [] }
     requires room { length list.old.items ≤ spare links.old }
     ensures all { from_entries {R = nat_cmp} links.new.entries ≡ remove (from_entries list.old.items) one }
-    ensures room { IsSome (get (from_entries {R = nat_cmp} list.old.items) one) → 0 < spare links.new }
+    ensures room { IsSome (get (from_entries {R = nat_cmp} list.old.items) one) → spare links.old + 1 ≤ spare links.new + length list.old.items }
     ensures empty { list.new.items ≡ [] }
     ensures capacity { vec_capacity list.old ≤ vec_capacity list.new }
 {

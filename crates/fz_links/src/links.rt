@@ -1,6 +1,6 @@
 //! The links of one kind.
 
-ghost use Rattle.std.specs.Prelude.{◌≡◌, ◌≤◌, ◌<◌, ◌+◌, ◌↔◌, ℕ, Bool, [], ◌∷◌, nat_eq, if◌then◌else◌, length, vec_capacity, IsTrue, IsFalse, IsSome, None, IfOk, IfErr, OnOk, OnErr};
+ghost use Rattle.std.specs.Prelude.{◌≡◌, ◌≤◌, ◌<◌, ◌+◌, ◌↔◌, ℕ, Bool, [], ◌∷◌, nat_eq, if◌then◌else◌, length, vec_capacity, min, ◌^◌, IsTrue, IsFalse, IsSome, None, IfOk, IfErr, OnOk, OnErr};
 ghost use Rattle.std.specs.FinMap.{get, insert, remove, len, empty, contains_key, from_entries};
 ghost use Rattle.std.specs.List.{IsDistinct};
 ghost use Rattle.std.specs.Map.{keys_of};
@@ -8,6 +8,7 @@ ghost use Rattle.fz_model.specs.Causes.{IsJudgedOrLacks, full};
 ghost use Rattle.fz_model.specs.Steps.{move_answer, moved_to};
 ghost use Rattle.fz_table.specs.declared.limits.TheConstants.{MOST_ENTRIES};
 ghost use Rattle.fz_table.specs.Places.{lacks_place};
+ghost use Rattle.indexmap.specs.IndexMap.{spare, IsUnique};
 ghost use Rattle.fz_links.specs.Dropped.{ComputesTest, without};
 
 use crate::anew::{insert_but, list_all};
@@ -21,32 +22,37 @@ use std::marker::Model;
 /// Disappearing links by the addresses of their words, each with the start of its target, at most 2^32 at one time.
 ///
 /// One value holds short links or long ones; which they are is for the pass that clears their words (gc.h).
+///
+/// A link that leaves a group of the table which has overflowed leaves no free place there until the table is built anew. So a sixteenth of the table is
+/// kept for moves, and the room for new links doesn't count it.
 pub struct Links {
     entries: IndexMap<Addr, Addr, AddressHasher>,
+    room: usize,
 }
 
 // Written out: who owns links then drops it by one call that is proved here, not field by field at each way out of a function.
 impl Drop for Links {
     fn drop(self) {
-        let Links { entries: _ } = self;
+        let Links {
+            entries: _,
+            room: _,
+        } = self;
     }
 }
 
 impl Model for Links {
-    ghost use Rattle.std.specs.Prelude.{◌≤◌};
     ghost use Rattle.std.specs.Ordering.{nat_cmp};
-    ghost use Rattle.std.specs.FinMap.{len, from_entries};
+    ghost use Rattle.std.specs.FinMap.{from_entries};
     ghost use Rattle.indexmap.specs.IndexMap.{spare};
-    ghost use Rattle.fz_table.specs.declared.limits.TheConstants.{MOST_ENTRIES};
-    ghost use Rattle.fz_links.specs.Linked.{Linked, linked_code};
+    ghost use Rattle.fz_links.specs.Linked.{Linked, linked_code, IsWithin};
 
     ghost Value = { Linked };
 
     ghost coded = { linked_code };
 
-    ghost view = { λ l. record { links = from_entries l.entries.entries; room = spare l.entries; order = l.entries.entries } };
+    ghost view = { λ l. record { links = from_entries l.entries.entries; room = l.room; order = l.entries.entries } };
 
-    ghost invariant = { λ l. len (from_entries {R = nat_cmp} l.entries.entries) ≤ MOST_ENTRIES };
+    ghost invariant = { λ l. IsWithin (from_entries {R = nat_cmp} l.entries.entries) l.room (spare l.entries) };
 }
 
 impl Links {
@@ -56,6 +62,7 @@ impl Links {
     {
         Links {
             entries: IndexMap::with_hasher(alloc, AddressHasher::new()),
+            room: 0,
         }
     }
 
@@ -67,7 +74,12 @@ impl Links {
         ensures kept { self.old.room ≤ self.new.room }
         ensures room { OnOk result (more ≤ self.new.room) }
     {
-        self.entries.reserve(more)?;
+        if more <= self.room {
+            return Ok(());
+        }
+        let kept = spare_for(self.entries.len().saturating_add(more));
+        self.entries.reserve(more.saturating_add(kept))?;
+        self.room = room_in(&self.entries, more);
         Ok(())
     }
 
@@ -77,6 +89,7 @@ impl Links {
     {
         let len = self.entries.len();
         self.entries.shrink_to(len + spare_for(len));
+        self.room = room_in(&self.entries, 0);
     }
 
     /// Registers a link, or gives a registered one a new target.
@@ -111,9 +124,31 @@ impl Links {
         ensures answer { IfOk result (λ answer. answer ≡ (if contains_key self.old.links link then LinkAnswer.Duplicate else LinkAnswer.Success)) }
         ensures registered { OnOk result (self.new.links ≡ insert self.old.links link target) }
         ensures room { self.old.room ≤ self.new.room + 1 }
+        ensures used { get self.old.links link ≡ None → 0 < self.old.room → self.old.room ≡ self.new.room + 1 }
+        ensures kept { OnErr result (self.old.room ≤ self.new.room) }
+    {
+        if self.room == 0 && self.get(link).is_none() {
+            self.reserve(1)?;
+        }
+        self.put(link, target)
+    }
+
+    /// Registers a link, for which room was made if it is new.
+    fn put(&mut self, link: Addr, target: Addr) -> Result<LinkAnswer, Refusal>
+        requires place { IsFalse (lacks_place self.old.links link) }
+        ensures refused { IfErr result (λ r. r ≡ Refusal.NoMemory) }
+        ensures fresh { OnErr result (get self.old.links link ≡ None) }
+        ensures wanting { OnErr result (self.old.room ≡ 0) }
+        ensures unchanged { OnErr result (self.new.links ≡ self.old.links) }
+        ensures answer { IfOk result (λ answer. answer ≡ (if contains_key self.old.links link then LinkAnswer.Duplicate else LinkAnswer.Success)) }
+        ensures registered { OnOk result (self.new.links ≡ insert self.old.links link target) }
+        ensures room { self.old.room ≤ self.new.room + 1 }
+        ensures used { get self.old.links link ≡ None → 0 < self.old.room → self.old.room ≡ self.new.room + 1 }
         ensures kept { OnErr result (self.old.room ≤ self.new.room) }
     {
         let replaced = self.entries.insert(link, target)?;
+        let used = replaced.is_none() as usize;
+        self.room = room_within(&self.entries, self.room.saturating_sub(used));
         Ok(answer_of(replaced.is_some()))
     }
 
@@ -124,7 +159,9 @@ impl Links {
         ensures removed { self.new.links ≡ remove self.old.links link }
         ensures room { self.old.room ≤ self.new.room }
     {
-        self.entries.swap_remove(&link).is_some()
+        let known = self.entries.swap_remove(&link).is_some();
+        self.room = room_in(&self.entries, self.room);
+        known
     }
 
     /// Moves a link with its target to another word. `NoMemory` when there is no room left for the new word and none can be had.
@@ -153,18 +190,21 @@ impl Links {
         };
         room.insert(target);
         self.entries.swap_remove_index(old_place);
+        self.room = room_within(&self.entries, self.room);
         Ok(MoveAnswer::Success)
     }
 
     /// Moves a link with its target to another word, as `move_link` does, but takes no memory.
     ///
-    /// The list, which is empty before and after, has room for every link: where no place of the table is free, all are put there, and the table is
-    /// built anew in the memory that it has.
+    /// The list, which is empty before and after, has room for every link. Where the places that are kept for moves are used up, all links are put there,
+    /// and the table is built anew in the memory that it has. That brings these places back, so the moves of as many links take time by their number.
     pub fn move_within(&mut self, link: Addr, new: Addr, list: &mut Vec<(Addr, Addr)>) -> MoveAnswer
         requires empty { list.old.items ≡ [] }
         requires list { len self.old.links ≤ vec_capacity list.old }
         ensures answer { result ≡ move_answer self.old.links link new }
         ensures moved { self.new.links ≡ moved_to self.old.links link new (get self.old.links link) }
+        // Only a new link uses room.
+        ensures room { self.new.room ≡ self.old.room }
         ensures empty { list.new.items ≡ [] }
         ensures list { vec_capacity list.old ≤ vec_capacity list.new }
     {
@@ -188,18 +228,20 @@ impl Links {
         requires empty { list.old.items ≡ [] }
         requires list { len self.old.links ≤ vec_capacity list.old }
         ensures removed { self.new.links ≡ remove self.old.links link }
-        ensures room { 0 < self.new.room }
+        ensures room { self.new.room ≡ self.old.room + 1 }
         ensures place { (other : ℕ) → IsFalse (lacks_place self.new.links other) }
         ensures empty { list.new.items ≡ [] }
         ensures list { vec_capacity list.old ≤ vec_capacity list.new }
     {
-        if self.entries.capacity() > self.entries.len() {
-            self.unregister(link);
+        if spare_of(&self.entries) > self.room {
+            self.entries.swap_remove(&link);
+            self.room = room_within(&self.entries, self.room.saturating_add(1));
             return;
         }
         list_all(&self.entries, list);
         self.entries.clear();
         insert_but(&mut self.entries, list, link);
+        self.room = room_within(&self.entries, self.room.saturating_add(1));
     }
 
     /// The target of a link.
@@ -251,6 +293,7 @@ impl Links {
                 }
             }
         }
+        self.room = room_in(&self.entries, self.room);
     }
 
     /// Whether there are as many links as there can be, and the link isn't one.
@@ -274,6 +317,34 @@ fn spare_for(links: usize) -> usize
     ensures some { 0 < links → 0 < result }
 {
     links.div_ceil(15)
+}
+
+/// How many more entries a map takes before it asks for memory.
+fn spare_of(entries: &IndexMap<Addr, Addr, AddressHasher>) -> usize
+    ensures spare { result ≡ spare entries.now }
+    ensures unique { IsUnique nat_eq entries.now }
+{
+    entries.capacity() - entries.len()
+}
+
+/// The room of a table: what it has spare but for a sixteenth of all its places, and no less than what was promised.
+fn room_in(entries: &IndexMap<Addr, Addr, AddressHasher>, promised: usize) -> usize
+    requires { promised ≤ spare entries.now }
+    ensures kept { promised ≤ result }
+    ensures within { result ≤ spare entries.now }
+{
+    let kept = entries.capacity().div_ceil(16);
+    spare_of(entries).saturating_sub(kept).max(promised)
+}
+
+/// So much room, or what is spare if that is less.
+fn room_within(entries: &IndexMap<Addr, Addr, AddressHasher>, room: usize) -> usize
+    ensures least { result ≡ min room (spare entries.now) }
+    ensures within { result ≤ spare entries.now }
+    ensures all { room ≤ spare entries.now → result ≡ room }
+    ensures small { spare entries.now < 2 ^ 64 }
+{
+    room.min(spare_of(entries))
 }
 
 /// The answer to the registering of a link.

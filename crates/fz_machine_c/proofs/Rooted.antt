@@ -1,15 +1,25 @@
 -- Walks from a place on.
-use Rattle.std.proofs.Common.{◌≡◌, ◌≢◌, ◌<◌, ℕ, zero, suc, min, List, drop, take, length, Option, Some, refl, sym, ap, subst, ◌∙◌, inl, inr, arith}
-use Rattle.std.proofs.lemmas.List.{length-drop}
+use Rattle.std.proofs.Common.{◌≡◌, ◌≢◌, ◌<◌, ℕ, zero, suc, min, nat_eq, List, drop, map, take, length, Option, Some, refl, sym, ap, subst, ◌∙◌, inl, inr, arith}
+use Rattle.std.proofs.lemmas.List.{drop-map, length-drop, length-map}
+use Rattle.std.specs.FinMap.{from_entries}
+use Rattle.std.specs.List.{IsDistinct}
+use Rattle.std.specs.Map.{keys_of}
+use Rattle.fz_model.specs.declared.answers.Registration as answers
+use Rattle.fz_model.specs.declared.kinds.LinkKind.{LinkKind}
+use Rattle.fz_finalizers.specs.declared.kinds.Kind.{Kind}
 use Rattle.fz_finalizers.specs.declared.roots.Root.{Root}
-use Rattle.fz_finalizers.specs.States.{View}
-use Rattle.fz_finalizers.specs.Walks.{YieldsRoots, roots_of}
+use Rattle.fz_finalizers.specs.States.{State, View, kind_at, links_of}
+use Rattle.fz_finalizers.specs.Walks.{AreLinks, AreRegistrations, YieldsRoots, links_in_order, registrations_in_order, roots_of}
 use Rattle.fz_machine.specs.Machines.{Machine}
 use Rattle.fz_machine_c.specs.declared.codes.TheConstants.{OK, EMPTY}
 use Rattle.fz_machine_c.specs.declared.shown.TheConstants.{WORDS}
+use Rattle.fz_machine_c.specs.declared.shown.Registration.{Registration}
 use Rattle.fz_machine_c.specs.declared.shown.Words.{Words}
+use Rattle.fz_machine_c.specs.declared.walks.TheConstants.{PART}
+use Rattle.fz_machine_c.specs.declared.walks.Links.{Links}
+use Rattle.fz_machine_c.specs.declared.walks.Registrations.{Registrations}
 use Rattle.fz_machine_c.specs.Codes.{Behind}
-use Rattle.fz_machine_c.specs.Shows.{ShowsFrom, ShowsRoots}
+use Rattle.fz_machine_c.specs.Shows.{ShowsFrom, ShowsLinks, ShowsRegistrations, ShowsRoots, kind_number, link_told, registration_told}
 
 -- what a walk of the finalizers behind the handle yields is their list
 rooted : (r root : Root) (w v : View) (words : List ℕ) → r ≡ root → w ≡ v → YieldsRoots r w.state words → words ≡ roots_of r w → YieldsRoots root v.state (roots_of root v) × (words ≡ roots_of root v)
@@ -48,6 +58,58 @@ module _ (r root : Root) (w v : View) (words left : List ℕ) (from n : ℕ) (is
 
   pub some_rooted : (old told : Words) → n ≢ 0 → told.count ≡ n → take n told.words ≡ take n left → ShowsRoots root v from OK old told
   some_rooted old told some is filled = (walk.0, some_left WORDS (λ (t : Words). t.count) (λ (t : Words). t.words) (roots_of root v) left from n (omega arith) rest counted old told some is filled)
+
+-- what is told of a registration with the kind that the finalizers show
+abbrev with_kind : ℕ → answers.Registration → Option Kind → Registration
+with_kind object r kind = record { object = object; number = r.number; proc = r.proc; cd = r.cd; kind = kind_number kind; rank = r.rank }
+
+pub told_as : (s : State) (object : ℕ) (r : answers.Registration) (kind : Option Kind) (told : Registration) → told ≡ with_kind object r kind → kind ≡ kind_at s object → told ≡ registration_told s (object, r)
+told_as s object r kind told is same = is ∙ ap (with_kind object r) same
+
+-- a walk over registrations as the finalizers behind the handle yield it
+module _ (w v : View) (all left : List (ℕ × answers.Registration)) (from n : ℕ) (same : w ≡ v) (are : AreRegistrations w.state all) (listed : all ≡ registrations_in_order w) (from_there : left ≡ drop from all) (counted : n ≡ min PART (length left)) where
+  abbrev tell : ℕ × answers.Registration → Registration
+  tell = registration_told w.state
+
+  are_registered : AreRegistrations w.state (registrations_in_order w)
+  are_registered = subst (AreRegistrations w.state) listed are
+
+  registered_left : map tell left ≡ drop from (map tell (registrations_in_order w))
+  registered_left = ap (map tell) (from_there ∙ ap (drop from) listed) ∙ sym (drop-map tell from (registrations_in_order w))
+
+  registered_count : n ≡ min PART (length (map tell left))
+  registered_count = counted ∙ ap (min PART) (sym (length-map left tell))
+
+  pub none_registered : (old : Registrations) → n ≡ 0 → ShowsRegistrations v from EMPTY old old
+  none_registered old none =
+      subst (λ (u : View). ShowsRegistrations u from EMPTY old old) same
+      (are_registered, none_left PART (λ (t : Registrations). t.count) (λ (t : Registrations). t.registrations) (map tell (registrations_in_order w)) (map tell left) from n (omega arith) registered_left registered_count old none)
+
+  pub some_registered : (old told : Registrations) → n ≢ 0 → told.count ≡ n → take n told.registrations ≡ take n (map (registration_told w.state) left) → ShowsRegistrations v from OK old told
+  some_registered old told some is filled =
+      subst (λ (u : View). ShowsRegistrations u from OK old told) same
+      (are_registered, some_left PART (λ (t : Registrations). t.count) (λ (t : Registrations). t.registrations) (map tell (registrations_in_order w)) (map tell left) from n (omega arith) registered_left registered_count old told some is filled)
+
+-- a walk over links as the finalizers behind the handle yield it
+module _ (k kind : LinkKind) (w v : View) (all left : List (ℕ × ℕ)) (from n : ℕ) (is : k ≡ kind) (same : w ≡ v) (whole : from_entries all ≡ links_of w.state k) (once : IsDistinct nat_eq (keys_of all)) (listed : all ≡ links_in_order w k) (from_there : left ≡ drop from all) (counted : n ≡ min PART (length left)) where
+  are_linked : AreLinks w.state k (links_in_order w k)
+  are_linked = subst (AreLinks w.state k) listed (whole, once)
+
+  linked_left : map link_told left ≡ drop from (map link_told (links_in_order w k))
+  linked_left = ap (map link_told) (from_there ∙ ap (drop from) listed) ∙ sym (drop-map link_told from (links_in_order w k))
+
+  linked_count : n ≡ min PART (length (map link_told left))
+  linked_count = counted ∙ ap (min PART) (sym (length-map left link_told))
+
+  pub none_linked : (old : Links) → n ≡ 0 → ShowsLinks kind v from EMPTY old old
+  none_linked old none =
+      subst (λ (u : View). ShowsLinks kind u from EMPTY old old) same
+      (subst (λ (q : LinkKind). ShowsLinks q w from EMPTY old old) is (are_linked, none_left PART (λ (t : Links). t.count) (λ (t : Links). t.links) (map link_told (links_in_order w k)) (map link_told left) from n (omega arith) linked_left linked_count old none))
+
+  pub some_linked : (old told : Links) → n ≢ 0 → told.count ≡ n → take n told.links ≡ take n (map link_told left) → ShowsLinks kind v from OK old told
+  some_linked old told some told_count filled =
+      subst (λ (u : View). ShowsLinks kind u from OK old told) same
+      (subst (λ (q : LinkKind). ShowsLinks q w from OK old told) is (are_linked, some_left PART (λ (t : Links). t.count) (λ (t : Links). t.links) (map link_told (links_in_order w k)) (map link_told left) from n (omega arith) linked_left linked_count old told some told_count filled))
 
 -- nothing changes behind a handle
 pub behind : (old new : Option Machine) (m : Machine) (code : ℕ) (Kept : Type 0) (does : Machine → Machine → Type 0) → old ≡ Some m → new ≡ Some m → does m m → Behind old new code Kept does

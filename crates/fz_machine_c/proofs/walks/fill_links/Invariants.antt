@@ -6,5 +6,5 @@ use Rattle.fz_machine_c.proofs.walks.fill_links.Given as goal
 abbrev pub invariant-loop-place : goal.invariant-loop-place
 invariant-loop-place l = record {
   counted : l.filled ≡ l.place-index;
-  filled : IsFilled l.place-index (map link_told l.walk) (map link_told l.left) l.buffer;
+  filled : IsFilled l.place-index (map link_told l.fn.walk) (map link_told l.left) l.buffer;
 }

@@ -6,5 +6,5 @@ use Rattle.fz_machine_c.proofs.walks.fill_registrations.Given as goal
 abbrev pub invariant-loop-place : goal.invariant-loop-place
 invariant-loop-place l = record {
   counted : l.filled ≡ l.place-index;
-  filled : IsFilled l.place-index (map (registration_told l.shown.now.state) l.walk) (map (registration_told l.shown.now.state) l.left) l.buffer;
+  filled : IsFilled l.place-index (map (registration_told l.shown.state) l.fn.walk) (map (registration_told l.shown.state) l.left) l.buffer;
 }

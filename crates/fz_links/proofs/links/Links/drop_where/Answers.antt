@@ -22,6 +22,7 @@ loop-place-preserved-else-f g c =
     record {
       within = omega (arith, within);
       few = c.loop-place.invariant.few;
+      kept = c.loop-place.invariant.kept;
       roomier = c.loop-place.invariant.roomier;
       sifted = λ test computes.
           sifted_kept test c.args.self.now.links es place c.in-Some.link.now c.in-Some.target.now
@@ -47,6 +48,7 @@ loop-place-preserved-then-f g c =
     record {
       within = omega (arith, within, fewer);
       few = subst (λ (m : Map ℕ). len m ≤ MOST_ENTRIES) (sym removed) (limit_removed (from_entries es) link c.loop-place.invariant.few);
+      kept = c.loop-place.invariant.kept;
       roomier = let kept = c.swap_remove_index.ensures.room.0 in let before = c.loop-place.invariant.roomier in omega (arith, kept, before);
       sifted = λ test computes.
           sifted_dropped test c.args.self.now.links es c.swap_remove_index.new.self.entries place link target

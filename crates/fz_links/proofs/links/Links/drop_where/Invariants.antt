@@ -10,7 +10,8 @@ abbrev pub invariant-loop-place : goal.invariant-loop-place
 invariant-loop-place g l = record {
   within : l.place ≤ length l.self-inside.entries.entries;
   few : len (from_entries {R = nat_cmp} l.self-inside.entries.entries) ≤ MOST_ENTRIES;
-  roomier : l.fn.self.room ≤ spare l.self-inside.entries;
+  kept : l.fn.self.room ≤ l.self-inside.room;
+  roomier : l.self-inside.room ≤ spare l.self-inside.entries;
   sifted : (test : ℕ → ℕ → Bool) → ComputesTest (λ link target. g.F.Fn.post l.f (link, (target, tt))) test → IsSifted test l.fn.self.links l.place l.self-inside.entries.entries;
 }
 

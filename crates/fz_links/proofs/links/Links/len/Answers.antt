@@ -11,4 +11,4 @@ returns-clause-count c =
 
 pub returns-clause-limit : goal.returns-clause-limit
 returns-clause-limit c =
-    subst (λ n. n ≤ MOST_ENTRIES) (len_made c.self.inside.entries.entries c.len.ensures.unique ∙ sym c.len.ensures.len) c.self.invariant
+    subst (λ n. n ≤ MOST_ENTRIES) (len_made c.self.inside.entries.entries c.len.ensures.unique ∙ sym c.len.ensures.len) c.self.invariant.few

@@ -50,17 +50,17 @@ returns-in_default-2-clause-moved c =
     let same = ap (moved_to c.args.self.now.links c.args.link c.args.new) here ∙ ap (λ b. cond b c.args.self.now.links (insert (remove c.args.self.now.links c.args.link) c.args.new c.in-Some.target.now)) held in
     search rules
 
-here : (c : goal.After-swap_remove_index) → get c.args.self.now.links c.args.link ≡ Some c.in-Some.target.now
+here : (c : goal.After-self-4-1) → get c.args.self.now.links c.args.link ≡ Some c.in-Some.target.now
 here c = looked_up c.self.inside.entries.entries c.args.self.now.links c.args.link (Some c.in-Some.target.now) (ap (λ (t : Linked). t.links) c.self.view_is) c.in-Some.ensures.value
 
-absent : (c : goal.After-swap_remove_index) → lookup (nat_eq c.args.new) c.self.inside.entries.entries ≡ None
+absent : (c : goal.After-self-4-1) → lookup (nat_eq c.args.new) c.self.inside.entries.entries ≡ None
 absent c = (rw c.in-Vacant.is at c.in_ok-room.ensures.found)
 
-free : (c : goal.After-swap_remove_index) → get c.args.self.now.links c.args.new ≡ None
+free : (c : goal.After-self-4-1) → get c.args.self.now.links c.args.new ≡ None
 free c = looked_up c.self.inside.entries.entries c.args.self.now.links c.args.new None (ap (λ (t : Linked). t.links) c.self.view_is) (sym (absent c))
 
 -- the old link still stands at its place when the new one has gone last, and it is what is removed there
-taken : (c : goal.After-swap_remove_index) → c.swap_remove_index.result ≡ Some (c.args.link, c.in-Some.target.now)
+taken : (c : goal.After-self-4-1) → c.swap_remove_index.result ≡ Some (c.args.link, c.in-Some.target.now)
 taken c =
     let es = c.self.inside.entries.entries in
     let there : c.swap_remove_index.result ≡ slice_get (map_with_value c.in_ok-room.field-0 c.in-Some.target.now).entries c.in-Some.old_place = search rules in
@@ -71,7 +71,7 @@ taken c =
     ∙ ap (λ k. Some (k, c.in-Some.target.now)) (sym key)
 
 -- what stands there in the end
-left : (c : goal.After-swap_remove_index) → from_entries {R = nat_cmp} c.swap_remove_index.new.self.entries ≡ remove (insert c.args.self.now.links c.args.new c.in-Some.target.now) c.args.link
+left : (c : goal.After-self-4-1) → from_entries {R = nat_cmp} c.swap_remove_index.new.self.entries ≡ remove (insert c.args.self.now.links c.args.new c.in-Some.target.now) c.args.link
 left c =
     let grown = map_with_value c.in_ok-room.field-0 c.in-Some.target.now in
     let removed : IfSome c.swap_remove_index.result (λ p. Updates nat_eq grown c.swap_remove_index.new.self p.0 None) = search rules in
@@ -82,8 +82,11 @@ left c =
 
 pub invariant_of-self-2 : goal.invariant_of-self-2
 invariant_of-self-2 c =
-    let few = subst (λ (t : Linked). len t.links ≤ MOST_ENTRIES) c.self.view_is c.self.invariant in
-    subst (λ n. n ≤ MOST_ENTRIES) (sym (ap len (left c) ∙ len_moved c.args.self.now.links c.args.link c.args.new c.in-Some.target.now c.in-Some.target.now (here c) (free c))) few
+    let few = subst (λ (t : Linked). len t.links ≤ MOST_ENTRIES) c.self.view_is c.self.invariant.few in
+    record {
+      few = subst (λ n. n ≤ MOST_ENTRIES) (sym (ap len (left c) ∙ len_moved c.args.self.now.links c.args.link c.args.new c.in-Some.target.now c.in-Some.target.now (here c) (free c))) few;
+      spared = c.room_within-self-inside.ensures.within;
+    }
 
 pub returns-clause-answer : goal.returns-clause-answer
 returns-clause-answer c =

@@ -5,4 +5,4 @@ use Rattle.fz_links.proofs.links.Links.new.Goals as goal
 
 pub invariant_of-result : goal.invariant_of-result
 invariant_of-result c =
-    subst (λ es. len (from_entries {R = nat_cmp} es) ≤ MOST_ENTRIES) (sym c.with_hasher.ensures.empty) (omega (arith, len-empty nat_cmp ℕ))
+    record { few = subst (λ es. len (from_entries {R = nat_cmp} es) ≤ MOST_ENTRIES) (sym c.with_hasher.ensures.empty) (omega (arith, len-empty nat_cmp ℕ)); spared = omega arith }

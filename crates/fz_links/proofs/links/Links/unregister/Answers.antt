@@ -7,12 +7,14 @@ use Rattle.fz_table.proofs.Entries.{limit_removed}
 use Rattle.fz_links.proofs.links.Links.unregister.Goals as goal
 
 pub invariant_of-self : goal.invariant_of-self
-invariant_of-self c =
-    subst (λ m. len m ≤ MOST_ENTRIES) (sym (made_removed c.self.inside.entries.entries _ c.args.link c.swap_remove.ensures.updates.0)) (limit_removed _ c.args.link c.self.invariant)
+invariant_of-self c = record {
+  few = subst (λ m. len m ≤ MOST_ENTRIES) (sym (made_removed c.self.inside.entries.entries _ c.args.link c.swap_remove.ensures.updates.0)) (limit_removed _ c.args.link c.self.invariant.few);
+  spared = c.room_in-self-inside.ensures.within;
+}
 
 pub returns-clause-answer : goal.returns-clause-answer
 returns-clause-answer c =
-    c.is_some.ensures
+    c.is_some-known.ensures
     ∙ ap is_some (c.swap_remove.ensures.value ∙ sym (get_made c.self.inside.entries.entries c.args.link) ∙ ap (λ (t : Linked). get t.links c.args.link) c.self.view_is)
 
 pub returns-clause-removed : goal.returns-clause-removed
