@@ -50,6 +50,17 @@ impl Held {
         self.entries.reserve(more)
     }
 
+    /// Gives back memory, but for the room for `more` further entries.
+    pub(crate) fn shrink(&mut self, more: usize)
+        requires { more ≤ self.old.room }
+        ensures same { self.new.entries ≡ self.old.entries }
+        ensures order { self.new.order ≡ self.old.order }
+        ensures room { more ≤ self.new.room }
+    {
+        let most = self.entries.len().saturating_add(more);
+        self.entries.shrink_to(most.min(self.entries.capacity()));
+    }
+
     /// How many are held.
     pub(crate) fn len(&self) -> usize
         ensures { result ≡ len self.now.entries }

@@ -14,6 +14,7 @@ mod refused;
 mod registering;
 mod registrations;
 mod roots;
+mod shrinking;
 mod stepwise;
 mod waiting;
 mod walks;

@@ -113,6 +113,18 @@ impl Ready {
         Ok(())
     }
 
+    /// Gives back memory, but for the room for `most` entries that are still to come.
+    pub(crate) fn shrink(&mut self, most: usize)
+        requires { most ≤ self.old.room }
+        ensures same { HasSameEntries self.old self.new }
+        ensures order { self.new.order ≡ self.old.order }
+        ensures room { most ≤ self.new.room }
+    {
+        self.list.shrink(most);
+        self.waiting.shrink(most);
+        self.held.shrink(self.waiting.len() + most);
+    }
+
     /// Carries out a pass with this number over a host and the tables.
     pub(crate) fn pass<H: Host>(
         &mut self,

@@ -1,6 +1,6 @@
 //! The entries that wait to be taken.
 
-ghost use Rattle.std.specs.Prelude.{◌≡◌, ◌≤◌, ◌<◌, ◌+◌, [], ◌∷◌, ◌++◌, drop, length, vec_len, vec_capacity, MatchOption, OnOk, OnErr};
+ghost use Rattle.std.specs.Prelude.{◌≡◌, ◌≤◌, ◌<◌, ◌+◌, ◌^◌, [], ◌∷◌, ◌++◌, drop, length, vec_len, vec_capacity, MatchOption, OnOk, OnErr};
 
 use fz_model::Entry;
 use std::alloc::AllocError;
@@ -72,6 +72,18 @@ impl Waiting {
             self.taken = 0;
         }
         self.entries.reserve(more)
+    }
+
+    /// Gives back memory, but for the room for `more` further entries.
+    pub(crate) fn shrink(&mut self, more: usize)
+        requires { length self.old.entries + more ≤ self.old.capacity }
+        ensures same { self.new.entries ≡ self.old.entries }
+        ensures room { length self.old.entries + more ≤ self.new.capacity }
+        ensures few { length self.old.entries + more < 2 ^ 64 }
+    {
+        drop_first(&mut self.entries, self.taken);
+        self.taken = 0;
+        self.entries.shrink_to(self.entries.len() + more);
     }
 
     /// Puts an entry at the end, for which there has to be room.

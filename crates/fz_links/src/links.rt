@@ -86,6 +86,7 @@ impl Links {
     /// Gives back the memory that the links and their moves don't need. What can't be made smaller for want of memory stays as it is.
     pub fn shrink(&mut self)
         ensures same { self.new.links ≡ self.old.links }
+        ensures order { self.new.order ≡ self.old.order }
     {
         let len = self.entries.len();
         self.entries.shrink_to(len + spare_for(len));

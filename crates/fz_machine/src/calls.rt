@@ -57,6 +57,19 @@ impl Machine {
         }
     }
 
+    /// Gives back the memory that isn't needed, as `Finalizers::shrink` does; and so does the list that a pass goes over. Refused `PassOpen`.
+    pub fn shrink(&mut self) -> Result<(), Refused>
+        ensures judged { IsJudgedBy self.old.phase [] result }
+        ensures refused { OnErr result (self.new ≡ self.old) }
+        ensures idle { OnOk result (IsIdle self.new) }
+        ensures state { self.new.finalizers.state ≡ self.old.finalizers.state }
+        ensures order { self.new.finalizers.order ≡ self.old.finalizers.order }
+    {
+        self.check()?;
+        reserving::shrink(&mut self.finalizers, &mut self.walk);
+        Ok(())
+    }
+
     /// Registers a finalizer of an object, in the place of the one that it has; returns the number of the registration and what was replaced.
     ///
     /// Refusals, in their order: `PassOpen`, and those of `Finalizers::register`.

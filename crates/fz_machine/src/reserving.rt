@@ -151,3 +151,17 @@ pub(crate) fn reserve(
     grow(walk, finalizers.links(LinkKind::Short), shorts)?;
     grow(walk, finalizers.links(LinkKind::Long), longs)
 }
+
+/// Gives back the memory that the finalizers and the list don't need.
+pub(crate) fn shrink(finalizers: &mut Finalizers, walk: &mut Walk)
+    requires { HasRoom finalizers.old.state walk.old.room }
+    ensures state { finalizers.new.state ≡ finalizers.old.state }
+    ensures order { finalizers.new.order ≡ finalizers.old.order }
+    ensures room { HasRoom finalizers.new.state walk.new.room }
+{
+    finalizers.shrink();
+    let links = finalizers
+        .links(LinkKind::Short)
+        .max(finalizers.links(LinkKind::Long));
+    walk.shrink(finalizers.registrations().max(links) as usize);
+}

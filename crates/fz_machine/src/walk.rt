@@ -1,6 +1,6 @@
 //! A list that a phase goes over.
 
-ghost use Rattle.std.specs.Prelude.{◌≡◌, ◌≤◌, ◌<◌, ◌+◌, ◌^◌, ◌++◌, ◌∷◌, [], if◌then◌else◌, drop, length, slice_get, vec_capacity, OnOk, OnErr};
+ghost use Rattle.std.specs.Prelude.{◌≡◌, ◌≤◌, ◌<◌, ◌+◌, ◌^◌, ◌++◌, ◌∷◌, [], if◌then◌else◌, min, drop, length, slice_get, vec_capacity, OnOk, OnErr};
 ghost use Rattle.fz_machine.specs.Items.{AreInTurn, place_of};
 
 use crate::item::Item;
@@ -67,6 +67,16 @@ impl Walk {
         self.kept = 0;
         self.place = 0;
         self.items.reserve(most)
+    }
+
+    /// Gives back memory, but for the room for as many items. What it lists is forgotten.
+    pub(crate) fn shrink(&mut self, most: usize)
+        ensures { min most self.old.room ≤ self.new.room }
+    {
+        self.items.clear();
+        self.kept = 0;
+        self.place = 0;
+        self.items.shrink_to(most);
     }
 
     /// A list of these items, all of which are left.

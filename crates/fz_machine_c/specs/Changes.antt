@@ -89,3 +89,8 @@ Finishes e code m n =
     Answers (first_of m.phase (finish_causes m.finalizers.held e)) code
     (Follows m.finalizers.state (Finish e) n.finalizers.state)
     (Stays m n)
+
+-- memory alone is given back
+abbrev pub Shrinks : ℕ → Machine → Machine → Type 0
+Shrinks code m n =
+    Answers (first_of m.phase []) code ((n.phase ≡ None) × (n.finalizers.state ≡ m.finalizers.state) × (n.finalizers.order ≡ m.finalizers.order)) (n ≡ m)

@@ -21,7 +21,7 @@ pub use entries::{Entry, fz_machine_finish, fz_machine_take, fz_machine_take_fin
 pub use handle::Handle;
 pub use linking::{fz_machine_link, fz_machine_move_link, fz_machine_unlink};
 pub use old::{Old, Registered};
-pub use opening::{fz_machine_destroy, fz_machine_open, fz_machine_reserve};
+pub use opening::{fz_machine_destroy, fz_machine_open, fz_machine_reserve, fz_machine_shrink};
 pub use passing::{
     Passed, Question, fz_machine_abandon, fz_machine_begin, fz_machine_next, fz_machine_queue_all,
 };

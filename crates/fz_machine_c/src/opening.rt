@@ -1,7 +1,7 @@
 //! Handles are opened and destroyed.
 
 ghost use Rattle.std.specs.Prelude.{◌≡◌, None};
-ghost use Rattle.fz_machine_c.specs.Changes.{Reserves};
+ghost use Rattle.fz_machine_c.specs.Changes.{Reserves, Shrinks};
 ghost use Rattle.fz_machine_c.specs.Codes.{Behind};
 ghost use Rattle.fz_machine_c.specs.Opens.{Opens};
 
@@ -34,6 +34,22 @@ pub extern "C" fn fz_machine_destroy(alloc: Global, finalizers: &mut Handle)
     ensures { finalizers.new.value ≡ None }
 {
     drop(finalizers.take(alloc));
+}
+
+/// `Machine::shrink`.
+#[unsafe(no_mangle)]
+pub extern "C" fn fz_machine_shrink(alloc: Global, finalizers: &mut Handle) -> Code
+    ensures { Behind finalizers.old.value finalizers.new.value result (Unit {0}) (Shrinks result) }
+{
+    let Some(mut session) = finalizers.take(alloc) else {
+        return NOT_OPEN;
+    };
+    let reply = session.machine.shrink();
+    finalizers.put(session);
+    match reply {
+        Ok(()) => OK,
+        Err(refused) => code_of(refused),
+    }
 }
 
 /// `Machine::reserve`.

@@ -111,6 +111,33 @@ fn moves_in_a_full_table(rt: HostRuntime) {
     must_be(&rt, finalizers.links(LinkKind::Short), 72, "all 72");
 }
 
+/// Of 2,000 registrations and links the last of each stay, and are as they were once memory is given back.
+#[test]
+fn memory_is_given_back(rt: HostRuntime) {
+    let mut finalizers = Finalizers::new(rt.alloc());
+    for object in 1..=2_000u64 {
+        let _ = finalizers.register(object, finalizer(Kind::Normal, object, 0));
+        let _ = finalizers.link(LinkKind::Long, object, object);
+    }
+    for object in 1..=1_900u64 {
+        finalizers.unregister(object);
+        finalizers.unlink(LinkKind::Long, object);
+    }
+    finalizers.shrink();
+    must_be(&rt, finalizers.registrations(), 100, "registrations");
+    must_be(&rt, finalizers.links(LinkKind::Long), 100, "links");
+    for word in 1_901..=2_000u64 {
+        let moved = finalizers.move_link(LinkKind::Long, word, word + 100);
+        must_be(&rt, moved, Ok(MoveAnswer::Success), "a move");
+    }
+    must_be(&rt, finalizers.queue_all(), 100, "all are queued");
+    let first = finalizers.take().map(|entry| entry.obj);
+    must_be(&rt, first, Some(1_901), "the first");
+    finalizers.shrink();
+    must_be(&rt, finalizers.held(), 1, "it is held");
+    must_be(&rt, finalizers.waiting(), 99, "the others wait");
+}
+
 /// Finalizers whose four registrations are queued, two of which come first for their rank.
 fn with_four_queued(rt: &impl Abort, alloc: Global) -> Finalizers {
     let mut finalizers = Finalizers::new(alloc);

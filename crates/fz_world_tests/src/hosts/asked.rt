@@ -244,6 +244,7 @@ fn a_pass_that_is_open_takes_answers_alone(rt: HostRuntime) {
     must_be(&rt, asked.machine.begin().is_err(), true, "no other opens");
     must_be(&rt, asked.machine.unregister(1).is_err(), true, "no change");
     must_be(&rt, asked.machine.take().is_err(), true, "no take");
+    must_be(&rt, asked.machine.shrink().is_err(), true, "no shrinking");
     let ended = asked.machine.next(&[]).expect(&rt, "an answer");
     must_be(
         &rt,
@@ -254,6 +255,7 @@ fn a_pass_that_is_open_takes_answers_alone(rt: HostRuntime) {
     must_be(&rt, asked.machine.next(&[]).is_err(), true, "none is open");
     must_be(&rt, asked.machine.unregister(1).is_ok(), true, "changes");
     asked.machine.reserve(100, 10, 10).expect(&rt, "room");
+    asked.machine.shrink().expect(&rt, "no open pass");
 }
 
 /// A pass of unmarked objects with these answers, the same number to each question.
