@@ -138,6 +138,7 @@ int main(void)
         fail("an opening");
     register_in_turn(words);
     at_the_same_time(words + OBJECTS);
+    GC_disable();
     collect();
     GC_invoke_finalizers();
     printf("theirs: %s\n", ran + SPARE >= 2 * OBJECTS && ran <= 2 * OBJECTS ? "all ran" : "too few or too many ran");
