@@ -86,6 +86,8 @@ pub(crate) fn move_link(
     ensures empty { moves.new.items ≡ [] }
     ensures kept { vec_capacity moves.old ≤ vec_capacity moves.new }
     ensures count { len links.new.links ≡ len links.old.links }
+    // Only a new link uses room.
+    ensures roomy { links.new.room ≡ links.old.room }
 {
     if to == 0 {
         return Err(Refused::Zero);

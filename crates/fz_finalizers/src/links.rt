@@ -5,7 +5,7 @@ ghost use Rattle.std.specs.FinMap.{get, len, contains_key};
 ghost use Rattle.fz_model.specs.Steps.{move_answer};
 ghost use Rattle.fz_finalizers.specs.Causes.{IsJudgedBy, IsJudgedOrLacks, link_causes, move_causes};
 ghost use Rattle.fz_finalizers.specs.Follows.{Follows, Link, Unlink, Move};
-ghost use Rattle.fz_finalizers.specs.States.{links_of, room_of};
+ghost use Rattle.fz_finalizers.specs.States.{links_of, room_of, IsRoomier};
 
 use crate::finalizers::Finalizers;
 use crate::linking;
@@ -53,13 +53,15 @@ impl Finalizers {
         }
     }
 
-    /// Moves a link, with its target, from a word to another. It takes no memory, but time in proportion to the links of its kind where their table
-    /// is full. Refused `Zero` where the other word is 0.
+    /// Moves a link, with its target, from a word to another. It takes no memory, and none of the room that was made for new links. Once in a while it takes
+    /// time in proportion to the links of its kind, since it builds their table anew; as many moves as there are links do so a few times at the most. Refused
+    /// `Zero` where the other word is 0.
     pub fn move_link(&mut self, kind: LinkKind, word: Addr, to: Addr) -> Result<MoveAnswer, Refused>
         ensures judged { IsJudgedBy (move_causes to) result }
         ensures refused { OnErr result (self.new.state ≡ self.old.state) }
         ensures answer { IfOk result (λ answer. answer ≡ move_answer (links_of self.old.state kind) word to) }
         ensures follows { OnOk result (Follows self.old.state (Move kind word to) self.new.state) }
+        ensures room { IsRoomier self.old.rooms self.new.rooms }
     {
         match kind {
             LinkKind::Short => linking::move_link(&mut self.short, &mut self.moves, word, to),
