@@ -176,7 +176,7 @@ fn stands_a_refused_growth(rt: HostRuntime) {
     must_be(&rt, links.get(90_007), Some(7), "one of the moved links");
 }
 
-/// How far the lengths go at which all links are moved. Up to 1,179,648, as LLVM builds the test, it takes some minutes.
+/// How many capacities are tried: 9, and each twice the one before. With 18 of them the lengths go up to 1,179,651.
 const POWERS: u32 = 10;
 
 /// Moves a link by a list that has room for all.
