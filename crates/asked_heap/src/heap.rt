@@ -2,7 +2,7 @@
 
 use fz_machine::{Ask, BATCH, Question};
 
-/// How many objects there are. They have the numbers from 1 on; 0 is none.
+/// The number of objects. They are numbered from 1 on; 0 is no object.
 const OBJECTS: usize = 4;
 
 /// The number of the weak word. The word of an object has the object's number.
@@ -18,13 +18,13 @@ pub(crate) struct Heap {
     weak: u64,
 }
 
-/// The place of an object in the arrays, which is none for 0.
+/// The index of an object in the arrays. For 0 it lies outside of them.
 fn place(object: u64) -> usize {
     object.wrapping_sub(1) as usize
 }
 
 impl Heap {
-    /// All objects live, and point nowhere.
+    /// All objects exist, and point to nothing.
     pub(crate) fn new() -> Heap {
         Heap {
             words: [0; OBJECTS],
@@ -75,7 +75,7 @@ impl Heap {
         }
     }
 
-    /// Marks an object, and all that it reaches: a path has no more objects than there are.
+    /// Marks an object and everything that it reaches. Each object has one word, so a path has no more objects than there are.
     pub(crate) fn mark(&mut self, object: u64) {
         let mut object = object;
         for _ in 0..OBJECTS {

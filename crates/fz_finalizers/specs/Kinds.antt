@@ -1,4 +1,5 @@
--- How the kinds stand in the tables: the unreachable ones as normal ones in a table of their own, whose objects come late.
+-- How the tables represent kinds: registrations of kind `Unreachable` are normal ones in a table of their own, which is judged after the other.
+-- code: fz_finalizers/src/kinds.rt
 use Rattle.std.specs.Prelude.{Bool, true, false, Some}
 use Rattle.fz_model.specs.declared.kinds.RegKind.{RegKind}
 use Rattle.fz_model.specs.declared.kinds.RegKind.TheVariants as table
@@ -19,7 +20,7 @@ table_kind IgnoreSelf = table.IgnoreSelf
 table_kind NoOrder = table.NoOrder
 table_kind Unreachable = table.Normal
 
--- the kind of a registration in the table of those that don't come late
+-- the kind of a registration in the table of the other kinds
 abbrev pub of_table : RegKind → Kind
 of_table table.Normal = Normal
 of_table table.IgnoreSelf = IgnoreSelf

@@ -1,4 +1,4 @@
-//! What is registered.
+//! What a host registers.
 
 ghost use Rattle.std.specs.Prelude.{◌≡◌};
 ghost use Rattle.fz_finalizers.specs.Kinds.{table_kind, table_finalizer, is_late, of_table};
@@ -8,32 +8,32 @@ use fz_model::RegKind;
 /// When the finalizer of an unreachable object is ready (gc.h).
 #[derive(Clone, Copy, Debug, PartialEq, Eq)]
 pub enum Kind {
-    /// Where no other unreachable registered object leads to it, and it doesn't lead to itself (`GC_register_finalizer`).
+    /// If no other unreachable registered object reaches it, and it doesn't reach itself (`GC_register_finalizer`).
     Normal,
-    /// The same, but a pointer from the object to itself doesn't count (`GC_register_finalizer_ignore_self`).
+    /// The same, but a pointer from the object to itself is ignored (`GC_register_finalizer_ignore_self`).
     IgnoreSelf,
-    /// The object leads nowhere; others that lead to it still come first (`GC_register_finalizer_no_order`).
+    /// The object's pointers are ignored, so it delays no other. It still waits for others that reach it (`GC_register_finalizer_no_order`).
     NoOrder,
-    /// Where no other unreachable registered object leads to it, in whichever kind (`GC_register_finalizer_unreachable`). It comes after the others
-    /// of its pass.
+    /// If no other unreachable registered object reaches it, whatever its kind (`GC_register_finalizer_unreachable`). It is queued after the other kinds of
+    /// its pass.
     Unreachable,
 }
 
-/// A finalizer of an object, as the host registers it.
+/// A finalizer, as the host passes it to `register`.
 #[derive(Clone, Copy, Debug, PartialEq, Eq)]
 pub struct Finalizer {
     /// When it is ready.
     pub kind: Kind,
-    /// The procedure that is to be called: any number, which comes back in the entry.
+    /// The procedure to call: any number, which is returned in the entry.
     pub procedure: u64,
-    /// What is to be handed to it: any number, too. If it is an address, the host's marker takes it as a root (`Finalizers::roots`).
+    /// The argument for the procedure: any number, too. If it is an address, the host's marker treats it as a root (`Finalizers::roots`).
     pub client_data: u64,
-    /// Of the finalizers that one pass queues, those of lower rank come first.
+    /// Among finalizers queued by one pass, lower ranks come first.
     pub rank: u8,
 }
 
 impl Kind {
-    /// Whether registrations of this kind stand in the table of those that come late.
+    /// Whether this is the kind that is judged after the others, and has a table of its own.
     pub(crate) fn is_late(self) -> bool
         ensures { result ≡ is_late self }
     {
@@ -43,7 +43,7 @@ impl Kind {
         }
     }
 
-    /// The kind of a registration in the table of those that don't come late.
+    /// The kind of a registration in the table of the other kinds.
     pub fn of_table(kind: RegKind) -> Kind
         ensures { result ≡ of_table kind }
     {
@@ -54,7 +54,7 @@ impl Kind {
         }
     }
 
-    /// The kind in its table.
+    /// The kind as its table has it.
     fn in_table(self) -> RegKind
         ensures { result ≡ table_kind self }
     {
@@ -67,7 +67,7 @@ impl Kind {
 }
 
 impl Finalizer {
-    /// The finalizer in its table.
+    /// The finalizer as its table has it.
     pub(crate) fn in_table(self) -> fz_model::Finalizer
         ensures { result ≡ table_finalizer self }
     {

@@ -1,4 +1,4 @@
-//! Links of a kind, with room for their moves.
+//! Links of one kind, with room reserved for their moves.
 
 ghost use Rattle.std.specs.Prelude.{◌≡◌, ◌≤◌, ◌<◌, ◌+◌, ◌⊎◌, [], ℕ, if◌then◌else◌, vec_capacity, None, IfOk, IfErr, OnOk, OnErr};
 ghost use Rattle.std.specs.FinMap.{get, insert, len, contains_key};
@@ -9,7 +9,7 @@ use crate::refused::Refused;
 use fz_links::Links;
 use fz_model::{Addr, LinkAnswer, MoveAnswer};
 
-/// Makes room on the list of moves for one more link, if the word has none.
+/// Reserves room in the list of moves for one more link, unless the word has one.
 #[tactic(auto, using(crate::proofs::Counting::len_grown, crate::proofs::Counting::len_known))]
 fn make_room(links: &Links, moves: &mut Vec<(Addr, Addr)>, word: Addr) -> Result<(), Refused>
     requires empty { moves.old.items ≡ [] }
@@ -30,7 +30,7 @@ fn make_room(links: &Links, moves: &mut Vec<(Addr, Addr)>, word: Addr) -> Result
     Err(Refused::NoMemory)
 }
 
-/// Refuses what can't be linked, whatever memory there is.
+/// Checks that the word can be linked to the target, apart from memory.
 pub(crate) fn check(links: &Links, word: Addr, target: Addr) -> Result<(), Refused>
     ensures { IsJudgedBy (link_causes links.now.links word target) result }
 {
@@ -43,7 +43,7 @@ pub(crate) fn check(links: &Links, word: Addr, target: Addr) -> Result<(), Refus
     Ok(())
 }
 
-/// Makes a link from the word to the target.
+/// Registers a link from the word to the target.
 pub(crate) fn link(
     links: &mut Links,
     moves: &mut Vec<(Addr, Addr)>,
@@ -70,7 +70,7 @@ pub(crate) fn link(
         .map_err(|_| Refused::NoMemory)
 }
 
-/// Moves a link with its target to another word.
+/// Moves a link to another word; its target stays the same.
 pub(crate) fn move_link(
     links: &mut Links,
     moves: &mut Vec<(Addr, Addr)>,
@@ -86,6 +86,8 @@ pub(crate) fn move_link(
     ensures empty { moves.new.items ≡ [] }
     ensures kept { vec_capacity moves.old ≤ vec_capacity moves.new }
     ensures count { len links.new.links ≡ len links.old.links }
+    // Only a new link uses room.
+    ensures roomy { links.new.room ≡ links.old.room }
 {
     if to == 0 {
         return Err(Refused::Zero);

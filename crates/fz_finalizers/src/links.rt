@@ -5,7 +5,7 @@ ghost use Rattle.std.specs.FinMap.{get, len, contains_key};
 ghost use Rattle.fz_model.specs.Steps.{move_answer};
 ghost use Rattle.fz_finalizers.specs.Causes.{IsJudgedBy, IsJudgedOrLacks, link_causes, move_causes};
 ghost use Rattle.fz_finalizers.specs.Follows.{Follows, Link, Unlink, Move};
-ghost use Rattle.fz_finalizers.specs.States.{links_of, room_of};
+ghost use Rattle.fz_finalizers.specs.States.{links_of, room_of, IsRoomier};
 
 use crate::finalizers::Finalizers;
 use crate::linking;
@@ -13,13 +13,13 @@ use crate::refused::Refused;
 use fz_model::{Addr, LinkAnswer, LinkKind, MoveAnswer};
 
 impl Finalizers {
-    /// Makes the word a link to the target, an object; a link that it is already gets the new target.
+    /// Registers a disappearing link from the word to the target, an object. If the word has a link already, only its target changes.
     ///
-    /// That the target is an object is the host's duty. Refusals, in their order: `Zero` where the word or the target is 0, `Full` where there are
-    /// 2^32 others of the kind, `NoMemory`.
+    /// The host has to ensure that the target is an object. Fails with, in this order: `Zero` if the word or the target is 0, `Full` if there are 2^32 others
+    /// of the kind, `NoMemory`.
     pub fn link(&mut self, kind: LinkKind, word: Addr, target: Addr) -> Result<LinkAnswer, Refused>
         ensures judged { IsJudgedOrLacks (link_causes (links_of self.old.state kind) word target) result }
-        // Only a new link can want memory, and only where no room is left.
+        // Only a new link can run out of memory, and only if no room is reserved.
         ensures fresh { IfErr result (λ r. r ≡ Refused.NoMemory → get (links_of self.old.state kind) word ≡ None) }
         ensures wanting { IfErr result (λ r. r ≡ Refused.NoMemory → room_of self.old.rooms kind ≡ 0) }
         ensures refused { OnErr result (self.new.state ≡ self.old.state) }
@@ -32,7 +32,7 @@ impl Finalizers {
         }
     }
 
-    /// Refuses what `link` refuses of a word and a target, whatever memory there is.
+    /// Checks a word and a target as `link` does, apart from memory.
     pub fn check_link(&self, kind: LinkKind, word: Addr, target: Addr) -> Result<(), Refused>
         ensures judged { IsJudgedBy (link_causes (links_of self.now.state kind) word target) result }
     {
@@ -42,7 +42,7 @@ impl Finalizers {
         }
     }
 
-    /// Removes a link, and returns whether there was one.
+    /// Removes the link of a word, and returns whether there was one.
     pub fn unlink(&mut self, kind: LinkKind, word: Addr) -> bool
         ensures answer { result ≡ contains_key (links_of self.old.state kind) word }
         ensures follows { Follows self.old.state (Unlink kind word) self.new.state }
@@ -53,13 +53,15 @@ impl Finalizers {
         }
     }
 
-    /// Moves a link, with its target, from a word to another. It takes no memory, but time in proportion to the links of its kind where their table
-    /// is full. Refused `Zero` where the other word is 0.
+    /// Moves a link from one word to another; its target stays the same. Takes no memory, and none of the room reserved for new links. Takes time
+    /// proportional to the links of its kind when it rebuilds their table, which happens only a few times in as many moves as there are links. Fails with
+    /// `Zero` if the other word is 0.
     pub fn move_link(&mut self, kind: LinkKind, word: Addr, to: Addr) -> Result<MoveAnswer, Refused>
         ensures judged { IsJudgedBy (move_causes to) result }
         ensures refused { OnErr result (self.new.state ≡ self.old.state) }
         ensures answer { IfOk result (λ answer. answer ≡ move_answer (links_of self.old.state kind) word to) }
         ensures follows { OnOk result (Follows self.old.state (Move kind word to) self.new.state) }
+        ensures room { IsRoomier self.old.rooms self.new.rooms }
     {
         match kind {
             LinkKind::Short => linking::move_link(&mut self.short, &mut self.moves, word, to),
@@ -67,7 +69,7 @@ impl Finalizers {
         }
     }
 
-    /// The target of a link.
+    /// The target of a word's link.
     pub fn target(&self, kind: LinkKind, word: Addr) -> Option<Addr>
         ensures { result ≡ get (links_of self.now.state kind) word }
     {
@@ -77,7 +79,7 @@ impl Finalizers {
         }
     }
 
-    /// How many links of a kind there are.
+    /// The number of links of one kind.
     pub fn links(&self, kind: LinkKind) -> u64
         ensures { result ≡ len (links_of self.now.state kind) }
     {

@@ -1,4 +1,4 @@
-//! Why a call is refused.
+//! The errors that calls return.
 
 ghost use Rattle.std.specs.Prelude.{◌≡◌};
 
@@ -8,16 +8,16 @@ use thiserror::Error;
 /// Why a call of `Finalizers` was refused. A refused call changes nothing.
 #[derive(Clone, Copy, Debug, PartialEq, Eq, Error)]
 pub enum Refused {
-    /// Zero is no object, and no word.
+    /// Zero is neither an object nor a word.
     #[error("zero is no object, and no word")]
     Zero,
-    /// 2^48 registrations have been numbered.
+    /// All 2^48 registration numbers are used up.
     #[error("2^48 registrations have been numbered")]
     Exhausted,
     /// There are 2^32 of this kind already.
     #[error("there are 2^32 of this kind already")]
     Full,
-    /// An allocation failed. Returned only where no other cause of the call stands.
+    /// Out of memory. Returned only if no other cause of refusal applies.
     #[error("out of memory")]
     NoMemory,
     /// The entry isn't held.

@@ -15,16 +15,16 @@ use crate::registering;
 use fz_model::{Addr, Old, Registration};
 
 impl Finalizers {
-    /// Registers a finalizer of an object, in the place of the one that it has; returns the number of the registration and what was replaced.
+    /// Registers a finalizer for an object, in place of the registration that it may have, and returns the registration number and what was replaced.
     ///
-    /// Refusals, in their order: `Zero` where the object is 0, `Exhausted` after 2^48 numbers, `Full` where 2^32 others are registered, `NoMemory`.
+    /// Fails with, in this order: `Zero` if the object is 0, `Exhausted` after 2^48 numbers, `Full` if 2^32 others are registered, `NoMemory`.
     pub fn register(
         &mut self,
         object: Addr,
         finalizer: Finalizer,
     ) -> Result<(u64, Option<Old>), Refused>
         ensures judged { IsJudgedOrLacks (register_causes (table_of self.old.state finalizer.kind) self.old.next_number object) result }
-        // Only an object that isn't registered in the table of its kind can want memory, and only where no room is left.
+        // Only an object that isn't in the table of the kind can run out of memory, and only if no room is reserved.
         ensures fresh { IfErr result (λ r. r ≡ Refused.NoMemory → get (table_of self.old.state finalizer.kind) object ≡ None) }
         ensures wanting { IfErr result (λ r. r ≡ Refused.NoMemory → registration_room self.old.rooms finalizer.kind ≡ 0) }
         ensures refused { OnErr result (self.new.state ≡ self.old.state) }
@@ -41,7 +41,7 @@ impl Finalizers {
         }
     }
 
-    /// Refuses what `register` refuses of an object and a kind, whatever memory there is.
+    /// Checks an object and a kind as `register` does, apart from memory.
     pub fn check(&self, object: Addr, kind: Kind) -> Result<(), Refused>
         ensures judged { IsJudgedBy (register_causes (table_of self.now.state kind) self.now.next_number object) result }
     {
@@ -52,7 +52,7 @@ impl Finalizers {
         }
     }
 
-    /// Removes an object's registration; returns its procedure and client data.
+    /// Removes an object's registration, and returns its procedure and client data, if it was registered.
     pub fn unregister(&mut self, object: Addr) -> Option<Old>
         ensures answer { result ≡ old_in_either self.old.registrations self.old.late object }
         ensures follows { Follows self.old.state (Unregister object) self.new.state }
@@ -62,7 +62,7 @@ impl Finalizers {
         old.or(late_old)
     }
 
-    /// An object's registration. Its kind is that of its table: an unreachable one is normal there.
+    /// An object's registration. Its kind is the one in its table: `Normal` for one of kind `Unreachable`.
     pub fn registration(&self, object: Addr) -> Option<Registration>
         ensures { result ≡ registered self.now.state object }
     {
@@ -82,7 +82,7 @@ impl Finalizers {
         None
     }
 
-    /// How many objects are registered.
+    /// The number of registered objects.
     pub fn registrations(&self) -> u64
         ensures { result ≡ len self.now.registrations + len self.now.late }
     {

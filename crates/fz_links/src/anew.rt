@@ -21,7 +21,7 @@ pub(crate) fn list_all(links: &IndexMap<Addr, Addr, AddressHasher>, list: &mut V
     }
 }
 
-/// Inserts the listed links except one into an empty table, which has room for them. Afterwards there is one place less.
+/// Inserts the listed links except one into an empty table, which has room for them. Afterwards it has one free place less.
 pub(crate) fn insert_but(
     links: &mut IndexMap<Addr, Addr, AddressHasher>,
     list: &mut Vec<(Addr, Addr)>,

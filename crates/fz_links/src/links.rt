@@ -1,4 +1,4 @@
-//! The links of one kind.
+//! The disappearing links of one kind.
 
 ghost use Rattle.std.specs.Prelude.{◌≡◌, ◌≤◌, ◌<◌, ◌+◌, ◌↔◌, ℕ, Bool, [], ◌∷◌, nat_eq, if◌then◌else◌, length, vec_capacity, min, ◌^◌, IsTrue, IsFalse, IsSome, None, IfOk, IfErr, OnOk, OnErr};
 ghost use Rattle.std.specs.FinMap.{get, insert, remove, len, empty, contains_key, from_entries};
@@ -19,18 +19,18 @@ use indexmap::map::Entry;
 use std::alloc::Global;
 use std::marker::Model;
 
-/// Disappearing links by the addresses of their words, each with the start of its target, at most 2^32 at one time.
+/// Disappearing links by the addresses of their words, each with the address of its target, at most 2^32 at one time.
 ///
-/// One value holds short links or long ones; which they are is for the pass that clears their words (gc.h).
+/// A value contains either short or long links; the pass that clears their words decides which (gc.h).
 ///
-/// A link that leaves a group of the table which has overflowed leaves no free place there until the table is built anew. So a sixteenth of the table is
-/// kept for moves, and the room for new links doesn't count it.
+/// Removing a link from a group of the table that has overflowed frees no place until the table is rebuilt. So a sixteenth of the table is reserved for
+/// moves, and isn't counted as room for new links.
 pub struct Links {
     entries: IndexMap<Addr, Addr, AddressHasher>,
     room: usize,
 }
 
-// Written out: who owns links then drops it by one call that is proved here, not field by field at each way out of a function.
+// Written by hand, so that the owner drops it by one proved call, not field by field at each exit of a function.
 impl Drop for Links {
     fn drop(self) {
         let Links {
@@ -66,7 +66,7 @@ impl Links {
         }
     }
 
-    /// Makes room for `more` further links. `NoMemory` where there is less room, and the memory for it can't be had.
+    /// Reserves room for `more` further links. Fails with `NoMemory` if there is less room, and memory for it can't be allocated.
     pub fn reserve(&mut self, more: usize) -> Result<(), Refusal>
         ensures refused { IfErr result (λ r. r ≡ Refusal.NoMemory) }
         ensures wanting { OnErr result (self.old.room < more) }
@@ -83,7 +83,7 @@ impl Links {
         Ok(())
     }
 
-    /// Gives back the memory that the links and their moves don't need. What can't be made smaller for want of memory stays as it is.
+    /// Frees memory that the links and their moves don't need. If a smaller table can't be allocated, the old one stays.
     pub fn shrink(&mut self)
         ensures same { self.new.links ≡ self.old.links }
         ensures order { self.new.order ≡ self.old.order }
@@ -93,9 +93,9 @@ impl Links {
         self.room = room_in(&self.entries, 0);
     }
 
-    /// Registers a link, or gives a registered one a new target.
+    /// Registers a link, or replaces the target of an existing one.
     ///
-    /// Refuses a new link alone: with `TableFull` when 65,536 others are registered, then with `NoMemory` when there is no room left and none can be had.
+    /// Only a new link can fail: with `TableFull` if 65,536 others are registered, then with `NoMemory` if it needs room that can't be allocated.
     #[tactic(auto, using(fz_table::proofs::Entries::place_within))]
     pub fn register(&mut self, link: Addr, target: Addr) -> Result<LinkAnswer, Refusal>
         ensures judged { IsJudgedOrLacks (full self.old.links link ∷ []) result }
@@ -115,7 +115,7 @@ impl Links {
 
     /// Registers a link, as `register` does, but up to 2^32.
     ///
-    /// Refused `NoMemory` when no room is left for a new link and none can be had.
+    /// Fails with `NoMemory` if a new link needs room that can't be allocated.
     pub fn register_checked(&mut self, link: Addr, target: Addr) -> Result<LinkAnswer, Refusal>
         requires place { IsFalse (lacks_place self.old.links link) }
         ensures refused { IfErr result (λ r. r ≡ Refusal.NoMemory) }
@@ -134,7 +134,7 @@ impl Links {
         self.put(link, target)
     }
 
-    /// Registers a link, for which room was made if it is new.
+    /// Registers a link. A new link requires reserved room.
     fn put(&mut self, link: Addr, target: Addr) -> Result<LinkAnswer, Refusal>
         requires place { IsFalse (lacks_place self.old.links link) }
         ensures refused { IfErr result (λ r. r ≡ Refusal.NoMemory) }
@@ -165,9 +165,9 @@ impl Links {
         known
     }
 
-    /// Moves a link with its target to another word. `NoMemory` when there is no room left for the new word and none can be had.
+    /// Moves a link to another word; its target stays the same. Fails with `NoMemory` if the new word needs room that can't be allocated.
     ///
-    /// The answers are tested in this order: `NotFound`, `Success` where the words are one, `Duplicate`, and `Success` once it is moved.
+    /// The results are tested in this order: `NotFound`, `Success` if the words are the same, `Duplicate`, `Success` after the move.
     pub fn move_link(&mut self, link: Addr, new: Addr) -> Result<MoveAnswer, Refusal>
         ensures refused { IfErr result (λ r. r ≡ Refusal.NoMemory) }
         ensures fresh { OnErr result (IsSome (get self.old.links link) × (get self.old.links new ≡ None)) }
@@ -185,7 +185,7 @@ impl Links {
         if link == new {
             return Ok(MoveAnswer::Success);
         }
-        // Room comes first, so that a refused move leaves the link where it was. The new link goes last, so that place holds.
+        // Room is reserved first, so that a failed move leaves the link where it was. The new link is inserted last, so that the reserved place stays valid.
         let Entry::Vacant(room) = self.entries.entry(new)? else {
             return Ok(MoveAnswer::Duplicate);
         };
@@ -195,16 +195,16 @@ impl Links {
         Ok(MoveAnswer::Success)
     }
 
-    /// Moves a link with its target to another word, as `move_link` does, but takes no memory.
+    /// Moves a link to another word, as `move_link` does, but takes no memory.
     ///
-    /// The list, which is empty before and after, has room for every link. Where the places that are kept for moves are used up, all links are put there,
-    /// and the table is built anew in the memory that it has. That brings these places back, so the moves of as many links take time by their number.
+    /// The list is empty before and after, and has room for every link. If the places reserved for moves are used up, all links are moved to the list, and
+    /// the table is rebuilt in the memory that it has. This frees the places again, so n moves of n links take time proportional to n.
     pub fn move_within(&mut self, link: Addr, new: Addr, list: &mut Vec<(Addr, Addr)>) -> MoveAnswer
         requires empty { list.old.items ≡ [] }
         requires list { len self.old.links ≤ vec_capacity list.old }
         ensures answer { result ≡ move_answer self.old.links link new }
         ensures moved { self.new.links ≡ moved_to self.old.links link new (get self.old.links link) }
-        // Only a new link uses room.
+        // Only a new link uses reserved room.
         ensures room { self.new.room ≡ self.old.room }
         ensures empty { list.new.items ≡ [] }
         ensures list { vec_capacity list.old ≤ vec_capacity list.new }
@@ -252,7 +252,7 @@ impl Links {
         self.entries.get(&link).copied()
     }
 
-    /// How many links are registered.
+    /// The number of links.
     pub fn len(&self) -> usize
         ensures count { result ≡ len self.now.links }
         ensures limit { result ≤ MOST_ENTRIES }
@@ -267,7 +267,7 @@ impl Links {
         self.entries.is_empty()
     }
 
-    /// All links with their targets, each once, in an order that stays as long as nothing changes.
+    /// All links with their targets, each once. The order stays the same until the links change.
     pub fn iter(&self) -> Pairs<'_, Addr, Addr>
         ensures all { from_entries result ≡ self.now.links }
         ensures once { IsDistinct nat_eq (keys_of result) }
@@ -278,13 +278,13 @@ impl Links {
         Pairs::of(self.entries.iter())
     }
 
-    /// Removes the links for which the test of link and target holds. It is asked once of each link.
+    /// Removes the links for which the test returns true. The test is called once for each link.
     pub fn drop_where<F: Fn(Addr, Addr) -> bool>(&mut self, f: F)
         requires { F.IsAlwaysCallable f }
         ensures dropped { (test : ℕ → ℕ → Bool) → ComputesTest (F.post f) test → self.new.links ≡ without test self.old.links }
         ensures room { self.old.room ≤ self.new.room }
     {
-        // From the back, since the last link takes the place of one that goes; by places, so that nothing is hashed.
+        // From the back, since the last link moves to the place of a removed one; by index, so that nothing is hashed.
         let mut place = self.entries.len();
         while place > 0 {
             place -= 1;
@@ -297,7 +297,7 @@ impl Links {
         self.room = room_in(&self.entries, self.room);
     }
 
-    /// Whether there are as many links as there can be, and the link isn't one.
+    /// Whether there are as many links as there can be, and the link isn't one of them.
     pub fn lacks_place(&self, link: Addr) -> bool
         ensures { result ≡ lacks_place self.now.links link }
     {
@@ -312,7 +312,7 @@ impl Links {
     }
 }
 
-/// How many places a table of so many links keeps for their moves: a sixteenth of all.
+/// How many places a table with this many links keeps free for moves: a sixteenth of all.
 fn spare_for(links: usize) -> usize
     ensures few { result ≤ links }
     ensures some { 0 < links → 0 < result }
@@ -320,7 +320,7 @@ fn spare_for(links: usize) -> usize
     links.div_ceil(15)
 }
 
-/// How many more entries a map takes before it asks for memory.
+/// How many more entries fit into a map without allocating.
 fn spare_of(entries: &IndexMap<Addr, Addr, AddressHasher>) -> usize
     ensures spare { result ≡ spare entries.now }
     ensures unique { IsUnique nat_eq entries.now }
@@ -328,7 +328,7 @@ fn spare_of(entries: &IndexMap<Addr, Addr, AddressHasher>) -> usize
     entries.capacity() - entries.len()
 }
 
-/// The room of a table: what it has spare but for a sixteenth of all its places, and no less than what was promised.
+/// The room of a table for new links: its free places except a sixteenth of all, but at least what was reserved.
 fn room_in(entries: &IndexMap<Addr, Addr, AddressHasher>, promised: usize) -> usize
     requires { promised ≤ spare entries.now }
     ensures kept { promised ≤ result }
@@ -338,7 +338,7 @@ fn room_in(entries: &IndexMap<Addr, Addr, AddressHasher>, promised: usize) -> us
     spare_of(entries).saturating_sub(kept).max(promised)
 }
 
-/// So much room, or what is spare if that is less.
+/// This much room, but at most the free places.
 fn room_within(entries: &IndexMap<Addr, Addr, AddressHasher>, room: usize) -> usize
     ensures least { result ≡ min room (spare entries.now) }
     ensures within { result ≤ spare entries.now }
@@ -348,7 +348,7 @@ fn room_within(entries: &IndexMap<Addr, Addr, AddressHasher>, room: usize) -> us
     room.min(spare_of(entries))
 }
 
-/// The answer to the registering of a link.
+/// The result of registering a link.
 fn answer_of(known: bool) -> LinkAnswer
     ensures { result ≡ (if known then LinkAnswer.Duplicate else LinkAnswer.Success) }
 {

@@ -1,4 +1,5 @@
--- The numbers by which C knows what is asked.
+-- The numbers of the questions in C.
+-- code: fz_machine/src/question.rt
 use Rattle.std.specs.Prelude.{ℕ}
 use Rattle.fz_machine.specs.declared.question.Ask.{Ask}
 use Rattle.fz_machine.specs.declared.question.Ask.TheVariants.{IsMarked, MarkChildren, MarkOthers, Mark, MarkAlone, Clear, IsHolderMarked}

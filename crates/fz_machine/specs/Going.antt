@@ -1,4 +1,5 @@
--- The parts of a machine, as the steps of a pass see them.
+-- The parts of a machine that the steps of a pass use.
+-- code: fz_machine/src/asking.rt, reserving.rt
 use Rattle.std.specs.Prelude.{◌≡◌, ℕ, ◌+◌, ◌≤◌, None}
 use Rattle.std.specs.FinMap.{get, len}
 use Rattle.fz_model.specs.declared.kinds.LinkKind.{LinkKind}
@@ -9,7 +10,7 @@ use Rattle.fz_machine.specs.Walks.{Walk}
 abbrev pub going : View → Walk → Going
 going finalizers walk = record { finalizers = finalizers.state; kept = walk.kept; left = walk.left }
 
--- a list of this many items has room for all registrations, and for all links of each kind
+-- a list with this room can contain all registrations, and all links of each kind
 pub record HasRoom (s : State) (room : ℕ) : Type 0 where
   pub registrations : len s.registrations + len s.late ≤ room
   pub short : len s.short ≤ room
@@ -21,10 +22,10 @@ pub record HasRoomForMore (s : State) (registrations shorts longs room : ℕ) : 
   pub short : len s.short + limited shorts ≤ room
   pub long : len s.long + limited longs ≤ room
 
--- a new registration finds no room on the list
+-- a new registration has no room in the list
 abbrev pub LacksToRegister : State → ℕ → ℕ → Type 0
 LacksToRegister s object room = (registered s object ≡ None) × (room ≤ len s.registrations + len s.late)
 
--- a new link finds no room on the list
+-- a new link has no room in the list
 abbrev pub LacksToLink : State → LinkKind → ℕ → ℕ → Type 0
 LacksToLink s kind word room = (get (links_of s kind) word ≡ None) × (room ≤ len (links_of s kind))

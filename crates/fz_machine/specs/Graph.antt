@@ -1,4 +1,5 @@
--- A host's graph, and what an honest host does that is asked one thing about it: what the trait `Host` of fz_pass asks of hosts that can be called.
+-- A host's graph, and how an honest host responds to each question about it: as the trait `Host` of fz_pass requires of hosts that can be called.
+-- code: fz_machine/src/question.rt; fz_pass/src/host.rt
 use Rattle.std.specs.Prelude.{◌≡◌, ◌<◌, ◌^◌, ℕ, Bool, true, false, Option, Some, None, IsTrue}
 use Rattle.std.specs.FinMap.{get, contains_key}
 use Rattle.std.specs.Option.{option_map_or}
@@ -11,10 +12,10 @@ use Rattle.fz_machine.specs.declared.question.Ask.{Ask}
 use Rattle.fz_machine.specs.declared.question.Ask.TheVariants.{IsMarked, MarkChildren, MarkOthers, Mark, MarkAlone, Clear, IsHolderMarked}
 
 pub record Graph : Type 0 where
-  pub objects : Map Object  -- by their starts
+  pub objects : Map Object  -- by address
   pub marked : ℕ → Bool
 
--- marking is asked for only of the graph's objects, and while all that marked objects lead to is marked
+-- only objects of the graph are marked, and only while everything that marked objects reach is marked
 abbrev pub CanMark : Graph → ℕ → Type 0
 CanMark g object = IsTrue (contains_key g.objects object) × IsClosed g.objects g.marked
 
@@ -27,20 +28,20 @@ MayAsk MarkAlone object g = CanMark g object × IsLastToMark g.objects g.marked 
 MayAsk Clear word g = Unit {0}
 MayAsk IsHolderMarked word g = Unit {0}
 
--- where nothing is asked, nothing is owed
+-- if nothing is asked, nothing is required
 abbrev pub MayBeAsked : Option Ask → ℕ → Graph → Type 0
 MayBeAsked None subject g = Unit {0}
 MayBeAsked (Some ask) subject g = MayAsk ask subject g
 
--- these came to the marks, and no others where the marking is exact
+-- these were added to the marks; if marking is exact, nothing else was added
 abbrev pub Gains : Type 0 → Graph → Graph → (ℕ → Type 0) → Type 0
 Gains Exact old new gained = (new.objects ≡ old.objects) × Marks Exact old.objects old.marked new.marked gained
 
--- whether the object that has the word is marked
+-- whether the object that contains the word is marked
 abbrev pub is_holder_marked : Map Object → (ℕ → Bool) → ℕ → Bool
 is_holder_marked objects marked word = option_map_or marked (points objects word) false
 
--- what an honest host answers, and the graph after it. Where something is to be done, any answer will do
+-- what an honest host answers, and the graph afterwards; for a command any answer is accepted
 abbrev pub Answers : Type 0 → Ask → ℕ → Graph → Bool → Graph → Type 0
 Answers Exact IsMarked object old answer new = (answer ≡ old.marked object) × (new ≡ old)
 Answers Exact MarkChildren object old answer new = Gains Exact old new (IsLeadingBut old.objects false object)
@@ -50,18 +51,18 @@ Answers Exact MarkAlone object old answer new = Gains Exact old new (λ a. a ≡
 Answers Exact Clear word old answer new = new ≡ record old { objects = written word 0 old.objects }
 Answers Exact IsHolderMarked word old answer new = (answer ≡ is_holder_marked old.objects old.marked word) × (new ≡ old)
 
--- a host owes an answer only where it may be asked; where nothing is asked, nothing changes
+-- the host is bound only if the question may be asked; if nothing is asked, nothing changes
 abbrev pub IsHonest : Type 0 → Option Ask → ℕ → Graph → Bool → Graph → Type 0
 IsHonest Exact (Some ask) subject old answer new = MayAsk ask subject old → Answers Exact ask subject old answer new
 IsHonest Exact None subject old answer new = new ≡ old
 
--- where a pass may begin: marking is done, and what is registered and linked to are objects of the graph
+-- when a pass may begin: marking is complete, and registered objects and targets of links are objects of the graph
 pub record MayBegin (s : State) (g : Graph) : Type 0 where
   pub registered : AreRegistered g.objects s.registrations
   pub late : AreRegistered g.objects s.late
   pub short : AreTargets g.objects s.short
   pub long : AreTargets g.objects s.long
-  pub zero : points g.objects 0 ≡ None  -- a word that was cleared points to nothing
+  pub zero : points g.objects 0 ≡ None  -- a cleared word points to nothing
   pub closed : IsClosed g.objects g.marked
-  pub births : (a : ℕ) (o : Object) → get g.objects a ≡ Some o → o.birth ≡ 0  -- no host is asked for them
+  pub births : (a : ℕ) (o : Object) → get g.objects a ≡ Some o → o.birth ≡ 0  -- no host is asked for births
   pub starts : (a : ℕ) → IsTrue (contains_key g.objects a) → a < 2 ^ 64  -- they are addresses

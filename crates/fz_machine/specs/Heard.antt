@@ -1,4 +1,5 @@
--- What holds of a pass whatever the host answers: it ends, and is made of calls of the finalizers.
+-- What holds of a pass whatever the host answers: it ends, and consists of calls of the finalizers.
+-- code: fz_machine/src/law.rt
 use Rattle.std.specs.Prelude.{◌≡◌, ◌⊎◌, ℕ, ◌+◌, ◌*◌, ◌≤◌, Bool, List, length}
 use Rattle.std.specs.FinMap.{len}
 use Rattle.fz_finalizers.specs.Promises.{Past, IsReached}
@@ -6,25 +7,25 @@ use Rattle.fz_finalizers.specs.States.{State}
 use Rattle.fz_machine.specs.declared.pass.Next.{Next}
 use Rattle.fz_machine.specs.Machines.{Machine, IsBegun, GoesTo, IsAbandoned}
 
--- a number of answers was heard since a pass began, no more to a question than it asked for
+-- this many answers were processed since a pass began, for each question no more than it asked for
 pub data Hears (begun : Machine) : Machine → ℕ → Type 0 where
   Begun : Hears begun begun 0
   Goes : {m new : Machine} {next : Next} {n : ℕ} (answers : List Bool) → length answers ≤ m.asked → GoesTo m answers new next → Hears begun m n → Hears begun new (n + length answers)
 
--- six phases go over registrations, and three over the links of each kind
+-- six phases process registrations, and three phases process the links of each kind
 abbrev pub most_answers : State → ℕ
 most_answers s = 6 * (len s.registrations + len s.late) + 3 * (len s.short + len s.long)
 
 abbrev pub PassesEnd : Type 0
 PassesEnd = (old begun m : Machine) (n : ℕ) → IsBegun old begun → Hears begun m n → n ≤ most_answers old.finalizers.state
 
--- calls lead to the state, and of these no other takes and ends than those of a past
+-- calls lead to the state, and they take and finish no more than the given history
 pub record IsCalled (past : Past) (s : State) : Type 0 where
   pub later : Past
   pub reached : IsReached s later
   pub taken : later.taken ≡ past.taken
   pub finished : later.finished ≡ past.finished
 
--- calls lead through a pass, and to where one is abandoned
+-- calls lead through a pass, and to the state after one is abandoned
 abbrev pub PassesAreCalls : Type 0
 PassesAreCalls = (old new : Machine) (past : Past) → IsReached old.finalizers.state past → IsBegun old new ⊎ (((answers : List Bool) × (next : Next) × GoesTo old answers new next) ⊎ IsAbandoned old new) → IsCalled past new.finalizers.state

@@ -1,4 +1,5 @@
--- What phases go over: links and registrations.
+-- The items that phases process: links and registrations.
+-- code: fz_machine/src/item.rt, listing.rt
 use Rattle.std.specs.Prelude.{◌≡◌, ℕ, ◌+◌, ◌*◌, ◌^◌, List, ◌++◌, map, nat_eq}
 use Rattle.std.specs.List.{IsDistinct}
 use Rattle.std.specs.List.Sorted.{IsPermutation, IsNonDecreasingBy}
@@ -14,7 +15,7 @@ use Rattle.fz_machine.specs.declared.item.Item.{Item}
 abbrev pub of_link : ℕ × ℕ → Item
 of_link e = record { object = e.1; word = e.0; kind = Normal; turn = 0 }
 
--- a registration that doesn't come late, and one that does
+-- a registration of another kind than `Unreachable`, and one of kind `Unreachable`
 abbrev pub of_other : ℕ × Registration → Item
 of_other e = record { object = e.0; word = 0; kind = of_table e.1.kind; turn = e.1.rank }
 
@@ -29,15 +30,15 @@ AreEntriesOf m es = (from_entries es ≡ m) × IsDistinct nat_eq (keys_of es)
 abbrev pub AreLinks : Map ℕ → List Item → Type 0
 AreLinks links items = (es : List (ℕ × ℕ)) × AreEntriesOf links es × (items ≡ map of_link es)
 
--- the items are the registrations, those that come late behind the others
+-- the items are the registrations, those of kind `Unreachable` after the others
 abbrev pub AreObjects : Map Registration → Map Registration → List Item → Type 0
 AreObjects registrations late items =
     (es : List (ℕ × Registration)) × (ls : List (ℕ × Registration)) × AreEntriesOf registrations es × AreEntriesOf late ls × (items ≡ map of_other es ++ map of_late ls)
 
--- its place among items: by turn, then object
+-- an item's sort key: position in queue order, then address
 abbrev pub place_of : Item → ℕ
 place_of item = item.turn * 2 ^ 64 + item.object
 
--- the same items, by their places
+-- the same items, sorted by this key
 abbrev pub AreInTurn : List Item → List Item → Type 0
 AreInTurn items ordered = IsPermutation items ordered × IsNonDecreasingBy place_of ordered

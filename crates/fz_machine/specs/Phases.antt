@@ -1,4 +1,5 @@
--- The phases of a pass: each goes over a list, with one question an item.
+-- The phases of a pass: each processes a list, with one question for each item.
+-- code: fz_machine/src/phase.rt, listing.rt
 use Rattle.std.specs.Prelude.{◌≡◌, ℕ, Bool, true, false, not, if◌then◌else◌, List, Option, Some, None}
 use Rattle.std.specs.FinMap.{remove}
 use Rattle.fz_finalizers.specs.declared.kinds.Kind.{Kind}
@@ -27,21 +28,21 @@ next_phase LongWords = Some ShortHolders
 next_phase ShortHolders = Some LongHolders
 next_phase LongHolders = None
 
--- what marks the children of an unmarked object, by its kind
+-- the command that marks the children of an unmarked object, by its kind
 abbrev pub child_ask : Kind → Option Ask
 child_ask Normal = Some MarkChildren
 child_ask IgnoreSelf = Some MarkOthers
 child_ask NoOrder = None
 child_ask Unreachable = Some MarkChildren
 
--- what marks a picked object; one that comes late waits for its phase
+-- the command that marks a queued object; one of kind `Unreachable` waits for its phase
 abbrev pub pick_ask : Kind → Option Ask
 pick_ask Normal = Some MarkAlone
 pick_ask IgnoreSelf = Some MarkAlone
 pick_ask NoOrder = Some Mark
 pick_ask Unreachable = None
 
--- what a phase asks of an item
+-- what a phase asks about an item
 abbrev pub asks : Phase → Item → Option Ask
 asks ShortTargets item = Some IsMarked
 asks ShortWords item = Some Clear
@@ -71,7 +72,7 @@ subject LongWords item = item.word
 subject ShortHolders item = item.word
 subject LongHolders item = item.word
 
--- whether the next phase goes over the item too, by the answer: over what isn't marked
+-- whether the next phase processes the item, too, given the answer: it does if the object isn't marked
 abbrev pub keeps : Phase → Item → Bool → Bool
 keeps ShortTargets item answer = not answer
 keeps ShortWords item answer = false
@@ -92,7 +93,7 @@ without_short s word = record s { short = remove s.short word }
 abbrev without_long : State → ℕ → State
 without_long s word = record s { long = remove s.long word }
 
--- what becomes of the finalizers: a cleared link goes, and one whose holder isn't marked; a picked object is queued
+-- how the finalizers change: a cleared link is removed, and so is one whose containing object isn't marked; a picked object is queued
 abbrev pub after : Phase → Item → Bool → State → State
 after ShortTargets item answer s = s
 after ShortWords item answer s = without_short s item.word
@@ -107,7 +108,7 @@ after LongWords item answer s = without_long s item.word
 after ShortHolders item answer s = if answer then s else without_short s item.word
 after LongHolders item answer s = if answer then s else without_long s item.word
 
--- the list that a phase goes over, by what the phase before kept
+-- the list that a phase processes, given what the previous phase kept
 abbrev pub Lists : Phase → State → List Item → List Item → Type 0
 Lists ShortTargets s kept items = AreLinks s.short items
 Lists ShortWords s kept items = items ≡ kept

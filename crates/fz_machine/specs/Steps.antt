@@ -1,4 +1,5 @@
--- How a pass goes on with answers: what it asks next, and how it ends.
+-- How a pass proceeds with answers: what it asks next, and how it ends.
+-- code: fz_machine/src/asking.rt, going_on.rt
 use Rattle.std.specs.Prelude.{◌≡◌, ◌≤◌, ◌<◌, Bool, false, if◌then◌else◌, List, [], ◌∷◌, ◌++◌, map, take, length, slice_get, Option, Some, None, is_some, All}
 use Rattle.fz_finalizers.specs.States.{State}
 use Rattle.fz_machine.specs.declared.item.Item.{Item}
@@ -7,13 +8,13 @@ use Rattle.fz_machine.specs.declared.question.Question.{Question}
 use Rattle.fz_machine.specs.declared.question.TheConstants.{BATCH}
 use Rattle.fz_machine.specs.Phases.{next_phase, asks, subject, keeps, after, Lists}
 
--- a phase under way: the finalizers, the items that are kept for the next phase, and those that are left
+-- a phase in progress: the finalizers, the items kept for the next phase, and the remaining ones
 pub record Going : Type 0 where
   pub finalizers : State
   pub kept : List Item
   pub left : List Item
 
--- the answer about the first item that is left
+-- the effect of the answer about the first remaining item
 abbrev pub stepped : Phase → Bool → Going → List Item → Going
 stepped phase answer g [] = g
 stepped phase answer g (item ∷ left) = record {
@@ -25,12 +26,12 @@ stepped phase answer g (item ∷ left) = record {
 abbrev pub step : Phase → Bool → Going → Going
 step phase answer g = stepped phase answer g g.left
 
--- answers about the first items, one after another
+-- the effect of answers about the first items, one after another
 abbrev pub steps : Phase → List Bool → Going → Going
 steps phase [] g = g
 steps phase (answer ∷ answers) g = steps phase answers (step phase answer g)
 
--- past the items of which nothing is asked
+-- skipping the items about which nothing is asked
 abbrev pub skipped : Phase → List Item → Going → Going
 skipped phase [] g = g
 skipped phase (item ∷ left) g = if is_some (asks phase item) then g else skipped phase left (step phase false g)
@@ -44,13 +45,13 @@ pub record Begins (phase : Phase) (old new : Going) : Type 0 where
   pub none : new.kept ≡ []
   pub lists : Lists phase old.finalizers old.kept new.left
 
--- on to the first phase with something to ask, or to the end
+-- proceeding to the first phase with something to ask, or to the end
 pub data GoesOn : Phase → Going → Option Phase → Going → Type 0 where
   Asks : {phase : Phase} {g : Going} (item : Item) (left : List Item) → (skip phase g).left ≡ item ∷ left → GoesOn phase g (Some phase) (skip phase g)
   Turns : {phase next : Phase} {g h k : Going} {last : Option Phase} → (skip phase g).left ≡ [] → next_phase phase ≡ Some next → Begins next (skip phase g) h → GoesOn next h last k → GoesOn phase g last k
   Ends : {phase : Phase} {g : Going} → (skip phase g).left ≡ [] → next_phase phase ≡ None → GoesOn phase g None (skip phase g)
 
--- a question about the first items that are left: as many as it can be about, of which the same is asked
+-- a question about the first remaining items: as many as fit, about which the same is asked
 pub record IsQuestion (phase : Phase) (left : List Item) (q : Question) : Type 0 where
   pub some : 0 < q.count
   pub few : q.count ≤ BATCH

@@ -1,4 +1,5 @@
--- What contracts see of a list that a phase goes over: the items that are kept, those that are left, and for how many there is room.
+-- The model of a list that a phase processes: the kept items, the remaining ones, and for how many there is room.
+-- code: fz_machine/src/walk.rt
 use Rattle.std.specs.Prelude.{◌≡◌, ℕ, zero, suc, List, refl}
 use Rattle.std.specs.Coded.{Coded, code_by, coded×, coded_ℕ, coded_list}
 use Rattle.fz_finalizers.specs.declared.kinds.Kind.{Kind}

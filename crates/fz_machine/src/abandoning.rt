@@ -1,4 +1,4 @@
-//! Passes that are ended before their end.
+//! Ending a pass early.
 
 ghost use Rattle.std.specs.Prelude.{◌≡◌, None, OnOk, OnErr, IfErr};
 ghost use Rattle.fz_machine.specs.Machines.{IsAbandoned};
@@ -8,11 +8,11 @@ use crate::machine::Machine;
 use crate::refused::Refused;
 
 impl Machine {
-    /// Ends an open pass before its end. What it has queued stays queued; an object that it hasn't queued stays registered, and a link whose removal
-    /// waits for an answer stays too.
+    /// Ends an open pass early. What it has queued stays queued. An object that it hasn't queued stays registered, and so does a link whose removal waits for
+    /// an answer.
     ///
-    /// The host reclaims nothing until its next pass has ended: what is registered and what links lead to are still objects. Refused `NoPass` where
-    /// none is open.
+    /// The host may reclaim nothing before its next pass has ended: registered objects and targets of links still have to exist. Fails with `NoPass` if no
+    /// pass is open.
     pub fn abandon(&mut self) -> Result<(), Refused>
         ensures refused { OnErr result ((self.old.phase ≡ None) × (self.new ≡ self.old)) }
         ensures cause { IfErr result (λ r. r ≡ NoPass) }

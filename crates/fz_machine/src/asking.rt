@@ -11,7 +11,7 @@ use crate::walk::Walk;
 use fz_finalizers::{Finalizers, Kind};
 use fz_model::LinkKind;
 
-/// Does what an answer about an item wants of the finalizers.
+/// Carries out what an answer about an item implies for the finalizers.
 fn act(finalizers: &mut Finalizers, phase: Phase, item: Item, yes: bool)
     ensures { finalizers.new.state ≡ after phase item yes finalizers.old.state }
 {
@@ -38,7 +38,7 @@ fn act(finalizers: &mut Finalizers, phase: Phase, item: Item, yes: bool)
     }
 }
 
-/// Goes on with the answer about the first item that is left.
+/// Processes the answer about the first remaining item.
 fn step(finalizers: &mut Finalizers, walk: &mut Walk, phase: Phase, item: Item, yes: bool)
     requires first { walk.old.left ≡ item ∷ drop 1 walk.old.left }
     ensures stepped { going finalizers.new walk.new ≡ step phase yes (going finalizers.old walk.old) }
@@ -48,7 +48,7 @@ fn step(finalizers: &mut Finalizers, walk: &mut Walk, phase: Phase, item: Item, 
     walk.pass_on(item, phase.keeps(&item, yes));
 }
 
-/// Goes on with answers about the first items that are left, one after another.
+/// Processes answers about the first remaining items, one after another.
 pub(crate) fn hear(finalizers: &mut Finalizers, walk: &mut Walk, phase: Phase, answers: &[bool])
     ensures heard { going finalizers.new walk.new ≡ steps phase answers.now (going finalizers.old walk.old) }
     ensures room { walk.new.room ≡ walk.old.room }
@@ -61,7 +61,7 @@ pub(crate) fn hear(finalizers: &mut Finalizers, walk: &mut Walk, phase: Phase, a
     }
 }
 
-/// Goes past the items of which nothing is asked.
+/// Skips items about which nothing is asked.
 pub(crate) fn skip(finalizers: &mut Finalizers, walk: &mut Walk, phase: Phase)
     ensures skipped { going finalizers.new walk.new ≡ skip phase (going finalizers.old walk.old) }
     ensures room { walk.new.room ≡ walk.old.room }

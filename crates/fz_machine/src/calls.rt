@@ -7,7 +7,7 @@ ghost use Rattle.fz_finalizers.specs.Causes.{finish_causes, link_causes, move_ca
 ghost use Rattle.fz_finalizers.specs.Follows.{Follows, Register, Unregister, Link, Unlink, Move, QueueAll, Take, TakeFinished, Finish};
 ghost use Rattle.fz_finalizers.specs.Ready.{QueuesTables};
 ghost use Rattle.fz_finalizers.specs.Registering.{old_in_either};
-ghost use Rattle.fz_finalizers.specs.States.{HasRooms, links_of, room_of, registration_room, table_of};
+ghost use Rattle.fz_finalizers.specs.States.{HasRooms, IsRoomier, links_of, room_of, registration_room, table_of};
 ghost use Rattle.fz_machine.specs.Causes.{IsJudgedBy, IsJudgedOrLacks};
 ghost use Rattle.fz_machine.specs.Going.{HasRoomForMore};
 ghost use Rattle.fz_machine.specs.Machines.{IsIdle, Takes};
@@ -141,6 +141,8 @@ impl Machine {
         ensures refused { OnErr result ((self.new.phase ≡ self.old.phase) × (self.new.finalizers.state ≡ self.old.finalizers.state)) }
         ensures answer { IfOk result (λ answer. answer ≡ move_answer (links_of self.old.finalizers.state kind) word to) }
         ensures follows { OnOk result (IsIdle self.new × Follows self.old.finalizers.state (Move kind word to) self.new.finalizers.state) }
+        // Only a new link uses room.
+        ensures room { IsRoomier self.old.finalizers.rooms self.new.finalizers.rooms }
     {
         self.check()?;
         match self.finalizers.move_link(kind, word, to) {

@@ -1,4 +1,4 @@
-//! From question to question.
+//! From one question to the next.
 
 ghost use Rattle.std.specs.Prelude.{◌≡◌, ◌≤◌, ◌<◌, ◌∷◌, [], map, take, length, slice_get, is_some, All, Some, IsTrue, IsFalse};
 ghost use Rattle.fz_machine.specs.declared.item.Item.{Item};
@@ -16,7 +16,7 @@ use crate::walk::Walk;
 use fz_finalizers::Finalizers;
 use fz_model::Addr;
 
-/// Goes on to the first phase with something to ask, and returns it, or to the end.
+/// Proceeds to the first phase with something to ask, and returns it, or to the end of the pass.
 pub(crate) fn go_on(finalizers: &mut Finalizers, walk: &mut Walk, phase: Phase) -> Option<Phase>
     requires room { HasRoom finalizers.old.state walk.old.room }
     ensures goes { GoesOn phase (going finalizers.old walk.old) result (going finalizers.new walk.new) }
@@ -36,7 +36,7 @@ pub(crate) fn go_on(finalizers: &mut Finalizers, walk: &mut Walk, phase: Phase) 
     }
 }
 
-/// Whether a phase asks this of an item.
+/// Whether a phase asks this about an item.
 #[tactic(auto, using(crate::proofs::Numbered::same_ask))]
 fn asks_same(phase: Phase, item: &Item, ask: Ask) -> bool
     ensures same { IsTrue result → asks phase item.now ≡ Some ask }
@@ -48,7 +48,7 @@ fn asks_same(phase: Phase, item: &Item, ask: Ask) -> bool
     }
 }
 
-/// The objects or words of the first items, of which a phase asks the same, and how many they are.
+/// The objects or words of the first items about which a phase asks the same, and their number.
 fn gather(phase: Phase, left: &[Item], ask: Ask) -> ([Addr; BATCH], usize)
     ensures few { (result.1 ≤ BATCH) × (result.1 ≤ length left.now) }
     ensures alike { All (λ item. asks phase item ≡ Some ask) (take result.1 left.now) }
@@ -70,7 +70,7 @@ fn gather(phase: Phase, left: &[Item], ask: Ask) -> ([Addr; BATCH], usize)
     (about, count)
 }
 
-/// What a phase asks about the first items that are left, of the first of which it asks something.
+/// What a phase asks about the first remaining items. Requires that it asks something about the first of them.
 pub(crate) fn question(phase: Phase, left: &[Item]) -> Question
     requires { (item : Item) × (slice_get left.now 0 ≡ Some item) × IsTrue (is_some (asks phase item)) }
     ensures { IsQuestion phase left.now result }

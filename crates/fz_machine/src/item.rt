@@ -1,4 +1,4 @@
-//! What the phases of a pass go over.
+//! The items that the phases of a pass process.
 
 ghost use Rattle.std.specs.Prelude.{◌≡◌};
 ghost use Rattle.fz_machine.specs.Items.{of_link, of_other, of_late};
@@ -6,16 +6,16 @@ ghost use Rattle.fz_machine.specs.Items.{of_link, of_other, of_late};
 use fz_finalizers::Kind;
 use fz_model::{Addr, Registration};
 
-/// A link or a registration, as a phase goes over it.
+/// A link or a registration, as a phase processes it.
 #[derive(Clone, Copy, Debug, PartialEq, Eq)]
 pub struct Item {
     /// The registered object, or the target of the link.
     pub object: Addr,
-    /// The word of the link; 0 of a registration.
+    /// The word of the link; 0 for a registration.
     pub word: Addr,
-    /// The kind of the registration; `Normal` of a link.
+    /// The kind of the registration; `Normal` for a link.
     pub kind: Kind,
-    /// Its turn among those that are picked: the rank of the registration, and 256 more for those that come late; 0 of a link.
+    /// The position in queue order: the rank of the registration, plus 256 for the kind `Unreachable`; 0 for a link.
     pub turn: u16,
 }
 
@@ -32,7 +32,7 @@ impl Item {
         }
     }
 
-    /// An object's registration, which doesn't come late.
+    /// An object's registration, of a kind other than `Unreachable`.
     pub(crate) fn of_other(object: Addr, registration: &Registration) -> Item
         ensures { result ≡ of_other (object, registration.now) }
     {
@@ -44,7 +44,7 @@ impl Item {
         }
     }
 
-    /// An object's registration, which comes late.
+    /// An object's registration, of kind `Unreachable`.
     pub(crate) fn of_late(object: Addr, registration: &Registration) -> Item
         ensures { result ≡ of_late (object, registration.now) }
     {

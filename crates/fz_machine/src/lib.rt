@@ -1,4 +1,4 @@
-//! Finalizers whose pass asks: for a host that answers questions, as one in C.
+//! Finalizers whose pass asks questions: for a host that answers them, such as one in C.
 #![tactic(auto)]
 
 mod abandoning;

@@ -1,4 +1,4 @@
-//! The lists that phases go over.
+//! The lists that phases process.
 
 ghost use Rattle.std.specs.Prelude.{◌≡◌, ◌≤◌, ◌<◌, ◌+◌, ◌++◌, ◌∷◌, [], ℕ, List, map, length, vec_len, vec_capacity};
 ghost use Rattle.std.specs.FinMap.{len};
@@ -14,7 +14,7 @@ use crate::walk::Walk;
 use fz_finalizers::Finalizers;
 use fz_model::LinkKind;
 
-/// Puts an item on the list, which has room for it.
+/// Appends an item to the list, which has room for it.
 fn put(items: &mut Vec<Item>, item: Item)
     requires room { vec_len items.old < vec_capacity items.old }
     ensures listed { items.new.items ≡ items.old.items ++ item ∷ [] }
@@ -23,7 +23,7 @@ fn put(items: &mut Vec<Item>, item: Item)
     let _ = items.push(item);
 }
 
-/// Puts all links of a kind on the list, which has room for them.
+/// Appends all links of one kind to the list, which has room for them.
 fn list_links(finalizers: &Finalizers, kind: LinkKind, items: &mut Vec<Item>)
     requires empty { items.old.items ≡ [] }
     requires room { len (links_of finalizers.now.state kind) ≤ vec_capacity items.old }
@@ -35,7 +35,7 @@ fn list_links(finalizers: &Finalizers, kind: LinkKind, items: &mut Vec<Item>)
     }
 }
 
-/// Puts all registrations that don't come late on the list, which has room for them.
+/// Appends all registrations of kinds other than `Unreachable` to the list, which has room for them.
 fn list_others(finalizers: &Finalizers, items: &mut Vec<Item>)
     requires empty { items.old.items ≡ [] }
     requires room { len finalizers.now.registrations ≤ vec_capacity items.old }
@@ -48,7 +48,7 @@ fn list_others(finalizers: &Finalizers, items: &mut Vec<Item>)
     }
 }
 
-/// Puts all registrations that come late behind what is on the list, which has room for them.
+/// Appends all registrations of kind `Unreachable` to the list, which has room for them.
 fn list_late(finalizers: &Finalizers, items: &mut Vec<Item>)
     requires room { vec_len items.old + len finalizers.now.late ≤ vec_capacity items.old }
     ensures listed { (es : List (ℕ × Registration)) × AreEntriesOf finalizers.now.late es × (items.new.items ≡ items.old.items ++ map of_late es) }
@@ -84,7 +84,7 @@ fn walk_objects(finalizers: &Finalizers, walk: &mut Walk)
     *walk = Walk::of(items);
 }
 
-/// Lists what a phase goes over.
+/// Lists what a phase processes.
 pub(crate) fn begin(finalizers: &Finalizers, walk: &mut Walk, phase: Phase)
     requires room { HasRoom finalizers.now.state walk.old.room }
     ensures begins { Begins phase (going finalizers.now walk.old) (going finalizers.now walk.new) }

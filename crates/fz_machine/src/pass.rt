@@ -15,19 +15,19 @@ use crate::question::Question;
 use crate::refused::Refused;
 use fz_finalizers::Passed;
 
-/// What comes next in a pass.
+/// What a pass returns next.
 #[derive(Clone, Copy, Debug, PartialEq, Eq)]
 pub enum Next {
-    /// A question, whose answers are handed to the next call of `Machine::next`.
+    /// A question. Its answers are the argument of the next call of `Machine::next`.
     Asks(Question),
     /// The pass has ended.
     Ended(Passed),
 }
 
 impl Machine {
-    /// Opens a pass, once the host's marking is done, and returns its number. The first call of `next` takes no answers.
+    /// Opens a pass, and returns its number. The host's marking has to be complete. The first call of `next` gets no answers.
     ///
-    /// Refused `PassOpen`.
+    /// Fails with `PassOpen`.
     pub fn begin(&mut self) -> Result<u64, Refused>
         ensures judged { IsJudgedBy self.old.phase [] result }
         ensures refused { OnErr result (self.new ≡ self.old) }
@@ -45,10 +45,11 @@ impl Machine {
         Ok(number)
     }
 
-    /// Takes the answers to the question before, of `IsMarked` and `IsHolderMarked` one for each that it was about, and any of the others; and tells what
-    /// comes next. Where there are fewer answers, the others are asked for again. Takes time by the question and its answers.
+    /// Processes the answers to the last question, and returns what comes next: another question or the end. `IsMarked` and `IsHolderMarked` need a true
+    /// answer for each item; commands need an answer too, whose value is ignored. Items left unanswered are asked again. Takes time proportional to the
+    /// question and its answers.
     ///
-    /// It takes no memory. Refused `NoPass` where none is open.
+    /// Takes no memory. Fails with `NoPass` if no pass is open.
     pub fn next(&mut self, answers: &[bool]) -> Result<Next, Refused>
         ensures refused { OnErr result ((self.old.phase ≡ None) × (self.new ≡ self.old)) }
         ensures cause { IfErr result (λ r. r ≡ NoPass) }

@@ -8,36 +8,36 @@ use crate::question::Ask;
 use fz_finalizers::Kind;
 use fz_model::Addr;
 
-/// A phase of a pass. It goes over a list, with one question an item.
+/// A phase of a pass. It processes a list, with one question for each item.
 #[derive(Clone, Copy, Debug, PartialEq, Eq)]
 pub enum Phase {
-    /// Which targets of short links are marked.
+    /// Asks which targets of short links are marked.
     ShortTargets,
-    /// The words of short links to other targets are cleared.
+    /// Clears the words of short links to unmarked targets.
     ShortWords,
-    /// Which registered objects are marked.
+    /// Asks which registered objects are marked.
     Objects,
-    /// The children of the others are marked, by their kinds.
+    /// Marks the children of the unmarked ones, depending on their kinds.
     Children,
-    /// Which of these objects are marked now.
+    /// Asks which of these objects are marked now.
     Again,
-    /// The others are picked, by rank, then object, but for those that come late.
+    /// Queues those that are still unmarked, by rank, then address, except those of kind `Unreachable`.
     Picks,
-    /// Which of those that come late are marked now.
+    /// Asks which objects of kind `Unreachable` are marked now.
     LateAgain,
-    /// The others are picked.
+    /// Queues those that are still unmarked.
     LatePicks,
-    /// Which targets of long links are marked.
+    /// Asks which targets of long links are marked.
     LongTargets,
-    /// The words of long links to other targets are cleared.
+    /// Clears the words of long links to unmarked targets.
     LongWords,
-    /// Whether the objects that have the words of short links are marked.
+    /// Asks whether the objects that contain the words of short links are marked.
     ShortHolders,
-    /// The same of long links.
+    /// The same for long links.
     LongHolders,
 }
 
-/// What marks the children of an unmarked object.
+/// The command that marks the children of an unmarked object.
 fn child_ask(kind: Kind) -> Option<Ask>
     ensures { result ≡ child_ask kind }
 {
@@ -48,7 +48,7 @@ fn child_ask(kind: Kind) -> Option<Ask>
     }
 }
 
-/// What marks a picked object.
+/// The command that marks a queued object.
 fn pick_ask(kind: Kind) -> Option<Ask>
     ensures { result ≡ pick_ask kind }
 {
@@ -60,7 +60,7 @@ fn pick_ask(kind: Kind) -> Option<Ask>
 }
 
 impl Phase {
-    /// The phase after it.
+    /// The following phase.
     pub(crate) fn next(self) -> Option<Phase>
         ensures { result ≡ next_phase self }
     {
@@ -80,7 +80,7 @@ impl Phase {
         }
     }
 
-    /// What it asks of an item.
+    /// What it asks about an item.
     pub(crate) fn asks(self, item: &Item) -> Option<Ask>
         ensures { result ≡ asks self item.now }
     {
@@ -108,7 +108,7 @@ impl Phase {
         }
     }
 
-    /// Whether the next phase goes over the item too, by the answer.
+    /// Whether the next phase processes the item, too, given the answer.
     pub(crate) fn keeps(self, item: &Item, yes: bool) -> bool
         ensures { result ≡ keeps self item.now yes }
     {

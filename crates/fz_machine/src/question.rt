@@ -1,11 +1,11 @@
-//! What a pass asks.
+//! The questions of a pass.
 
 ghost use Rattle.std.specs.Prelude.{◌≡◌};
 ghost use Rattle.fz_machine.specs.Asks.{number_of};
 
 use fz_model::Addr;
 
-/// The most objects or words of a question.
+/// The largest number of objects or words of one question.
 pub const BATCH: usize = 16;
 
 /// What is asked about each object or word of a question.
@@ -13,22 +13,22 @@ pub const BATCH: usize = 16;
 pub enum Ask {
     /// Is the object marked?
     IsMarked,
-    /// Mark the object's children, and all that they lead to.
+    /// Mark the object's children, and everything that they reach.
     MarkChildren,
-    /// The same, but not what words lead to that point to the object itself.
+    /// The same, but ignore words that point to the object itself.
     MarkOthers,
-    /// Mark the object and all that it leads to: it has an entry from now on.
+    /// Mark the object and everything that it reaches: it is queued from now on.
     Mark,
-    /// Mark the object, where all else that it leads to is marked: it has an entry from now on.
+    /// Mark the object; everything else that it reaches is marked already. It is queued from now on.
     MarkAlone,
-    /// Write zero to the word: its link is gone.
+    /// Set the word to zero: its link is removed.
     Clear,
-    /// Is the object that has the word marked?
+    /// Is the object that contains the word marked?
     IsHolderMarked,
 }
 
 impl Ask {
-    /// The number by which C knows it.
+    /// The number of the question in C.
     pub fn number(self) -> u8
         ensures { result ≡ number_of self }
     {
@@ -44,7 +44,7 @@ impl Ask {
     }
 }
 
-/// A question about the first `count` of these objects or words, to be answered or carried out one after another.
+/// A question about the first `count` of these objects or words. They are answered or carried out one after another.
 #[derive(Clone, Copy, Debug, PartialEq, Eq)]
 pub struct Question {
     /// What is asked.

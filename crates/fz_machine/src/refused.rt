@@ -1,17 +1,17 @@
-//! Why a call is refused.
+//! The errors that calls return.
 
 use thiserror::Error;
 
 /// Why a call of a machine was refused. A refused call changes nothing.
 #[derive(Clone, Copy, Debug, PartialEq, Eq, Error)]
 pub enum Refused {
-    /// A pass is open, and takes no change but answers.
+    /// A pass is open. Until it ends only answers are accepted.
     #[error("a pass is open")]
     PassOpen,
     /// No pass is open.
     #[error("no pass is open")]
     NoPass,
-    /// The finalizers refuse it.
+    /// The finalizers refused the call.
     #[error("{0}")]
     Finalizers(#[from] fz_finalizers::Refused),
 }

@@ -1,4 +1,5 @@
--- The codes of refusals, and what a call behind a handle answers.
+-- The codes of refusals, and what a call through a handle returns.
+-- code: fz_machine_c/src/codes.rt
 use Rattle.std.specs.Prelude.{◌≡◌, ◌⊎◌, ℕ, Option, Some, None}
 use Rattle.fz_finalizers.specs.declared.refused.Refused as finalizers
 use Rattle.fz_finalizers.specs.declared.refused.Refused.TheVariants.{Zero, Exhausted, Full, NoMemory, NotHeld}
@@ -19,18 +20,18 @@ code_of PassOpen = 6
 code_of NoPass = 7
 code_of (Finalizers r) = code_of_refused r
 
--- a call behind a handle: what it does with the finalizers, or nothing where there are none
+-- a call through a handle: what it does to the finalizers, or nothing if there are none
 abbrev pub Behind : Option Machine → Option Machine → ℕ → Type 0 → (Machine → Machine → Type 0) → Type 0
 Behind (Some old) (Some new) code kept does = does old new
 Behind (Some old) None code kept does = ⊥
 Behind None new code kept does = (new ≡ None) × (code ≡ NOT_OPEN) × kept
 
--- it is done, or refused for the first cause that stands
+-- the call is carried out, or refused for the first cause that applies
 abbrev pub Answers : Option Refused → ℕ → Type 0 → Type 0 → Type 0
 Answers None code done refused = (code ≡ OK) × done
 Answers (Some r) code done refused = (code ≡ code_of r) × refused
 
--- the same of a call that wants memory, which it may lack where no cause stands and this does
+-- the same for a call that may also run out of memory, if no cause applies and Lacks holds
 abbrev pub AnswersOrLacks : Option Refused → ℕ → Type 0 → Type 0 → Type 0 → Type 0
 AnswersOrLacks None code done refused Lacks = ((code ≡ OK) × done) ⊎ ((code ≡ NO_MEMORY) × refused × Lacks)
 AnswersOrLacks (Some r) code done refused Lacks = (code ≡ code_of r) × refused

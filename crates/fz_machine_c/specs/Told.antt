@@ -1,4 +1,5 @@
--- How C's structs and numbers tell what a call answers, and what C's numbers mean.
+-- How C's structs and numbers represent results, and the meaning of C's numbers.
+-- code: fz_machine_c/src/old.rt, registering.rt, linking.rt
 use Rattle.std.specs.Prelude.{◌≡◌, ℕ, zero, suc, Bool, true, false, Option, Some, None}
 use Rattle.fz_model.specs.declared.answers.Old as answers
 use Rattle.fz_model.specs.declared.answers.MoveAnswer.{MoveAnswer}
@@ -28,7 +29,7 @@ kind_of (suc (suc (suc n))) = Unreachable
 abbrev pub finalizer_of : ℕ → ℕ → ℕ → ℕ → Finalizer
 finalizer_of kind proc cd rank = record { kind = kind_of kind; procedure = proc; client_data = cd; rank = rank }
 
--- the kinds of links, and the answers about them
+-- the kinds of links, and the results of calls on links
 abbrev pub link_kind_of : Bool → LinkKind
 link_kind_of true = Long
 link_kind_of false = Short

@@ -1,26 +1,26 @@
-//! The codes that C is answered.
+//! The codes that C gets.
 
 ghost use Rattle.std.specs.Prelude.{◌≡◌};
 ghost use Rattle.fz_machine_c.specs.Codes.{code_of, code_of_refused};
 
 use fz_machine::Refused;
 
-/// What an export answers.
+/// The return type of every export.
 pub type Code = u8;
 
 /// The call was accepted.
 pub(crate) const OK: Code = 0;
 
-/// The handle has nothing.
+/// The handle is empty.
 pub(crate) const NOT_OPEN: Code = 8;
 
-/// The handle has something already.
+/// The handle isn't empty.
 pub(crate) const IS_OPEN: Code = 9;
 
 /// Nothing is left.
 pub(crate) const EMPTY: Code = 10;
 
-/// An allocation failed.
+/// Out of memory.
 pub(crate) const NO_MEMORY: Code = 4;
 
 fn code_of_refused(refused: fz_finalizers::Refused) -> Code

@@ -10,7 +10,7 @@ use crate::codes::{Code, EMPTY, NOT_OPEN, OK, code_of};
 use crate::handle::Handle;
 use std::alloc::Global;
 
-/// An entry, as C has it. A host without births has none in it.
+/// An entry, as C represents it, without a birth.
 #[repr(C)]
 #[derive(Clone, Copy)]
 pub struct Entry {

@@ -11,7 +11,7 @@ mod sessions;
 use std::alloc::Global;
 use std::marker::Model;
 
-/// A boxed session as its pointer, or null where there is none. C starts it as null, and doesn't copy it.
+/// A boxed session as a raw pointer, or null if there is none. C initializes it to null and never copies it.
 #[repr(C)]
 #[derive(Drop)]
 pub struct Handle {
@@ -24,5 +24,5 @@ impl Model for Handle {
     ghost also_owns = { λ h. maybe_owns Behind.the_row h.alloc h.at h.value };
 }
 
-// What a handle owns may go to another thread: `proofs/handle/Handle/TheSendSync/Send.antt`.
+// What a handle owns may be sent to another thread: `proofs/handle/Handle/TheSendSync/Send.antt`.
 unsafe impl Send for Handle {}

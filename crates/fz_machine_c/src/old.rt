@@ -1,9 +1,9 @@
-//! What a registration was that went away.
+//! A registration that was replaced or removed.
 
 ghost use Rattle.std.specs.Prelude.{◌≡◌};
 ghost use Rattle.fz_machine_c.specs.Told.{TellsOld};
 
-/// The procedure and the client data of a registration that went away, and whether there was one.
+/// The procedure and the client data of a registration that was replaced or removed, and whether there was one.
 #[repr(C)]
 #[derive(Clone, Copy)]
 pub struct Old {

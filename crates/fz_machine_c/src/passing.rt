@@ -12,7 +12,7 @@ use crate::handle::Handle;
 use fz_machine::{BATCH, Next};
 use std::alloc::Global;
 
-/// A question, as C has it.
+/// A question, as C represents it.
 #[repr(C)]
 #[derive(Clone, Copy)]
 pub struct Question {
@@ -21,7 +21,7 @@ pub struct Question {
     pub ask: u8,
 }
 
-/// What a pass did.
+/// What a pass has done.
 #[repr(C)]
 #[derive(Clone, Copy)]
 pub struct Passed {
@@ -29,7 +29,7 @@ pub struct Passed {
     pub picked: u64,
 }
 
-/// Whether the bit of this weight is set.
+/// Whether the bit with this weight is set.
 fn is_bit(bits: u64, weight: u64) -> bool
     requires { 0 < weight }
     ensures { result ≡ is_bit bits weight }
@@ -37,7 +37,7 @@ fn is_bit(bits: u64, weight: u64) -> bool
     bits / weight % 2 == 1
 }
 
-/// The bits of answers, from the lowest on.
+/// The answers in a number, from its lowest bit on.
 fn bits_of(bits: u64) -> [bool; BATCH]
     ensures { result ≡ bits_of bits }
 {

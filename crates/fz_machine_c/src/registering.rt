@@ -11,7 +11,7 @@ use crate::old::{Old, Registered};
 use fz_finalizers::{Finalizer, Kind};
 use std::alloc::Global;
 
-/// The kind of a number; what is none of the first three is the last.
+/// The kind with this number. Every number above 2 is `Unreachable`.
 fn kind_of(kind: u8) -> Kind
     ensures { result ≡ kind_of kind }
 {

@@ -1,9 +1,9 @@
-//! What stands behind a handle.
+//! What a handle points to.
 
 use fz_machine::Machine;
 use std::marker::Model;
 
-/// Finalizers whose pass asks.
+/// Finalizers whose pass asks questions.
 pub struct Session {
     pub(crate) machine: Machine,
 }

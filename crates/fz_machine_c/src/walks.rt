@@ -1,4 +1,4 @@
-//! Walks over registrations and links, a part at a time. Nothing changes by them, and a pass may be open.
+//! Iterating over registrations and links, a buffer at a time. This changes nothing, and works while a pass is open.
 
 ghost use Rattle.std.specs.Prelude.{◌≡◌, ◌≤◌, ◌<◌, ◌+◌, length, map, min, take};
 ghost use Rattle.fz_machine_c.specs.Codes.{Behind};
@@ -13,10 +13,10 @@ use fz_finalizers::Finalizers;
 use fz_table::Pairs;
 use std::alloc::Global;
 
-/// How many registrations or links C gets at a time.
+/// The size of the buffers of registrations and links, which one call fills.
 const PART: usize = 64;
 
-/// Registrations of a walk, and how many there are.
+/// The registrations of an iteration, and their number.
 #[repr(C)]
 #[derive(Clone, Copy)]
 pub struct Registrations {
@@ -32,7 +32,7 @@ pub struct Linked {
     pub target: u64,
 }
 
-/// Links of a walk, and how many there are.
+/// The links of an iteration, and their number.
 #[repr(C)]
 #[derive(Clone, Copy)]
 pub struct Links {
@@ -40,7 +40,7 @@ pub struct Links {
     pub count: u64,
 }
 
-/// What the buffer of registrations has before it is filled.
+/// The content of the buffer of registrations before it is filled.
 const NO_REGISTRATION: Registration = Registration {
     object: 0,
     number: 0,
@@ -50,10 +50,10 @@ const NO_REGISTRATION: Registration = Registration {
     rank: 0,
 };
 
-/// What the buffer of links has before it is filled.
+/// The content of the buffer of links before it is filled.
 const NO_LINK: Linked = Linked { word: 0, target: 0 };
 
-/// Writes the next registrations into the buffer, as many as it holds or are left; returns how many.
+/// Writes the next registrations into the buffer, as many as fit or remain. Returns their number.
 fn fill_registrations(
     shown: &Finalizers,
     walk: fz_finalizers::Registrations<'_>,
@@ -74,7 +74,7 @@ fn fill_registrations(
     filled
 }
 
-/// Writes the next links into the buffer, as many as it holds or are left; returns how many.
+/// Writes the next links into the buffer, as many as fit or remain. Returns their number.
 fn fill_links(walk: Pairs<'_, u64, u64>, buffer: &mut [Linked]) -> usize
     ensures count { result ≡ min (length buffer.old) (length walk.entry) }
     ensures filled { take result buffer.new ≡ take result (map link_told walk.entry) }
@@ -91,7 +91,7 @@ fn fill_links(walk: Pairs<'_, u64, u64>, buffer: &mut [Linked]) -> usize
     filled
 }
 
-/// `Finalizers::iter`: the registrations of the walk from a place on, as many as there is room for. A call takes the same time at each place.
+/// `Finalizers::iter`: the registrations of the iteration from an index on, as many as fit. Takes the same time at each index.
 #[unsafe(no_mangle)]
 pub extern "C" fn fz_machine_registrations(
     alloc: Global,
@@ -119,7 +119,7 @@ pub extern "C" fn fz_machine_registrations(
     OK
 }
 
-/// `Finalizers::iter_links`: the links of the walk from a place on, as many as there is room for. A call takes the same time at each place.
+/// `Finalizers::iter_links`: the links of the iteration from an index on, as many as fit. Takes the same time at each index.
 #[unsafe(no_mangle)]
 pub extern "C" fn fz_machine_links(
     alloc: Global,

@@ -1,4 +1,4 @@
-//! What no clause says: that words at equal distances spread over the groups of a map, as `AddressHasher` chooses them.
+//! What no clause states: that words at equal distances spread over the groups of a map, as `AddressHasher` chooses them.
 
 ghost use Rattle.std.specs.Prelude.{◌≡◌, ◌<◌, length};
 
@@ -9,12 +9,12 @@ use std::alloc::{AllocError, Global};
 use std::hash::BuildHasher;
 use std::test::Fail;
 
-/// How many words a group of a map holds, and how many of each are put in before the last one, with which the map is full.
+/// How many words a group of a map has room for, and how many each gets on average before the last ones, with which the map is full.
 const LANES: u8 = 12;
 
 const BEFORE_LAST: usize = 8;
 
-/// The group that a map of so many groups tries first for a word.
+/// The group that a map of this many groups tries first for a word.
 fn own_group(word: Addr, count: usize) -> usize
     requires { 0 < count }
     ensures { result < count }
@@ -23,7 +23,7 @@ fn own_group(word: Addr, count: usize) -> usize
     ((hash ^ (hash >> 32)) & 0xFFFF_FFFF) as usize % count
 }
 
-/// Puts a word into the first group from its own on that isn't full; returns how many full ones it passed.
+/// Inserts a word into the first group, from its own on, that isn't full. Returns how many full groups it passed.
 fn put(groups: &mut [u8], word: Addr) -> usize
     requires { 0 < length groups.old }
     ensures { length groups.new ≡ length groups.old }
@@ -40,7 +40,7 @@ fn put(groups: &mut [u8], word: Addr) -> usize
     count
 }
 
-/// Puts in so many words, each a stride behind the last; returns how many full groups they passed.
+/// Inserts this many words, each a stride after the one before. Returns how many full groups they passed.
 fn put_each(groups: &mut [u8], first: Addr, stride: u64, words: usize) -> usize
     requires { 0 < length groups.old }
     ensures { length groups.new ≡ length groups.old }
@@ -54,7 +54,7 @@ fn put_each(groups: &mut [u8], first: Addr, stride: u64, words: usize) -> usize
     passed
 }
 
-/// Fills a map of so many groups; returns how many full ones the last ninth of the words passed.
+/// Fills a map of this many groups. Returns how many full groups the last ninth of the words passed.
 fn passed_at_last(alloc: Global, stride: u64, count: usize) -> Result<usize, AllocError>
     requires { 0 < count }
 {
@@ -66,7 +66,7 @@ fn passed_at_last(alloc: Global, stride: u64, count: usize) -> Result<usize, All
     Ok(put_each(groups.as_mut_slice(), next, stride, count))
 }
 
-/// At the strides that are powers of two the words of the last ninth pass two full groups on average at the most, in maps of up to 36,864 words.
+/// At strides that are powers of two, the words of the last ninth pass at most two full groups on average, in maps of up to 36,864 words.
 #[test]
 fn words_of_a_full_map_find_their_groups(rt: HostRuntime) -> Result<(), Fail> {
     for power in 0..14u32 {
@@ -80,7 +80,7 @@ fn words_of_a_full_map_find_their_groups(rt: HostRuntime) -> Result<(), Fail> {
     Ok(())
 }
 
-/// Of all strides up to 8,192 words, at most one in a hundred has words that pass more than four on average, in a map of 288 words.
+/// Of all strides up to 8,192 words, at most one in a hundred has words that pass more than four full groups on average, in a map of 288 words.
 #[test]
 fn few_strides_fill_groups_unevenly(rt: HostRuntime) -> Result<(), Fail> {
     let count = 32usize;

@@ -3,7 +3,9 @@
 use crate::equal::must_be;
 use fz_links::Links;
 use fz_model::{Addr, HEAP_START, LinkAnswer, MoveAnswer, Refusal, TABLE_LIMIT};
+use std::alloc::{AllocError, Global};
 use std::process::Abort;
+use std::test::Fail;
 
 #[test]
 fn registers_and_unregisters(rt: HostRuntime) {
@@ -172,4 +174,60 @@ fn stands_a_refused_growth(rt: HostRuntime) {
     }
     must_be(&rt, links.len(), 1_000, "all links");
     must_be(&rt, links.get(90_007), Some(7), "one of the moved links");
+}
+
+/// How far the lengths go at which all links are moved. Up to 1,179,648, as LLVM builds the test, it takes some minutes.
+const POWERS: u32 = 10;
+
+/// Moves a link by a list that has room for all.
+fn move_by(
+    rt: &impl Abort,
+    links: &mut Links,
+    list: &mut Vec<(Addr, Addr)>,
+    link: Addr,
+    new: Addr,
+) {
+    let has_room = list.is_empty() && links.len() <= list.capacity();
+    assert!(rt; has_room, "the list is empty and has room for all links");
+    let moved = links.move_within(link, new, list);
+    must_be(rt, moved, MoveAnswer::Success, "one of all moves");
+}
+
+/// Registers so many links, eight words apart, and moves each once, the last one first. Returns how often their table was built anew: that turns their order,
+/// and nothing else changes the first.
+fn builds_of_moves(rt: &impl Abort, alloc: Global, count: u64) -> Result<u64, AllocError> {
+    let mut links = Links::new(alloc);
+    let mut list = Vec::with_capacity(alloc, count as usize)?;
+    for number in 0..count {
+        let word = HEAP_START.wrapping_add(number.wrapping_mul(8));
+        if !links.lacks_place(word) {
+            let _ = links.register_checked(word, word);
+        }
+    }
+    let mut builds = 0u64;
+    let mut first = links.iter().next();
+    for number in 0..count {
+        let word = HEAP_START.wrapping_add((count - 1 - number).wrapping_mul(8));
+        move_by(rt, &mut links, &mut list, word, word.wrapping_add(1 << 40));
+        let now = links.iter().next();
+        builds = builds.saturating_add((now != first) as u64);
+        first = now;
+    }
+    Ok(builds)
+}
+
+/// As many moves as there are links build the table anew 17 times at the most, at lengths about each capacity, and about those from which it grows.
+#[test]
+fn moves_seldom_build_the_table_anew(rt: HostRuntime) -> Result<(), Fail> {
+    for power in 0..POWERS {
+        let capacity = 9u64 << power;
+        for more in 0..7u64 {
+            let full = builds_of_moves(&rt, rt.alloc(), capacity + more - 3)?;
+            must_be(&rt, full <= 17, true, "few builds at a full table");
+            let grown = capacity - capacity.div_ceil(16) + more - 3;
+            let early = builds_of_moves(&rt, rt.alloc(), grown)?;
+            must_be(&rt, early <= 17, true, "few builds where it grows");
+        }
+    }
+    Ok(())
 }

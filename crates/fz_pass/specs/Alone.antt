@@ -1,4 +1,5 @@
 -- A pass over two tables of which the second is empty.
+-- code: fz_pass/src/law.rt
 use Rattle.std.specs.Prelude.{◌≡◌, ℕ, ◌+◌, ◌++◌, Bool, List, length}
 use Rattle.std.specs.FinMap.{empty, len}
 use Rattle.fz_model.specs.declared.answers.Entry.{Entry}
@@ -16,13 +17,13 @@ alone parts = record { objects = parts.objects; registrations = parts.registrati
 abbrev pub none_late : one.Parts → Parts
 none_late parts = record { objects = parts.objects; registrations = parts.registrations; late = empty; short = parts.short; long = parts.long }
 
--- it decides what a pass over the first table does
+-- it makes the decision of a pass over the first table
 abbrev pub LateAloneDecides : Type 0 → Type 0
 LateAloneDecides Exact =
     (pass first : ℕ) (old : one.Parts) (found : ℕ → Bool) (new : Parts) (queue new_queue : List Entry)
     → DecidesLate Exact pass first (none_late old) found new queue new_queue → DecidesInto Exact pass first old found (alone new) queue new_queue
 
--- where the marking is exact it is, with its picks queued and held, the model's pass
+-- if marking is exact, it is the model's pass, with its picks queued and held
 abbrev pub LateAlonePasses : Core → Type 0
 LateAlonePasses c =
     (found : ℕ → Bool) (new : Parts) (new_queue : List Entry) (reclaimed : ℕ)

@@ -21,7 +21,7 @@ use fz_links::Links;
 use fz_model::Entry;
 use fz_table::Table;
 
-/// Marks what the unmarked objects of both tables lead to.
+/// Marks what the unmarked objects of both tables reach.
 fn mark_led_by_both<H: Host>(host: &mut H, table: &Table, late: &Table)
     requires registered { AreRegistered (H.objects host.old) table.now.registrations }
     requires late { AreRegistered (H.objects host.old) late.now.registrations }
@@ -35,7 +35,7 @@ fn mark_led_by_both<H: Host>(host: &mut H, table: &Table, late: &Table)
     mark_led(host, late);
 }
 
-/// Queues the unmarked objects of both tables, those of the second after the others and only where these don't lead to them.
+/// Queues the unmarked objects of both tables: those of the second table after the others, and only if no other unmarked registered object reaches them.
 fn queue_both<H: Host>(
     host: &mut H,
     table: &mut Table,
@@ -66,16 +66,17 @@ fn queue_both<H: Host>(
     queue_unmarked(host, late, ready, queue, pass, next);
 }
 
-/// Carries out a pass in which the marked objects are those that were found. What is marked after it is kept, and the host reclaims the rest.
+/// Carries out a pass whose found set is the marked objects. Everything marked afterwards is retained, and the host reclaims the rest.
 ///
-/// The order is that of bdwgc's finalize.c. Dead short links are cleared, and go. What unmarked registered objects lead to, by their kinds, is marked.
-/// Those that are still unmarked are picked, by rank, then address: they leave their table, their entries come to the end of the queue, numbered from
-/// `first` on, and they and all that they lead to are marked. Dead long links are cleared, and go; and so do links whose words lie in no marked object.
+/// The order is that of bdwgc's finalize.c. Short links to unmarked objects are cleared and removed. What unmarked registered objects reach, by their kinds,
+/// is marked. Those that are still unmarked are queued, by rank, then address: they leave their table, their entries are appended to the queue with
+/// successive numbers from `first` on, and they and everything that they reach are marked. Long links to unmarked objects are cleared and removed. So are all
+/// links whose words don't lie in a marked object.
 ///
-/// The objects of the second table are registered as normal ones, and come late: they are picked after the others, and only where these don't lead to
+/// Objects of the second table are registered as normal ones, and form a second tier: they are queued after the others, and only if the others don't reach
 /// them (`GC_register_finalizer_unreachable`).
 ///
-/// It takes no memory: the list has room for every registration, and so has the queue.
+/// Takes no memory: both the list and the queue have room for every registration.
 pub fn decide_with_late<H: Host>(
     host: &mut H,
     table: &mut Table,
@@ -93,7 +94,7 @@ pub fn decide_with_late<H: Host>(
     requires normal { AreNormal late.old.registrations }
     requires short { AreTargets (H.objects host.old) short.old.links }
     requires long { AreTargets (H.objects host.old) long.old.links }
-    // A word that was cleared points to nothing.
+    // A cleared word points to nothing.
     requires zero { points (H.objects host.old) 0 ≡ None }
     requires closed { IsClosed (H.objects host.old) (H.marked host.old) }
     requires list { len table.old.registrations + len late.old.registrations ≤ ready.old.room }
@@ -106,10 +107,10 @@ pub fn decide_with_late<H: Host>(
     ensures list { ready.old.room ≤ ready.new.room }
     ensures count { vec_len queue.new + (len table.new.registrations + len late.new.registrations) ≡ vec_len queue.old + (len table.old.registrations + len late.old.registrations) }
     ensures capacity { vec_capacity queue.old ≤ vec_capacity queue.new }
-    // Marked objects stay marked, and what they lead to is marked.
+    // Marked objects stay marked, and everything that they reach is marked.
     ensures marks { (a : ℕ) → IsTrue (H.marked host.old a) → IsTrue (H.marked host.new a) }
     ensures closed { IsClosed (H.objects host.new) (H.marked host.new) }
-    // All else stays.
+    // Everything else is unchanged.
     ensures same { H.is_same host.old host.new }
     ensures table { table.new.registered ≡ record table.old.registered { registrations = table.new.registrations } }
     ensures late { late.new.registered ≡ record late.old.registered { registrations = late.new.registrations } }
@@ -138,7 +139,7 @@ pub fn decide<H: Host>(
     requires registered { AreRegistered (H.objects host.old) table.old.registrations }
     requires short { AreTargets (H.objects host.old) short.old.links }
     requires long { AreTargets (H.objects host.old) long.old.links }
-    // A word that was cleared points to nothing.
+    // A cleared word points to nothing.
     requires zero { points (H.objects host.old) 0 ≡ None }
     requires closed { IsClosed (H.objects host.old) (H.marked host.old) }
     requires list { len table.old.registrations ≤ ready.old.room }
@@ -148,18 +149,18 @@ pub fn decide<H: Host>(
         (parts_of (H.objects host.old) table.old short.old long.old) (H.marked host.old)
         (parts_left (H.objects host.new) (H.marked host.new) table.new short.new long.new)
         queue.old.items queue.new.items }
-    // For a host that marks more, no more is queued than the model queues, and no less kept: as with a second table that is empty.
+    // A host that marks more queues no more than the model, and retains no less: as with an empty second table.
     ensures more { DecidesLate H.is_exact pass first
         (none_late (parts_of (H.objects host.old) table.old short.old long.old)) (H.marked host.old)
         (none_late (parts_left (H.objects host.new) (H.marked host.new) table.new short.new long.new))
         queue.old.items queue.new.items }
     ensures list { ready.old.room ≤ ready.new.room }
-    // There is room for every registration that is left.
+    // There is room for every remaining registration.
     ensures room { vec_len queue.new + len table.new.registrations ≤ vec_capacity queue.new }
-    // Marked objects stay marked, and what they lead to is marked.
+    // Marked objects stay marked, and everything that they reach is marked.
     ensures marks { (a : ℕ) → IsTrue (H.marked host.old a) → IsTrue (H.marked host.new a) }
     ensures closed { IsClosed (H.objects host.new) (H.marked host.new) }
-    // All else stays.
+    // Everything else is unchanged.
     ensures same { H.is_same host.old host.new }
     ensures table { table.new.registered ≡ record table.old.registered { registrations = table.new.registrations } }
 {

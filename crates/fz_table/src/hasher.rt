@@ -4,18 +4,18 @@ ghost use Rattle.fz_table.specs.Hashed.{hash_of, written};
 
 use std::hash::{BuildHasher, Hasher};
 
-/// Hashes addresses so that those which follow one another stand side by side in a map.
+/// Hashes addresses so that successive addresses are in the same or neighbouring groups of a map.
 ///
-/// Four of them share a group of the map, where their lowest bits tell them apart, and the next ones stand in the groups next to it. A full map has nine
-/// addresses a group, and a group holds twelve. So where they go round all groups, each gets eight or twelve; if eight shared a group, some would get sixteen.
-/// Bits from further up are mixed in, so that addresses at any equal distance spread over all groups.
+/// Four addresses share a group of the map, where their lowest bits distinguish them, and the next four share a neighbouring group. A full map has nine
+/// addresses for each group, and a group has room for twelve. So when successive addresses go round all groups, each group gets eight or twelve; if eight
+/// shared a group, some would get sixteen. Higher bits are mixed in, so that addresses at any equal distance are distributed over all groups.
 #[derive(Clone, Copy)]
 pub struct AddressHasher {
     word: u64,
 }
 
 impl AddressHasher {
-    /// A hasher that was given nothing yet.
+    /// A hasher without input.
     pub fn new() -> AddressHasher {
         AddressHasher { word: 0 }
     }
@@ -32,7 +32,7 @@ impl Hasher for AddressHasher {
         (word >> 2) ^ (word << 24)
     }
 
-    /// Takes the eight bytes of an address, and nothing else.
+    /// Takes the eight bytes of an address, and ignores everything else.
     #[inline(always)]
     fn write(&mut self, bytes: &[u8]) {
         if bytes.len() != 8 {

@@ -1,4 +1,4 @@
-//! The table and its calls.
+//! The table of registrations.
 
 ghost use Rattle.std.specs.Prelude.{◌≡◌, ◌+◌, ◌≤◌, ◌<◌, ◌↔◌, cond, nat_eq, length, IsTrue, IsFalse, IfSome, IfErr, OnOk, OnErr};
 ghost use Rattle.std.specs.FinMap.{get, remove, len, empty, from_entries};
@@ -20,13 +20,13 @@ use indexmap::IndexMap;
 use std::alloc::Global;
 use std::marker::Model;
 
-/// The registrations by the starts of their objects, at most 2^32 at one time. Each gets a number, counted from 0.
+/// The registrations by the addresses of their objects, at most 2^32 at one time. Each gets a number, counted from 0.
 pub struct Table {
     entries: IndexMap<Addr, Registration, AddressHasher>,
     next_number: u64,
 }
 
-// Written out: who owns a table then drops it by one call that is proved here, not field by field at each way out of a function.
+// Written by hand, so that the owner drops it by one proved call, not field by field at each exit of a function.
 impl Drop for Table {
     fn drop(self) {
         let Table {
@@ -64,7 +64,7 @@ impl Table {
         }
     }
 
-    /// Makes room for `more` further registrations. `NoMemory` where there is less room, and the memory for it can't be had.
+    /// Reserves room for `more` further registrations. Fails with `NoMemory` if there is less room, and memory for it can't be allocated.
     pub fn reserve(&mut self, more: usize) -> Result<(), Refusal>
         ensures refused { IfErr result (λ r. r ≡ NoMemory) }
         ensures wanting { OnErr result (self.old.room < more) }
@@ -76,7 +76,7 @@ impl Table {
         Ok(())
     }
 
-    /// Gives back the memory that the registrations don't need. What can't be made smaller for want of memory stays as it is.
+    /// Frees memory that the registrations don't need. If a smaller table can't be allocated, the old one stays.
     pub fn shrink(&mut self)
         ensures same { self.new.registered ≡ self.old.registered }
         ensures order { self.new.order ≡ self.old.order }
@@ -84,9 +84,9 @@ impl Table {
         self.entries.shrink_to_fit();
     }
 
-    /// Refuses an object that `register` would refuse for another cause than want of memory.
+    /// Checks that `register` would accept the object, apart from memory.
     ///
-    /// The refusals, in this order: `Exhausted` once 2^48 numbers are given out, `TableFull` when 65,536 other objects are registered.
+    /// Fails with, in this order: `Exhausted` after 2^48 numbers, `TableFull` if 65,536 other objects are registered.
     #[tactic(auto, using(crate::proofs::Entries::place_within))]
     pub fn check(&self, object: Addr) -> Result<(), Refusal>
         ensures judged { IsJudgedBy (register_causes self.now.registrations self.now.next_number object) result }
@@ -103,17 +103,17 @@ impl Table {
         Ok(())
     }
 
-    /// Registers the object's finalizer, with a new number; returns the number and what was replaced.
+    /// Registers the object's finalizer under a new number. Returns the number and what was replaced.
     ///
-    /// The refusals, in this order: `Exhausted` once 2^48 numbers are given out, `TableFull` when 65,536 other objects are registered,
-    /// and `NoMemory` when no room is left for a new object and none can be had. A replacement takes no memory.
+    /// Fails with, in this order: `Exhausted` after 2^48 numbers, `TableFull` if 65,536 other objects are registered, `NoMemory` if a new object needs room
+    /// that can't be allocated. A replacement takes no memory.
     pub fn register(
         &mut self,
         object: Addr,
         finalizer: Finalizer,
     ) -> Result<(u64, Option<Old>), Refusal>
         ensures registers { Registers self.old.registered object finalizer result self.new.registered }
-        // Memory can be lacking only where no room is left.
+        // Only a call without reserved room can run out of memory.
         ensures wanting { IfErr result (λ r. r ≡ NoMemory → self.old.room ≡ 0) }
         ensures room { self.old.room ≤ self.new.room + 1 }
         ensures kept { OnErr result (self.old.room ≤ self.new.room) }
@@ -124,7 +124,7 @@ impl Table {
 
     /// Registers the object's finalizer, as `register` does, but up to 2^32 objects.
     ///
-    /// Refused `NoMemory` when no room is left for a new object and none can be had.
+    /// Fails with `NoMemory` if a new object needs room that can't be allocated.
     pub fn register_checked(
         &mut self,
         object: Addr,
@@ -133,16 +133,16 @@ impl Table {
         requires few { self.old.next_number < COUNT_LIMIT }
         requires place { IsFalse (lacks_place self.old.registrations object) }
         ensures registers { RegistersOrLacks self.old.registered object finalizer result self.new.registered }
-        // Where fewer than 65,536 other objects are registered, this is what `register` does.
+        // If fewer than 65,536 other objects are registered, this is what `register` does.
         ensures within { IsFalse (full self.old.registrations object).0 → Registers self.old.registered object finalizer result self.new.registered }
-        // Memory can be lacking only where no room is left.
+        // Only a call without reserved room can run out of memory.
         ensures wanting { IfErr result (λ r. r ≡ NoMemory → self.old.room ≡ 0) }
         ensures room { self.old.room ≤ self.new.room + 1 }
         ensures kept { OnErr result (self.old.room ≤ self.new.room) }
     {
         let number = self.next_number;
         let registration = registration_of(number, finalizer);
-        // A refused insertion leaves the entries as they were.
+        // A failed insertion leaves the entries unchanged.
         let replaced = self.entries.insert(object, registration)?;
         self.next_number = number + 1;
         Ok((number, replaced.map(pair_of)))
@@ -160,7 +160,7 @@ impl Table {
         self.entries.swap_remove(&object)
     }
 
-    /// Removes the object's registration; returns its procedure and client data.
+    /// Removes the object's registration. Returns its procedure and client data, if it was registered.
     #[inline(always)]
     pub fn remove(&mut self, object: Addr) -> Option<Old>
         ensures answer { result ≡ old_of self.old.registrations object }
@@ -170,7 +170,7 @@ impl Table {
         self.take(object).map(pair_of)
     }
 
-    /// How many objects are registered.
+    /// The number of registered objects.
     pub fn len(&self) -> usize
         ensures count { result ≡ len self.now.registrations }
         ensures limit { result ≤ MOST_ENTRIES }
@@ -185,7 +185,7 @@ impl Table {
         self.entries.is_empty()
     }
 
-    /// All registrations with their objects, each once, in an order that stays while the table does.
+    /// All registrations with their objects, each once. The order stays the same until the table changes.
     pub fn iter(&self) -> Pairs<'_, Addr, Registration>
         ensures all { from_entries result ≡ self.now.registrations }
         ensures once { IsDistinct nat_eq (keys_of result) }
@@ -203,7 +203,7 @@ impl Table {
         self.entries.get(&object).copied()
     }
 
-    /// Goes on with a later number, which is the next that a registration gets.
+    /// Continues with a later number, which the next registration gets.
     pub fn skip_to(&mut self, number: u64)
         requires { self.old.next_number ≤ number }
         ensures skipped { self.new.registered ≡ record self.old.registered { next_number = number } }
@@ -219,7 +219,7 @@ impl Table {
         self.next_number
     }
 
-    /// Whether the table has as many registrations as it can have, and none of the object.
+    /// Whether the table has as many registrations as it can have, and none for the object.
     pub fn lacks_place(&self, object: Addr) -> bool
         ensures { result ≡ lacks_place self.now.registrations object }
     {
@@ -234,7 +234,7 @@ impl Table {
     }
 }
 
-/// What is registered of a finalizer under the number. One that names no rank has rank 0.
+/// The registration of a finalizer under this number. A finalizer without a rank has rank 0.
 fn registration_of(number: u64, finalizer: Finalizer) -> Registration
     ensures { result ≡ registration_of number finalizer }
 {
@@ -247,7 +247,7 @@ fn registration_of(number: u64, finalizer: Finalizer) -> Registration
     }
 }
 
-/// What a registration leaves when it goes.
+/// What is returned of a registration that is replaced or removed.
 fn pair_of(registration: Registration) -> Old
     ensures { result ≡ record { proc = registration.proc; cd = registration.cd } }
 {

@@ -1,4 +1,4 @@
-//! A handle as a pointer, and back.
+//! Conversions between a handle and its pointer.
 
 ghost use Rattle.std.specs.Prelude.{◌≡◌};
 

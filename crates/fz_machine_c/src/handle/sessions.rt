@@ -1,4 +1,4 @@
-//! Sessions come out of handles, and go into them.
+//! Moving sessions out of handles and into them.
 
 ghost use Rattle.std.specs.Prelude.{◌≡◌, Some, None, MatchOption};
 
@@ -19,7 +19,7 @@ impl Handle {
             .into_box()
     }
 
-    /// Puts a session into a handle, which is to be empty.
+    /// Puts a session into an empty handle.
     pub(crate) fn put(&mut self, session: Box<Session, Global>)
         ensures { self.new.value ≡ Some session.value }
     {
