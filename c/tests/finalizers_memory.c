@@ -332,8 +332,10 @@ static void shrinks(void)
 {
     for (uint64_t left = 0; left <= 5000; left = 3 * left + 100) {
         const uint64_t fresh = of_peak(left, left, false, -1), after_peak = of_peak(20000, left, false, -1);
+        const uint64_t shrunk = of_peak(20000, left, true, -1);
         IS(after_peak > 2 * fresh, true);
-        IS(of_peak(20000, left, true, -1) * 2 <= 3 * fresh, true);
+        IS(shrunk * 2 <= 3 * fresh, true);
+        IS(shrunk < after_peak, true);
         for (long granted = 0; granted < 12; granted++)
             IS(of_peak(20000, left, true, granted) <= after_peak, true);
     }
