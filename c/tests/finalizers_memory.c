@@ -301,7 +301,7 @@ static bool finds(uint64_t object)
 }
 
 /* After a peak and a shrink no more bytes are allocated than one and a half times those of a fresh handle. Refused memory, it changes nothing that is seen. */
-static uint64_t of_peak(uint64_t peak, uint64_t left, bool shrinks)
+static uint64_t of_peak(uint64_t peak, uint64_t left, bool shrinks, long granted)
 {
     uint64_t live;
 
@@ -316,14 +316,11 @@ static uint64_t of_peak(uint64_t peak, uint64_t left, bool shrinks)
         OK(derrimas_finalizers_unlink(&finalizers, DERRIMAS_FINALIZERS_SHORT, 8 * n, NULL));
         OK(derrimas_finalizers_unlink(&finalizers, DERRIMAS_FINALIZERS_LONG, 8 * n, NULL));
     }
-    if (shrinks) {
-        first.granted = 0;
+    first.granted = granted;
+    if (shrinks)
         OK(derrimas_finalizers_shrink(&finalizers));
-        first.granted = -1;
-        IS(counted().registrations == left && counted().short_links == left && counted().long_links == left, true);
-        OK(derrimas_finalizers_shrink(&finalizers));
-        IS(counted().registrations == left && counted().short_links == left && counted().long_links == left, true);
-    }
+    first.granted = -1;
+    IS(counted().registrations == left && counted().short_links == left && counted().long_links == left, true);
     live = first.live;
     for (uint64_t n = 1; n <= peak; n++)
         IS(finds(8 * n) == (n <= left), true);
@@ -334,9 +331,13 @@ static uint64_t of_peak(uint64_t peak, uint64_t left, bool shrinks)
 static void shrinks(void)
 {
     for (uint64_t left = 0; left <= 5000; left = 3 * left + 100) {
-        uint64_t fresh = of_peak(left, left, false);
-        IS(of_peak(20000, left, false) > 2 * fresh, true);
-        IS(of_peak(20000, left, true) * 2 <= 3 * fresh, true);
+        const uint64_t fresh = of_peak(left, left, false, -1), after_peak = of_peak(20000, left, false, -1);
+        const uint64_t shrunk = of_peak(20000, left, true, -1);
+        IS(after_peak > 2 * fresh, true);
+        IS(shrunk * 2 <= 3 * fresh, true);
+        IS(shrunk < after_peak, true);
+        for (long granted = 0; granted < 12; granted++)
+            IS(of_peak(20000, left, true, granted) <= after_peak, true);
     }
 }
 
