@@ -24,7 +24,7 @@ An index of the public calls of the libraries for programs: what each does, when
 source. `tests/documents --write` writes this page from the sources, and the gate compares the two.
 
 - A signature leaves out `self`.
-- Errors are listed in the order in which they are tested. Unless its text says otherwise, a call that returns an error has no effect.
+- Errors are listed in the order in which they are tested. A call that returns an error has no effect, except that `alloc_or_collect` may have collected.
 - Unless stated otherwise a call takes O(log n) time, amortized over the growth of tables.
 - `Addr` and `Word` are `u64`. The [last part](#answers) has the fields of what calls take and return.
 - The calls for C are in the headers `derrimas.h` and `derrimas_finalizers.h`, and in the manual pages that `c/install` installs.
