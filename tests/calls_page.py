@@ -22,7 +22,7 @@ GOES_ON = re.compile(r'\?|\.\w+')
 OPENING = '''# The calls
 
 `tests/documents --write` writes this page from the sources, and the gate compares the two. A head leaves out `self`. Refusals stand in their order. A refused
-call changes nothing.
+call changes nothing, but for `alloc_or_collect`, which may have collected.
 
 A call takes constant time, or the logarithm of what it searches, where its text names no other. The growth of a table counts for the calls that filled it.
 `Addr` and `Word` are `u64`. The [last part](#answers) has the fields of what calls take and return.
