@@ -41,8 +41,6 @@ pub fn line(alloc: Global, workers: u64, room: usize) -> Result<(Owner, Vec<Seat
         worker,
         seats: count,
         room,
-        most: usize::MAX,
-        space: usize::MAX,
     };
     Ok((owner, seats))
 }

@@ -1,16 +1,19 @@
 //! The owner's end of the line.
 
-ghost use Rattle.std.specs.Prelude.{◌≡◌, ◌+◌, ◌<◌, ◌≤◌, [], ◌∷◌, ◌++◌, true, IsTrue, IsFalse, length, take, drop, vec_capacity, All, IsPermutation};
-ghost use Rattle.crossbeam_deque.specs.Handles.{worker_view, worker_index, SameWorker};
+ghost use Rattle.std.specs.Prelude.{◌≡◌, ◌+◌, ◌<◌, ◌≤◌, ◌↔◌, [], ◌∷◌, ◌++◌, IsSome, OnOk, OnErr, length, take, drop, vec_capacity, All, IsPermutation};
 ghost use Rattle.fz_line.specs.Views.{sent_limit};
 ghost use Rattle.fz_line.specs.Numbers.{AreNumberedFrom};
 ghost use Rattle.fz_line.specs.States.{IsIdle, taken_by};
 
 use crate::drain::gather;
-use crate::protocol::{LineWorker, Sending, Waiting};
+use crate::protocol::{LineWorker, Sending};
 use crate::seat::Seat;
 use fz_model::Entry;
 use std::marker::Model;
+
+/// A push found no memory. Nothing but such a push makes one.
+#[derive(Drop)]
+pub struct Shortage(());
 
 /// The end of a line at which entries are sent.
 ///
@@ -20,10 +23,6 @@ pub struct Owner {
     pub(crate) worker: LineWorker,
     pub(crate) seats: usize,
     pub(crate) room: usize,
-    /// How many entries wait in the line at most.
-    pub(crate) most: usize,
-    /// How many may be sent before it looks again how many wait.
-    pub(crate) space: usize,
 }
 
 // Written out: who owns an owner then drops it by one call that is proved here, not field by field at each way out of a function.
@@ -33,8 +32,6 @@ impl Drop for Owner {
             worker: _,
             seats: _,
             room: _,
-            most: _,
-            space: _,
         } = self;
     }
 }
@@ -49,7 +46,7 @@ impl Model for Owner {
 
     ghost view = { λ o. owner_state (worker_deque o.worker).0 o.seats o.room (worker_view o.worker).sent (worker_view o.worker).popped };
 
-    ghost invariant = { λ o. IsOwnerEnd o.seats o.worker × (o.room ≤ worker_capacity o.worker) × (o.room ≤ o.most) };
+    ghost invariant = { λ o. IsOwnerEnd o.seats o.worker × (o.room ≤ worker_capacity o.worker) };
 }
 
 impl Owner {
@@ -60,50 +57,37 @@ impl Owner {
         self.seats
     }
 
-    /// From now on an entry is sent only while fewer than `most` wait in the line, or fewer than it has room for. So the line takes no memory for what waits
-    /// beyond that, and gives none back that it took.
-    pub fn bound(&mut self, most: usize)
-        ensures { self.new ≡ self.old }
-    {
-        self.most = most.max(self.room);
-        self.space = 0;
-    }
-
-    /// Sends the entries of the outbox in order; returns how many were sent.
+    /// Sends the entries of the outbox in order; returns how many were sent, and the shortage where these aren't all.
     ///
-    /// It stops early only where as many wait as may, or where there was no memory for the next entry, which is then, with all after it, not sent. As many
-    /// entries as the line was made with room for are always sent. The entries are numbered on from what was sent before, and 2^62 is the most that a line
-    /// is ever sent.
-    pub fn publish(&mut self, outbox: &[Entry]) -> usize
+    /// It stops early only where there was no memory for the next entry, which is then, with all after it, not sent. As many entries as the line was made with
+    /// room for are always sent. The entries are numbered on from what was sent before, and 2^62 is the most that a line is ever sent.
+    pub fn publish(&mut self, outbox: &[Entry]) -> (usize, Option<Shortage>)
         requires numbers { AreNumberedFrom (length self.old.sent) outbox.now }
         requires limit { length self.old.sent + length outbox.now ≤ sent_limit }
-        ensures sent { self.new ≡ record self.old { sent = self.old.sent ++ take result outbox.now } }
-        ensures within { result ≤ length outbox.now }
-        ensures room { result < length outbox.now → self.old.room ≤ length self.new.sent }
+        ensures sent { self.new ≡ record self.old { sent = self.old.sent ++ take result.0 outbox.now } }
+        ensures within { result.0 ≤ length outbox.now }
+        ensures short { IsSome result.1 ↔ (result.0 < length outbox.now) }
+        ensures room { result.0 < length outbox.now → self.old.room ≤ length self.new.sent }
     {
         for (count, &entry) in outbox.iter().enumerate() {
-            if !self.send(entry) {
-                return count;
+            if let Err(shortage) = self.send(entry) {
+                return (count, Some(shortage));
             }
         }
-        outbox.len()
+        (outbox.len(), None)
     }
 
-    /// Sends the entry with the next number, if there is room for it; returns whether there was.
+    /// Sends the entry with the next number, if there is memory for it.
     #[tactic(auto, using(crate::proofs::Steps::sends))]
-    fn send(&mut self, entry: Entry) -> bool
+    fn send(&mut self, entry: Entry) -> Result<(), Shortage>
         requires { (entry.seq ≡ length self.old.sent) × (length self.old.sent < sent_limit) }
-        ensures sent { IsTrue result → self.new ≡ record self.old { sent = self.old.sent ++ entry ∷ [] } }
-        ensures refused { IsFalse result → (self.new ≡ self.old) × (self.old.room ≤ length self.old.sent) }
+        ensures sent { OnOk result (self.new ≡ record self.old { sent = self.old.sent ++ entry ∷ [] }) }
+        ensures refused { OnErr result ((self.new ≡ self.old) × (self.old.room ≤ length self.old.sent)) }
     {
-        if self.space == 0 {
-            self.space = self.most.saturating_sub(waiting(&mut self.worker));
+        match self.worker.push_as::<Sending>(entry) {
+            Ok(()) => Ok(()),
+            Err(_) => Err(Shortage(())),
         }
-        if self.space == 0 || self.worker.push_as::<Sending>(entry).is_err() {
-            return false;
-        }
-        self.space -= 1;
-        true
     }
 
     /// Takes all entries that wait in the line out of it, into `out`, in order.
@@ -127,13 +111,4 @@ impl Owner {
     {
         gather(&mut self.worker, seats, out);
     }
-}
-
-/// How many entries wait in the line, at one moment of the call.
-fn waiting(worker: &mut LineWorker) -> usize
-    requires { (worker_view worker.old).owner ≡ true }
-    ensures same { SameWorker worker.old worker.new × (worker_index worker.new ≡ worker_index worker.old) × (worker_view worker.new ≡ worker_view worker.old) }
-    ensures few { result ≤ length (worker_view worker.old).sent }
-{
-    worker.len_as::<Waiting>()
 }

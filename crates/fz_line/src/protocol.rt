@@ -1,6 +1,6 @@
 //! The rule of the line, over the entries that wait in it and what its owner and its seats know.
 
-use crossbeam_deque::protocol::{Join, Lesson, Outcome, Protocol, Split};
+use crossbeam_deque::protocol::{Join, Outcome, Protocol, Split};
 use crossbeam_deque::{Pass, Stealer, Worker};
 use fz_model::Entry;
 use std::alloc::Global;
@@ -58,15 +58,6 @@ impl Outcome<Entry, View> for Popping {
     ghost then = { GainsPopped };
 
     ghost empty = { KnowsAll };
-}
-
-/// The owner learns how many entries wait: not more than were sent.
-pub(crate) struct Waiting;
-
-impl Lesson<Entry, View> for Waiting {
-    ghost use Rattle.std.specs.Prelude.{◌≤◌, length};
-
-    ghost fact = { λ view waiting. length waiting ≤ length view.sent };
 }
 
 /// The owner gives the first of its lists to a seat, or takes a seat's list in.

@@ -3,7 +3,8 @@
 ghost use Rattle.std.specs.Fn.{FnOnceReturnsAtMut};
 ghost use Rattle.fz_model.specs.declared.call.Call.TheVariants as calls;
 ghost use Rattle.fz_model.specs.Places.{slot_at};
-ghost use Rattle.fz_model.specs.Events.{Make};
+ghost use Rattle.fz_model.specs.Calls.{result_of};
+ghost use Rattle.fz_world.specs.Replies.{Replies};
 ghost use Rattle.fz_world.specs.Retried.{TriesTwice};
 
 use crate::world::World;
@@ -13,8 +14,9 @@ impl World {
     /// Makes an object as `alloc` does. Where there is no space it collects, lets `work` run what became ready, and tries once more. What `work` finishes is
     /// reclaimed by the next collection, and not by this one. Takes time by the heap where it collects.
     ///
-    /// Refusals, in their order: `BadSlot`, `BadSize`, `Exhausted` after 2^48 births, then `CycleOpen` and `Exhausted` of the collection, and `NoSpace` where it
-    /// made none.
+    /// Refusals, in their order: `BadSlot`, `BadSize`, `Exhausted` after 2^48 births; then, where there is no space, `CycleOpen` in an open cycle and
+    /// `Exhausted` at the 2^48th pass. These change nothing. After its collection and `work`, the second try is refused as `alloc` is, most often `NoSpace`; the
+    /// collection stays.
     pub fn alloc_or_collect<F: FnOnce(&mut World)>(
         &mut self,
         frame: u64,
@@ -24,7 +26,7 @@ impl World {
         work: F,
     ) -> Result<(Addr, u64), Refusal>
         requires { F.IsAlwaysCallable work }
-        ensures { TriesTwice (λ mid worked. FnOnceReturnsAtMut F.FnOnce work mid tt worked) (Make (calls.Alloc (slot_at frame slot) size kind)) self.old result self.new }
+        ensures { TriesTwice Replies (λ mid worked. FnOnceReturnsAtMut F.FnOnce work mid tt worked) (calls.Alloc (slot_at frame slot) size kind) self.old (result_of (calls.Alloc (slot_at frame slot) size kind) result) self.new }
     {
         match self.alloc(frame, slot, size, kind) {
             Err(Refusal::NoSpace) => {}
