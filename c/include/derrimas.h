@@ -17,9 +17,10 @@
  * objects that weren't marked, unless a registered one leads to them. The address of a reclaimed object may be used
  * again. An object with an entry is kept, with all that it leads to, until derrimas_finish.
  *
- * A call that can be refused answers a derrimas_code: DERRIMAS_OK, or why it was refused. A refused call changes
- * nothing, and leaves the places for its results as they were. Where several causes stand, it answers the first in the
- * order of the call's comment. What a code means stands beside it below.
+ * A call that can be refused returns a derrimas_code: DERRIMAS_OK, or why it was refused. A refused call changes
+ * nothing, and leaves the places for its results as they were, with two exceptions: derrimas_alloc_or_collect may have
+ * collected, and derrimas_take that returns DERRIMAS_EMPTY has passed over entries. If several errors apply, the first
+ * in the order of the call's comment is returned. What a code means stands beside it below.
  *
  * What the caller owes, since nothing checks C:
  * - A pointer points to a value of its type, which no other thread and no other argument of the call uses. It may be
@@ -27,15 +28,22 @@
  * - A derrimas_world, derrimas_line or derrimas_seat starts as {0}, changes by these calls alone, and isn't copied.
  * - One thread at a time uses a world, a line or a seat, and what one did is visible to the next, as behind one mutex.
  *   That holds of readers too, so none takes a const handle: a call takes the world out of its handle and puts it
- *   back. A second thread without the lock may find none there, and is answered DERRIMAS_NO_WORLD; or both lose. A
+ *   back. A second thread without the lock may find none there, and gets DERRIMAS_NO_WORLD; or both corrupt it. A
  *   line and its seats may be used by different threads at the same time.
- * - No call comes from a signal handler, nor in the forked child of a process with threads.
+ * - No call comes from a signal handler: a call may be half done when a signal comes, and calls use malloc.
+ * - A forked child has copies of all worlds, lines and seats. In the child of a process with threads no call may be
+ *   made. In any other child each copy may be used and destroyed; parent and child then finalize the same objects.
  *
- * What calls cost: a constant time, but for derrimas_collect and derrimas_pause (by what is alive, and a word of bits
- * for each block), derrimas_mark (by its budget), derrimas_alloc (by its words, and by the blocks where it takes a new
- * one), derrimas_next_.. (by the addresses that they pass over), derrimas_count (by the heap) and
- * derrimas_finalize_all. A world takes memory for its heap when it opens, then for its tables as they grow, and 56
- * bytes for each entry that was queued, until derrimas_forget gives back those of the finished ones.
+ * What calls cost: a constant time, with these exceptions. By the heap: derrimas_open, derrimas_begin, derrimas_count,
+ * and the first derrimas_register of a world. By what is alive, and a word of bits for each block: derrimas_collect and
+ * derrimas_pause. By its budget, and the words of what it scans: derrimas_mark. By its words, and by the blocks where it
+ * takes a new one: derrimas_alloc; derrimas_alloc_or_collect adds a collection where there is no space. By the addresses
+ * that they pass over: derrimas_next_object, .._registration and .._link. By the entries in memory: derrimas_forget. By
+ * the logarithm of the entries in memory, and a step for 4,096 finished ones passed over: derrimas_take, .._waiting,
+ * .._hold, .._finish, .._next_held and .._queued. A call that adds to a table or to a line may have to enlarge it, which
+ * takes time by its length, and derrimas_move_link may rebuild its table. derrimas_finalize_all goes over the heap once
+ * for each rank in use. A world takes memory for its heap when it opens, then for its tables as they grow, and 56 bytes
+ * for each entry that was queued, until derrimas_forget gives back those of the finished ones.
  *
  * docs/C.md of the repository says how to link and what is proved, docs/CALLING.md what becomes of each call of gc.h. */
 #ifndef DERRIMAS_H
@@ -53,7 +61,7 @@ extern "C" {
 #define DERRIMAS_VERSION_MINOR 0
 #define DERRIMAS_VERSION_PATCH 0
 
-/* DERRIMAS_NONNULL: which arguments aren't NULL. DERRIMAS_CHECKED: the answer has to be looked at. */
+/* DERRIMAS_NONNULL: which arguments aren't NULL. DERRIMAS_CHECKED: the result has to be looked at. */
 #if defined(__GNUC__)
 #define DERRIMAS_NONNULL(...) __attribute__((nonnull(__VA_ARGS__)))
 #define DERRIMAS_CHECKED __attribute__((warn_unused_result))
@@ -64,7 +72,7 @@ extern "C" {
 
 /* ---- codes, kinds, limits */
 
-/* What a call answers. The codes from 1 to 14 are those of the script format; those from 64 on are of C alone. The
+/* What a call returns. The codes from 1 to 14 are those of the script format; those from 64 on are of C alone. The
  * comments are what derrimas_strerror returns. */
 typedef enum derrimas_code {
     DERRIMAS_OK = 0,             /* the call was accepted */
@@ -174,20 +182,20 @@ typedef struct derrimas_entry {
     uint64_t seq, pass, reg, obj, birth, proc, cd;
 } derrimas_entry;
 
-/* An object that stands in the heap: its address, its size in words, its birth, and whether its words keep nothing. */
+/* An object of the heap: its address, its size in words, its birth, and whether its words keep nothing. */
 typedef struct derrimas_object {
     uint64_t start, size, birth;
     bool atomic;
 } derrimas_object;
 
-/* A registration that stands: the address of its object, its number, procedure and client data, its kind and rank. */
+/* A registration: the address of its object, its number, procedure and client data, its kind and rank. */
 typedef struct derrimas_registration {
     uint64_t object, number, proc, cd;
     derrimas_kind kind;
     uint8_t rank;
 } derrimas_registration;
 
-/* A link that stands: the address of its word, and the address where its target starts. */
+/* A link: the address of its word, and the address where its target starts. */
 typedef struct derrimas_linked {
     uint64_t place, target;
 } derrimas_linked;
@@ -242,13 +250,15 @@ derrimas_code derrimas_close(derrimas_world *world) DERRIMAS_NONNULL(1);
  * up to DERRIMAS_BLOCK_WORDS lies within a block, beside others of its size and kind; a larger one takes blocks of its
  * own, one after another.
  * Refused: DERRIMAS_BAD_KIND, DERRIMAS_NO_WORLD, DERRIMAS_BAD_SLOT, DERRIMAS_BAD_SIZE, DERRIMAS_EXHAUSTED,
- * DERRIMAS_NO_SPACE, DERRIMAS_NO_MEMORY. */
+ * DERRIMAS_NO_SPACE. Never DERRIMAS_NO_MEMORY: derrimas_open took the memory of the heap. */
 DERRIMAS_CHECKED derrimas_code derrimas_alloc(derrimas_world *world, derrimas_slot slot, uint64_t size, derrimas_words words,
                                               derrimas_made *made) DERRIMAS_NONNULL(1);
 
-/* The same; and where there is no space it ends a cycle that is open, makes a whole one, calls `ready` with `data` for
- * the caller to run what became ready (NULL: nothing), and tries once more.
- * Refused: as derrimas_alloc, DERRIMAS_NO_SPACE where that didn't help; and DERRIMAS_EXHAUSTED of passes. */
+/* The same; and where there is no space it is up to three steps. It collects as derrimas_collect does, calls `ready`
+ * with `data` for the caller to run what became ready (NULL: nothing), and tries once more. What `ready` finishes is
+ * reclaimed by the next collection, not by this one. In an open cycle it doesn't collect: derrimas_pause comes first.
+ * Refused: as derrimas_alloc; where there is no space DERRIMAS_CYCLE_OPEN, or DERRIMAS_EXHAUSTED of passes, and nothing
+ * has changed; and as derrimas_alloc at the second try, where the collection and what `ready` did stay done. */
 DERRIMAS_CHECKED derrimas_code derrimas_alloc_or_collect(derrimas_world *world, derrimas_slot slot, uint64_t size,
                                                          derrimas_words words, derrimas_made *made,
                                                          void (*ready)(derrimas_world *world, void *data), void *data)
@@ -298,7 +308,7 @@ derrimas_code derrimas_base(derrimas_world *world, uint64_t word, derrimas_objec
  * `proc` is a number of the caller's, as an index into a table of procedures. `cd` is a word of client data; where it
  * points to an object, that is kept until the entry is finished: the registered object too, which then is never ready.
  * A small number points to nothing as long as it is below DERRIMAS_HEAP_START. An object has one finalizer: a new one,
- * of whichever kind, replaces the old. Where the slot's word is 0 or outside the heap, none is made: the call answers
+ * of whichever kind, replaces the old. Where the slot's word is 0 or outside the heap, none is made: the call returns
  * DERRIMAS_OK, and registered->made is false. `registered` may be NULL.
  *
  * A pass queues the registered objects that it didn't find, but for those to which one of them leads: those wait for a
@@ -334,7 +344,7 @@ static inline derrimas_code derrimas_register_no_order(derrimas_world *world, de
 
 /* Removes the finalizer of the object that starts at the slot's word, if it has one, and tells what it was, in *old,
  * which may be NULL: GC_register_finalizer with no procedure. Where the slot's word is 0 or outside the heap, there is
- * none: the call answers DERRIMAS_OK, and old->was is false. What is in the queue stays there.
+ * none: the call returns DERRIMAS_OK, and old->was is false. What is in the queue stays there.
  * Refused: DERRIMAS_NO_WORLD, DERRIMAS_BAD_SLOT, DERRIMAS_NOT_POINTER, DERRIMAS_NOT_START. */
 derrimas_code derrimas_unregister(derrimas_world *world, derrimas_slot slot, derrimas_old *old) DERRIMAS_NONNULL(1);
 
@@ -389,7 +399,8 @@ derrimas_code derrimas_pause(derrimas_world *world, derrimas_passed *passed) DER
 /* Takes the next entry of the queue into *entry: each entry once, in the queue's order, and none that is finished. The
  * entry holds its object, and what its client data points to, until derrimas_finish. The memory of a finalized object
  * is free after the first collection behind that, if nothing else leads to it.
- * Refused: DERRIMAS_NO_WORLD, DERRIMAS_EMPTY. */
+ * Refused: DERRIMAS_NO_WORLD, DERRIMAS_EMPTY. Where it returns DERRIMAS_EMPTY, or an entry behind finished ones, it has
+ * passed over the finished ones, and derrimas_counts.taken counts those too; so does derrimas_waiting. */
 DERRIMAS_CHECKED derrimas_code derrimas_take(derrimas_world *world, derrimas_entry *entry) DERRIMAS_NONNULL(1, 2);
 
 /* Tells in *waiting whether the queue has an entry that is neither taken nor finished: GC_should_invoke_finalizers.
@@ -411,21 +422,25 @@ derrimas_code derrimas_hold(derrimas_world *world, derrimas_slot slot, const der
 derrimas_code derrimas_finish(derrimas_world *world, const derrimas_entry *entry) DERRIMAS_NONNULL(1, 2);
 
 /* Gives back the memory of entries that are finished; tells in *count how many went. What isn't finished stays, with its
- * place, and is taken, held and finished as ever. It takes no memory. A world that never forgets keeps 56 bytes for each
- * entry ever queued, so a program that runs on calls this after its collections.
+ * place, and is taken, held and finished as ever. All finished ones go, or none, where they are at most one for each 16
+ * that aren't finished: so of 17 entries that stay at most one is finished. It takes no memory. A world that never
+ * forgets keeps 56 bytes for each entry ever queued, so a program that runs on calls this after its collections.
  * Refused: DERRIMAS_NO_WORLD. */
 derrimas_code derrimas_forget(derrimas_world *world, uint64_t *count) DERRIMAS_NONNULL(1, 2);
 
 /* ---- a line, from which workers take entries without a lock
  *
- * Who has the world takes its entries by derrimas_take, and publishes each on a line. Each worker has a seat: it takes
- * entries from the line by derrimas_seat_take, which neither locks nor waits, runs their procedures, and says
- * derrimas_seat_done. Then derrimas_finish, by who has the world, ends the holding. Over all seats each entry is taken
- * once, and each seat takes its entries in the queue's order. A line has no part in a world: it may be destroyed
+ * The owner of the world takes its entries by derrimas_take, and publishes each on a line. Each worker has a seat: it
+ * takes entries from the line by derrimas_seat_take, which neither locks nor waits, runs their procedures, and says
+ * derrimas_seat_done. Then derrimas_finish, by the owner of the world, ends the holding. Over all seats each entry is
+ * taken once, and each seat takes its entries in the queue's order. A line has no part in a world: it may be destroyed
  * before or after. So workers may stop, and start again later with a new line from the next entry on. */
 
 /* Opens a line with a number of seats, 1 to DERRIMAS_MAX_SEATS, none of which is handed out. The first entry that is
- * published has to be the one at the queue's place `first`: 0, or the place at which an earlier line ended.
+ * published has to be the one at the queue's place `first`: 0, or the place at which an earlier line ended. A line knows
+ * no world, so it hands out what was finished before, too: a line opened at 0 has to be given each entry from the first
+ * on. An entry that was finished before its turn is passed over by derrimas_take, but not by a line: derrimas_queued
+ * reads it for derrimas_line_publish, if it isn't forgotten, and a later derrimas_finish returns DERRIMAS_NOT_HELD.
  * Refused: DERRIMAS_HAS_WORLD, DERRIMAS_BAD_COUNT, DERRIMAS_NO_MEMORY. */
 DERRIMAS_CHECKED derrimas_code derrimas_line_open(derrimas_line *line, uint64_t seats, uint64_t first) DERRIMAS_NONNULL(1);
 
@@ -524,12 +539,12 @@ uint64_t derrimas_invoke_finalizers(derrimas_world *world, const derrimas_proc *
     DERRIMAS_NONNULL(1);
 
 /* For a runtime's exit: GC_finalize_all. Takes and runs the entries that wait, as derrimas_invoke_finalizers does.
- * Then it unregisters each object that was registered when it began, by rank, then address, and calls its procedure
- * with an entry whose seq is UINT64_MAX and whose pass is 0: it is no entry of the queue, can't be finished, and
- * nothing was found unreachable. So objects on rings come too, and objects that are in use. While its procedure runs
- * an object is kept by the slot, which is 0 afterwards. What procedures register meanwhile stays registered, unless a
- * collection of theirs finds it: what is queued meanwhile runs at the end. It is no pass: no link is cleared. *ran,
- * which may be NULL, is how many procedures' turns came.
+ * Then it unregisters each object that is registered when these have run, what they registered themselves included, by
+ * rank, then address, and calls its procedure with an entry whose seq is UINT64_MAX and whose pass is 0: it is no entry
+ * of the queue, can't be finished, and nothing was found unreachable. So objects on rings come too, and objects that are
+ * in use. While its procedure runs an object is kept by the slot, which is 0 afterwards. What these procedures register
+ * stays registered, unless a collection of theirs finds it: what is queued meanwhile runs at the end. It is no pass: no
+ * link is cleared. *ran, which may be NULL, is how many procedures' turns came.
  * Refused: DERRIMAS_NO_WORLD, DERRIMAS_BAD_SLOT; nothing ran then. */
 derrimas_code derrimas_finalize_all(derrimas_world *world, derrimas_slot slot, const derrimas_proc *procs, size_t count,
                                     void *data, uint64_t *ran) DERRIMAS_NONNULL(1);

@@ -99,13 +99,13 @@ public:
         return made;
     }
 
-    /* As alloc; where there is no space it collects, calls `ready` with the world, and tries once more. */
+    /* As alloc; where there is no space it collects, calls `ready` with the world, and tries once more. In an open cycle
+     * it throws CycleOpen instead, and nothing has changed. */
     template <typename Ready> made alloc_or_collect(slot to, std::uint64_t size, words kind, Ready ready)
     {
         derrimas_made made;
         derrimas_code code = derrimas_alloc(&handle_, to, size, static_cast<derrimas_words>(kind), &made);
         if (code == DERRIMAS_NO_SPACE) {
-            (void)derrimas_pause(&handle_, nullptr);
             check(derrimas_collect(&handle_, nullptr));
             ready(*this);
             code = derrimas_alloc(&handle_, to, size, static_cast<derrimas_words>(kind), &made);

@@ -28,7 +28,6 @@ derrimas_code derrimas_alloc_or_collect(derrimas_world *world, derrimas_slot slo
 
     if (code != DERRIMAS_NO_SPACE)
         return code;
-    (void)derrimas_pause(world, NULL); /* an open cycle may keep what was dropped since */
     code = derrimas_collect(world, NULL);
     if (code != DERRIMAS_OK)
         return code;

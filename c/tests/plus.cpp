@@ -169,6 +169,9 @@ static void moves_and_scopes()
     }
     v.alloc_or_collect(A, 64, words::atomic, ready);
     IS(called == 2);
+    v.begin();
+    IS(refusal([&] { v.alloc_or_collect(B, 64, words::atomic, ready); }) == "CycleOpen" && called == 2);
+    v.pause();
     w = std::move(v);
     IS(w.next_object(0)->size == 64);
 }

@@ -161,6 +161,7 @@ static void count_and_finish(derrimas_world *world, void *data)
 static void made_or_collected(void)
 {
     derrimas_world w = {0};
+    derrimas_counts before, after;
     unsigned called = 0;
 
     OK(derrimas_open(&w, 1, 1));
@@ -177,10 +178,16 @@ static void made_or_collected(void)
     OK(derrimas_alloc(&w, B, 32, DERRIMAS_SCANNED, NULL));
     OK(derrimas_begin(&w));
     OK(derrimas_set(&w, B, 0));
-    OK(derrimas_alloc_or_collect(&w, B, 32, DERRIMAS_SCANNED, NULL, count_and_finish, &called)); /* the open cycle is ended, which may keep the object, and another made */
-    IS(called, 3);
-    OK(derrimas_begin(&w));
+    OK(derrimas_count(&w, &before));
+    REFUSED(DERRIMAS_CYCLE_OPEN, made, derrimas_alloc_or_collect(&w, B, 32, DERRIMAS_SCANNED, &made, count_and_finish, &called));
+    OK(derrimas_count(&w, &after)); /* nothing has changed, and the cycle is still open */
+    IS(memcmp(&before, &after, sizeof before), 0);
+    IS(called, 2);
+    OK(derrimas_get(&w, B, &word));
+    IS(word, 0);
     OK(derrimas_pause(&w, NULL));
+    OK(derrimas_alloc_or_collect(&w, B, 32, DERRIMAS_SCANNED, NULL, count_and_finish, &called)); /* the pause kept the object that was dropped in its cycle */
+    IS(called, 3);
     IS(derrimas_alloc_or_collect(&w, NO_SLOT, 1, DERRIMAS_SCANNED, NULL, count_and_finish, &called), DERRIMAS_BAD_SLOT);
     IS(called, 3);
     derrimas_destroy(&w);

@@ -8,7 +8,7 @@ use anyhow::Result;
 use fz_finalizers::{Finalizer, Kind, LinkKind, Passed, Root};
 use fz_machine::{BATCH, Machine, Next, Refused};
 
-/// Marks, makes a pass, and reclaims what isn't marked.
+/// A collection: marks, carries out a pass, and reclaims what isn't marked.
 fn collect(heap: &mut Heap, machine: &mut Machine) -> Result<Passed, Refused> {
     heap.mark_roots();
     for sort in [Root::HeldObject, Root::HeldData].iter() {
@@ -18,7 +18,7 @@ fn collect(heap: &mut Heap, machine: &mut Machine) -> Result<Passed, Refused> {
     }
     machine.begin()?;
     let mut answers = [false; BATCH];
-    // A host that answers comes to the end long before.
+    // A host that answers reaches the end long before.
     for _ in 0..u64::MAX {
         match machine.next(&answers)? {
             Next::Asks(question) => answers = heap.answers(&question),

@@ -17,7 +17,7 @@ mod taker;
 pub use crossbeam_deque::Steal;
 pub use duty::Duty;
 pub use opening::{line, retire_all};
-pub use owner::Owner;
+pub use owner::{Owner, Shortage};
 pub use plain_line::PlainLine;
 pub use seat::{Seat, Take};
 pub use taker::{Deque, Front, Taker};

@@ -1,40 +1,37 @@
 //! The owner's end of the line.
 
-ghost use Rattle.std.specs.Prelude.{◌≡◌, ◌+◌, ◌<◌, ◌≤◌, [], ◌∷◌, ◌++◌, true, IsTrue, IsFalse, length, take, drop, vec_capacity, All, IsPermutation};
-ghost use Rattle.crossbeam_deque.specs.Handles.{worker_view, worker_index, SameWorker};
+ghost use Rattle.std.specs.Prelude.{◌≡◌, ◌+◌, ◌<◌, ◌≤◌, ◌↔◌, [], ◌∷◌, ◌++◌, IsSome, OnOk, OnErr, length, take, drop, vec_capacity, All, IsPermutation};
 ghost use Rattle.fz_line.specs.Views.{sent_limit};
 ghost use Rattle.fz_line.specs.Numbers.{AreNumberedFrom};
 ghost use Rattle.fz_line.specs.States.{IsIdle, taken_by};
 
 use crate::drain::gather;
-use crate::protocol::{LineWorker, Sending, Waiting};
+use crate::protocol::{LineWorker, Sending};
 use crate::seat::Seat;
 use fz_model::Entry;
 use std::marker::Model;
 
-/// The end of a line at which entries are sent.
+/// A push ran out of memory. Only such a push makes one.
+#[derive(Drop)]
+pub struct Shortage(());
+
+/// The producer's end of a line, at which entries are sent.
 ///
-/// A contract sees which line it is, how many seats it has, for how many entries it has room from the first, all that was sent, and what `drain` took out. An owner that is dropped takes
-/// the entries that wait in the line with it.
+/// Its model is the identity of the line, its number of seats, for how many entries it has room from the start, everything that was sent, and what `drain`
+/// took out. If an owner is dropped, the entries that wait in the line are dropped, too.
 pub struct Owner {
     pub(crate) worker: LineWorker,
     pub(crate) seats: usize,
     pub(crate) room: usize,
-    /// How many entries wait in the line at most.
-    pub(crate) most: usize,
-    /// How many may be sent before it looks again how many wait.
-    pub(crate) space: usize,
 }
 
-// Written out: who owns an owner then drops it by one call that is proved here, not field by field at each way out of a function.
+// Written by hand, so that the owner drops it by one proved call, not field by field at each exit of a function.
 impl Drop for Owner {
     fn drop(self) {
         let Owner {
             worker: _,
             seats: _,
             room: _,
-            most: _,
-            space: _,
         } = self;
     }
 }
@@ -49,7 +46,7 @@ impl Model for Owner {
 
     ghost view = { λ o. owner_state (worker_deque o.worker).0 o.seats o.room (worker_view o.worker).sent (worker_view o.worker).popped };
 
-    ghost invariant = { λ o. IsOwnerEnd o.seats o.worker × (o.room ≤ worker_capacity o.worker) × (o.room ≤ o.most) };
+    ghost invariant = { λ o. IsOwnerEnd o.seats o.worker × (o.room ≤ worker_capacity o.worker) };
 }
 
 impl Owner {
@@ -60,57 +57,45 @@ impl Owner {
         self.seats
     }
 
-    /// From now on an entry is sent only while fewer than `most` wait in the line, or fewer than it has room for. So the line takes no memory for what waits
-    /// beyond that, and gives none back that it took.
-    pub fn bound(&mut self, most: usize)
-        ensures { self.new ≡ self.old }
-    {
-        self.most = most.max(self.room);
-        self.space = 0;
-    }
-
-    /// Sends the entries of the outbox in order; returns how many were sent.
+    /// Sends the entries of the overflow queue in order. Returns how many were sent, and evidence of the shortage if these aren't all.
     ///
-    /// It stops early only where as many wait as may, or where there was no memory for the next entry, which is then, with all after it, not sent. As many
-    /// entries as the line was made with room for are always sent. The entries are numbered on from what was sent before, and 2^62 is the most that a line
-    /// is ever sent.
-    pub fn publish(&mut self, outbox: &[Entry]) -> usize
+    /// It stops early only if memory for the next entry can't be allocated; this entry and all later ones are then not sent. As many entries as the line was
+    /// opened with room for can always be sent. Entries have successive numbers, beginning with how many were sent before. A line is sent at most 2^62
+    /// entries.
+    pub fn publish(&mut self, outbox: &[Entry]) -> (usize, Option<Shortage>)
         requires numbers { AreNumberedFrom (length self.old.sent) outbox.now }
         requires limit { length self.old.sent + length outbox.now ≤ sent_limit }
-        ensures sent { self.new ≡ record self.old { sent = self.old.sent ++ take result outbox.now } }
-        ensures within { result ≤ length outbox.now }
-        ensures room { result < length outbox.now → self.old.room ≤ length self.new.sent }
+        ensures sent { self.new ≡ record self.old { sent = self.old.sent ++ take result.0 outbox.now } }
+        ensures within { result.0 ≤ length outbox.now }
+        ensures short { IsSome result.1 ↔ (result.0 < length outbox.now) }
+        ensures room { result.0 < length outbox.now → self.old.room ≤ length self.new.sent }
     {
         for (count, &entry) in outbox.iter().enumerate() {
-            if !self.send(entry) {
-                return count;
+            if let Err(shortage) = self.send(entry) {
+                return (count, Some(shortage));
             }
         }
-        outbox.len()
+        (outbox.len(), None)
     }
 
-    /// Sends the entry with the next number, if there is room for it; returns whether there was.
+    /// Sends the entry with the next number, if memory for it can be allocated.
     #[tactic(auto, using(crate::proofs::Steps::sends))]
-    fn send(&mut self, entry: Entry) -> bool
+    fn send(&mut self, entry: Entry) -> Result<(), Shortage>
         requires { (entry.seq ≡ length self.old.sent) × (length self.old.sent < sent_limit) }
-        ensures sent { IsTrue result → self.new ≡ record self.old { sent = self.old.sent ++ entry ∷ [] } }
-        ensures refused { IsFalse result → (self.new ≡ self.old) × (self.old.room ≤ length self.old.sent) }
+        ensures sent { OnOk result (self.new ≡ record self.old { sent = self.old.sent ++ entry ∷ [] }) }
+        ensures refused { OnErr result ((self.new ≡ self.old) × (self.old.room ≤ length self.old.sent)) }
     {
-        if self.space == 0 {
-            self.space = self.most.saturating_sub(waiting(&mut self.worker));
+        match self.worker.push_as::<Sending>(entry) {
+            Ok(()) => Ok(()),
+            Err(_) => Err(Shortage(())),
         }
-        if self.space == 0 || self.worker.push_as::<Sending>(entry).is_err() {
-            return false;
-        }
-        self.space -= 1;
-        true
     }
 
-    /// Takes all entries that wait in the line out of it, into `out`, in order.
+    /// Moves all entries that wait in the line into `out`, in order.
     ///
-    /// It is lent all seats of the line, and gives each back as it was. So it is known that what the seats took and `out` are together what
-    /// was sent: the seats took its beginning, each entry once, and `out` is the rest. It needs room for the rest alone, takes no memory
-    /// and can't fail. A line is drained once.
+    /// It borrows all seats of the line and leaves each as it was. This proves that the seats' entries and `out` together are exactly what was sent: the
+    /// seats took a prefix, each entry once, and `out` is the rest. It needs room only for the rest, allocates nothing and can't fail. A line is drained only
+    /// once.
     pub fn drain(&mut self, seats: &mut [Seat], out: &mut Vec<Entry>)
         requires once { self.old.popped ≡ [] }
         requires all { length seats.old ≡ self.old.seats }
@@ -127,13 +112,4 @@ impl Owner {
     {
         gather(&mut self.worker, seats, out);
     }
-}
-
-/// How many entries wait in the line, at one moment of the call.
-fn waiting(worker: &mut LineWorker) -> usize
-    requires { (worker_view worker.old).owner ≡ true }
-    ensures same { SameWorker worker.old worker.new × (worker_index worker.new ≡ worker_index worker.old) × (worker_view worker.new ≡ worker_view worker.old) }
-    ensures few { result ≤ length (worker_view worker.old).sent }
-{
-    worker.len_as::<Waiting>()
 }

@@ -55,7 +55,7 @@ impl LineSession {
         if entry.seq != self.sent {
             return NOT_NEXT;
         }
-        if self.owner.publish(&[entry]) == 0 {
+        if self.owner.publish(&[entry]).0 == 0 {
             return Refusal::NoMemory.code();
         }
         self.sent += 1;

@@ -94,7 +94,7 @@ fn counts(seat: &Seat) -> (u64, u64, u64) {
 fn takes_both_entries_and_then_finds_nothing(rt: HostRuntime) {
     let (mut owner, mut seats) = line(rt.alloc(), 1, 64).expect(&rt, "a line");
     let seat = seats.pop().expect(&rt, "a seat");
-    let sent = owner.publish(&[entry(0), entry(1)]);
+    let (sent, _) = owner.publish(&[entry(0), entry(1)]);
     must_be(&rt, sent, 2, "two entries are sent");
 
     let duty = must_take(&rt, seat);
@@ -121,7 +121,7 @@ fn opens_with_one_to_eight_seats(rt: HostRuntime) {
     for workers in 1..9u64 {
         let (mut owner, mut seats) = line(rt.alloc(), workers, 64).expect(&rt, "a line");
         must_be(&rt, owner.seats() as u64, workers, "a seat for each");
-        must_be(&rt, owner.publish(&[entry(0)]), 1, "an entry is sent");
+        must_be(&rt, owner.publish(&[entry(0)]).0, 1, "an entry is sent");
         let seat = seats.pop().expect(&rt, "a seat");
         must_be(&rt, seat.index() as u64, workers - 1, "the last seat");
         let seat = must_take(&rt, seat).done();
@@ -183,7 +183,7 @@ impl Publisher {
             mut sent,
         } = self;
         while sent < count && sent < 1 << 62 {
-            if owner.publish(&[entry(sent)]) == 0 {
+            if owner.publish(&[entry(sent)]).0 == 0 {
                 break;
             }
             sent += 1;
@@ -280,9 +280,9 @@ fn stands_a_refused_push(rt: HostRuntime) -> Result<(), Fail> {
         Err(_) => Vec::with_capacity(rt.alloc(), 2_000)?,
     };
     let (mut owner, mut seats) = line_again(&rt, rt.alloc(), 1);
-    let sent = owner.publish(&all);
+    let (sent, _) = owner.publish(&all);
     let rest = &all[sent..];
-    must_be(&rt, owner.publish(rest), rest.len(), "the rest is sent");
+    must_be(&rt, owner.publish(rest).0, rest.len(), "the rest is sent");
     owner.drain(seats.as_mut_slice(), &mut out);
     retire_all(seats);
     must_be(&rt, out == all, true, "all come out in order");

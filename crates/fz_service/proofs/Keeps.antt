@@ -23,8 +23,8 @@ use Rattle.fz_service.specs.States.{Origin, line_room, locked_state, IsReachedFr
 use Rattle.fz_service.proofs.Growing.{IsLonger, step_longer, steps_longer, steps_on}
 use Rattle.fz_service.proofs.Finishing.{held_one, one_less}
 
-pub opened : (origin : Origin) (world : WorldView) → StandsFor world (opening origin.blocks origin.frames) → world.forgotten ≡ 0 → IsInOrder origin (locked_state world [] 0 0)
-opened origin world stands none =
+pub opened : (origin : Origin) (world : WorldView) (shortages : ℕ) → StandsFor world (opening origin.blocks origin.frames) → world.forgotten ≡ 0 → IsInOrder origin (locked_state world [] 0 0 shortages)
+opened origin world shortages stands none =
     let queue : length world.queue ≡ 0 = ap (λ (c : Core). length c.queue) stands.core in
     let held : length world.held ≡ 0 = ap (λ (c : Core). length c.held) stands.core in
     record {
@@ -35,8 +35,8 @@ opened origin world stands none =
       finished = omega (arith, queue, held);
     }
 
-module _ (origin : Origin) (old new : WorldView) (sent : List Entry) (published finished : ℕ) where
-  grown : (s t : State) → new.forgotten ≡ old.forgotten → StandsFor old s → StandsFor new t → IsLonger s.core t.core → StepsTo any_call (opening origin.blocks origin.frames) t → IsInOrder origin (locked_state old sent published finished) → IsInOrder origin (locked_state new sent published finished)
+module _ (origin : Origin) (old new : WorldView) (sent : List Entry) (published finished shortages : ℕ) where
+  grown : (s t : State) → new.forgotten ≡ old.forgotten → StandsFor old s → StandsFor new t → IsLonger s.core t.core → StepsTo any_call (opening origin.blocks origin.frames) t → IsInOrder origin (locked_state old sent published finished shortages) → IsInOrder origin (locked_state new sent published finished shortages)
   grown s t kept was stands longer steps h =
       let more : List Entry = longer.more in
       let queue : new.queue ≡ old.queue ++ more = ap (λ (c : Core). c.queue) stands.core ∙ longer.queue ∙ ap (λ (c : Core). c.queue ++ more) (sym was.core) in
@@ -55,7 +55,7 @@ module _ (origin : Origin) (old new : WorldView) (sent : List Entry) (published 
       }
 
   -- after a call of the world
-  pub stepped : (e : Event) (reply : Result (Answer e) Refusal) → IsFalse (is_finish e) → Does old e reply new → IsInOrder origin (locked_state old sent published finished) → IsInOrder origin (locked_state new sent published finished)
+  pub stepped : (e : Event) (reply : Result (Answer e) Refusal) → IsFalse (is_finish e) → Does old e reply new → IsInOrder origin (locked_state old sent published finished shortages) → IsInOrder origin (locked_state new sent published finished shortages)
   unfolding Does
   stepped e reply other does h =
       let r = h.reached in
@@ -63,7 +63,7 @@ module _ (origin : Origin) (old new : WorldView) (sent : List Entry) (published 
       grown r.state next.0 does.0 r.stands next.2 (step_longer r.state e reply next.0 other next.1) (OneMore e reply refl r.steps next.1) h
 
   -- after calls of a procedure
-  pub ran : RunsCalls old new → IsInOrder origin (locked_state old sent published finished) → IsInOrder origin (locked_state new sent published finished)
+  pub ran : RunsCalls old new → IsInOrder origin (locked_state old sent published finished shortages) → IsInOrder origin (locked_state new sent published finished shortages)
   unfolding RunsCalls
   ran runs h =
       let r = h.reached in
@@ -72,7 +72,7 @@ module _ (origin : Origin) (old new : WorldView) (sent : List Entry) (published 
 
   -- what is forgotten was sent
   pub forgot : new ≡ record old { forgotten = new.forgotten; remembered = new.remembered } → ((s : State) → StandsFor old s → StandsFor new s) → (new.forgotten ≡ old.forgotten) ⊎ (new.forgotten ≡ length old.queue) → length old.queue ≤ published
-      → IsInOrder origin (locked_state old sent published finished) → IsInOrder origin (locked_state new sent published finished)
+      → IsInOrder origin (locked_state old sent published finished shortages) → IsInOrder origin (locked_state new sent published finished shortages)
   forgot same stands forgotten all h =
       let queue : new.queue ≡ old.queue = ap (λ (w : WorldView). w.queue) same in
       let count : length new.queue ≡ length old.queue = ap (λ (es : List Entry). length es) queue in
@@ -100,7 +100,7 @@ module _ (origin : Origin) (old new : WorldView) (sent : List Entry) (published 
       from false is = absurd (none-some r is)
 
   -- after an accepted finish, and what it takes away
-  pub finished_one : (given entry : Entry) → given ≡ entry → Does old (Finish given) (Ok tt) new → IsInOrder origin (locked_state old sent published finished) → IsInOrder origin (locked_state new sent published (finished + 1)) × LetsGo old new entry
+  pub finished_one : (given entry : Entry) → given ≡ entry → Does old (Finish given) (Ok tt) new → IsInOrder origin (locked_state old sent published finished shortages) → IsInOrder origin (locked_state new sent published (finished + 1) shortages) × LetsGo old new entry
   unfolding Does
   finished_one given entry is given_does h =
       let r = h.reached in
@@ -135,7 +135,7 @@ module _ (origin : Origin) (old new : WorldView) (sent : List Entry) (published 
         },
       )
 
-module _ (origin : Origin) (world : WorldView) (sent : List Entry) (published finished : ℕ) (h : IsInOrder origin (locked_state world sent published finished)) where
+module _ (origin : Origin) (world : WorldView) (sent : List Entry) (published finished shortages : ℕ) (h : IsInOrder origin (locked_state world sent published finished shortages)) where
   -- entries are numbered by their places
   pub numbered : AreNumberedFrom 0 world.queue
   numbered k e at =
@@ -159,8 +159,8 @@ module _ (origin : Origin) (world : WorldView) (sent : List Entry) (published fi
       omega (arith, a, b, c, w)
 
   -- after some of the outbox was sent
-  pub published_more : (outbox : List Entry) (count : ℕ) → outbox ≡ drop published world.queue → count ≤ length outbox → IsInOrder origin (locked_state world (sent ++ take count outbox) (published + count) finished)
-  published_more outbox count is few =
+  pub published_more : (outbox : List Entry) (count after : ℕ) → outbox ≡ drop published world.queue → count ≤ length outbox → IsInOrder origin (locked_state world (sent ++ take count outbox) (published + count) finished after)
+  published_more outbox count after is few =
       let all = outbox_count outbox is in
       let a = sent_count in
       record {

@@ -7,3 +7,4 @@ pub mod Running
 pub mod Serving
 pub mod Served
 pub mod Slots
+pub mod Retried

@@ -1,11 +1,13 @@
 -- What a service was opened with, and the model of the state under its lock.
 -- code: fz_service/src/locked.rt, calls.rt, service.rt, opening.rt
-use Rattle.std.specs.Prelude.{◌≡◌, ℕ, ◌+◌, ◌*◌, ◌<◌, ◌≤◌, min, Bool, true, false, not, List, [], length, take, filter, Some, Contains, refl}
+use Rattle.std.specs.Prelude.{◌≡◌, ◌≢◌, ℕ, ◌+◌, ◌*◌, ◌<◌, ◌≤◌, min, Bool, true, false, IsTrue, IsFalse, not, List, [], length, take, filter, Some, Contains, Result, OnOk, OnErr, refl}
 use Rattle.std.specs.Coded.{Coded, code_by, coded×, coded_ℕ, coded_list}
 use Rattle.std.specs.FinMap.{get}
 use Rattle.fz_model.specs.declared.answers.Entry.{Entry}
 use Rattle.fz_model.specs.declared.call.Call.{Call}
 use Rattle.fz_model.specs.declared.call.Call.TheVariants.{Pause, Collect}
+use Rattle.fz_model.specs.declared.call.Reply.{Reply}
+use Rattle.fz_model.specs.declared.refusal.Refusal.{Refusal}
 use Rattle.fz_model.specs.declared.limits.TheConstants.{BLOCK_WORDS, TABLE_LIMIT}
 use Rattle.fz_model.specs.Codes.{entry_code}
 use Rattle.fz_model.specs.State.{Object, State, opening}
@@ -15,6 +17,7 @@ use Rattle.fz_model.specs.Joint.{is_finish}
 use Rattle.fz_line.specs.States.{Line, SeatState, OwnerState, owner_state}
 use Rattle.fz_world.specs.World.{WorldView, world_code}
 use Rattle.fz_world.specs.Does.{StandsFor}
+use Rattle.fz_world.specs.Replies.{Replies}
 
 -- what distinguishes a service from every other, and what it was opened with
 pub record Origin : Type 0 where
@@ -33,14 +36,16 @@ pub record LockedState : Type 0 where
   pub sent : List Entry  -- the entries that the line was sent, as its owner knows
   pub published : ℕ  -- the number of entries that were sent, which is kept beside the world
   pub finished : ℕ  -- the number of finished duties, by the ledger
+  pub shortages : ℕ  -- how often a push ran out of memory, modulo 2^64
 
-abbrev pub locked_state : WorldView → List Entry → ℕ → ℕ → LockedState
-locked_state world sent published finished = record { world = world; sent = sent; published = published; finished = finished }
+abbrev pub locked_state : WorldView → List Entry → ℕ → ℕ → ℕ → LockedState
+locked_state world sent published finished shortages = record { world = world; sent = sent; published = published; finished = finished; shortages = shortages }
 
 abbrev pub locked_code : Coded LockedState
 locked_code =
-    code_by (WorldView × (List Entry × (ℕ × ℕ))) (coded× world_code (coded× (coded_list entry_code) (coded× coded_ℕ coded_ℕ)))
-    (λ s. (s.world, (s.sent, (s.published, s.finished)))) (λ p. record { world = p.0; sent = p.1.0; published = p.1.1.0; finished = p.1.1.1 }) (λ _. refl)
+    code_by (WorldView × (List Entry × (ℕ × (ℕ × ℕ)))) (coded× world_code (coded× (coded_list entry_code) (coded× coded_ℕ (coded× coded_ℕ coded_ℕ))))
+    (λ s. (s.world, (s.sent, (s.published, (s.finished, s.shortages)))))
+    (λ p. record { world = p.0; sent = p.1.0; published = p.1.1.0; finished = p.1.1.1.0; shortages = p.1.1.1.1 }) (λ _. refl)
 
 -- the world represents a state that steps reach from the opening
 pub record IsReachedFrom (origin : Origin) (world : WorldView) : Type 0 where
@@ -75,13 +80,23 @@ ends_cycle Pause = true
 ends_cycle Collect = true
 ends_cycle _ = false
 
--- more may be sent, and nothing else differs but the world; where entries are left in the outbox a push was refused, as none is for which the line has room
+-- the queue may have grown, all of it was sent, and nothing else has changed; entries wait in the overflow queue only if a push ran out of memory since the
+-- old state, which it doesn't within the room of the line
 pub record SendsMore (origin : Origin) (old new : LockedState) : Type 0 where
-  pub same : new ≡ record old { world = new.world; sent = new.sent; published = new.published }
+  pub same : new ≡ record old { world = new.world; sent = new.sent; published = new.published; shortages = new.shortages }
   pub more : old.published ≤ new.published
+  pub all : new.published ≡ length new.world.queue → new.shortages ≡ old.shortages
+  pub short : new.published < length new.world.queue → new.shortages ≢ old.shortages
   pub room : new.published < length new.world.queue → line_room origin.blocks ≤ new.published
 
--- the entry was held, and its object had its birth; now it is held no more
+-- the world made the call, and what it queued was sent; a refused call changed nothing
+pub record RepliesAndSends (origin : Origin) (old : LockedState) (call : Call) (result : Result Reply Refusal) (new : LockedState) : Type 0 where
+  pub step : Replies old.world call result new.world
+  pub line : IsFalse (ends_cycle call) → KeepsLine old new
+  pub sent : IsTrue (ends_cycle call) → OnOk result (SendsMore origin old new)
+  pub refused : OnErr result (new ≡ old)
+
+-- the entry was held, and its object had its birth; now the entry is no longer held
 pub record LetsGo (old new : WorldView) (entry : Entry) : Type 0 where
   pub held : Contains old.held entry
   pub object : (o : Object) × (get old.objects entry.obj ≡ Some o) × (o.birth ≡ entry.birth)

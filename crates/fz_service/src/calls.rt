@@ -13,6 +13,7 @@ ghost use Rattle.fz_model.specs.Causes.{IsJudgedBy, IsJudgedOrLacks};
 ghost use Rattle.fz_model.specs.declared.call.Call.TheVariants.{Alloc, Load, Store, Set, Copy, Unregister, Link, Unlink, Move, Begin, Mark, Pause, Collect, Close, Outstanding};
 ghost use Rattle.fz_model.specs.Places.{slot_at, place_at, finalizer_of};
 ghost use Rattle.fz_model.specs.Events.{Make, Hold, Queue, causes};
+ghost use Rattle.fz_model.specs.Calls.{result_of};
 ghost use Rattle.fz_world.specs.Cycles.{IsBegun, AreScanned};
 ghost use Rattle.fz_world.specs.Does.{Does, StandsFor};
 ghost use Rattle.fz_world.specs.Links.{link_at};
@@ -20,7 +21,7 @@ ghost use Rattle.fz_world.specs.Registering.{RegistersFinalizer};
 ghost use Rattle.fz_world.specs.Replies.{Replies};
 ghost use Rattle.fz_world.specs.Retried.{TriesTwice};
 ghost use Rattle.fz_world.specs.World.{KeepsMarks, MarksMade, NotesWritten};
-ghost use Rattle.fz_service.specs.States.{ends_cycle, KeepsLine, SendsMore};
+ghost use Rattle.fz_service.specs.States.{ends_cycle, KeepsLine, SendsMore, RepliesAndSends};
 
 use crate::locked::Locked;
 use crate::opening::Opening;
@@ -77,11 +78,12 @@ impl<O: Opening> Locked<O> {
         self.world.alloc(frame, slot, size, kind)
     }
 
-    /// Makes an object as `alloc` does. Where there is no space it collects, which sends what it queued, and tries once more. What it queued is reclaimed by
-    /// a later collection, when workers have finished it. Where there is no space still, ask `outstanding` before the lock is given back: at 0 the heap is
-    /// full, and else another try may find space. Takes time by the heap where it collects.
+    /// Allocates an object as `alloc` does; if there is no room it collects, which sends what it queued, and tries once more. Objects that it queued are
+    /// reclaimed by a later collection, after workers have finished their entries. If there is still no room, call `outstanding` before releasing the lock:
+    /// if it returns 0 the heap is full, and otherwise another try may succeed. Takes time proportional to the heap if it collects.
     ///
-    /// Refusals, in their order: `BadSlot`, `BadSize`, `Exhausted`, then `CycleOpen` and `Exhausted` of the collection, and `NoSpace` where it made none.
+    /// Fails with, in this order: `BadSlot`, `BadSize`, `Exhausted`; then, if there is no room, `CycleOpen` in an open cycle and `Exhausted` at the 2^48th
+    /// pass. In these cases nothing has changed. After the collection, the second try fails with `NoSpace` or `Exhausted`; the collection isn't undone.
     pub fn alloc_or_collect(
         &mut self,
         frame: u64,
@@ -89,8 +91,7 @@ impl<O: Opening> Locked<O> {
         size: u64,
         kind: ObjKind,
     ) -> Result<(Addr, u64), Refusal>
-        ensures step { TriesTwice (λ collected same. same ≡ collected) (Make (Alloc (slot_at frame slot) size kind)) self.old.world result self.new.world }
-        ensures line { self.new ≡ record self.old { world = self.new.world; sent = self.new.sent; published = self.new.published } }
+        ensures tried { TriesTwice (RepliesAndSends O.origin) (λ collected same. same ≡ collected) (Alloc (slot_at frame slot) size kind) self.old (result_of (Alloc (slot_at frame slot) size kind) result) self.new }
     {
         match self.alloc(frame, slot, size, kind) {
             Err(Refusal::NoSpace) => {}
@@ -372,7 +373,7 @@ impl<O: Opening> Locked<O> {
         self.world.outstanding()
     }
 
-    /// The entries from `forgotten` on, in their order: all that were ever queued, where none is forgotten.
+    /// The entries from number `forgotten` on, in order: all entries ever queued, or the rest after a `forget` that freed some.
     pub fn queue(&self) -> &[Entry]
         ensures queue { result.now ≡ drop self.now.world.forgotten self.now.world.queue }
         ensures step { self.now.world.forgotten ≡ 0 → Does self.now.world Queue (Ok result.now) self.now.world }

@@ -73,6 +73,7 @@ impl<O: Opening> Locked<O> {
             world,
             mut owner,
             published,
+            shortages: _,
             mut book,
             rest,
             holds: _,

@@ -13,6 +13,7 @@ mod opening;
 mod prepared;
 mod seat;
 mod service;
+mod shortages;
 mod told;
 mod turn;
 mod worker_threads;

@@ -1,6 +1,6 @@
 //! What the lock protects.
 
-ghost use Rattle.std.specs.Prelude.{◌≡◌, ◌+◌, ◌<◌, ◌≤◌, [], ◌++◌, drop, length, take, IfOk, IfErr, OnOk};
+ghost use Rattle.std.specs.Prelude.{◌≡◌, ◌≢◌, ◌+◌, ◌<◌, ◌≤◌, [], ◌++◌, drop, length, take, IfOk, IfErr, OnOk};
 ghost use Rattle.fz_model.specs.declared.limits.TheConstants.{COUNT_LIMIT};
 ghost use Rattle.fz_model.specs.Events.{Finish};
 ghost use Rattle.fz_model.specs.State.{opening};
@@ -14,6 +14,7 @@ ghost use Rattle.fz_service.specs.Takes.{reply_of};
 use crate::bell::Bell;
 use crate::opening::{Finishes, Opening};
 use crate::seat::{Duty, Seat};
+use crate::shortages::Shortages;
 use fz_line::Owner;
 use fz_model::{Entry, Refusal};
 use fz_world::World;
@@ -22,15 +23,16 @@ use std::marker::Model;
 use std::sync::Arc;
 use std::sync::ledger::{Book, Share};
 
-/// A world, the owner's end of the line to which its ready entries are sent, and the book of finished duties.
+/// A world, the owner's end of the line to which its entries are sent, and the ledger of finished duties.
 ///
-/// A contract sees the world, what the line was sent, how many entries that is, and the number of finished duties.
+/// Its model is the world, what the line was sent, how many entries that is, the number of finished duties, and the number of shortages.
 #[derive(Drop)]
 pub struct Locked<O: Opening> {
     pub(crate) alloc: Global,
     pub(crate) world: World,
     pub(crate) owner: Owner,
     pub(crate) published: usize,
+    pub(crate) shortages: Shortages,
     pub(crate) book: Book<Finishes<O>>,
     /// The rest of the ledger's shares, after each seat got its own: no part.
     pub(crate) rest: Share<Finishes<O>>,
@@ -46,9 +48,9 @@ impl<O: Opening> Model for Locked<O> {
 
     ghost coded = { locked_code };
 
-    ghost view = { λ s. locked_state s.world s.owner.sent s.published s.book.total };
+    ghost view = { λ s. locked_state s.world s.owner.sent s.published s.book.total s.shortages.count };
 
-    ghost invariant = { λ s. IsInOrder O.origin (locked_state s.world s.owner.sent s.published s.book.total) × IsReady O.origin s.owner s.rest.parts s.rest.amount };
+    ghost invariant = { λ s. IsInOrder O.origin (locked_state s.world s.owner.sent s.published s.book.total s.shortages.count) × IsReady O.origin s.owner s.rest.parts s.rest.amount };
 }
 
 /// The entries of a queue from a number on. Requires that none of them is forgotten.
@@ -80,6 +82,7 @@ impl<O: Opening> Locked<O> {
             world,
             owner,
             published: 0,
+            shortages: Shortages::none(),
             book,
             rest,
             holds: 0,
@@ -100,17 +103,28 @@ impl<O: Opening> Locked<O> {
         queue_from(&self.world, self.published)
     }
 
-    /// Sends the entries of the outbox, the oldest first, and wakes a worker that sleeps for each; returns how many were sent. Takes time by what it sends.
+    /// How often a push ran out of memory, so that entries stayed in the overflow queue; modulo 2^64.
+    pub fn shortages(&self) -> u64
+        ensures { result ≡ self.now.shortages }
+    {
+        self.shortages.count()
+    }
+
+    /// Sends the entries of the overflow queue, oldest first, and wakes one sleeping worker for each; returns how many were sent. Takes time proportional to
+    /// the entries that it sends.
     ///
-    /// It stops early only where a push found no memory, as no entry does for which the line has room from the first: min(65,536,
-    /// 64 * blocks) entries; or where four times as many wait in the line. What isn't sent stays in the outbox.
+    /// It stops early only if a push runs out of memory, which counts as a shortage. The first min(65,536, 64 * blocks) entries never cause one, since the
+    /// line has room for them. Entries that aren't sent stay in the overflow queue.
     pub fn publish(&mut self) -> usize
-        ensures sent { self.new ≡ record self.old { sent = self.old.sent ++ take result (drop self.old.published self.old.world.queue); published = self.old.published + result } }
+        ensures sent { self.new ≡ record self.old { sent = self.old.sent ++ take result (drop self.old.published self.old.world.queue); published = self.old.published + result; shortages = self.new.shortages } }
         ensures within { self.new.published ≤ length self.old.world.queue }
+        ensures all { self.new.published ≡ length self.old.world.queue → self.new.shortages ≡ self.old.shortages }
+        ensures short { self.new.published < length self.old.world.queue → self.new.shortages ≢ self.old.shortages }
         ensures room { self.new.published < length self.old.world.queue → line_room O.origin.blocks ≤ self.new.published }
     {
         let outbox = queue_from(&self.world, self.published);
-        let count = self.owner.publish(outbox);
+        let (count, shortage) = self.owner.publish(outbox);
+        self.shortages.note(shortage);
         self.published += count;
         self.bell.ring_for(count);
         count

@@ -28,9 +28,6 @@ use std::sync::{Arc, Mutex, MutexGuard, Wait};
 /// How often a thread tries to take the lock before it sleeps. That takes one to three microseconds.
 const TRIES: u32 = 64;
 
-/// How many times as many entries as one pass can queue wait in the line at most. The others wait in the outbox, which takes no memory.
-const PASSES_IN_A_LINE: usize = 4;
-
 /// The lock while it is held: it lends `Locked`.
 pub type Guard<'a, O> = MutexGuard<'a, Locked<O>>;
 
@@ -61,7 +58,10 @@ fn check_config(config: Config) -> Result<(), Refusal>
     Ok(())
 }
 
-/// For how many entries a line has room from the first, by the heap's blocks: as many as one pass can queue.
+/// For how many entries a line has room from the start, given the heap's blocks: as many as one pass can queue.
+///
+/// A line that grows beyond that needs no bound: at most 64 * blocks entries wait in it. The object of a waiting entry is a root, because the entry isn't
+/// finished, so no pass queues it again. So waiting entries have different objects, and each object has a word of the heap.
 fn line_room(blocks: u64) -> usize
     requires { blocks ≤ MAX_BLOCKS }
     ensures { result ≡ line_room blocks }
@@ -82,8 +82,7 @@ impl Service<Brand> {
     {
         check_config(config)?;
         let room = line_room(config.blocks);
-        let (mut owner, seats) = line(alloc, workers, room)?;
-        owner.bound(PASSES_IN_A_LINE * room);
+        let (owner, seats) = line(alloc, workers, room)?;
         let blank = Blank::new(workers);
         match World::open(alloc, config) {
             Ok(world) => Ok(Prepared {

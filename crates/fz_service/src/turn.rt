@@ -1,6 +1,6 @@
 //! A worker's turn: it takes an entry and serves it completely.
 
-ghost use Rattle.std.specs.Prelude.{◌<◌, ◌≤◌, Contains, length};
+ghost use Rattle.std.specs.Prelude.{◌≢◌, ◌<◌, ◌≤◌, Contains, length};
 ghost use Rattle.fz_service.specs.States.{line_room, RunsCalls};
 ghost use Rattle.fz_service.specs.Workers.{Serves};
 ghost use Rattle.fz_service.specs.Turns.{IsAnswered, Turns};
@@ -67,6 +67,7 @@ impl<O: Opening> Locked<O> {
         ensures seat { Serves duty result.0 result.1 }
         ensures answer { ¬ Contains self.new.world.held duty.entry }
         ensures sent { self.new.published < length self.new.world.queue → line_room O.origin.blocks ≤ self.new.published }
+        ensures short { self.new.published < length self.new.world.queue → self.new.shortages ≢ self.old.shortages }
     {
         run(procs, duty.entry(), &mut self.world);
         self.publish();

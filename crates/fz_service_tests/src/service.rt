@@ -239,9 +239,18 @@ fn collects_for_space<O: Opening, R: Abort + Wait>(rt: &R, prepared: Prepared)
     same(rt, "what is led to", full, Err(Refusal::NoSpace));
     let counts = (locked.queue().len(), locked.outbox().len());
     same(rt, "queued and not sent", counts, (1, 0));
+    accepted(rt, "begin", locked.begin());
+    let in_cycle = locked.alloc_or_collect(0, 1, 192, Scanned);
+    same(rt, "in an open cycle", in_cycle, Err(Refusal::CycleOpen));
+    let passed = Passed {
+        pass: 3,
+        picked: 0,
+        reclaimed: 0,
+    };
+    same(rt, "pause", locked.pause(), Ok(passed));
     drop(locked);
     let end = ended(rt, service, seats);
-    same(rt, "passes", end.passes, 2);
+    same(rt, "passes", end.passes, 3);
 }
 
 /// A service has as many seats as it was prepared with, and ends with all of them.

@@ -1,18 +1,17 @@
--- An allocation that finds no space, and is tried again.
+-- An allocation that finds no room, and is tried again. Each of its calls satisfies `Makes`, which states everything about a call: for a world this is
+-- `Replies`.
+-- code: fz_world/src/retrying.rt; fz_service/src/calls.rt
 use Rattle.std.specs.Prelude.{◌≡◌, ◌≢◌, Err, Ok, Result}
 use Rattle.fz_model.specs.declared.refusal.Refusal.{Refusal}
 use Rattle.fz_model.specs.declared.refusal.Refusal.TheVariants.{NoSpace}
-use Rattle.fz_model.specs.declared.answers.Passed.{Passed}
+use Rattle.fz_model.specs.declared.call.Call.{Call}
 use Rattle.fz_model.specs.declared.call.Call.TheVariants.{Collect}
-use Rattle.fz_model.specs.Events.{Event, Answer, Make}
-use Rattle.fz_world.specs.World.{WorldView}
-use Rattle.fz_world.specs.Does.{Does}
+use Rattle.fz_model.specs.declared.call.Reply.{Reply}
 
--- the call alone, where it isn't refused for want of space; or that refusal and a refused collection; or that refusal, a collection, the work, and the
--- call once more
-pub data TriesTwice (Works : WorldView → WorldView → Type 0) (call : Event) (old : WorldView) (reply : Result (Answer call) Refusal) (new : WorldView) : Type 0 where
-  Once : reply ≢ Err NoSpace → Does old call reply new → TriesTwice Works call old reply new
-  NotCollected : (tried : WorldView) (refusal : Refusal) → Does old call (Err NoSpace) tried → Does tried (Make Collect) (Err refusal) new
-      → reply ≡ Err refusal → TriesTwice Works call old reply new
-  Twice : (tried mid worked : WorldView) (passed : Passed) → Does old call (Err NoSpace) tried → Does tried (Make Collect) (Ok passed) mid
-      → Works mid worked → Does worked call reply new → TriesTwice Works call old reply new
+-- the call alone, if it doesn't fail with NoSpace; or a collection, which fails too; or a collection, the work, and the call once more; a failed call changes
+-- nothing, so each collection starts from the old state
+pub data TriesTwice {S : Type 0} (Makes : S → Call → Result Reply Refusal → S → Type 0) (Works : S → S → Type 0) (call : Call) (old : S) (result : Result Reply Refusal) (new : S) : Type 0 where
+  Once : result ≢ Err NoSpace → Makes old call result new → TriesTwice Makes Works call old result new
+  NotCollected : (refusal : Refusal) → Makes old call (Err NoSpace) old → Makes old Collect (Err refusal) new → result ≡ Err refusal → TriesTwice Makes Works call old result new
+  Twice : (mid worked : S) (passed : Reply) → Makes old call (Err NoSpace) old → Makes old Collect (Ok passed) mid → Works mid worked → Makes worked call result new
+      → TriesTwice Makes Works call old result new

@@ -38,7 +38,7 @@ fn answered(taken: Take) -> (Steal<u64>, Seat) {
 fn a_retry_is_busy_and_the_entry_comes_later(rt: HostRuntime) {
     let (mut owner, mut seats) = line(rt.alloc(), 1, 64).expect(&rt, "a line");
     let mut seat = seats.pop().expect(&rt, "a seat");
-    must_be(&rt, owner.publish(&[entry(0)]), 1, "an entry is sent");
+    must_be(&rt, owner.publish(&[entry(0)]).0, 1, "an entry is sent");
 
     let mut front = Told {
         answers: &[Steal::Retry, Steal::Empty, Steal::Retry, Steal::Success(())],

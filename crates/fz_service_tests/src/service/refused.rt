@@ -118,6 +118,7 @@ fn queue_all<O: Opening, R: Abort + Print>(rt: &R, locked: &mut Locked<O>, refus
     queue_from(rt, locked, FIRST, OBJECTS, refusals);
     let waiting = locked.outbox().len() as u64;
     are_before(rt, locked.outbox(), OBJECTS, waiting);
+    same(rt, "shortages", locked.shortages(), waiting.min(1));
     if waiting > 0 {
         *refusals = refusals.saturating_add(1);
         let _ = println!(rt; "a push is refused, and {waiting} entries wait");

@@ -3,7 +3,7 @@
 use super::tests::{opened, registered};
 use fz_model::ObjKind::{Atomic, Scanned};
 use fz_model::RegKind::Normal;
-use fz_model::{Addr, BLOCK_WORDS, HEAP_START, Refusal};
+use fz_model::{Addr, BLOCK_WORDS, HEAP_START, Passed, Refusal};
 use fz_world::World;
 use std::alloc::Global;
 
@@ -28,6 +28,27 @@ fn allocations_answer(alloc: Global) -> Result<[bool; 3], Refusal> {
     let is_full = world.alloc_or_collect(0, 1, 1, Atomic, |_world: &mut World| {})
         == Err(Refusal::NoSpace);
     Ok([has_no_space, is_made, is_full])
+}
+
+/// Whether an allocation without space is refused in an open cycle, leaves it open and made no pass; and what the pause of that cycle does then.
+fn in_an_open_cycle(alloc: Global) -> Result<([bool; 3], Passed), Refusal> {
+    let mut world = filled(alloc, false)?;
+    world.begin()?;
+    let made = world.alloc_or_collect(0, 0, 1, Atomic, |_world: &mut World| {});
+    let is_refused = made == Err(Refusal::CycleOpen);
+    let is_open = world.begin() == Err(Refusal::CycleOpen);
+    let has_no_pass = world.passes() == 0;
+    Ok(([is_refused, is_open, has_no_pass], world.pause()?))
+}
+
+#[test]
+fn an_allocation_leaves_an_open_cycle(rt: HostRuntime) {
+    let passed = Passed {
+        pass: 1,
+        picked: 0,
+        reclaimed: 1,
+    };
+    assert_eq!(rt; in_an_open_cycle(rt.alloc()), Ok(([true; 3], passed)));
 }
 
 #[test]

@@ -8,4 +8,4 @@ invariant_of-self g c =
     let e = c.forget.ensures in
     let all = c.queued.ensures in
     let sent = c.if-self-queued.false in
-    (forgot _ _ _ _ _ _ e.same e.stands e.forgotten (omega (arith, all, sent)) c.self.invariant.0, c.self.invariant.1)
+    (forgot _ _ _ _ _ _ _ e.same e.stands e.forgotten (omega (arith, all, sent)) c.self.invariant.0, c.self.invariant.1)

@@ -3,4 +3,4 @@ use Rattle.fz_service.proofs.Keeps.{stepped}
 use Rattle.fz_service.proofs.locked.Locked.move_link.Goals as goal
 
 pub invariant_of-self : goal.invariant_of-self
-invariant_of-self g c = (stepped _ _ _ _ _ _ _ _ refl c.move_link.ensures.step c.self.invariant.0, c.self.invariant.1)
+invariant_of-self g c = (stepped _ _ _ _ _ _ _ _ _ refl c.move_link.ensures.step c.self.invariant.0, c.self.invariant.1)

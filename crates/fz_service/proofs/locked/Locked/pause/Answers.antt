@@ -3,7 +3,7 @@ use Rattle.fz_service.proofs.Keeps.{stepped}
 use Rattle.fz_service.proofs.locked.Locked.pause.Goals as goal
 
 pub invariant_of-self : goal.invariant_of-self
-invariant_of-self g c = (stepped _ _ _ _ _ _ _ _ refl c.pause.ensures.step c.self.invariant.0, c.self.invariant.1)
+invariant_of-self g c = (stepped _ _ _ _ _ _ _ _ _ refl c.pause.ensures.step c.self.invariant.0, c.self.invariant.1)
 
 pub invariant_of-self-2 : goal.invariant_of-self-2
-invariant_of-self-2 g c = (stepped _ _ _ _ _ _ _ _ refl c.pause.ensures.step c.self.invariant.0, c.self.invariant.1)
+invariant_of-self-2 g c = (stepped _ _ _ _ _ _ _ _ _ refl c.pause.ensures.step c.self.invariant.0, c.self.invariant.1)

@@ -5,18 +5,18 @@ use Rattle.fz_service.proofs.Keeps.{sent_count, outbox_count, outbox_numbered, p
 use Rattle.fz_service.proofs.locked.Locked.publish.Goals as goal
 
 pub publish-count-requires-clause-numbers : goal.publish-count-requires-clause-numbers
-publish-count-requires-clause-numbers g c = outbox_numbered _ _ _ _ _ c.self.invariant.0 _ c.queue_from-outbox.ensures.queue
+publish-count-requires-clause-numbers g c = outbox_numbered _ _ _ _ _ _ c.self.invariant.0 _ c.queue_from-outbox.ensures.queue
 
 pub publish-count-requires-clause-limit : goal.publish-count-requires-clause-limit
 publish-count-requires-clause-limit g c =
-    let all = outbox_count _ _ _ _ _ c.self.invariant.0 _ c.queue_from-outbox.ensures.queue in
+    let all = outbox_count _ _ _ _ _ _ c.self.invariant.0 _ c.queue_from-outbox.ensures.queue in
     let few = c.queue_from-outbox.ensures.few in
     omega (arith, all, few)
 
 pub overflow_add-self : goal.overflow_add-self
 overflow_add-self g c =
-    let all = outbox_count _ _ _ _ _ c.self.invariant.0 _ c.queue_from-outbox.ensures.queue in
-    let sent = sent_count _ _ _ _ _ c.self.invariant.0 in
+    let all = outbox_count _ _ _ _ _ _ c.self.invariant.0 _ c.queue_from-outbox.ensures.queue in
+    let sent = sent_count _ _ _ _ _ _ c.self.invariant.0 in
     let few = c.queue_from-outbox.ensures.few in
     let count = c.publish-count.ensures.within in
     omega (arith, all, sent, few, count)
@@ -27,6 +27,6 @@ invariant_of-self g c =
     let rest = c.queue_from-outbox.ensures.queue in
     let sent = ap (λ (o : OwnerState). o.sent) c.publish-count.ensures.sent in
     let ready = c.self.invariant.1 in (
-      subst (λ es. IsInOrder g.O.Opening.origin (locked_state w.world es (w.published + c.publish-count.result) w.book.total)) (sym sent) (published_more _ _ _ _ _ c.self.invariant.0 _ _ rest c.publish-count.ensures.within),
+      subst (λ es. IsInOrder g.O.Opening.origin (locked_state w.world es (w.published + c.publish-count.result.0) w.book.total c.note.new.self.count)) (sym sent) (published_more _ _ _ _ _ _ c.self.invariant.0 _ _ _ rest c.publish-count.ensures.within),
       sent_more _ _ _ _ _ _ ready c.publish-count.ensures.sent,
     )
