@@ -8,7 +8,7 @@ use anyhow::Result;
 use fz_finalizers::{Finalizer, Kind, LinkKind, Passed, Root};
 use fz_machine::{BATCH, Machine, Next, Refused};
 
-/// A collection: marks, carries out a pass, and reclaims what isn't marked.
+/// Marks, makes a pass, and reclaims what isn't marked.
 fn collect(heap: &mut Heap, machine: &mut Machine) -> Result<Passed, Refused> {
     heap.mark_roots();
     for sort in [Root::HeldObject, Root::HeldData].iter() {
