@@ -1,4 +1,5 @@
--- What holds between the parts of finalizers: what is registered has room for its entry, and each link for a move.
+-- The invariant between the parts of finalizers: each registration has room for its entry, and each link for a move.
+-- code: fz_finalizers/src/finalizers.rt
 use Rattle.std.specs.Prelude.{◌≡◌, ℕ, ◌+◌, ◌-◌, ◌≤◌, min, List, []}
 use Rattle.std.specs.FinMap.{len}
 use Rattle.fz_model.specs.declared.limits.TheConstants.{COUNT_LIMIT}
@@ -9,7 +10,7 @@ use Rattle.fz_pass.specs.Late.{AreApart, AreNormal}
 use Rattle.fz_finalizers.specs.Ready.{Ready}
 use Rattle.fz_finalizers.specs.States.{State, Rooms, Order}
 
--- how many are registered
+-- how many objects are registered
 abbrev pub count_of : Registered → Registered → ℕ
 count_of table late = len table.registrations + len late.registrations
 
@@ -26,7 +27,7 @@ pub record HasMoves (short long : Linked) (moves : List (ℕ × ℕ)) (capacity 
   pub few_short : len short.links ≤ capacity
   pub few_long : len long.links ≤ capacity
 
--- what is seen of the parts
+-- the model of the parts
 abbrev pub state_of : Tabled → Tabled → Linked → Linked → Ready → ℕ → State
 state_of table late short long ready passes = record {
   registrations = table.registrations;

@@ -1,4 +1,5 @@
--- What the calls do, whatever the host: each is an event, which leads from one state to another.
+-- What the calls do, whatever the host does: each is an event, which leads from one state to another.
+-- code: fz_finalizers/src/registrations.rt, links.rt, passes.rt, entries.rt, stepwise.rt
 use Rattle.std.specs.Prelude.{◌≡◌, ◌≢◌, ℕ, ◌+◌, ◌-◌, ◌^◌, min, if◌then◌else◌, List, [], ◌++◌, ◌∷◌, length, Some, All, AllPairs}
 use Rattle.std.specs.FinMap.{get, insert, remove, empty}
 use Rattle.std.specs.Option.{option_map_or}
@@ -15,20 +16,20 @@ use Rattle.fz_finalizers.specs.declared.kinds.Finalizer.{Finalizer}
 use Rattle.fz_finalizers.specs.Kinds.{is_late, table_finalizer}
 use Rattle.fz_finalizers.specs.States.{State, links_of, registered, with_links}
 
--- the number of the next pass; it stays at the last that there is
+-- the number of the next pass; it never exceeds 2 ^ 64 - 1
 abbrev pub next_pass : ℕ → ℕ
 next_pass passes = min (passes + 1) (2 ^ 64 - 1)
 
--- a pick has the number, the procedure and the client data of a registration
+-- the pick has the number, the procedure and the client data of its object's registration
 abbrev pub IsOf : Map Registration → Pick → Type 0
 IsOf table p = (r : Registration) × (get table p.obj ≡ Some r) × (p.reg ≡ r.number) × (p.proc ≡ r.proc) × (p.cd ≡ r.cd)
 
--- picks of these registrations, of each object one at most
+-- picks of these registrations, at most one for each object
 pub record ArePicksIn (table : Map Registration) (picks : List Pick) : Type 0 where
   pub each : All (IsOf table) picks
   pub apart : AllPairs (λ (p q : Pick). p.obj ≢ q.obj) picks
 
--- entries of registrations come to the end of what waits, numbered on, and the registrations go
+-- entries of some registrations are appended to the waiting entries, with successive numbers, and these registrations are removed
 pub record Queues (pass : ℕ) (old new : State) : Type 0 where
   pub picks : List Pick
   pub late : List Pick
@@ -55,7 +56,7 @@ pub data Event : Type 0 where
   TakeFinished : Entry → Event
   Finish : Entry → Event
 
--- an object's registration, in the table of its kind
+-- the object is registered in the table of the finalizer's kind
 abbrev pub with_registration : State → ℕ → Finalizer → State
 with_registration s object finalizer =
     let registration = registration_of s.next_number (table_finalizer finalizer) in
@@ -63,7 +64,7 @@ with_registration s object finalizer =
     then record s { registrations = remove s.registrations object; late = insert s.late object registration; next_number = s.next_number + 1 }
     else record s { registrations = insert s.registrations object registration; late = remove s.late object; next_number = s.next_number + 1 }
 
--- an object's registration comes to the end of what waits, as an entry of the pass that began last
+-- the object's registration is appended to the waiting entries, as an entry of the last pass begun
 abbrev pub queued_one : State → ℕ → Registration → State
 queued_one s object r = record s {
   registrations = remove s.registrations object;
@@ -72,7 +73,7 @@ queued_one s object r = record s {
   queued = s.queued + 1;
 }
 
--- the same if it is registered
+-- the same, if the object is registered
 abbrev pub queued_object : State → ℕ → State
 queued_object s object = option_map_or (queued_one s object) (registered s object) s
 

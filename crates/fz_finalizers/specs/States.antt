@@ -1,4 +1,5 @@
--- What contracts see of finalizers: what is registered, the links, the entries, for how much more there is room, and the order in which walks go.
+-- The model of finalizers: registrations, links, entries, the room that is reserved, and the order of iterators.
+-- code: fz_finalizers/src/finalizers.rt
 use Rattle.std.specs.Prelude.{ℕ, ◌≤◌, min, if◌then◌else◌, List, [], Option, option_map, refl}
 use Rattle.std.specs.Coded.{Coded, code_by, coded×, coded_ℕ, coded_list}
 use Rattle.std.specs.Option.{option_or}
@@ -16,24 +17,24 @@ use Rattle.fz_finalizers.specs.declared.kinds.Kind.TheVariants.{Unreachable}
 use Rattle.fz_finalizers.specs.Kinds.{is_late, of_table}
 
 pub record State : Type 0 where
-  pub registrations : Map Registration  -- by their objects
-  pub late : Map Registration  -- the unreachable ones: no object stands in both
-  pub next_number : ℕ  -- of registrations
+  pub registrations : Map Registration  -- by object
+  pub late : Map Registration  -- those of kind `Unreachable`; no object is in both
+  pub next_number : ℕ  -- the next registration number
   pub short : Map ℕ  -- the short links: from the word of a link to its target
   pub long : Map ℕ  -- the long links
-  pub waiting : List Entry  -- what waits to be taken, in the queue's order
-  pub held : Map Entry  -- what was taken and isn't finished, by number
-  pub queued : ℕ  -- how many entries ever came
+  pub waiting : List Entry  -- entries that wait to be taken, in queue order
+  pub held : Map Entry  -- entries that were taken and aren't finished, by number
+  pub queued : ℕ  -- how many entries were ever queued
   pub passes : ℕ
 
--- how many more fit before memory is asked for
+-- how many more fit without allocating
 pub record Rooms : Type 0 where
   pub registrations : ℕ
   pub late : ℕ
   pub short : ℕ
   pub long : ℕ
 
--- the order in which walks go over what has none
+-- the order of iterators over what is unordered
 pub record Order : Type 0 where
   pub registrations : List (ℕ × Registration)
   pub late : List (ℕ × Registration)
@@ -81,11 +82,11 @@ view_code =
     code_by (State × (Rooms × Order)) (coded× state_code (coded× rooms_code order_code)) (λ v. (v.state, (v.rooms, v.order))) (λ p. record { state = p.0; rooms = p.1.0; order = p.1.1 })
     (λ _. refl)
 
--- nothing is registered, and nothing is queued
+-- nothing is registered or queued
 abbrev pub opening : State
 opening = record { registrations = empty; late = empty; next_number = 0; short = empty; long = empty; waiting = []; held = empty; queued = 0; passes = 0 }
 
--- an object's registration, of whichever kind
+-- an object's registration, of any kind
 abbrev pub registered : State → ℕ → Option Registration
 registered s object = option_or (get s.registrations object) (get s.late object)
 
@@ -113,11 +114,11 @@ table_of s kind = if is_late kind then s.late else s.registrations
 abbrev pub registration_room : Rooms → Kind → ℕ
 registration_room rooms kind = if is_late kind then rooms.late else rooms.registrations
 
--- no more than a table can have
+-- at most as many as a table can have
 abbrev pub limited : ℕ → ℕ
 limited entries = min entries MOST_ENTRIES
 
--- there is room for as many more registrations and links
+-- there is room for this many more registrations and links
 abbrev pub HasRooms : Rooms → ℕ → ℕ → ℕ → Type 0
 HasRooms rooms registrations shorts longs = (limited registrations ≤ rooms.registrations) × (limited shorts ≤ rooms.short) × (limited longs ≤ rooms.long)
 

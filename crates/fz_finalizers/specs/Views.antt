@@ -1,4 +1,5 @@
--- What contracts see of the entries: those that wait, those that are held, their room, and the order in which walks go over the held ones.
+-- The model of the entries: those that wait, those that are held, their room, and the order of iterators over the held ones.
+-- code: fz_finalizers/src/waiting.rt, held.rt
 use Rattle.std.specs.Prelude.{ℕ, Bool, false, List, refl}
 use Rattle.std.specs.Option.{option_map_or}
 use Rattle.std.specs.Coded.{Coded, code_by, coded×, coded_ℕ, coded_list}
@@ -27,6 +28,6 @@ held_code =
     code_by (Map Entry × (ℕ × List (ℕ × Entry))) (coded× (map.code coded_ℕ entry_code) (coded× coded_ℕ (coded_list (coded× coded_ℕ entry_code))))
     (λ h. (h.entries, (h.room, h.order))) (λ p. record { entries = p.0; room = p.1.0; order = p.1.1 }) (λ _. refl)
 
--- this very entry is held
+-- a held entry equals this one in all fields
 abbrev pub is_held : Map Entry → Entry → Bool
 is_held held entry = option_map_or (same_entry entry) (get held entry.seq) false

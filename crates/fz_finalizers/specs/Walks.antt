@@ -1,4 +1,5 @@
--- What walks yield.
+-- What iterators yield.
+-- code: fz_finalizers/src/walks.rt, roots.rt
 use Rattle.std.specs.Prelude.{◌≡◌, ℕ, nat_eq, List, ◌++◌, map}
 use Rattle.std.specs.Ordering.{nat_cmp}
 use Rattle.std.specs.FinMap.{get, from_entries}
@@ -12,11 +13,11 @@ use Rattle.fz_finalizers.specs.declared.roots.Root.{Root}
 use Rattle.fz_finalizers.specs.declared.roots.Root.TheVariants.{HeldObject, HeldData, RegisteredData}
 use Rattle.fz_finalizers.specs.States.{State, View, links_of, registered}
 
--- the values of pairs
+-- the values of the pairs
 abbrev pub values_of : {X : Type 0} → List (ℕ × X) → List X
 values_of es = map (λ e. e.1) es
 
--- the words that a walk over a sort of roots has left, of these entries or registrations
+-- the words of one kind of roots, of these entries or registrations
 abbrev pub words_left : Root → List Entry → List (ℕ × Registration) → List ℕ
 words_left HeldObject entries registrations = map (λ (e : Entry). e.obj) entries
 words_left HeldData entries registrations = map (λ (e : Entry). e.cd) entries
@@ -30,15 +31,15 @@ AreEntries s entries = (held : List (ℕ × Entry)) × (from_entries held ≡ s.
 abbrev pub AreRegistrations : State → List (ℕ × Registration) → Type 0
 AreRegistrations s registrations = ((object : ℕ) → get (from_entries {R = nat_cmp} registrations) object ≡ registered s object) × IsDistinct nat_eq (keys_of registrations)
 
--- these are the links of a kind, each once
+-- these are the links of one kind, each once
 abbrev pub AreLinks : State → LinkKind → List (ℕ × ℕ) → Type 0
 AreLinks s kind links = (from_entries links ≡ links_of s kind) × IsDistinct nat_eq (keys_of links)
 
--- what the walk over a sort of roots yields
+-- what an iterator over one kind of roots yields
 abbrev pub YieldsRoots : Root → State → List ℕ → Type 0
 YieldsRoots root s words = (entries : List Entry) × (registrations : List (ℕ × Registration)) × AreEntries s entries × AreRegistrations s registrations × (words ≡ words_left root entries registrations)
 
--- the order of a walk over entries, over registrations, over the links of a kind, and over the roots of a sort: one and the same as long as nothing
+-- the order of iterators over entries, over registrations, over the links of one kind, and over the roots of one kind: it stays the same until something
 -- changes
 abbrev pub entries_in_order : View → List Entry
 entries_in_order v = v.waiting ++ values_of v.order.held

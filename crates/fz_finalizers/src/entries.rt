@@ -1,4 +1,4 @@
-//! Entries that are taken and finished.
+//! Taking and finishing entries.
 
 ghost use Rattle.std.specs.Prelude.{◌≡◌, [], length, MatchOption, OnOk, OnErr, IsTrue, MatchResult};
 ghost use Rattle.std.specs.FinMap.{get, len};
@@ -11,14 +11,14 @@ use crate::refused::Refused;
 use fz_model::Entry;
 
 impl Finalizers {
-    /// Takes the first entry that waits. It is held, with its object and its client data, until it is finished.
+    /// Takes the first waiting entry. It is held until it is finished: its object and its client data stay roots.
     pub fn take(&mut self) -> Option<Entry>
         ensures { MatchOption result ((self.old.waiting ≡ []) × (self.new.state ≡ self.old.state)) (λ entry. Follows self.old.state (Take entry) self.new.state) }
     {
         self.ready.take()
     }
 
-    /// Ends the holding of an entry. Refused `NotHeld` where no held entry is the same in all its fields.
+    /// Finishes a held entry. Fails with `NotHeld` if no held entry equals this one in all fields.
     pub fn finish(&mut self, entry: &Entry) -> Result<(), Refused>
         ensures judged { IsJudgedBy (finish_causes self.old.held entry.now) result }
         ensures refused { OnErr result (self.new.state ≡ self.old.state) }
@@ -31,14 +31,14 @@ impl Finalizers {
         Ok(())
     }
 
-    /// Takes the first entry that waits, as finished: for a finalizer that may never return. Neither its object nor its client data is held on.
+    /// Takes the first waiting entry and finishes it at once, for a finalizer that may never return. Its object and its client data are no longer roots.
     pub fn take_finished(&mut self) -> Option<Entry>
         ensures { MatchOption result ((self.old.waiting ≡ []) × (self.new.state ≡ self.old.state)) (λ entry. Follows self.old.state (TakeFinished entry) self.new.state) }
     {
         self.ready.take_finished()
     }
 
-    /// Whether the entry is held: whether it is the same in all its fields as one that is.
+    /// Whether a held entry equals this one in all fields.
     pub fn is_held(&self, entry: &Entry) -> bool
         ensures { result ≡ is_held self.now.held entry.now }
     {
@@ -59,14 +59,14 @@ impl Finalizers {
         self.ready.held_count() as u64
     }
 
-    /// How many entries ever came to the queue.
+    /// How many entries were ever queued.
     pub fn queued(&self) -> u64
         ensures { result ≡ self.now.queued }
     {
         self.ready.queued()
     }
 
-    /// How many passes there were.
+    /// The number of passes so far.
     pub fn passes(&self) -> u64
         ensures { result ≡ self.now.passes }
     {

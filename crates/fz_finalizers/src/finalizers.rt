@@ -1,4 +1,4 @@
-//! The finalizers of a host, and what they are made of.
+//! The finalizers of a host, and their parts.
 
 ghost use Rattle.std.specs.Prelude.{◌≡◌, ◌≤◌, ◌<◌, ◌+◌, IfErr, OnOk, OnErr};
 ghost use Rattle.fz_finalizers.specs.States.{opening};
@@ -11,26 +11,26 @@ use fz_table::Table;
 use std::alloc::Global;
 use std::marker::Model;
 
-/// The finalizers of a host with a heap of its own: its registrations, its links, and the entries of finalizers that are ready.
+/// The finalizers of a host with a heap of its own: registrations, links, and the queue of entries.
 ///
-/// Objects, words, procedures and client data are numbers, which are compared and handed back, and never followed. Zero is no object and no word.
+/// Objects, words, procedures and client data are numbers that are only compared and passed back, never dereferenced. Zero is neither an object nor a word.
 ///
-/// A contract sees a state, for how much more there is room, and the order of walks. A refused call returns the first of its refusals that stands, and
-/// leaves the state as it was. Memory is wanted by `reserve`, by a new registration and by a new link alone: what is registered keeps room for its
-/// entry, so that a pass, a take and a move of a link can't fail for want of it. Entries that are finished are forgotten.
+/// Its model is a state, the room that is reserved, and the order of iterators. If several refusals of a call apply, it returns the first in the documented
+/// order. A refused call leaves the state unchanged. Only `reserve`, a new registration and a new link allocate. Each registration has room reserved for its
+/// entry, so a pass, a take and a move of a link can't run out of memory. Finished entries are forgotten.
 pub struct Finalizers {
     pub(crate) table: Table,
-    /// The unreachable ones, which stand there as normal ones.
+    /// The registrations of kind `Unreachable`, which this table has as normal ones.
     pub(crate) late: Table,
     pub(crate) short: Links,
     pub(crate) long: Links,
-    /// Empty but in a move of a link, which may put all links here for a moment.
+    /// Empty, except while a link is moved: a move may put all links here temporarily.
     pub(crate) moves: Vec<(Addr, Addr)>,
     pub(crate) ready: Ready,
     pub(crate) passes: u64,
 }
 
-// Written out: who owns finalizers then drops them by one call that is proved here, not field by field at each way out of a function.
+// Written by hand, so that the owner drops it by one proved call, not field by field at each exit of a function.
 impl Drop for Finalizers {
     fn drop(self) {
         let Finalizers {
@@ -64,7 +64,7 @@ impl Model for Finalizers {
 }
 
 impl Finalizers {
-    /// Nothing is registered.
+    /// Finalizers without registrations.
     pub fn new(alloc: Global) -> Finalizers
         ensures { result.state ≡ opening }
     {

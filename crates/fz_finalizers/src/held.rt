@@ -1,4 +1,4 @@
-//! The entries that were taken and aren't finished.
+//! The entries in flight: taken and not finished.
 
 ghost use Rattle.std.specs.Prelude.{◌≡◌, ◌≤◌, ◌<◌, ◌+◌, nat_eq, if◌then◌else◌, length, OnOk, OnErr};
 ghost use Rattle.std.specs.FinMap.{get, insert, remove, len, empty, from_entries};
@@ -12,7 +12,7 @@ use indexmap::IndexMap;
 use std::alloc::{AllocError, Global};
 use std::marker::Model;
 
-/// The entries that are held, by their numbers.
+/// The held entries, by number.
 #[derive(Drop)]
 pub(crate) struct Held {
     entries: IndexMap<u64, Entry>,
@@ -31,7 +31,7 @@ impl Model for Held {
 }
 
 impl Held {
-    /// None is held.
+    /// No entries.
     pub(crate) fn new(alloc: Global) -> Held
         ensures { result.entries ≡ empty }
     {
@@ -40,7 +40,7 @@ impl Held {
         }
     }
 
-    /// Makes room for `more` further entries.
+    /// Reserves room for `more` further entries.
     pub(crate) fn reserve(&mut self, more: usize) -> Result<(), AllocError>
         ensures same { self.new.entries ≡ self.old.entries }
         ensures kept { self.old.room ≤ self.new.room }
@@ -50,7 +50,7 @@ impl Held {
         self.entries.reserve(more)
     }
 
-    /// Gives back memory, but for the room for `more` further entries.
+    /// Frees memory, except the room for `more` further entries.
     pub(crate) fn shrink(&mut self, more: usize)
         requires { more ≤ self.old.room }
         ensures same { self.new.entries ≡ self.old.entries }
@@ -61,14 +61,14 @@ impl Held {
         self.entries.shrink_to(most.min(self.entries.capacity()));
     }
 
-    /// How many are held.
+    /// How many entries are held.
     pub(crate) fn len(&self) -> usize
         ensures { result ≡ len self.now.entries }
     {
         self.entries.len()
     }
 
-    /// Holds an entry, for which there is room.
+    /// Holds an entry. Requires room for it.
     pub(crate) fn hold(&mut self, entry: Entry)
         requires { 0 < self.old.room }
         ensures held { self.new.entries ≡ insert self.old.entries entry.seq entry }
@@ -77,7 +77,7 @@ impl Held {
         let _ = self.entries.insert(entry.seq, entry);
     }
 
-    /// Whether this very entry is held.
+    /// Whether a held entry equals this one in all fields.
     pub(crate) fn is_held(&self, entry: &Entry) -> bool
         ensures { result ≡ is_held self.now.entries entry.now }
     {
@@ -87,7 +87,7 @@ impl Held {
         }
     }
 
-    /// Lets go of the entry with a number.
+    /// Removes the entry with this number.
     pub(crate) fn release(&mut self, number: u64)
         ensures released { self.new.entries ≡ remove self.old.entries number }
         ensures room { self.old.room ≤ self.new.room }
@@ -95,7 +95,7 @@ impl Held {
         self.entries.swap_remove(&number);
     }
 
-    /// Those that are held, in an order that stays while they do.
+    /// The held entries, in an order that stays the same until they change.
     pub(crate) fn iter(&self) -> Pairs<'_, u64, Entry>
         ensures all { from_entries result ≡ self.now.entries }
         ensures order { result ≡ self.now.order }

@@ -1,4 +1,4 @@
-//! Finalizers for a host with a heap of its own: what is registered, what waits to be taken, and what isn't finished.
+//! Finalizers for a host with a heap of its own: registrations, links, and a queue of entries.
 #![tactic(auto)]
 
 mod entries;

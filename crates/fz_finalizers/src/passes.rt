@@ -1,4 +1,4 @@
-//! Passes, and the room that is made for them.
+//! Passes, and reserving room for them.
 
 ghost use Rattle.std.specs.Prelude.{◌≡◌, ◌≤◌, ◌+◌, ℕ, None, IfErr, OnOk, OnErr, IsTrue};
 ghost use Rattle.fz_model.specs.Memory.{points};
@@ -13,16 +13,16 @@ use crate::refused::Refused;
 use fz_pass::Host;
 use fz_table::MOST_ENTRIES;
 
-/// What a pass did.
+/// What a pass has done.
 #[derive(Clone, Copy, Debug, PartialEq, Eq)]
 pub struct Passed {
-    /// Its number, counted from 1.
+    /// The number of the pass, counted from 1.
     pub pass: u64,
     /// How many entries it queued.
     pub picked: u64,
 }
 
-/// As many entries, but no more than a table can have.
+/// This many entries, but at most as many as a table can have.
 fn limited(entries: usize) -> usize
     ensures { result ≡ limited entries }
 {
@@ -30,10 +30,10 @@ fn limited(entries: usize) -> usize
 }
 
 impl Finalizers {
-    /// Makes room for further registrations of the kinds other than `Unreachable`, and for further links of both kinds: of each for 2^32 at the most. Takes
-    /// time by what it makes room for.
+    /// Reserves room for further registrations of kinds other than `Unreachable`, and for further links of both kinds: for at most 2^32 of each. Takes time
+    /// proportional to the room.
     ///
-    /// Refused `NoMemory` where an allocation failed.
+    /// Fails with `NoMemory` if an allocation fails.
     pub fn reserve(
         &mut self,
         registrations: usize,
@@ -60,27 +60,27 @@ impl Finalizers {
         Ok(())
     }
 
-    /// Carries out a pass over the host's heap, whose marking is done. The links to what isn't marked are cleared. The finalizers of objects that aren't
-    /// marked come to the queue where no other of these leads to them, and what they need is marked. What isn't marked afterwards is the host's to reclaim.
-    /// Takes time by the registrations and the links, and by what the host takes to answer.
+    /// Carries out a pass over the host's heap. Requires that its marking is complete. Links to unmarked objects are cleared. Finalizers of unmarked objects
+    /// are queued if no other such object reaches them, and everything that they need is marked. The host may reclaim what is unmarked afterwards. Takes time
+    /// proportional to the registrations and the links, and the time that the host takes.
     ///
-    /// That registered objects and the targets of links are the host's objects is its duty.
+    /// The host has to ensure that registered objects and the targets of links are its objects.
     pub fn pass<H: Host>(&mut self, host: &mut H) -> Passed
         requires registered { AreRegistered (H.objects host.old) self.old.registrations }
         requires late { AreRegistered (H.objects host.old) self.old.late }
         requires short { AreTargets (H.objects host.old) self.old.short }
         requires long { AreTargets (H.objects host.old) self.old.long }
-        // A word that was cleared points to nothing.
+        // A cleared word points to nothing.
         requires zero { points (H.objects host.old) 0 ≡ None }
         requires closed { IsClosed (H.objects host.old) (H.marked host.old) }
         ensures decided { DecidesFor H.is_exact (next_pass self.old.passes) self.old.state (H.objects host.old) (H.marked host.old) self.new.state (H.objects host.new) (H.marked host.new) }
         ensures follows { Follows self.old.state Pass self.new.state }
         ensures pass { result.pass ≡ next_pass self.old.passes }
         ensures picked { self.new.queued ≡ self.old.queued + result.picked }
-        // Marked objects stay marked, and what they lead to is marked.
+        // Marked objects stay marked, and everything that they reach is marked.
         ensures marks { (a : ℕ) → IsTrue (H.marked host.old a) → IsTrue (H.marked host.new a) }
         ensures closed { IsClosed (H.objects host.new) (H.marked host.new) }
-        // All else of the host stays.
+        // Everything else in the host is unchanged.
         ensures same { H.is_same host.old host.new }
     {
         let before = self.ready.queued();
@@ -100,8 +100,9 @@ impl Finalizers {
         }
     }
 
-    /// Queues all that is registered, whatever is marked, by rank, then object, and the unreachable ones after the others; returns how many there were:
-    /// `GC_finalize_all`. The entries' pass is 0, and so are their births. Links stay. Takes time by the registrations.
+    /// Queues every registration, whatever is marked, and returns how many there were: `GC_finalize_all`. The order is by rank, then address, with those of
+    /// kind `Unreachable` after the others. The entries' pass is 0, and so are their births. Links are unchanged. Takes time proportional to the
+    /// registrations.
     pub fn queue_all(&mut self) -> u64
         ensures queued { QueuesTables self.old.queued self.old.registrations self.old.late self.old.waiting self.new.waiting }
         ensures follows { Follows self.old.state QueueAll self.new.state }

@@ -1,4 +1,4 @@
-//! The entries, and the room that is kept for those that are still to come.
+//! The entries, and the room reserved for further ones.
 
 ghost use Rattle.std.specs.Prelude.{◌≡◌, ◌≤◌, ◌<◌, ◌+◌, ◌^◌, [], ◌∷◌, ◌++◌, ℕ, nat_eq, None, length, IfErr, OnOk, OnErr, IsTrue};
 ghost use Rattle.std.specs.FinMap.{get, remove, len, empty, from_entries};
@@ -23,13 +23,13 @@ use fz_table::{Pairs, Table};
 use std::alloc::Global;
 use std::marker::Model;
 
-/// The entries that wait and those that are held, with room for those that a pass may queue.
+/// The waiting and the held entries, with room for those that a pass may queue.
 #[derive(Drop)]
 pub(crate) struct Ready {
     list: ReadyList,
     waiting: Waiting,
     held: Held,
-    /// How many entries ever came, which is the number of the next.
+    /// How many entries were ever queued, which is the number of the next one.
     queued: u64,
 }
 
@@ -53,7 +53,7 @@ impl Model for Ready {
 }
 
 impl Ready {
-    /// No entries, and no room.
+    /// No entries, without reserved room.
     pub(crate) fn new(alloc: Global) -> Ready
         ensures waiting { result.waiting ≡ [] }
         ensures held { result.held ≡ empty }
@@ -67,28 +67,28 @@ impl Ready {
         }
     }
 
-    /// Those that wait, in the queue's order.
+    /// The waiting entries, in queue order.
     pub(crate) fn waiting(&self) -> &[Entry]
         ensures { result.now ≡ self.now.waiting }
     {
         self.waiting.as_slice()
     }
 
-    /// How many ever came.
+    /// How many entries were ever queued.
     pub(crate) fn queued(&self) -> u64
         ensures { result ≡ self.now.queued }
     {
         self.queued
     }
 
-    /// How many are held.
+    /// How many entries are held.
     pub(crate) fn held_count(&self) -> usize
         ensures { result ≡ len self.now.held }
     {
         self.held.len()
     }
 
-    /// Those that are held, by their numbers, in an order that stays while they do.
+    /// The held entries, by number, in an order that stays the same until they change.
     pub(crate) fn held_entries(&self) -> Pairs<'_, u64, Entry>
         ensures all { from_entries result ≡ self.now.held }
         ensures order { result ≡ self.now.order }
@@ -98,7 +98,7 @@ impl Ready {
         self.held.iter()
     }
 
-    /// Makes room for `most` entries that are still to come.
+    /// Reserves room for `most` further entries.
     pub(crate) fn reserve(&mut self, most: usize) -> Result<(), Refused>
         requires { self.old.queued + most < 2 ^ 64 }
         ensures refused { IfErr result (λ r. r ≡ Refused.NoMemory) }
@@ -113,7 +113,7 @@ impl Ready {
         Ok(())
     }
 
-    /// Gives back memory, but for the room for `most` entries that are still to come.
+    /// Frees memory, except the room for `most` further entries.
     pub(crate) fn shrink(&mut self, most: usize)
         requires { most ≤ self.old.room }
         ensures same { HasSameEntries self.old self.new }
@@ -125,7 +125,7 @@ impl Ready {
         self.held.shrink(self.waiting.len() + most);
     }
 
-    /// Carries out a pass with this number over a host and the tables.
+    /// Carries out the pass of this number over a host and the tables.
     pub(crate) fn pass<H: Host>(
         &mut self,
         number: u64,
@@ -170,7 +170,7 @@ impl Ready {
         self.waiting = Waiting::of(queue);
     }
 
-    /// Queues all that is registered in the tables.
+    /// Queues every registration of the tables.
     pub(crate) fn queue_all(&mut self, table: &mut Table, late: &mut Table)
         requires room { len table.old.registrations + len late.old.registrations ≤ self.old.room }
         requires numbers { self.old.queued + (len table.old.registrations + len late.old.registrations) < 2 ^ 64 }
@@ -191,7 +191,7 @@ impl Ready {
         self.waiting = Waiting::of(queue);
     }
 
-    /// Puts the entry of an object's registration at the end of those that wait, as of a pass.
+    /// Appends the entry of an object's registration to the waiting entries, with this pass.
     pub(crate) fn push(&mut self, pass: u64, object: Addr, registration: Registration)
         requires room { 0 < self.old.room }
         requires number { self.old.queued + 1 < 2 ^ 64 }
@@ -212,7 +212,7 @@ impl Ready {
         self.queued += 1;
     }
 
-    /// Takes the first entry that waits, and holds it.
+    /// Takes the first waiting entry, and holds it.
     pub(crate) fn take(&mut self) -> Option<Entry>
         ensures takes { Takes result self.old self.new }
         ensures room { self.old.room ≤ self.new.room }
@@ -222,7 +222,7 @@ impl Ready {
         Some(entry)
     }
 
-    /// Takes the first entry that waits, and doesn't hold it.
+    /// Takes the first waiting entry, and doesn't hold it.
     pub(crate) fn take_finished(&mut self) -> Option<Entry>
         ensures takes { TakesFinished result self.old self.new }
         ensures room { self.old.room ≤ self.new.room }
@@ -230,14 +230,14 @@ impl Ready {
         self.waiting.take()
     }
 
-    /// Whether this very entry is held.
+    /// Whether a held entry equals this one in all fields.
     pub(crate) fn is_held(&self, entry: &Entry) -> bool
         ensures { result ≡ is_held self.now.held entry.now }
     {
         self.held.is_held(entry)
     }
 
-    /// Lets go of the held entry with a number.
+    /// Removes the held entry with this number.
     pub(crate) fn release(&mut self, number: u64)
         ensures released { self.new.held ≡ remove self.old.held number }
         ensures same { (self.new.waiting ≡ self.old.waiting) × (self.new.queued ≡ self.old.queued) }

@@ -1,4 +1,4 @@
-//! Registrations in the table of their kind.
+//! Registering in the table of the finalizer's kind.
 
 ghost use Rattle.std.specs.Prelude.{◌≡◌, ◌≤◌, ◌<◌, ◌+◌, ◌^◌, ◌⊎◌, None, IfOk, IfErr, OnOk, OnErr};
 ghost use Rattle.std.specs.FinMap.{get, insert, remove, len};
@@ -14,7 +14,7 @@ use crate::refused::Refused;
 use fz_model::{Addr, COUNT_LIMIT, Finalizer, Old, Registration};
 use fz_table::Table;
 
-/// Refuses what can't be registered, whatever memory there is.
+/// Checks that the object can be registered, apart from memory.
 pub(crate) fn check(table: &Table, object: Addr) -> Result<(), Refused>
     ensures { IsJudgedBy (register_causes table.now.registrations table.now.next_number object) result }
 {
@@ -30,7 +30,7 @@ pub(crate) fn check(table: &Table, object: Addr) -> Result<(), Refused>
     Ok(())
 }
 
-/// Makes room for the entry of an object's registration, if the object has none in either table.
+/// Reserves room for the entry of an object's registration, unless the object is in one of the tables.
 #[tactic(auto, using(crate::proofs::Counting::room_made, crate::proofs::Counting::room_known, crate::proofs::Counting::neither))]
 fn make_room(table: &Table, other: &Table, ready: &mut Ready, object: Addr) -> Result<(), Refused>
     requires room { len table.now.registrations + len other.now.registrations ≤ ready.old.room }
@@ -51,7 +51,7 @@ fn make_room(table: &Table, other: &Table, ready: &mut Ready, object: Addr) -> R
     Err(refused)
 }
 
-/// Removes an object's registration from a table, which is mostly that of the late ones and empty.
+/// Removes an object's registration from a table. This is mostly the table of kind `Unreachable`, which is mostly empty.
 pub(crate) fn remove(table: &mut Table, object: Addr) -> Option<Old>
     ensures answer { result ≡ old_of table.old.registrations object }
     ensures removed { table.new.registered ≡ record table.old.registered { registrations = remove table.old.registrations object } }
@@ -63,7 +63,7 @@ pub(crate) fn remove(table: &mut Table, object: Addr) -> Option<Old>
     table.remove(object)
 }
 
-/// Takes an object's registration out of the table of the late ones, which is mostly empty.
+/// Removes an object's registration from the table of kind `Unreachable`, which is mostly empty.
 pub(crate) fn take_late(late: &mut Table, object: Addr) -> Option<Registration>
     ensures answer { result ≡ get late.old.registrations object }
     ensures removed { late.new.registered ≡ record late.old.registered { registrations = remove late.old.registrations object } }
@@ -75,7 +75,7 @@ pub(crate) fn take_late(late: &mut Table, object: Addr) -> Option<Registration>
     late.take(object)
 }
 
-/// Registers an object's finalizer in its table, and removes what the other has of the object; returns the number and what was replaced.
+/// Registers an object's finalizer in its table, and removes the object from the other table. Returns the number and what was replaced.
 pub(crate) fn register(
     table: &mut Table,
     other: &mut Table,

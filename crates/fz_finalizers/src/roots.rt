@@ -1,4 +1,4 @@
-//! Walks over what a host's marker takes as roots.
+//! Iterating over the roots for a host's marker.
 
 ghost use Rattle.std.specs.Prelude.{◌≡◌, ◌≤◌, ◌<◌, ◌+◌, ◌++◌, ℕ, List, min, map, take, drop, length, Some, IfSome};
 ghost use Rattle.std.specs.FinMap.{get, from_entries};
@@ -11,18 +11,18 @@ use crate::finalizers::Finalizers;
 use crate::walks::{Entries, Registrations};
 use std::marker::Model;
 
-/// What a walk over roots yields.
+/// A kind of roots.
 #[derive(Clone, Copy, Debug, PartialEq, Eq)]
 pub enum Root {
-    /// The objects of entries that wait or are held. They are roots themselves: the host marks these very objects.
+    /// The objects of entries that wait or are held. These objects themselves are roots.
     HeldObject,
-    /// The client data of entries that wait or are held. It is a root where it points to an object.
+    /// The client data of entries that wait or are held. It is a root if it points to an object.
     HeldData,
-    /// The client data of registrations, for hosts that keep it: bdwgc leaves this to a choice at its build.
+    /// The client data of registrations, for hosts that treat it as a root: in bdwgc this is a build option.
     RegisteredData,
 }
 
-/// A walk over the roots of a sort, seen as the list of the words that are left.
+/// An iterator over the roots of one kind. Its model is the list of the remaining words.
 #[derive(Drop)]
 pub struct Roots<'a> {
     root: Root,
@@ -56,7 +56,7 @@ impl<'a> Iterator for Roots<'a> {
 }
 
 impl<'a> Roots<'a> {
-    /// Those from a place on, in constant time.
+    /// The roots from an index on. Takes constant time.
     pub fn from_place(self, place: usize) -> Roots<'a>
         ensures { result ≡ drop place self.entry }
     {
@@ -67,7 +67,7 @@ impl<'a> Roots<'a> {
         }
     }
 
-    /// Writes the next words into the buffer, as many as it holds or are left; returns how many.
+    /// Writes the next words into the buffer, as many as fit or remain. Returns their number.
     pub fn fill(&mut self, buffer: &mut [u64]) -> usize
         ensures count { result ≡ min (length buffer.old) (length self.old) }
         ensures filled { take result buffer.new ≡ take result self.old }
@@ -86,8 +86,8 @@ impl<'a> Roots<'a> {
 }
 
 impl Finalizers {
-    /// The roots of a sort. A host marks from the held objects and their data before each pass; so what a finalizer is called with is there until it
-    /// is finished. Their order stays as long as nothing changes: so a walk may go on later, from a place.
+    /// An iterator over the roots of one kind. A host marks from the held objects and their data before each pass, so the arguments of a finalizer are
+    /// retained until it is finished. The order stays the same until something changes, so an iteration can continue later from an index.
     pub fn roots(&self, root: Root) -> Roots<'_>
         ensures sort { YieldsRoots root self.now.state result }
         ensures order { result ≡ roots_of root self.now }

@@ -1,12 +1,12 @@
-//! Memory is given back.
+//! Giving back memory.
 
 ghost use Rattle.std.specs.Prelude.{◌≡◌, ◌≤◌};
 
 use crate::finalizers::Finalizers;
 
 impl Finalizers {
-    /// Gives back the memory that isn't needed for what is registered, linked, queued and held. A table or a list whose smaller copy can't be allocated
-    /// stays as it is. Takes time in proportion to all of these. A pass never does this.
+    /// Frees the memory that registrations, links and entries don't need. If a smaller table or list can't be allocated, the old one stays. Takes time
+    /// proportional to all of these. A pass never does this.
     pub fn shrink(&mut self)
         ensures state { self.new.state ≡ self.old.state }
         ensures order { self.new.order ≡ self.old.order }

@@ -1,4 +1,4 @@
-//! Passes that are carried out call by call.
+//! Passes that are carried out by individual calls.
 
 ghost use Rattle.std.specs.Prelude.{◌≡◌, ◌≤◌, ◌<◌, ◌+◌, is_some};
 ghost use Rattle.std.specs.FinMap.{from_entries};
@@ -10,7 +10,7 @@ use crate::registering::take_late;
 use fz_model::Addr;
 
 impl Finalizers {
-    /// Begins a pass that is carried out call by call, and returns its number: `queue` makes entries of it from now on.
+    /// Begins a pass that is carried out by individual calls, and returns its number. From now on `queue` adds entries to it.
     pub fn begin_pass(&mut self) -> u64
         ensures number { result ≡ next_pass self.old.passes }
         ensures follows { Follows self.old.state Begin self.new.state }
@@ -19,8 +19,8 @@ impl Finalizers {
         self.passes
     }
 
-    /// Moves an object's registration to the end of the queue, as an entry of the pass that began last, with birth 0. Returns whether the object was
-    /// registered. It takes no memory.
+    /// Appends an object's registration to the queue, as an entry of the last pass begun, with birth 0, and returns whether the object was registered. Takes
+    /// no memory.
     pub fn queue(&mut self, object: Addr) -> bool
         ensures answer { result ≡ is_some (registered self.old.state object) }
         ensures follows { Follows self.old.state (Queue object) self.new.state }

@@ -7,7 +7,7 @@ use std::alloc::AllocError;
 use std::marker::Model;
 use std::mem;
 
-/// The entries that wait, in the queue's order. Those that were taken stand before them until room is wanted.
+/// The waiting entries, in queue order. Entries already taken stay before them in memory until the room is needed.
 #[derive(Drop)]
 pub(crate) struct Waiting {
     entries: Vec<Entry>,
@@ -39,28 +39,28 @@ fn drop_first(entries: &mut Vec<Entry>, taken: usize)
 }
 
 impl Waiting {
-    /// These entries wait.
+    /// These entries, all waiting.
     pub(crate) fn of(entries: Vec<Entry>) -> Waiting
         ensures { result ≡ record { entries = entries.items; capacity = vec_capacity entries } }
     {
         Waiting { entries, taken: 0 }
     }
 
-    /// How many wait.
+    /// How many entries wait.
     pub(crate) fn len(&self) -> usize
         ensures { result ≡ length self.now.entries }
     {
         self.entries.len() - self.taken
     }
 
-    /// Those that wait.
+    /// The waiting entries.
     pub(crate) fn as_slice(&self) -> &[Entry]
         ensures { result.now ≡ self.now.entries }
     {
         &self.entries[self.taken..]
     }
 
-    /// Makes room for `more` further entries.
+    /// Reserves room for `more` further entries.
     pub(crate) fn reserve(&mut self, more: usize) -> Result<(), AllocError>
         ensures same { self.new.entries ≡ self.old.entries }
         ensures kept { self.old.capacity ≤ self.new.capacity }
@@ -74,7 +74,7 @@ impl Waiting {
         self.entries.reserve(more)
     }
 
-    /// Gives back memory, but for the room for `more` further entries.
+    /// Frees memory, except the room for `more` further entries.
     pub(crate) fn shrink(&mut self, more: usize)
         requires { length self.old.entries + more ≤ self.old.capacity }
         ensures same { self.new.entries ≡ self.old.entries }
@@ -86,7 +86,7 @@ impl Waiting {
         self.entries.shrink_to(self.entries.len() + more);
     }
 
-    /// Puts an entry at the end, for which there has to be room.
+    /// Appends an entry. Requires room for it.
     pub(crate) fn push(&mut self, entry: Entry)
         requires { length self.old.entries < self.old.capacity }
         ensures pushed { self.new.entries ≡ self.old.entries ++ entry ∷ [] }
@@ -109,7 +109,7 @@ impl Waiting {
         Some(entry)
     }
 
-    /// The entries that wait, with their room. None is left.
+    /// The waiting entries, with their room. None is left here.
     pub(crate) fn take_entries(&mut self) -> Vec<Entry>
         ensures items { result.items ≡ self.old.entries }
         ensures capacity { vec_capacity result ≡ self.old.capacity }

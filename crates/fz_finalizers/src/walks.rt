@@ -1,4 +1,4 @@
-//! Walks over registrations, links and roots.
+//! Iterating over registrations, links and entries.
 
 ghost use Rattle.std.specs.Prelude.{◌≡◌, ◌≤◌, ◌<◌, ◌+◌, ◌++◌, ℕ, List, min, map, take, drop, length, nat_eq, Some, IfSome};
 ghost use Rattle.std.specs.Ordering.{nat_cmp};
@@ -16,7 +16,7 @@ use fz_model::{Addr, Entry, LinkKind, Registration};
 use fz_table::Pairs;
 use std::marker::Model;
 
-/// All registrations with their objects, seen as the list of those that are left.
+/// An iterator over the registrations with their objects. Its model is the list of the remaining ones.
 #[derive(Drop)]
 pub struct Registrations<'a> {
     first: Pairs<'a, Addr, Registration>,
@@ -47,7 +47,7 @@ impl<'a> Iterator for Registrations<'a> {
     }
 }
 
-/// The entries that wait and those that are held, seen as the list of those that are left.
+/// An iterator over the entries that wait or are held. Its model is the list of the remaining ones.
 #[derive(Drop)]
 pub struct Entries<'a> {
     waiting: &'a [Entry],
@@ -82,7 +82,7 @@ impl<'a> Iterator for Entries<'a> {
 }
 
 impl<'a> Registrations<'a> {
-    /// Those from a place on, in constant time.
+    /// The registrations from an index on. Takes constant time.
     pub fn from_place(self, place: usize) -> Registrations<'a>
         ensures { result ≡ drop place self.entry }
     {
@@ -95,7 +95,7 @@ impl<'a> Registrations<'a> {
 }
 
 impl<'a> Entries<'a> {
-    /// Those from a place on, in constant time.
+    /// The entries from an index on. Takes constant time.
     pub fn from_place(self, place: usize) -> Entries<'a>
         ensures { result ≡ drop place self.entry }
     {
@@ -109,7 +109,7 @@ impl<'a> Entries<'a> {
 }
 
 impl Finalizers {
-    /// All registrations with their objects, each once, in an order that stays as long as nothing changes: so a walk may go on later, from a place.
+    /// All registrations with their objects, each once. The order stays the same until something changes, so an iteration can continue later from an index.
     pub fn iter(&self) -> Registrations<'_>
         ensures all { AreRegistrations self.now.state result }
         ensures count { length result ≡ len self.now.registrations + len self.now.late }
@@ -121,7 +121,7 @@ impl Finalizers {
         }
     }
 
-    /// The registrations of kind `Unreachable`, which come late in a pass, with their objects, each once, in no order that callers may count on.
+    /// The registrations of kind `Unreachable` with their objects, each once, in unspecified order.
     pub fn iter_late(&self) -> Pairs<'_, Addr, Registration>
         ensures all { from_entries result ≡ self.now.late }
         ensures once { IsDistinct nat_eq (keys_of result) }
@@ -130,7 +130,7 @@ impl Finalizers {
         self.late.iter()
     }
 
-    /// The registrations of the other kinds, in the same way.
+    /// The registrations of the other kinds, likewise.
     pub fn iter_others(&self) -> Pairs<'_, Addr, Registration>
         ensures all { from_entries result ≡ self.now.registrations }
         ensures once { IsDistinct nat_eq (keys_of result) }
@@ -139,7 +139,8 @@ impl Finalizers {
         self.table.iter()
     }
 
-    /// All links of a kind with their targets, each once, in an order that stays as long as nothing changes: so a walk may go on later, from a place.
+    /// All links of one kind with their targets, each once. The order stays the same until something changes, so an iteration can continue later from an
+    /// index.
     pub fn iter_links(&self, kind: LinkKind) -> Pairs<'_, Addr, Addr>
         ensures all { from_entries result ≡ links_of self.now.state kind }
         ensures once { IsDistinct nat_eq (keys_of result) }
@@ -152,7 +153,7 @@ impl Finalizers {
         }
     }
 
-    /// The entries that wait, in the queue's order, and then those that are held, in an order that stays as long as nothing changes.
+    /// The waiting entries, in queue order, followed by the held entries, in an order that stays the same until something changes.
     pub fn entries(&self) -> Entries<'_>
         ensures all { AreEntries self.now.state result }
         ensures count { length result ≡ length self.now.waiting + len self.now.held }

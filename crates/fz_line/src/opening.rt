@@ -1,4 +1,4 @@
-//! How a line is made, and how its seats end.
+//! Opening a line, and retiring its seats.
 
 ghost use Rattle.std.specs.Prelude.{◌≡◌, ◌+◌, ◌<◌, ◌≤◌, [], ◌∷◌, true, None, IfOk, IfErr, IfSome};
 ghost use Rattle.crossbeam_deque.specs.Handles.{worker_deque, worker_view, worker_capacity};
@@ -14,9 +14,9 @@ use crate::taker::Taker;
 use fz_model::{MAX_WORKERS, Refusal};
 use std::alloc::Global;
 
-/// An empty line with 1 to 8 seats, by index from 0, and room for `room` entries from the first, at some 80 bytes each.
+/// An empty line with 1 to 8 seats, which have the indices from 0 on. It has room for `room` entries from the start, at about 80 bytes each.
 ///
-/// `BadCount` for any other number of seats, and `NoMemory` where an allocation for the line or for its seats failed.
+/// Fails with `BadCount` for any other number of seats, and with `NoMemory` if an allocation for the line or for its seats fails.
 pub fn line(alloc: Global, workers: u64, room: usize) -> Result<(Owner, Vec<Seat>), Refusal>
     ensures judged { IsJudgedOrLacks (bad_count MAX_WORKERS workers ∷ []) result }
     ensures owner { IfOk result (λ made. made.0 ≡ owner_state made.0.line workers room [] []) }
@@ -45,7 +45,7 @@ pub fn line(alloc: Global, workers: u64, room: usize) -> Result<(Owner, Vec<Seat
     Ok((owner, seats))
 }
 
-/// One seat more of a line with `index` seats, where there is memory for its end of the line.
+/// One more seat of a line that has `index` seats, unless its end of the line can't be allocated.
 fn new_seat(worker: &mut LineWorker, index: usize) -> Option<Seat>
     requires end { IsOwnerEnd index worker.old × (index < MAX_WORKERS) }
     ensures same { worker_deque worker.new ≡ worker_deque worker.old }

@@ -11,21 +11,21 @@ use crate::seat::Seat;
 use fz_model::Entry;
 use std::marker::Model;
 
-/// A push found no memory. Nothing but such a push makes one.
+/// A push ran out of memory. Only such a push makes one.
 #[derive(Drop)]
 pub struct Shortage(());
 
-/// The end of a line at which entries are sent.
+/// The producer's end of a line, at which entries are sent.
 ///
-/// A contract sees which line it is, how many seats it has, for how many entries it has room from the first, all that was sent, and what `drain` took out. An owner that is dropped takes
-/// the entries that wait in the line with it.
+/// Its model is the identity of the line, its number of seats, for how many entries it has room from the start, everything that was sent, and what `drain`
+/// took out. If an owner is dropped, the entries that wait in the line are dropped, too.
 pub struct Owner {
     pub(crate) worker: LineWorker,
     pub(crate) seats: usize,
     pub(crate) room: usize,
 }
 
-// Written out: who owns an owner then drops it by one call that is proved here, not field by field at each way out of a function.
+// Written by hand, so that the owner drops it by one proved call, not field by field at each exit of a function.
 impl Drop for Owner {
     fn drop(self) {
         let Owner {
@@ -57,10 +57,11 @@ impl Owner {
         self.seats
     }
 
-    /// Sends the entries of the outbox in order; returns how many were sent, and the shortage where these aren't all.
+    /// Sends the entries of the overflow queue in order. Returns how many were sent, and evidence of the shortage if these aren't all.
     ///
-    /// It stops early only where there was no memory for the next entry, which is then, with all after it, not sent. As many entries as the line was made with
-    /// room for are always sent. The entries are numbered on from what was sent before, and 2^62 is the most that a line is ever sent.
+    /// It stops early only if memory for the next entry can't be allocated; this entry and all later ones are then not sent. As many entries as the line was
+    /// opened with room for can always be sent. Entries have successive numbers, beginning with how many were sent before. A line is sent at most 2^62
+    /// entries.
     pub fn publish(&mut self, outbox: &[Entry]) -> (usize, Option<Shortage>)
         requires numbers { AreNumberedFrom (length self.old.sent) outbox.now }
         requires limit { length self.old.sent + length outbox.now ≤ sent_limit }
@@ -77,7 +78,7 @@ impl Owner {
         (outbox.len(), None)
     }
 
-    /// Sends the entry with the next number, if there is memory for it.
+    /// Sends the entry with the next number, if memory for it can be allocated.
     #[tactic(auto, using(crate::proofs::Steps::sends))]
     fn send(&mut self, entry: Entry) -> Result<(), Shortage>
         requires { (entry.seq ≡ length self.old.sent) × (length self.old.sent < sent_limit) }
@@ -90,11 +91,11 @@ impl Owner {
         }
     }
 
-    /// Takes all entries that wait in the line out of it, into `out`, in order.
+    /// Moves all entries that wait in the line into `out`, in order.
     ///
-    /// It is lent all seats of the line, and gives each back as it was. So it is known that what the seats took and `out` are together what
-    /// was sent: the seats took its beginning, each entry once, and `out` is the rest. It needs room for the rest alone, takes no memory
-    /// and can't fail. A line is drained once.
+    /// It borrows all seats of the line and leaves each as it was. This proves that the seats' entries and `out` together are exactly what was sent: the
+    /// seats took a prefix, each entry once, and `out` is the rest. It needs room only for the rest, allocates nothing and can't fail. A line is drained only
+    /// once.
     pub fn drain(&mut self, seats: &mut [Seat], out: &mut Vec<Entry>)
         requires once { self.old.popped ≡ [] }
         requires all { length seats.old ≡ self.old.seats }

@@ -1,4 +1,4 @@
-//! The rule of the line, over the entries that wait in it and what its owner and its seats know.
+//! The invariant of the line: which entries wait in it, and what its owner and its seats know.
 
 use crossbeam_deque::protocol::{Join, Outcome, Protocol, Split};
 use crossbeam_deque::{Pass, Stealer, Worker};
@@ -6,15 +6,15 @@ use fz_model::Entry;
 use std::alloc::Global;
 use std::collections::LinkedList;
 
-/// What a pass knows. It exists in proofs alone: no value of it is made.
+/// What a pass (a token of the deque's protocol) knows. It exists only in proofs: no value of it is made at run time.
 pub(crate) struct View {
-    /// Whether the pass is the owner's.
+    /// Whether the pass belongs to the owner.
     pub(crate) owner: bool,
     /// All entries that were sent, in order. Only the owner knows them.
     pub(crate) sent: LinkedList<Entry>,
-    /// What the owner took out of the line itself.
+    /// The entries that the owner took out of the line itself.
     pub(crate) popped: LinkedList<Entry>,
-    /// The lists of the entries that seats took: a seat has one, the owner those of the seats that aren't open.
+    /// The lists of entries that seats took. A seat has its own list; the owner has those of seats that weren't opened.
     pub(crate) lists: LinkedList<LinkedList<Entry>>,
 }
 
@@ -49,7 +49,7 @@ impl Outcome<Entry, View> for Taking {
     ghost then = { GainsTaken };
 }
 
-/// The owner, who has the lists of all seats, takes an entry out of the line itself.
+/// The owner, which has the lists of all seats, takes an entry out of the line itself.
 pub(crate) struct Popping;
 
 impl Outcome<Entry, View> for Popping {
@@ -60,7 +60,7 @@ impl Outcome<Entry, View> for Popping {
     ghost empty = { KnowsAll };
 }
 
-/// The owner gives the first of its lists to a seat, or takes a seat's list in.
+/// The owner gives the first of its lists to a seat, or takes a seat's list back.
 pub(crate) struct SeatList;
 
 impl Split<View> for SeatList {
@@ -79,7 +79,7 @@ impl Join<View> for SeatList {
     ghost spent = { blank };
 }
 
-/// A pass that knows nothing, to stand in a seat's place while the owner has that seat's list.
+/// A pass that knows nothing. It replaces a seat's pass while the owner has that seat's list.
 pub(crate) struct Blank;
 
 impl Split<View> for Blank {

@@ -1,4 +1,5 @@
--- What contracts see of finalizers whose pass asks.
+-- The model of finalizers whose pass asks questions.
+-- code: fz_machine/src/machine.rt, pass.rt
 use Rattle.std.specs.Prelude.{◌≡◌, ℕ, ◌-◌, zero, suc, Bool, List, [], Option, Some, None, is_some, IsTrue, refl}
 use Rattle.std.specs.Coded.{Coded, code_by, coded×, coded_ℕ, coded_option}
 use Rattle.fz_model.specs.declared.answers.Entry.{Entry}
@@ -14,10 +15,10 @@ use Rattle.fz_machine.specs.Walks.{Walk, walk_code}
 
 pub record Machine : Type 0 where
   pub finalizers : View
-  pub walk : Walk  -- of the phase
-  pub phase : Option Phase  -- of the pass that is open
-  pub asked : ℕ  -- about how many items the last question was
-  pub before : ℕ  -- how many entries had come when the pass began
+  pub walk : Walk  -- the list of the current phase
+  pub phase : Option Phase  -- the phase of the open pass
+  pub asked : ℕ  -- how many items the last question was about
+  pub before : ℕ  -- how many entries had been queued when the pass began
 
 abbrev phase_code : Coded Phase
 phase_code = code_by ℕ coded_ℕ to back same
@@ -73,7 +74,7 @@ machine_code =
 abbrev pub IsIdle : Machine → Type 0
 IsIdle m = m.phase ≡ None
 
--- the first entry that waits is taken, as this event says; where none waits, the finalizers stay as they are
+-- the first waiting entry is taken, as this event says; if none waits, the finalizers are unchanged
 abbrev pub Takes : (Entry → Event) → Machine → Machine → Option Entry → Type 0
 Takes event old new None = (old.finalizers.waiting ≡ []) × (new.finalizers.state ≡ old.finalizers.state)
 Takes event old new (Some e) = Follows old.finalizers.state (event e) new.finalizers.state
@@ -86,12 +87,12 @@ pub record IsBegun (old new : Machine) : Type 0 where
   pub asked : new.asked ≡ 0
   pub before : new.before ≡ old.finalizers.queued
 
--- what a pass tells: the question of the phase that it is in, or what it did
+-- what a pass returns: the question of its phase, or what it has done
 abbrev pub Tells : Machine → Next → Type 0
 Tells m (Asks question) = (phase : Phase) × (m.phase ≡ Some phase) × IsQuestion phase m.walk.left question × (m.asked ≡ question.count)
 Tells m (Ended passed) = (m.phase ≡ None) × (passed.pass ≡ m.finalizers.passes) × (passed.picked ≡ m.finalizers.queued - m.before)
 
--- a pass hears answers, and goes on
+-- a pass processes answers and proceeds
 pub record GoesTo (old : Machine) (answers : List Bool) (new : Machine) (next : Next) : Type 0 where
   pub phase : Phase
   pub was : old.phase ≡ Some phase
@@ -99,7 +100,7 @@ pub record GoesTo (old : Machine) (answers : List Bool) (new : Machine) (next : 
   pub tells : Tells new next
   pub before : new.before ≡ old.before
 
--- an open pass is ended before its end: the finalizers are as they were
+-- an open pass is ended early: the finalizers are unchanged
 pub record IsAbandoned (old new : Machine) : Type 0 where
   pub was : IsTrue (is_some old.phase)
   pub idle : IsIdle new

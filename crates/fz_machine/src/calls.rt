@@ -1,4 +1,4 @@
-//! The calls of finalizers that change them, refused while a pass is open.
+//! The calls that change finalizers. They are refused while a pass is open.
 
 ghost use Rattle.std.specs.Prelude.{◌≡◌, ◌≤◌, ◌+◌, ◌⊎◌, [], None, if◌then◌else◌, IfOk, IfErr, OnOk, OnErr};
 ghost use Rattle.std.specs.FinMap.{get, len, contains_key};
@@ -19,7 +19,7 @@ use crate::reserving;
 use fz_finalizers::{Addr, Entry, Finalizer, LinkAnswer, LinkKind, MoveAnswer, Old};
 
 impl Machine {
-    /// Refuses a change while a pass is open.
+    /// Checks that no pass is open.
     fn check(&self) -> Result<(), Refused>
         ensures { IsJudgedBy self.now.phase [] result }
     {
@@ -29,10 +29,10 @@ impl Machine {
         Ok(())
     }
 
-    /// Makes room for further registrations of the kinds other than `Unreachable`, and for further links of both kinds: of each for 2^32 at the most. Up to
-    /// there no call wants memory. Takes time by what it makes room for.
+    /// Reserves room for further registrations of kinds other than `Unreachable`, and for further links of both kinds: for at most 2^32 of each. Until these
+    /// are used up no call allocates. Takes time proportional to the room.
     ///
-    /// Refused `PassOpen`, and `NoMemory` where an allocation failed.
+    /// Fails with, in this order: `PassOpen`, `NoMemory` if an allocation fails.
     pub fn reserve(
         &mut self,
         registrations: usize,
@@ -57,7 +57,7 @@ impl Machine {
         }
     }
 
-    /// Gives back the memory that isn't needed, as `Finalizers::shrink` does; and so does the list that a pass goes over. Refused `PassOpen`.
+    /// Frees the memory that isn't needed, as `Finalizers::shrink` does, and that of the list that a pass processes. Fails with `PassOpen`.
     pub fn shrink(&mut self) -> Result<(), Refused>
         ensures judged { IsJudgedBy self.old.phase [] result }
         ensures refused { OnErr result (self.new ≡ self.old) }
@@ -70,16 +70,16 @@ impl Machine {
         Ok(())
     }
 
-    /// Registers a finalizer of an object, in the place of the one that it has; returns the number of the registration and what was replaced.
+    /// Registers a finalizer for an object, in place of the registration that it may have, and returns the registration number and what was replaced.
     ///
-    /// Refusals, in their order: `PassOpen`, and those of `Finalizers::register`.
+    /// Fails with `PassOpen`, and then as `Finalizers::register` does.
     pub fn register(
         &mut self,
         object: Addr,
         finalizer: Finalizer,
     ) -> Result<(u64, Option<Old>), Refused>
         ensures judged { IsJudgedOrLacks self.old.phase (register_causes (table_of self.old.finalizers.state finalizer.kind) self.old.finalizers.next_number object) result }
-        // Only an object that isn't registered in the table of its kind can want memory, and only where no room is left.
+        // Only an object that isn't in the table of the kind can run out of memory, and only if no room is reserved.
         ensures fresh { IfErr result (λ r. r ≡ Refused.Finalizers NoMemory → get (table_of self.old.finalizers.state finalizer.kind) object ≡ None) }
         ensures wanting { IfErr result (λ r. r ≡ Refused.Finalizers NoMemory → (registration_room self.old.finalizers.rooms finalizer.kind ≡ 0) ⊎ (self.old.walk.room ≤ len self.old.finalizers.registrations + len self.old.finalizers.late)) }
         ensures refused { OnErr result ((self.new.phase ≡ self.old.phase) × (self.new.finalizers.state ≡ self.old.finalizers.state)) }
@@ -94,12 +94,12 @@ impl Machine {
         }
     }
 
-    /// Makes the word a link to the target, an object; a link that it is already gets the new target.
+    /// Registers a disappearing link from the word to the target, an object. If the word has a link already, only its target changes.
     ///
-    /// Refusals, in their order: `PassOpen`, and those of `Finalizers::link`.
+    /// Fails with `PassOpen`, and then as `Finalizers::link` does.
     pub fn link(&mut self, kind: LinkKind, word: Addr, target: Addr) -> Result<LinkAnswer, Refused>
         ensures judged { IsJudgedOrLacks self.old.phase (link_causes (links_of self.old.finalizers.state kind) word target) result }
-        // Only a new link can want memory, and only where no room is left.
+        // Only a new link can run out of memory, and only if no room is reserved.
         ensures fresh { IfErr result (λ r. r ≡ Refused.Finalizers NoMemory → get (links_of self.old.finalizers.state kind) word ≡ None) }
         ensures wanting { IfErr result (λ r. r ≡ Refused.Finalizers NoMemory → (room_of self.old.finalizers.rooms kind ≡ 0) ⊎ (self.old.walk.room ≤ len (links_of self.old.finalizers.state kind))) }
         ensures refused { OnErr result ((self.new.phase ≡ self.old.phase) × (self.new.finalizers.state ≡ self.old.finalizers.state)) }
@@ -113,7 +113,7 @@ impl Machine {
         }
     }
 
-    /// Removes an object's registration; returns its procedure and client data. Refused `PassOpen`.
+    /// Removes an object's registration, and returns its procedure and client data, if it was registered. Fails with `PassOpen`.
     pub fn unregister(&mut self, object: Addr) -> Result<Option<Old>, Refused>
         ensures judged { IsJudgedBy self.old.phase [] result }
         ensures refused { OnErr result (self.new ≡ self.old) }
@@ -124,7 +124,7 @@ impl Machine {
         Ok(self.finalizers.unregister(object))
     }
 
-    /// Removes a link, and returns whether there was one. Refused `PassOpen`.
+    /// Removes the link of a word, and returns whether there was one. Fails with `PassOpen`.
     pub fn unlink(&mut self, kind: LinkKind, word: Addr) -> Result<bool, Refused>
         ensures judged { IsJudgedBy self.old.phase [] result }
         ensures refused { OnErr result (self.new ≡ self.old) }
@@ -135,13 +135,13 @@ impl Machine {
         Ok(self.finalizers.unlink(kind, word))
     }
 
-    /// Moves a link, with its target, from a word to another. Refused `PassOpen`, and `Zero` where the other word is 0.
+    /// Moves a link from one word to another; its target stays the same. Fails with, in this order: `PassOpen`, `Zero` if the other word is 0.
     pub fn move_link(&mut self, kind: LinkKind, word: Addr, to: Addr) -> Result<MoveAnswer, Refused>
         ensures judged { IsJudgedBy self.old.phase (move_causes to) result }
         ensures refused { OnErr result ((self.new.phase ≡ self.old.phase) × (self.new.finalizers.state ≡ self.old.finalizers.state)) }
         ensures answer { IfOk result (λ answer. answer ≡ move_answer (links_of self.old.finalizers.state kind) word to) }
         ensures follows { OnOk result (IsIdle self.new × Follows self.old.finalizers.state (Move kind word to) self.new.finalizers.state) }
-        // Only a new link uses room.
+        // Only a new link uses reserved room.
         ensures room { IsRoomier self.old.finalizers.rooms self.new.finalizers.rooms }
     {
         self.check()?;
@@ -151,8 +151,8 @@ impl Machine {
         }
     }
 
-    /// Queues all that is registered, whatever is marked; returns how many there were: `GC_finalize_all`. Takes time by the registrations. Refused
-    /// `PassOpen`.
+    /// Queues every registration, whatever is marked, and returns how many there were: `GC_finalize_all`. Takes time proportional to the registrations. Fails
+    /// with `PassOpen`.
     pub fn queue_all(&mut self) -> Result<u64, Refused>
         ensures judged { IsJudgedBy self.old.phase [] result }
         ensures refused { OnErr result (self.new ≡ self.old) }
@@ -164,7 +164,7 @@ impl Machine {
         Ok(self.finalizers.queue_all())
     }
 
-    /// Takes the first entry that waits. It is held, with its object and its client data, until it is finished. Refused `PassOpen`.
+    /// Takes the first waiting entry. It is held until it is finished: its object and its client data stay roots. Fails with `PassOpen`.
     pub fn take(&mut self) -> Result<Option<Entry>, Refused>
         ensures judged { IsJudgedBy self.old.phase [] result }
         ensures refused { OnErr result (self.new ≡ self.old) }
@@ -175,7 +175,7 @@ impl Machine {
         Ok(self.finalizers.take())
     }
 
-    /// Takes the first entry that waits, as finished: for a finalizer that may never return. Refused `PassOpen`.
+    /// Takes the first waiting entry and finishes it at once, for a finalizer that may never return. Fails with `PassOpen`.
     pub fn take_finished(&mut self) -> Result<Option<Entry>, Refused>
         ensures judged { IsJudgedBy self.old.phase [] result }
         ensures refused { OnErr result (self.new ≡ self.old) }
@@ -186,7 +186,7 @@ impl Machine {
         Ok(self.finalizers.take_finished())
     }
 
-    /// Ends the holding of an entry. Refused `PassOpen`, and `NotHeld` where no held entry is the same in all its fields.
+    /// Finishes a held entry. Fails with, in this order: `PassOpen`, `NotHeld` if no held entry equals this one in all fields.
     pub fn finish(&mut self, entry: &Entry) -> Result<(), Refused>
         ensures judged { IsJudgedBy self.old.phase (finish_causes self.old.finalizers.held entry.now) result }
         ensures refused { OnErr result ((self.new.phase ≡ self.old.phase) × (self.new.finalizers.state ≡ self.old.finalizers.state)) }

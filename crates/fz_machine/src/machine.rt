@@ -1,4 +1,4 @@
-//! Finalizers whose pass asks, and what they are made of.
+//! Finalizers whose pass asks questions, and their parts.
 
 ghost use Rattle.std.specs.Prelude.{◌≡◌, ◌≤◌, ◌+◌, None, is_some};
 ghost use Rattle.fz_finalizers.specs.States.{opening};
@@ -10,20 +10,20 @@ use fz_finalizers::Finalizers;
 use std::alloc::Global;
 use std::marker::Model;
 
-/// Finalizers whose pass asks, one question after another, for a host that can't be called.
+/// Finalizers whose pass asks one question after another, for a host that can't be called back.
 ///
-/// A pass is open from `begin` on until `next` says that it has ended. Until then every other change is refused.
+/// A pass is open from `begin` until `next` returns that it has ended. Meanwhile every other change is refused.
 pub struct Machine {
     pub(crate) finalizers: Finalizers,
     pub(crate) walk: Walk,
     pub(crate) phase: Option<Phase>,
-    /// About how many items the question was that waits for its answers.
+    /// How many items the last question was about.
     pub(crate) asked: usize,
-    /// How many entries had come when the pass began.
+    /// How many entries had been queued when the pass began.
     pub(crate) before: u64,
 }
 
-// Written out: who owns a machine then drops it by one call that is proved here, not field by field at each way out of a function.
+// Written by hand, so that the owner drops it by one proved call, not field by field at each exit of a function.
 impl Drop for Machine {
     fn drop(self) {
         let Machine {
@@ -50,7 +50,7 @@ impl Model for Machine {
 }
 
 impl Machine {
-    /// Nothing is registered, and no pass is open.
+    /// Finalizers without registrations, and without an open pass.
     pub fn new(alloc: Global) -> Machine
         ensures finalizers { result.finalizers.state ≡ opening }
         ensures phase { result.phase ≡ None }

@@ -1,4 +1,4 @@
-//! The calls that may want memory: the list of a phase has room for all that is registered, and for all links of each kind.
+//! The calls that may allocate: the list of a phase has room for all registrations, and for all links of each kind.
 
 ghost use Rattle.std.specs.Prelude.{◌≡◌, ◌≤◌, ◌<◌, ◌+◌, ◌^◌, ◌⊎◌, None, if◌then◌else◌, IfOk, IfErr, OnOk, OnErr};
 ghost use Rattle.std.specs.FinMap.{get, insert, len, contains_key};
@@ -13,7 +13,7 @@ use crate::walk::Walk;
 use fz_finalizers::{Addr, Finalizer, Finalizers, Kind, LinkAnswer, LinkKind, Old, Refused};
 use fz_table::MOST_ENTRIES;
 
-/// Makes room on the list for one more registration, if the object has none.
+/// Reserves room in the list for one more registration, unless the object has one.
 fn room_to_register(
     finalizers: &Finalizers,
     walk: &mut Walk,
@@ -41,7 +41,7 @@ fn room_to_register(
     Err(Refused::NoMemory)
 }
 
-/// Registers a finalizer of an object, once the list has room for it.
+/// Registers a finalizer for an object, after reserving room in the list.
 pub(crate) fn register(
     finalizers: &mut Finalizers,
     walk: &mut Walk,
@@ -63,7 +63,7 @@ pub(crate) fn register(
     finalizers.register(object, finalizer)
 }
 
-/// Makes room on the list for one more link of a kind, if the word has none.
+/// Reserves room in the list for one more link of a kind, unless the word has one.
 #[tactic(auto, using(crate::proofs::Known::grown, crate::proofs::Known::known))]
 fn room_to_link(
     finalizers: &Finalizers,
@@ -92,7 +92,7 @@ fn room_to_link(
     Err(Refused::NoMemory)
 }
 
-/// Makes a link, once the list has room for it.
+/// Registers a link, after reserving room in the list.
 pub(crate) fn link(
     finalizers: &mut Finalizers,
     walk: &mut Walk,
@@ -114,7 +114,7 @@ pub(crate) fn link(
     finalizers.link(kind, word, target)
 }
 
-/// Makes room on the list for `more` items beside as many as there are, but for no more than a table can have.
+/// Reserves room in the list for `more` items in addition to `count`, but at most for as many as a table can have.
 fn grow(walk: &mut Walk, count: u64, more: usize) -> Result<(), Refused>
     requires { count ≤ walk.old.room }
     ensures refused { IfErr result (λ r. r ≡ Refused.NoMemory) }
@@ -130,7 +130,7 @@ fn grow(walk: &mut Walk, count: u64, more: usize) -> Result<(), Refused>
     Ok(walk.reserve(most)?)
 }
 
-/// Makes room for further registrations and links.
+/// Reserves room for further registrations and links.
 pub(crate) fn reserve(
     finalizers: &mut Finalizers,
     walk: &mut Walk,
@@ -152,7 +152,7 @@ pub(crate) fn reserve(
     grow(walk, finalizers.links(LinkKind::Long), longs)
 }
 
-/// Gives back the memory that the finalizers and the list don't need.
+/// Frees the memory that the finalizers and the list don't need.
 pub(crate) fn shrink(finalizers: &mut Finalizers, walk: &mut Walk)
     requires { HasRoom finalizers.old.state walk.old.room }
     ensures state { finalizers.new.state ≡ finalizers.old.state }

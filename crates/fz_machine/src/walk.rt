@@ -1,4 +1,4 @@
-//! A list that a phase goes over.
+//! The list that a phase processes.
 
 ghost use Rattle.std.specs.Prelude.{◌≡◌, ◌≤◌, ◌<◌, ◌+◌, ◌^◌, ◌++◌, ◌∷◌, [], if◌then◌else◌, min, drop, length, slice_get, vec_capacity, OnOk, OnErr};
 ghost use Rattle.fz_machine.specs.Items.{AreInTurn, place_of};
@@ -8,7 +8,7 @@ use std::alloc::{AllocError, Global};
 use std::marker::Model;
 use std::mem;
 
-/// The items that a phase goes over: those that it has kept, and those that are left. They are kept in the places of those that are done.
+/// The items that a phase processes: those kept for the next phase, and those that remain. Kept items overwrite processed ones.
 #[derive(Drop)]
 pub struct Walk {
     items: Vec<Item>,
@@ -29,7 +29,7 @@ impl Model for Walk {
     ghost invariant = { λ w. (w.kept ≤ w.place) × (w.place ≤ length w.items.items) };
 }
 
-/// Where an item's place is by turn, then object.
+/// An item's sort key: position in queue order, then address.
 fn place_of(item: &Item) -> u128
     ensures { result ≡ place_of item.now }
 {
@@ -37,7 +37,7 @@ fn place_of(item: &Item) -> u128
 }
 
 impl Walk {
-    /// An empty list without room.
+    /// An empty list without reserved room.
     pub(crate) fn new(alloc: Global) -> Walk
         ensures kept { result.kept ≡ [] }
         ensures left { result.left ≡ [] }
@@ -57,7 +57,7 @@ impl Walk {
         self.items.capacity()
     }
 
-    /// Makes room for this many items. What it lists is forgotten.
+    /// Reserves room for this many items. Clears the list.
     pub(crate) fn reserve(&mut self, most: usize) -> Result<(), AllocError>
         ensures kept { self.old.room ≤ self.new.room }
         ensures room { OnOk result (most ≤ self.new.room) }
@@ -69,7 +69,7 @@ impl Walk {
         self.items.reserve(most)
     }
 
-    /// Gives back memory, but for the room for as many items. What it lists is forgotten.
+    /// Frees memory, except the room for this many items. Clears the list.
     pub(crate) fn shrink(&mut self, most: usize)
         ensures { min most self.old.room ≤ self.new.room }
     {
@@ -79,7 +79,7 @@ impl Walk {
         self.items.shrink_to(most);
     }
 
-    /// A list of these items, all of which are left.
+    /// A list of these items, all of which remain to be processed.
     pub(crate) fn of(items: Vec<Item>) -> Walk
         ensures { result ≡ record { kept = []; left = items.items; room = vec_capacity items } }
     {
@@ -90,7 +90,7 @@ impl Walk {
         }
     }
 
-    /// The room of the list, without an item. None is left in it.
+    /// The list's room, without items. The list has none left.
     pub(crate) fn take_room(&mut self) -> Vec<Item>
         ensures none { result.items ≡ [] }
         ensures room { vec_capacity result ≡ self.old.room }
@@ -105,21 +105,21 @@ impl Walk {
         items
     }
 
-    /// The first item that is left.
+    /// The first remaining item.
     pub(crate) fn first(&self) -> Option<Item>
         ensures { result ≡ slice_get self.now.left 0 }
     {
         self.items.get(self.place).copied()
     }
 
-    /// Those that are left.
+    /// The remaining items.
     pub(crate) fn left(&self) -> &[Item]
         ensures { result.now ≡ self.now.left }
     {
         &self.items[self.place..]
     }
 
-    /// Goes on past the first item that is left, and keeps it or not.
+    /// Moves past the first remaining item, and keeps it or not.
     #[tactic(auto, using(crate::proofs::Kept::passed, crate::proofs::Kept::passed_set))]
     pub(crate) fn pass_on(&mut self, item: Item, keep: bool)
         requires first { self.old.left ≡ item ∷ drop 1 self.old.left }
@@ -136,7 +136,7 @@ impl Walk {
         self.place += 1;
     }
 
-    /// Begins anew, with those that are kept.
+    /// Starts again with the kept items.
     pub(crate) fn again(&mut self)
         ensures kept { self.new.kept ≡ [] }
         ensures left { self.new.left ≡ self.old.kept }
@@ -147,7 +147,7 @@ impl Walk {
         self.place = 0;
     }
 
-    /// Begins anew, with those that are kept by turn, then object.
+    /// Starts again with the kept items, sorted by position in queue order, then address.
     pub(crate) fn again_in_turn(&mut self)
         ensures kept { self.new.kept ≡ [] }
         ensures left { AreInTurn self.old.kept self.new.left }

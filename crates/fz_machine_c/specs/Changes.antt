@@ -1,4 +1,5 @@
--- What a change does with the finalizers behind a handle, which answers this code, and what C is told of it.
+-- What a change does to the finalizers behind a handle, the code that it returns, and what C gets.
+-- code: fz_machine_c/src/registering.rt, linking.rt
 use Rattle.std.specs.Prelude.{◌≡◌, ◌⊎◌, ℕ, ◌+◌, ◌≤◌, Bool, [], None}
 use Rattle.std.specs.FinMap.{get, len, contains_key}
 use Rattle.fz_model.specs.declared.answers.Entry.{Entry}
@@ -17,11 +18,11 @@ use Rattle.fz_machine_c.specs.declared.old.Registered.{Registered}
 use Rattle.fz_machine_c.specs.Codes.{Answers, AnswersOrLacks}
 use Rattle.fz_machine_c.specs.Told.{TellsOld, TellsRegistered, link_kind_of, link_number, move_number}
 
--- what the finalizers hold stays, and so does how far their pass is
+-- the finalizers' state is unchanged, and so is the state of their pass
 abbrev pub Stays : Machine → Machine → Type 0
 Stays m n = (n.finalizers.state ≡ m.finalizers.state) × (n.phase ≡ m.phase)
 
--- a registration is new, and lacks room in its table or on the list
+-- the registration is new, and has no room in its table or in the list
 abbrev pub LacksToRegister : ℕ → Finalizer → Machine → Type 0
 LacksToRegister object f m =
     (get (table_of m.finalizers.state f.kind) object ≡ None)
@@ -41,7 +42,7 @@ Unregisters object code old told m n =
     (Follows m.finalizers.state (Unregister object) n.finalizers.state × TellsOld (old_in_either m.finalizers.registrations m.finalizers.late object) told)
     ((n ≡ m) × (told ≡ old))
 
--- a link is new, and lacks room among those of its kind or on the list
+-- the link is new, and has no room among those of its kind or in the list
 abbrev pub LacksToLink : Bool → ℕ → Machine → Type 0
 LacksToLink is_long word m =
     (get (links_of m.finalizers.state (link_kind_of is_long)) word ≡ None)
@@ -90,7 +91,7 @@ Finishes e code m n =
     (Follows m.finalizers.state (Finish e) n.finalizers.state)
     (Stays m n)
 
--- memory alone is given back
+-- only memory is freed
 abbrev pub Shrinks : ℕ → Machine → Machine → Type 0
 Shrinks code m n =
     Answers (first_of m.phase []) code ((n.phase ≡ None) × (n.finalizers.state ≡ m.finalizers.state) × (n.finalizers.order ≡ m.finalizers.order)) (n ≡ m)

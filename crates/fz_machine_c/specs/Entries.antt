@@ -1,4 +1,5 @@
--- Entries, as C has them, and how they are taken.
+-- Entries, as C represents them, and taking them.
+-- code: fz_machine_c/src/entries.rt
 use Rattle.std.specs.Prelude.{◌≡◌, ◌⊎◌, ℕ, [], Option, Some, None}
 use Rattle.fz_model.specs.declared.answers.Entry as answers
 use Rattle.fz_finalizers.specs.Follows.{Event, Follows}
@@ -15,7 +16,7 @@ entry_of e = record { seq = e.seq; pass = e.pass; reg = e.reg; obj = e.obj; birt
 abbrev pub TellsEntry : answers.Entry → Entry → Type 0
 TellsEntry e told = told ≡ record { seq = e.seq; pass = e.pass; reg = e.reg; obj = e.obj; proc = e.proc; cd = e.cd }
 
--- the first that waits is taken, as this event says, and told; or none waits, or a pass is open, and the place is as it was
+-- the first waiting entry is taken, as this event says, and stored in C's variable; or none waits, or a pass is open, and the variable is unchanged
 abbrev pub Takes : (answers.Entry → Event) → Option Phase → Machine → Machine → ℕ → Entry → Entry → Type 0
 Takes event (Some phase) m n code old told = (code ≡ code_of PassOpen) × (n ≡ m) × (told ≡ old)
 Takes event None m n code old told =

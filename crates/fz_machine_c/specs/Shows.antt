@@ -1,4 +1,5 @@
--- How what stands is shown to C.
+-- What the readers show to C.
+-- code: fz_machine_c/src/shown.rt, walks.rt
 use Rattle.std.specs.Prelude.{◌≡◌, ◌⊎◌, ℕ, ◌+◌, ◌≤◌, ◌<◌, min, zero, suc, List, drop, map, take, length, Option, Some, None}
 use Rattle.std.specs.FinMap.{get, len}
 use Rattle.fz_model.specs.declared.answers.Registration as answers
@@ -36,8 +37,7 @@ abbrev pub IsCounted : State → Counts → Type 0
 IsCounted s told =
     told ≡ record { registrations = len s.registrations + len s.late; short_links = len s.short; long_links = len s.long; waiting = length s.waiting; held = len s.held; queued = s.queued; passes = s.passes }
 
--- of a list the part from a place on, as much as there is room for: the walk goes on from the place after it; or none is left, and the place for the part
--- is as it was
+-- the part of a list from an index on, as much as fits, so that the iteration continues after it; or nothing remains, and C's variable is unchanged
 abbrev pub ShowsFrom : {X Told : Type 0} → ℕ → List X → (Told → ℕ) → (Told → List X) → ℕ → ℕ → Told → Told → Type 0
 ShowsFrom room all count part from code old told =
     ((code ≡ EMPTY) × (length all ≤ from) × (told ≡ old))
@@ -46,7 +46,7 @@ ShowsFrom room all count part from code old told =
 abbrev pub ShowsRoots : Root → View → ℕ → ℕ → Words → Words → Type 0
 ShowsRoots root v from code old told = YieldsRoots root v.state (roots_of root v) × ShowsFrom WORDS (roots_of root v) (λ (w : Words). w.count) (λ (w : Words). w.words) from code old told
 
--- what C is told of an object's registration, and of a link
+-- an object's registration, and a link, as C represents them
 abbrev pub registration_told : State → ℕ × answers.Registration → Registration
 registration_told s e = record { object = e.0; number = e.1.number; proc = e.1.proc; cd = e.1.cd; kind = kind_number (kind_at s e.0); rank = e.1.rank }
 
@@ -62,7 +62,7 @@ abbrev pub ShowsLinks : LinkKind → View → ℕ → ℕ → Links → Links �
 ShowsLinks kind v from code old told =
     AreLinks v.state kind (links_in_order v kind) × ShowsFrom PART (map link_told (links_in_order v kind)) (λ (t : Links). t.count) (λ (t : Links). t.links) from code old told
 
--- what is found is told; where there is nothing, the place for it is as it was
+-- what is found is stored in C's variable; if nothing is found, the variable is unchanged
 abbrev ShowsFound : {X Told : Type 0} → Option X → (X → Told) → ℕ → Told → Told → Type 0
 ShowsFound None tell code old told = (code ≡ EMPTY) × (told ≡ old)
 ShowsFound (Some x) tell code old told = (code ≡ OK) × (told ≡ tell x)

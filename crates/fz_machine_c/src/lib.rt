@@ -1,7 +1,7 @@
-//! Finalizers whose pass asks, for C: behind a handle.
+//! Finalizers whose pass asks questions, for C, through a handle.
 //!
-//! `c/include/derrimas_finalizers.h` declares what C calls, over these exports. Each answers a code. Where it doesn't answer 0, the places that C gave for its
-//! results are as they were.
+//! `c/include/derrimas_finalizers.h` declares what C calls; it is implemented over these exports. Each returns a code. Unless it returns 0, the variables
+//! that C passed for results are unchanged.
 #![tactic(auto)]
 
 mod codes;

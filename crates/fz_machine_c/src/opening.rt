@@ -1,4 +1,4 @@
-//! Handles are opened and destroyed.
+//! Opening and freeing handles.
 
 ghost use Rattle.std.specs.Prelude.{◌≡◌, None};
 ghost use Rattle.fz_machine_c.specs.Changes.{Reserves, Shrinks};
@@ -11,7 +11,7 @@ use crate::session::Session;
 use fz_machine::Machine;
 use std::alloc::Global;
 
-/// Opens finalizers in a handle that has none.
+/// Creates finalizers in an empty handle.
 #[unsafe(no_mangle)]
 pub extern "C" fn fz_machine_open(alloc: Global, finalizers: &mut Handle) -> Code
     ensures { Opens finalizers.old.value finalizers.new.value result }
@@ -28,7 +28,7 @@ pub extern "C" fn fz_machine_open(alloc: Global, finalizers: &mut Handle) -> Cod
     OK
 }
 
-/// Ends what the handle has.
+/// Frees what the handle has.
 #[unsafe(no_mangle)]
 pub extern "C" fn fz_machine_destroy(alloc: Global, finalizers: &mut Handle)
     ensures { finalizers.new.value ≡ None }

@@ -1,4 +1,4 @@
-//! What stands. Nothing changes by it, and a pass may be open.
+//! Readers. They change nothing, and work while a pass is open.
 
 ghost use Rattle.std.specs.Prelude.{◌≡◌};
 ghost use Rattle.fz_finalizers.specs.States.{links_of};
@@ -12,10 +12,10 @@ use crate::linking::kind_for;
 use fz_finalizers::{Kind, LinkKind, Root};
 use std::alloc::Global;
 
-/// How many words C is handed at a time.
+/// The size of the buffer of words, which one call fills.
 const WORDS: usize = 512;
 
-/// Words of a walk over roots, and how many there are.
+/// The words of an iteration over roots, and their number.
 #[repr(C)]
 #[derive(Clone, Copy)]
 pub struct Words {
@@ -23,7 +23,7 @@ pub struct Words {
     pub count: u64,
 }
 
-/// How much stands.
+/// The number of registrations, links and entries.
 #[repr(C)]
 #[derive(Clone, Copy)]
 pub struct Counts {
@@ -36,7 +36,7 @@ pub struct Counts {
     pub passes: u64,
 }
 
-/// A registration that stands.
+/// A registration.
 #[repr(C)]
 #[derive(Clone, Copy)]
 pub struct Registration {
@@ -49,7 +49,7 @@ pub struct Registration {
 }
 
 impl Registration {
-    /// What C is told of an object's registration.
+    /// An object's registration, as C represents it.
     pub(crate) fn of(
         object: u64,
         registration: &fz_model::Registration,
@@ -68,7 +68,7 @@ impl Registration {
     }
 }
 
-/// The sort of roots of a number; what is neither of the first two is the last.
+/// The kind of roots with this number. Every number above 1 is the last kind.
 fn root_of(sort: u8) -> Root
     ensures { result ≡ root_of sort }
 {
@@ -91,7 +91,7 @@ fn kind_number(kind: Option<Kind>) -> u8
     }
 }
 
-/// `Finalizers::roots`: the words of the walk from a place on, as many as there is room for. A call takes the same time at each place.
+/// `Finalizers::roots`: the words of the iteration from an index on, as many as fit. Takes the same time at each index.
 #[unsafe(no_mangle)]
 pub extern "C" fn fz_machine_roots(
     alloc: Global,

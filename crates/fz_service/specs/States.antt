@@ -36,7 +36,7 @@ pub record LockedState : Type 0 where
   pub sent : List Entry  -- the entries that the line was sent, as its owner knows
   pub published : ℕ  -- the number of entries that were sent, which is kept beside the world
   pub finished : ℕ  -- the number of finished duties, by the ledger
-  pub shortages : ℕ  -- how often a push found no memory, modulo 2^64
+  pub shortages : ℕ  -- how often a push ran out of memory, modulo 2^64
 
 abbrev pub locked_state : WorldView → List Entry → ℕ → ℕ → ℕ → LockedState
 locked_state world sent published finished shortages = record { world = world; sent = sent; published = published; finished = finished; shortages = shortages }
@@ -80,8 +80,8 @@ ends_cycle Pause = true
 ends_cycle Collect = true
 ends_cycle _ = false
 
--- the queue may have grown, all of it is sent, and nothing else differs. Entries wait in the outbox only where a push found no memory since the old state, as
--- none does for which the line has room. So what waits says so itself, however much was sent before.
+-- the queue may have grown, all of it was sent, and nothing else has changed; entries wait in the overflow queue only if a push ran out of memory since the
+-- old state, which it doesn't within the room of the line
 pub record SendsMore (origin : Origin) (old new : LockedState) : Type 0 where
   pub same : new ≡ record old { world = new.world; sent = new.sent; published = new.published; shortages = new.shortages }
   pub more : old.published ≤ new.published
@@ -89,14 +89,14 @@ pub record SendsMore (origin : Origin) (old new : LockedState) : Type 0 where
   pub short : new.published < length new.world.queue → new.shortages ≢ old.shortages
   pub room : new.published < length new.world.queue → line_room origin.blocks ≤ new.published
 
--- the world made the call, and what it queued is sent; a refused call changed nothing
+-- the world made the call, and what it queued was sent; a refused call changed nothing
 pub record RepliesAndSends (origin : Origin) (old : LockedState) (call : Call) (result : Result Reply Refusal) (new : LockedState) : Type 0 where
   pub step : Replies old.world call result new.world
   pub line : IsFalse (ends_cycle call) → KeepsLine old new
   pub sent : IsTrue (ends_cycle call) → OnOk result (SendsMore origin old new)
   pub refused : OnErr result (new ≡ old)
 
--- the entry was held, and its object had its birth; now it is held no more
+-- the entry was held, and its object had its birth; now the entry is no longer held
 pub record LetsGo (old new : WorldView) (entry : Entry) : Type 0 where
   pub held : Contains old.held entry
   pub object : (o : Object) × (get old.objects entry.obj ≡ Some o) × (o.birth ≡ entry.birth)

@@ -78,12 +78,12 @@ impl<O: Opening> Locked<O> {
         self.world.alloc(frame, slot, size, kind)
     }
 
-    /// Makes an object as `alloc` does. Where there is no space it collects, which sends what it queued, and tries once more. What it queued is reclaimed by
-    /// a later collection, when workers have finished it. Where there is no space still, ask `outstanding` before the lock is given back: at 0 the heap is
-    /// full, and else another try may find space. Takes time by the heap where it collects.
+    /// Allocates an object as `alloc` does; if there is no room it collects, which sends what it queued, and tries once more. Objects that it queued are
+    /// reclaimed by a later collection, after workers have finished their entries. If there is still no room, call `outstanding` before releasing the lock:
+    /// if it returns 0 the heap is full, and otherwise another try may succeed. Takes time proportional to the heap if it collects.
     ///
-    /// Refusals, in their order: `BadSlot`, `BadSize`, `Exhausted`; then, where there is no space, `CycleOpen` in an open cycle and `Exhausted` at the 2^48th
-    /// pass. These change nothing. After its collection the second try is refused `NoSpace` or `Exhausted`; the collection stays.
+    /// Fails with, in this order: `BadSlot`, `BadSize`, `Exhausted`; then, if there is no room, `CycleOpen` in an open cycle and `Exhausted` at the 2^48th
+    /// pass. In these cases nothing has changed. After the collection, the second try fails with `NoSpace` or `Exhausted`; the collection isn't undone.
     pub fn alloc_or_collect(
         &mut self,
         frame: u64,
@@ -373,7 +373,7 @@ impl<O: Opening> Locked<O> {
         self.world.outstanding()
     }
 
-    /// The entries from `forgotten` on, in their order: all that were ever queued, or the rest after a `forget` that gave some back.
+    /// The entries from number `forgotten` on, in order: all entries ever queued, or the rest after a `forget` that freed some.
     pub fn queue(&self) -> &[Entry]
         ensures queue { result.now ≡ drop self.now.world.forgotten self.now.world.queue }
         ensures step { self.now.world.forgotten ≡ 0 → Does self.now.world Queue (Ok result.now) self.now.world }

@@ -23,9 +23,9 @@ use std::marker::Model;
 use std::sync::Arc;
 use std::sync::ledger::{Book, Share};
 
-/// A world, the owner's end of the line to which its ready entries are sent, and the book of finished duties.
+/// A world, the owner's end of the line to which its entries are sent, and the ledger of finished duties.
 ///
-/// A contract sees the world, what the line was sent, how many entries that is, the number of finished duties, and the count of shortages.
+/// Its model is the world, what the line was sent, how many entries that is, the number of finished duties, and the number of shortages.
 #[derive(Drop)]
 pub struct Locked<O: Opening> {
     pub(crate) alloc: Global,
@@ -103,17 +103,18 @@ impl<O: Opening> Locked<O> {
         queue_from(&self.world, self.published)
     }
 
-    /// How often a push found no memory, so that entries were left in the outbox: modulo 2^64.
+    /// How often a push ran out of memory, so that entries stayed in the overflow queue; modulo 2^64.
     pub fn shortages(&self) -> u64
         ensures { result ≡ self.now.shortages }
     {
         self.shortages.count()
     }
 
-    /// Sends the entries of the outbox, the oldest first, and wakes a worker that sleeps for each; returns how many were sent. Takes time by what it sends.
+    /// Sends the entries of the overflow queue, oldest first, and wakes one sleeping worker for each; returns how many were sent. Takes time proportional to
+    /// the entries that it sends.
     ///
-    /// It stops early only where a push found no memory, which it counts as a shortage. None does for which the line has room from the first: min(65,536,
-    /// 64 * blocks) entries. What isn't sent stays in the outbox.
+    /// It stops early only if a push runs out of memory, which counts as a shortage. The first min(65,536, 64 * blocks) entries never cause one, since the
+    /// line has room for them. Entries that aren't sent stay in the overflow queue.
     pub fn publish(&mut self) -> usize
         ensures sent { self.new ≡ record self.old { sent = self.old.sent ++ take result (drop self.old.published self.old.world.queue); published = self.old.published + result; shortages = self.new.shortages } }
         ensures within { self.new.published ≤ length self.old.world.queue }

@@ -58,10 +58,10 @@ fn check_config(config: Config) -> Result<(), Refusal>
     Ok(())
 }
 
-/// For how many entries a line has room from the first, by the heap's blocks: as many as one pass can queue.
+/// For how many entries a line has room from the start, given the heap's blocks: as many as one pass can queue.
 ///
-/// A line that grows beyond that needs no bound of its own: at most 64 * blocks entries wait in it. An entry that waits isn't finished, so it holds its object.
-/// An object that is held is a root, so no pass queues it again: each entry that waits has another object. And each object has a word of the heap.
+/// A line that grows beyond that needs no bound: at most 64 * blocks entries wait in it. The object of a waiting entry is a root, because the entry isn't
+/// finished, so no pass queues it again. So waiting entries have different objects, and each object has a word of the heap.
 fn line_room(blocks: u64) -> usize
     requires { blocks ≤ MAX_BLOCKS }
     ensures { result ≡ line_room blocks }

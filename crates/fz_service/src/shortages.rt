@@ -1,11 +1,11 @@
-//! How often a push found no memory.
+//! How often a push ran out of memory.
 
 ghost use Rattle.std.specs.Prelude.{◌≡◌, ◌≢◌, IsSome};
 ghost use Rattle.std.specs.Option.{IsNone};
 
 use fz_line::Shortage;
 
-/// A count of shortages, which only a shortage changes.
+/// A counter of shortages, which only a shortage increments.
 #[derive(Drop)]
 pub(crate) struct Shortages {
     count: u64,
@@ -18,7 +18,7 @@ impl Shortages {
         Shortages { count: 0 }
     }
 
-    /// How many there were, modulo 2^64.
+    /// How many shortages there were, modulo 2^64.
     pub(crate) fn count(&self) -> u64
         ensures { result ≡ self.now.count }
     {

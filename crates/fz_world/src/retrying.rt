@@ -1,4 +1,4 @@
-//! Allocations that collect where there is no space.
+//! Allocations that collect if there is no room.
 
 ghost use Rattle.std.specs.Fn.{FnOnceReturnsAtMut};
 ghost use Rattle.fz_model.specs.declared.call.Call.TheVariants as calls;
@@ -11,12 +11,12 @@ use crate::world::World;
 use fz_model::{Addr, ObjKind, Refusal};
 
 impl World {
-    /// Makes an object as `alloc` does. Where there is no space it collects, lets `work` run what became ready, and tries once more. What `work` finishes is
-    /// reclaimed by the next collection, and not by this one. Takes time by the heap where it collects.
+    /// Allocates an object as `alloc` does; if there is no room it collects, lets `work` run the queued finalizers, and tries once more. Objects whose
+    /// entries `work` finishes are reclaimed by the next collection, not by this one. Takes time proportional to the heap if it collects.
     ///
-    /// Refusals, in their order: `BadSlot`, `BadSize`, `Exhausted` after 2^48 births; then, where there is no space, `CycleOpen` in an open cycle and
-    /// `Exhausted` at the 2^48th pass. These change nothing. After its collection and `work`, the second try is refused as `alloc` is, most often `NoSpace`; the
-    /// collection stays.
+    /// Fails with, in this order: `BadSlot`, `BadSize`, `Exhausted` after 2^48 births; then, if there is no room, `CycleOpen` in an open cycle and
+    /// `Exhausted` at the 2^48th pass. In these cases nothing has changed. After the collection and `work`, the second try fails as `alloc` does, most often
+    /// with `NoSpace`; the collection isn't undone.
     pub fn alloc_or_collect<F: FnOnce(&mut World)>(
         &mut self,
         frame: u64,

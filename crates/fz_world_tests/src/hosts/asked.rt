@@ -314,7 +314,7 @@ fn lists_are_longer_than_questions(rt: HostRuntime) {
     }
 }
 
-/// Twenty objects, whose pass is abandoned once it has told so many questions: what it has queued waits, and the next pass queues the others.
+/// Twenty objects, whose pass is abandoned after this many questions: what it has queued waits, and the next pass queues the others.
 fn twenty_are_picked_by_two_passes(rt: &impl Abort, alloc: Global, questions: u64) {
     let mut machine = Machine::new(alloc);
     for object in 1..=20 {
