@@ -45,7 +45,7 @@
  * for each rank in use. A world takes memory for its heap when it opens, then for its tables as they grow, and 56 bytes
  * for each entry that was queued, until derrimas_forget gives back those of the finished ones.
  *
- * docs/C.md of the repository says how to link and what is proved, docs/CALLING.md what becomes of each call of gc.h. */
+ * docs/C.md of the repository says how to link, what is proved, and what becomes of each call of gc.h. */
 #ifndef DERRIMAS_H
 #define DERRIMAS_H
 
