@@ -1,7 +1,8 @@
 -- What contracts see of finalizers: what is registered, the links, the entries, for how much more there is room, and the order in which walks go.
-use Rattle.std.specs.Prelude.{ℕ, ◌≤◌, min, if◌then◌else◌, List, [], Option, option_map, refl}
-use Rattle.std.specs.Coded.{Coded, code_by, coded×, coded_ℕ, coded_list}
+use Rattle.std.specs.Prelude.{◌≡◌, ℕ, ◌≤◌, min, if◌then◌else◌, Bool, List, [], ◌++◌, drop, Option, option_map, refl}
+use Rattle.std.specs.Coded.{Coded, code_by, coded×, coded_ℕ, coded_list, coded_option}
 use Rattle.std.specs.Option.{option_or}
+use Rattle.std.specs.List.{list_any}
 use Rattle.std.specs.FinMap as map
 use Rattle.std.specs.FinMap.{get, empty}
 use Rattle.fz_model.specs.declared.answers.Entry.{Entry}
@@ -9,6 +10,7 @@ use Rattle.fz_model.specs.declared.answers.Registration.{Registration}
 use Rattle.fz_model.specs.declared.kinds.LinkKind.{LinkKind}
 use Rattle.fz_model.specs.declared.kinds.LinkKind.TheVariants.{Short, Long}
 use Rattle.fz_model.specs.Codes.{entry_code, registration_code}
+use Rattle.fz_model.specs.Events.{same_entry}
 use Rattle.fz_model.specs.State.{Map}
 use Rattle.fz_finalizers.specs.declared.kinds.Kind.{Kind}
 use Rattle.fz_table.specs.declared.limits.TheConstants.{MOST_ENTRIES}
@@ -21,9 +23,9 @@ pub record State : Type 0 where
   pub next_number : ℕ  -- of registrations
   pub short : Map ℕ  -- the short links: from the word of a link to its target
   pub long : Map ℕ  -- the long links
-  pub waiting : List Entry  -- what waits to be taken, in the queue's order
-  pub held : Map Entry  -- what was taken and isn't finished, by number
-  pub queued : ℕ  -- how many entries ever came
+  pub queue : List Entry  -- every entry ever, in order
+  pub taken : ℕ  -- how many of them were taken: a prefix of the queue
+  pub held : List Entry  -- of these, what isn't finished, in the queue's order
   pub passes : ℕ
 
 -- how many more fit before memory is asked for
@@ -39,7 +41,11 @@ pub record Order : Type 0 where
   pub late : List (ℕ × Registration)
   pub short : List (ℕ × ℕ)
   pub long : List (ℕ × ℕ)
-  pub held : List (ℕ × Entry)
+  pub entries : List (Option Entry)  -- in turn, what isn't finished, and none where the entry is
+
+-- walks over registrations and over links stay as they were
+abbrev pub KeepsTables : Order → Order → Type 0
+KeepsTables old new = new ≡ record old { entries = new.entries }
 
 pub record View : Type 0 where
   pub state : State
@@ -49,18 +55,18 @@ pub record View : Type 0 where
 
 abbrev state_code : Coded State
 state_code =
-    code_by ((Map Registration × (Map Registration × ℕ)) × ((Map ℕ × Map ℕ) × (List Entry × (Map Entry × (ℕ × ℕ)))))
-    (coded× (coded× (map.code coded_ℕ registration_code) (coded× (map.code coded_ℕ registration_code) coded_ℕ)) (coded× (coded× (map.code coded_ℕ coded_ℕ) (map.code coded_ℕ coded_ℕ)) (coded× (coded_list entry_code) (coded× (map.code coded_ℕ entry_code) (coded× coded_ℕ coded_ℕ)))))
-    (λ s. ((s.registrations, (s.late, s.next_number)), ((s.short, s.long), (s.waiting, (s.held, (s.queued, s.passes))))))
+    code_by ((Map Registration × (Map Registration × ℕ)) × ((Map ℕ × Map ℕ) × (List Entry × (ℕ × (List Entry × ℕ)))))
+    (coded× (coded× (map.code coded_ℕ registration_code) (coded× (map.code coded_ℕ registration_code) coded_ℕ)) (coded× (coded× (map.code coded_ℕ coded_ℕ) (map.code coded_ℕ coded_ℕ)) (coded× (coded_list entry_code) (coded× coded_ℕ (coded× (coded_list entry_code) coded_ℕ)))))
+    (λ s. ((s.registrations, (s.late, s.next_number)), ((s.short, s.long), (s.queue, (s.taken, (s.held, s.passes))))))
     (λ p. record {
       registrations = p.0.0;
       late = p.0.1.0;
       next_number = p.0.1.1;
       short = p.1.0.0;
       long = p.1.0.1;
-      waiting = p.1.1.0;
-      held = p.1.1.1.0;
-      queued = p.1.1.1.1.0;
+      queue = p.1.1.0;
+      taken = p.1.1.1.0;
+      held = p.1.1.1.1.0;
       passes = p.1.1.1.1.1;
     })
     (λ _. refl)
@@ -72,9 +78,9 @@ rooms_code =
 
 abbrev order_code : Coded Order
 order_code =
-    code_by ((List (ℕ × Registration) × List (ℕ × Registration)) × ((List (ℕ × ℕ) × List (ℕ × ℕ)) × List (ℕ × Entry)))
-    (coded× (coded× (coded_list (coded× coded_ℕ registration_code)) (coded_list (coded× coded_ℕ registration_code))) (coded× (coded× (coded_list (coded× coded_ℕ coded_ℕ)) (coded_list (coded× coded_ℕ coded_ℕ))) (coded_list (coded× coded_ℕ entry_code))))
-    (λ o. ((o.registrations, o.late), ((o.short, o.long), o.held))) (λ p. record { registrations = p.0.0; late = p.0.1; short = p.1.0.0; long = p.1.0.1; held = p.1.1 }) (λ _. refl)
+    code_by ((List (ℕ × Registration) × List (ℕ × Registration)) × ((List (ℕ × ℕ) × List (ℕ × ℕ)) × List (Option Entry)))
+    (coded× (coded× (coded_list (coded× coded_ℕ registration_code)) (coded_list (coded× coded_ℕ registration_code))) (coded× (coded× (coded_list (coded× coded_ℕ coded_ℕ)) (coded_list (coded× coded_ℕ coded_ℕ))) (coded_list (coded_option entry_code))))
+    (λ o. ((o.registrations, o.late), ((o.short, o.long), o.entries))) (λ p. record { registrations = p.0.0; late = p.0.1; short = p.1.0.0; long = p.1.0.1; entries = p.1.1 }) (λ _. refl)
 
 abbrev pub view_code : Coded View
 view_code =
@@ -83,7 +89,19 @@ view_code =
 
 -- nothing is registered, and nothing is queued
 abbrev pub opening : State
-opening = record { registrations = empty; late = empty; next_number = 0; short = empty; long = empty; waiting = []; held = empty; queued = 0; passes = 0 }
+opening = record { registrations = empty; late = empty; next_number = 0; short = empty; long = empty; queue = []; taken = 0; held = []; passes = 0 }
+
+-- what waits to be taken
+abbrev pub waiting : State → List Entry
+waiting s = drop s.taken s.queue
+
+-- what isn't finished, in the queue's order: what was taken stands before what waits
+abbrev pub unfinished : State → List Entry
+unfinished s = s.held ++ waiting s
+
+-- this very entry is held
+abbrev pub is_held : List Entry → Entry → Bool
+is_held held entry = list_any (same_entry entry) held
 
 -- an object's registration, of whichever kind
 abbrev pub registered : State → ℕ → Option Registration

@@ -1,6 +1,6 @@
 //! The finalizers of a host, and what they are made of.
 
-ghost use Rattle.std.specs.Prelude.{◌≡◌, ◌≤◌, ◌<◌, ◌+◌, IfErr, OnOk, OnErr};
+ghost use Rattle.std.specs.Prelude.{◌≡◌, ◌≤◌, ◌<◌, ◌+◌, IfOk, IfErr, OnOk, OnErr};
 ghost use Rattle.fz_finalizers.specs.States.{opening};
 
 use crate::ready::Ready;
@@ -17,7 +17,8 @@ use std::marker::Model;
 ///
 /// A contract sees a state, for how much more there is room, and the order of walks. A refused call returns the first of its refusals that stands, and
 /// leaves the state as it was. Memory is wanted by `reserve`, by a new registration and by a new link alone: what is registered keeps room for its
-/// entry, so that a pass, a take and a move of a link can't fail for want of it. Entries that are finished are forgotten.
+/// entry, so that a pass, a take and a move of a link can't fail for want of it. The memory of finished entries is used again: a registration that finds no
+/// room and the begin of a pass give it back first.
 pub struct Finalizers {
     pub(crate) table: Table,
     /// The unreachable ones, which stand there as normal ones.
@@ -64,18 +65,20 @@ impl Model for Finalizers {
 }
 
 impl Finalizers {
-    /// Nothing is registered.
-    pub fn new(alloc: Global) -> Finalizers
-        ensures { result.state ≡ opening }
+    /// Nothing is registered. `NoMemory` where an allocation failed.
+    pub fn new(alloc: Global) -> Result<Finalizers, Refused>
+        ensures refused { IfErr result (λ r. r ≡ Refused.NoMemory) }
+        ensures opened { IfOk result (λ f. f.state ≡ opening) }
     {
-        Finalizers {
+        let ready = Ready::new(alloc)?;
+        Ok(Finalizers {
             table: Table::new(alloc),
             late: Table::new(alloc),
             short: Links::new(alloc),
             long: Links::new(alloc),
             moves: Vec::new(alloc),
-            ready: Ready::new(alloc),
+            ready,
             passes: 0,
-        }
+        })
     }
 }

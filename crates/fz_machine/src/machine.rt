@@ -1,12 +1,11 @@
 //! Finalizers whose pass asks, and what they are made of.
 
-ghost use Rattle.std.specs.Prelude.{◌≡◌, ◌≤◌, ◌+◌, None, is_some};
+ghost use Rattle.std.specs.Prelude.{◌≡◌, ◌≤◌, ◌+◌, None, is_some, IfOk, IfErr};
 ghost use Rattle.fz_finalizers.specs.States.{opening};
 
 use crate::phase::Phase;
-use crate::refused::Refused;
 use crate::walk::Walk;
-use fz_finalizers::Finalizers;
+use fz_finalizers::{Finalizers, Refused};
 use std::alloc::Global;
 use std::marker::Model;
 
@@ -50,18 +49,20 @@ impl Model for Machine {
 }
 
 impl Machine {
-    /// Nothing is registered, and no pass is open.
-    pub fn new(alloc: Global) -> Machine
-        ensures finalizers { result.finalizers.state ≡ opening }
-        ensures phase { result.phase ≡ None }
+    /// Nothing is registered, and no pass is open. `NoMemory` where an allocation failed.
+    pub fn new(alloc: Global) -> Result<Machine, Refused>
+        ensures refused { IfErr result (λ r. r ≡ Refused.NoMemory) }
+        ensures finalizers { IfOk result (λ m. m.finalizers.state ≡ opening) }
+        ensures phase { IfOk result (λ m. m.phase ≡ None) }
     {
-        Machine {
-            finalizers: Finalizers::new(alloc),
+        let finalizers = Finalizers::new(alloc)?;
+        Ok(Machine {
+            finalizers,
             walk: Walk::new(alloc),
             phase: None,
             asked: 0,
             before: 0,
-        }
+        })
     }
 
     /// The finalizers, which may be read while a pass is open.

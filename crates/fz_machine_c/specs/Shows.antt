@@ -8,8 +8,8 @@ use Rattle.fz_finalizers.specs.declared.kinds.Kind.{Kind}
 use Rattle.fz_finalizers.specs.declared.kinds.Kind.TheVariants.{Normal, IgnoreSelf, NoOrder, Unreachable}
 use Rattle.fz_finalizers.specs.declared.roots.Root.{Root}
 use Rattle.fz_finalizers.specs.declared.roots.Root.TheVariants.{HeldObject, HeldData, RegisteredData}
-use Rattle.fz_finalizers.specs.States.{State, View, kind_at, registered}
-use Rattle.fz_finalizers.specs.Walks.{AreLinks, AreRegistrations, YieldsRoots, links_in_order, registrations_in_order, roots_of}
+use Rattle.fz_finalizers.specs.States.{State, View, kind_at, registered, waiting}
+use Rattle.fz_finalizers.specs.Walks.{AreLinks, AreRegistrations, YieldsRoots, links_in_order, registrations_in_order, roots_of, somes}
 use Rattle.fz_machine_c.specs.declared.codes.TheConstants.{OK, EMPTY}
 use Rattle.fz_machine_c.specs.declared.shown.TheConstants.{WORDS}
 use Rattle.fz_machine_c.specs.declared.shown.Counts.{Counts}
@@ -34,7 +34,7 @@ kind_number (Some Unreachable) = 3
 
 abbrev pub IsCounted : State → Counts → Type 0
 IsCounted s told =
-    told ≡ record { registrations = len s.registrations + len s.late; short_links = len s.short; long_links = len s.long; waiting = length s.waiting; held = len s.held; queued = s.queued; passes = s.passes }
+    told ≡ record { registrations = len s.registrations + len s.late; short_links = len s.short; long_links = len s.long; waiting = length (waiting s); held = length s.held; queued = length s.queue; passes = s.passes }
 
 -- of a list the part from a place on, as much as there is room for: the walk goes on from the place after it; or none is left, and the place for the part
 -- is as it was
@@ -43,8 +43,16 @@ ShowsFrom room all count part from code old told =
     ((code ≡ EMPTY) × (length all ≤ from) × (told ≡ old))
     ⊎ ((code ≡ OK) × (from < length all) × (count told ≡ min room (length (drop from all))) × (take (count told) (part told) ≡ take (count told) (drop from all)))
 
-abbrev pub ShowsRoots : Root → View → ℕ → ℕ → Words → Words → Type 0
-ShowsRoots root v from code old told = YieldsRoots root v.state (roots_of root v) × ShowsFrom WORDS (roots_of root v) (λ (w : Words). w.count) (λ (w : Words). w.words) from code old told
+-- the words of a walk from a place on, as many as there is room for, and the place from which the walk goes on; or none is left, or none is asked for, and the
+-- place for the words is as it was
+abbrev pub ShowsWords : ℕ → List (Option ℕ) → ℕ → ℕ → Words → Words → Type 0
+ShowsWords room all from code old told =
+    ((code ≡ EMPTY) × (min room (length (somes (drop from all))) ≡ 0) × (told ≡ old))
+    ⊎ ((code ≡ OK) × (0 < told.count) × (told.count ≡ min room (length (somes (drop from all))))
+    × (take told.count told.words ≡ take told.count (somes (drop from all))) × (somes (drop told.next all) ≡ drop told.count (somes (drop from all))))
+
+abbrev pub ShowsRoots : Root → View → ℕ → ℕ → ℕ → Words → Words → Type 0
+ShowsRoots root v from most code old told = YieldsRoots root v.state (somes (roots_of root v)) × ShowsWords (min WORDS most) (roots_of root v) from code old told
 
 -- what C is told of an object's registration, and of a link
 abbrev pub registration_told : State → ℕ × answers.Registration → Registration
