@@ -311,9 +311,9 @@ typedef enum derrimas_finalizers_root {
 } derrimas_finalizers_root;
 
 /* Copies roots of the sort into the buffer, which has `room` words: those from the place *from on, which is 0 at first,
- * and goes on to where the next call starts. *count is how many were copied. As long as only calls that take a const
- * handle come between, the parts are one walk, which has each root once. A call takes time by the roots that it copies,
- * wherever it starts. The buffer may be NULL where `room` is 0.
+ * and goes on to where the next call starts, by *count or more: a finished entry may have a place, and has no root. *count is
+ * how many were copied. As long as only calls that take a const handle come between, the parts are one walk, which has each
+ * root once. A call takes time by the roots that it copies, wherever it starts. The buffer may be NULL where `room` is 0.
  * Refused: BAD_KIND, NOT_OPEN; EMPTY where no root is left, or `room` is 0. */
 derrimas_finalizers_code derrimas_finalizers_roots(const derrimas_finalizers *finalizers, derrimas_finalizers_root sort,
                                                    uint64_t *from, uint64_t *buffer, size_t room, size_t *count)

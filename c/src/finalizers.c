@@ -284,17 +284,25 @@ code derrimas_finalizers_roots(const derrimas_finalizers *finalizers, derrimas_f
 {
     derrimas_finalizers copy = copied(finalizers);
     fz_machine_words some;
+    uint64_t next = *from;
     size_t filled = 0;
     code it;
 
     if (!is_root(sort))
         return DERRIMAS_FINALIZERS_BAD_KIND;
     do {
-        it = fz_machine_roots(&copy, (uint8_t)sort, *from + filled, &some);
-        for (uint64_t i = 0; it == DERRIMAS_FINALIZERS_OK && i < some.count && filled < room; i++)
+        it = fz_machine_roots(&copy, (uint8_t)sort, next, room - filled, &some);
+        if (it != DERRIMAS_FINALIZERS_OK)
+            break;
+        for (uint64_t i = 0; i < some.count && filled < room; i++)
             buffer[filled++] = some.words[i];
-    } while (it == DERRIMAS_FINALIZERS_OK && filled < room);
-    return walked(it, filled, from, count);
+        next = some.next;
+    } while (filled < room);
+    if (filled == 0)
+        return it;
+    *from = next;
+    *count = filled;
+    return DERRIMAS_FINALIZERS_OK;
 }
 
 /* A registration with its kind as C has it. */

@@ -21,7 +21,7 @@ typedef struct fz_machine_question {
 
 typedef struct fz_machine_words {
     uint64_t words[FZ_MACHINE_WORDS];
-    uint64_t count;
+    uint64_t count, next;
 } fz_machine_words;
 
 typedef struct fz_machine_registration_at {
@@ -56,7 +56,7 @@ uint8_t fz_machine_queue_all(derrimas_finalizers *finalizers, uint64_t *queued);
 uint8_t fz_machine_take(derrimas_finalizers *finalizers, derrimas_finalizers_entry *entry);
 uint8_t fz_machine_take_finished(derrimas_finalizers *finalizers, derrimas_finalizers_entry *entry);
 uint8_t fz_machine_finish(derrimas_finalizers *finalizers, const derrimas_finalizers_entry *entry);
-uint8_t fz_machine_roots(derrimas_finalizers *finalizers, uint8_t sort, uint64_t from, fz_machine_words *words);
+uint8_t fz_machine_roots(derrimas_finalizers *finalizers, uint8_t sort, uint64_t from, uint64_t most, fz_machine_words *words);
 uint8_t fz_machine_count(derrimas_finalizers *finalizers, derrimas_finalizers_counts *counts);
 uint8_t fz_machine_registrations(derrimas_finalizers *finalizers, uint64_t from, fz_machine_some_registrations *registrations);
 uint8_t fz_machine_links(derrimas_finalizers *finalizers, bool is_long, uint64_t from, fz_machine_some_links *links);

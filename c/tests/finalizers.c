@@ -62,20 +62,21 @@ static void runs(const uint64_t *procs)
 
 #define RUNS(...) runs((const uint64_t[]){__VA_ARGS__, 0})
 
-/* Reads all roots of a sort in parts of so many words, and tells how many there are. */
+/* Reads all roots of a sort in parts of so many words, and tells how many there are. The place goes on with each part, by a word or more. */
 static uint64_t rooted(derrimas_finalizers_root sort, size_t room, uint64_t *words)
 {
-    uint64_t from = 0, before = 0;
+    uint64_t from = 0, before = 0, all = 0;
     size_t count;
 
-    while (derrimas_finalizers_roots(&finalizers, sort, &from, words + before, room, &count) == DERRIMAS_FINALIZERS_OK) {
+    while (derrimas_finalizers_roots(&finalizers, sort, &from, words + all, room, &count) == DERRIMAS_FINALIZERS_OK) {
         IS(count >= 1 && count <= room, true);
-        IS(from, before + count);
+        IS(from >= before + count, true);
         before = from;
+        all += count;
     }
-    REFUSED(DERRIMAS_FINALIZERS_EMPTY, count, derrimas_finalizers_roots(&finalizers, sort, &from, words + before, room, &count));
+    REFUSED(DERRIMAS_FINALIZERS_EMPTY, count, derrimas_finalizers_roots(&finalizers, sort, &from, words + all, room, &count));
     IS(from, before);
-    return from;
+    return all;
 }
 
 static int by_number(const void *a, const void *b)

@@ -97,12 +97,15 @@ uint8_t fz_machine_finish(derrimas_finalizers *f, const derrimas_finalizers_entr
 /* Of a handle that isn't changed the exports get a copy. */
 static bool is_copy(const derrimas_finalizers *f) { return f != &finalizers && f->inside == finalizers.inside; }
 
-uint8_t fz_machine_roots(derrimas_finalizers *f, uint8_t sort, uint64_t from, fz_machine_words *words)
+uint8_t fz_machine_roots(derrimas_finalizers *f, uint8_t sort, uint64_t from, uint64_t most, fz_machine_words *words)
 {
     uint8_t code = from < 1000 ? noted(words, sizeof *words, is_copy(f), sort, from, 0, 0) : DERRIMAS_FINALIZERS_EMPTY;
 
     if (code == DERRIMAS_FINALIZERS_OK) {
         words->count = from < 1000 - FZ_MACHINE_WORDS ? FZ_MACHINE_WORDS : 1000 - from;
+        if (words->count > most)
+            words->count = most;
+        words->next = from + words->count;
         for (uint64_t n = 0; n < words->count; n++)
             words->words[n] = from + n;
     }

@@ -43,7 +43,7 @@ fn finalizer(procedure: u64) -> Finalizer {
 
 fn main(rt: HostRuntime) -> Result<()> {
     let mut heap = Heap::new();
-    let mut machine = Machine::new(rt.alloc());
+    let mut machine = Machine::new(rt.alloc())?;
     // The root is object 1, which points to object 2. Both have a finalizer, and the weak word is a long link to object 2.
     heap.set_root(1);
     heap.set(1, 2);

@@ -1,5 +1,5 @@
 -- What is registered has room for its entry, and stands in one table, as registrations come and go.
-use Rattle.std.proofs.Common.{◌≡◌, ◌≢◌, ◌≤◌, ◌<◌, ℕ, ◌+◌, Bool, true, false, true≢false, cond, ◌==◌, nat_le, nat_cmp, is_some, IsTrue, Option, Some, None, Result, Ok, Err, OnOk, OnErr, refl, sym, ap, subst, ◌∙◌, ⊎_elim, arith}
+use Rattle.std.proofs.Common.{◌≡◌, ◌≢◌, ◌≤◌, ◌<◌, ℕ, ◌+◌, Bool, true, false, true≢false, cond, ◌==◌, nat_le, nat_cmp, is_some, IsTrue, Option, Some, None, Result, Ok, Err, OnOk, OnErr, List, [], length, refl, sym, ap, subst, ◌∙◌, ⊎_elim, arith}
 use Rattle.std.proofs.lemmas.Bool.{cases_eq}
 use Rattle.std.proofs.lemmas.Bool.Decides.{nat_tests}
 use Rattle.std.proofs.lemmas.Option.{same_Some, none-some}
@@ -88,12 +88,12 @@ not_exhausted table next object none = first (object == 0) none
 zero_long : len (empty {K = ℕ} {X = Registration} {R = nat_cmp}) ≡ 0
 zero_long = len-empty nat_cmp Registration
 
-pub none_fits : (table late : Registered) (ready : Ready) → table ≡ record { registrations = empty; next_number = 0 } → late ≡ record { registrations = empty; next_number = 0 } → ready.queued ≡ 0 → Fits table late ready
+pub none_fits : (table late : Registered) (ready : Ready) → table ≡ record { registrations = empty; next_number = 0 } → late ≡ record { registrations = empty; next_number = 0 } → ready.queue ≡ [] → Fits table late ready
 none_fits table late ready is late_is none =
     subst (λ t. Fits t late ready) (sym is)
     (subst (λ t. Fits (record { registrations = empty; next_number = 0 }) t ready) (sym late_is) (record {
       room = omega (arith, zero_long);
-      numbers = omega (arith, zero_long, none);
+      numbers = let none_queued = ap length none in omega (arith, zero_long, none_queued);
       few = omega arith;
       one = refl;
       apart = λ q here _. true≢false (sym here ∙ ap is_some (get-empty nat_cmp q));
@@ -124,13 +124,13 @@ module _ (table late : Registered) (ready : Ready) (fits : Fits table late ready
   roomier_fits new_ready same kept =
       let room = fits.room in
       let numbers = fits.numbers in
-      let queued = same.2 in
+      let queued = ap length same.0 in
       record { room = omega (arith, room, kept); numbers = omega (arith, numbers, queued); few = fits.few; one = fits.one; apart = fits.apart; normal = fits.normal }
 
   -- some are registered no more, and have their entries
   pub queued_fits : (new_table new_late : Registered) (new_ready : Ready) → new_table ≡ record table { registrations = new_table.registrations } → new_late ≡ record late { registrations = new_late.registrations }
       → ((a : ℕ) (r : Registration) → get new_table.registrations a ≡ Some r → get table.registrations a ≡ Some r) → ((a : ℕ) (r : Registration) → get new_late.registrations a ≡ Some r → get late.registrations a ≡ Some r)
-      → new_ready.queued + count_of new_table new_late ≡ ready.queued + count_of table late → count_of new_table new_late ≤ new_ready.room → Fits new_table new_late new_ready
+      → length new_ready.queue + count_of new_table new_late ≡ length ready.queue + count_of table late → count_of new_table new_late ≤ new_ready.room → Fits new_table new_late new_ready
   queued_fits new_table new_late new_ready same same_late were late_were count room =
       let numbers = fits.numbers in
       let few = fits.few in
@@ -146,7 +146,7 @@ module _ (table late : Registered) (ready : Ready) (fits : Fits table late ready
 
   -- all have their entries
   pub all_fits : (new_table new_late : Registered) (new_ready : Ready) → new_table ≡ record table { registrations = empty } → new_late ≡ record late { registrations = empty }
-      → new_ready.queued ≡ ready.queued + count_of table late → Fits new_table new_late new_ready
+      → length new_ready.queue ≡ length ready.queue + count_of table late → Fits new_table new_late new_ready
   all_fits new_table new_late new_ready is late_is count =
       subst (λ t. Fits t new_late new_ready) (sym is)
       (subst (λ t. Fits (record table { registrations = empty }) t new_ready) (sym late_is) (
@@ -174,7 +174,7 @@ module _ (table late : Registered) (ready : Ready) (fits : Fits table late ready
         let more = len_grown table.registrations object (registration_of table.next_number f) in
         let less = len_less late.registrations object in
         let numbers = fits.numbers in
-        let queued = same.2 in
+        let queued = ap length same.0 in
         let below = not_exhausted table.registrations table.next_number object judged in
         let long = ap (λ (t : Registered). len t.registrations) entered in
         let late_long = ap (λ (t : Registered). len t.registrations) left in
@@ -200,7 +200,7 @@ module _ (table late : Registered) (ready : Ready) (fits : Fits table late ready
         let more = len_grown late.registrations object (registration_of late.next_number f) in
         let less = len_less table.registrations object in
         let numbers = fits.numbers in
-        let queued = same.2 in
+        let queued = ap length same.0 in
         let one = fits.one in
         let below = not_exhausted late.registrations late.next_number object judged in
         let long = ap (λ (t : Registered). len t.registrations) entered in

@@ -41,18 +41,15 @@ module _ (Exact : Type 0) (old : Parts) (found : ℕ → Bool) (apart : AreApart
   }
 
 pub decided_queues : (Exact : Type 0) (pass : ℕ) (objects left : Map Object) (found : ℕ → Bool) (old new : State) → AreApart old.registrations old.late
-    → DecidesLate Exact pass old.queued (parts_in objects old) found (parts_in left new) old.waiting new.waiting
-    → length old.waiting + new.queued ≡ length new.waiting + old.queued → new.held ≡ old.held → new.next_number ≡ old.next_number → Queues pass old new
-decided_queues Exact pass objects left found old new apart decides count held next_number = record {
+    → DecidesLate Exact pass (length old.queue) (parts_in objects old) found (parts_in left new) old.queue new.queue
+    → new.taken ≡ old.taken → new.held ≡ old.held → new.next_number ≡ old.next_number → Queues pass old new
+decided_queues Exact pass objects left found old new apart decides taken held next_number = record {
   picks = decides.picks;
   late = decides.late;
   picked = picks_in Exact (parts_in objects old) found apart old.registrations (λ _. Unit {0}) (λ a r here. in_first old.registrations old.late a r here) decides.picks decides.picked;
   came_late = picks_in Exact (parts_in objects old) found apart old.late (IsLast (parts_in objects old) found) (λ a r here. in_second old.registrations old.late a r (λ h. apart a h (ap is_some here)) here) decides.late decides.came_late;
-  waiting = decides.queued;
-  queued =
-      let long = ap length decides.queued ∙ length-append old.waiting (entries_of pass old.queued (decides.picks ++ decides.late)) in
-      let entries = length-entries_of pass old.queued (decides.picks ++ decides.late) in
-      omega (arith, long, entries, count);
+  queue = decides.queued;
+  taken = taken;
   left = ap (λ (p : Parts). p.registrations) decides.is;
   left_late = ap (λ (p : Parts). p.late) decides.is;
   held = held;
@@ -70,9 +67,8 @@ all_in registrations picks each ordered = record {
 emptied : (registrations : Map Registration) (picks : List Pick) → ((a : ℕ) (r : Registration) → get registrations a ≡ Some r → Contains (map (λ (p : Pick). p.obj) picks) a) → without_picks registrations picks ≡ empty
 emptied registrations picks whole = none_left registrations picks (λ a here. let at = there registrations a here in whole a at.0 at.1)
 
-pub all_queues : (old new : State) → QueuesTables old.queued old.registrations old.late old.waiting new.waiting → length old.waiting + new.queued ≡ length new.waiting + old.queued
-    → new.registrations ≡ empty → new.late ≡ empty → new.held ≡ old.held → new.next_number ≡ old.next_number → Queues 0 old new
-all_queues old new queues count none none_late held next_number =
+pub all_queues : (old new : State) → QueuesTables (length old.queue) old.registrations old.late old.queue new.queue → new.registrations ≡ empty → new.late ≡ empty → new.taken ≡ old.taken → new.held ≡ old.held → new.next_number ≡ old.next_number → Queues 0 old new
+all_queues old new queues none none_late taken held next_number =
     let first = queues.1 in
     let second = queues.2 in
     record {
@@ -80,16 +76,9 @@ all_queues old new queues count none none_late held next_number =
       late = second.picks;
       picked = all_in old.registrations first.picks first.each first.ordered;
       came_late = all_in old.late second.picks second.each second.ordered;
-      waiting = queued_twice 0 old.queued _ old.waiting queues.0 new.waiting first.picks second.picks first.queued second.queued
-          (let long = ap length first.queued ∙ length-append old.waiting (entries_of 0 old.queued first.picks) in let entries = length-entries_of 0 old.queued first.picks in omega (arith, long, entries));
-      queued =
-          let long = ap length first.queued ∙ length-append old.waiting (entries_of 0 old.queued first.picks) in
-          let entries = length-entries_of 0 old.queued first.picks in
-          let next = old.queued + (length queues.0 - length old.waiting) in
-          let longer = ap length second.queued ∙ length-append queues.0 (entries_of 0 next second.picks) in
-          let more = length-entries_of 0 next second.picks in
-          let all = length-append first.picks second.picks in
-          omega (arith, long, entries, longer, more, all, count);
+      queue = queued_twice 0 (length old.queue) _ old.queue queues.0 new.queue first.picks second.picks first.queued second.queued
+          (let long = ap length first.queued ∙ length-append old.queue (entries_of 0 (length old.queue) first.picks) in let entries = length-entries_of 0 (length old.queue) first.picks in omega (arith, long, entries));
+      taken = taken;
       left = none ∙ sym (emptied old.registrations first.picks first.whole);
       left_late = none_late ∙ sym (emptied old.late second.picks second.whole);
       held = held;

@@ -8,3 +8,8 @@ pub mod OneQueued
 pub mod Promised
 pub mod Walked
 pub mod Placed
+pub mod Gathered
+pub mod Queues
+pub mod Taking
+pub mod Coming
+pub mod Shown

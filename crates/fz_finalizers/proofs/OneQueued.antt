@@ -1,5 +1,5 @@
 -- A registration that is queued by itself.
-use Rattle.std.proofs.Common.{◌≡◌, ◌≢◌, ◌≤◌, ◌<◌, ◌^◌, ℕ, zero, suc, ◌+◌, [], ◌∷◌, append-nil, is_some, Option, Some, None, All, refl, sym, ap, subst, ◌∙◌, ⊎_elim, arith}
+use Rattle.std.proofs.Common.{◌≡◌, ◌≢◌, ◌≤◌, ◌<◌, ◌^◌, ℕ, zero, suc, ◌+◌, [], ◌∷◌, length, append-nil, is_some, Option, Some, None, All, refl, sym, ap, subst, ◌∙◌, ⊎_elim, arith}
 use Rattle.std.proofs.lemmas.Option.{none-some}
 use Rattle.std.specs.Cmp.{nat_cmp_total}
 use Rattle.std.specs.Option.{option_or, option_map_or}
@@ -40,8 +40,8 @@ module _ (s : State) (object : ℕ) (apart : AreApart s.registrations s.late) wh
     late = [];
     picked = one_pick s.registrations object r here;
     came_late = no_picks s.late;
-    waiting = refl;
-    queued = refl;
+    queue = refl;
+    taken = refl;
     left = refl;
     left_late = nothing_removed s.late object (absent (get s.late object) refl);
     held = refl;
@@ -58,8 +58,8 @@ module _ (s : State) (object : ℕ) (apart : AreApart s.registrations s.late) wh
     late = pick_of r object unknown ∷ [];
     picked = no_picks s.registrations;
     came_late = one_pick s.late object r here;
-    waiting = refl;
-    queued = refl;
+    queue = refl;
+    taken = refl;
     left = nothing_removed s.registrations object none;
     left_late = refl;
     held = refl;
@@ -72,8 +72,8 @@ module _ (s : State) (object : ℕ) (apart : AreApart s.registrations s.late) wh
     late = [];
     picked = no_picks s.registrations;
     came_late = no_picks s.late;
-    waiting = sym (append-nil s.waiting);
-    queued = omega arith;
+    queue = sym (append-nil s.queue);
+    taken = refl;
     left = refl;
     left_late = refl;
     held = refl;
@@ -114,12 +114,12 @@ module _ (table late : Registered) (ready : Ready) (fits : Fits table late ready
   pub has_room : (r : Registration) → option_or (get table.registrations object) (get late.registrations object) ≡ Some r → 0 < ready.room
   has_room r here = let less = count_less r here in let room = fits.room in omega (arith, less, room)
 
-  pub has_number : (r : Registration) → option_or (get table.registrations object) (get late.registrations object) ≡ Some r → ready.queued + 1 < 2 ^ 64
+  pub has_number : (r : Registration) → option_or (get table.registrations object) (get late.registrations object) ≡ Some r → length ready.queue + 1 < 2 ^ 64
   has_number r here = let less = count_less r here in let numbers = fits.numbers in let few = fits.few in omega (arith, less, numbers, few)
 
   pub taken_fits : (r : Registration) → option_or (get table.registrations object) (get late.registrations object) ≡ Some r → (new_table new_late : Registered) (new_ready : Ready)
       → new_table ≡ record table { registrations = remove table.registrations object } → new_late ≡ record late { registrations = remove late.registrations object }
-      → new_ready.queued ≡ ready.queued + 1 → ready.room ≤ new_ready.room + 1 → Fits new_table new_late new_ready
+      → length new_ready.queue ≡ length ready.queue + 1 → ready.room ≤ new_ready.room + 1 → Fits new_table new_late new_ready
   taken_fits r here new_table new_late new_ready is late_is queued room =
       subst (λ t. Fits t new_late new_ready) (sym is)
       (subst (λ t. Fits (record table { registrations = remove table.registrations object }) t new_ready) (sym late_is) (

@@ -1,11 +1,11 @@
 -- Walks from a place on.
-use Rattle.std.proofs.Common.{◌≡◌, ℕ, zero, suc, ◌-◌, min, List, [], ◌∷◌, ◌++◌, drop, length, refl, sym, ap, ◌∙◌, arith}
-use Rattle.std.proofs.lemmas.List.{drop-map, drop_min}
+use Rattle.std.proofs.Common.{◌≡◌, ℕ, zero, suc, ◌-◌, min, List, [], ◌∷◌, ◌++◌, drop, length, Option, Some, option_map, refl, sym, ap, ◌∙◌, arith}
+use Rattle.std.proofs.lemmas.List.{drop-map}
 use Rattle.fz_model.specs.declared.answers.Entry.{Entry}
 use Rattle.fz_model.specs.declared.answers.Registration.{Registration}
 use Rattle.fz_finalizers.specs.declared.roots.Root.{Root}
 use Rattle.fz_finalizers.specs.declared.roots.Root.TheVariants.{HeldObject, HeldData, RegisteredData}
-use Rattle.fz_finalizers.specs.Walks.{values_of, words_left}
+use Rattle.fz_finalizers.specs.Walks.{words_left}
 
 module _ {X : Type 0} where
   pub drop_both : (xs ys : List X) (n : ℕ) → drop n xs ++ drop (n - length xs) ys ≡ drop n (xs ++ ys)
@@ -14,13 +14,7 @@ module _ {X : Type 0} where
   drop_both (x ∷ xs) ys zero = let none : zero - length (x ∷ xs) ≡ 0 = omega arith in ap (λ k. x ∷ xs ++ drop k ys) none
   drop_both (x ∷ xs) ys (suc n) = let less : suc n - length (x ∷ xs) ≡ n - length xs = omega arith in ap (λ k. drop n xs ++ drop k ys) less ∙ drop_both xs ys n
 
-  pub drop_values : (xs : List X) (es : List (ℕ × X)) (n : ℕ) → drop (min n (length xs)) xs ++ values_of (drop (n - min n (length xs)) es) ≡ drop n (xs ++ values_of es)
-  drop_values xs es n =
-      let rest : n - min n (length xs) ≡ n - length xs = omega arith in
-      ap (λ ys. ys ++ values_of (drop (n - min n (length xs)) es)) (drop_min n xs) ∙ ap (λ k. drop n xs ++ values_of (drop k es)) rest
-      ∙ ap (λ ys. drop n xs ++ ys) (sym (drop-map (λ (e : ℕ × X). e.1) (n - length xs) es)) ∙ drop_both xs (values_of es) n
-
-pub drop_words : (root : Root) (entries : List Entry) (registrations : List (ℕ × Registration)) (n : ℕ) → words_left root (drop n entries) (drop n registrations) ≡ drop n (words_left root entries registrations)
-drop_words HeldObject entries registrations n = sym (drop-map (λ (e : Entry). e.obj) n entries)
-drop_words HeldData entries registrations n = sym (drop-map (λ (e : Entry). e.cd) n entries)
-drop_words RegisteredData entries registrations n = sym (drop-map (λ (e : ℕ × Registration). e.1.cd) n registrations)
+pub drop_words : (root : Root) (entries : List (Option Entry)) (registrations : List (ℕ × Registration)) (n : ℕ) → words_left root (drop n entries) (drop n registrations) ≡ drop n (words_left root entries registrations)
+drop_words HeldObject entries registrations n = sym (drop-map (option_map (λ (e : Entry). e.obj)) n entries)
+drop_words HeldData entries registrations n = sym (drop-map (option_map (λ (e : Entry). e.cd)) n entries)
+drop_words RegisteredData entries registrations n = sym (drop-map (λ (e : ℕ × Registration). Some e.1.cd) n registrations)

@@ -1,10 +1,11 @@
 -- What every sequence of calls keeps.
-use Rattle.std.proofs.Common.{◌≡◌, ◌≢◌, ◌<◌, ◌⊎◌, inl, inr, ◌↔◌, ℕ, zero, suc, ◌+◌, Bool, true, false, true≢false, cond, List, [], ◌∷◌, ◌++◌, drop, length, is_some, Option, Some, slice_get, get_or, All, AllPairs, Contains, nat_cmp, refl, sym, ap, subst, ◌∙◌, ⊎_elim, append_assoc, add-zero, arith}
+use Rattle.std.proofs.Common.{◌≡◌, ◌≢◌, ◌<◌, ◌⊎◌, inl, inr, ◌↔◌, ℕ, zero, suc, ◌+◌, Bool, true, false, true≢false, cond, List, [], ◌∷◌, ◌++◌, drop, take, filter, not, length, is_some, Option, Some, slice_get, get_or, All, AllPairs, Contains, nat_cmp, refl, sym, ap, subst, ◌∙◌, ⊎_elim, append_assoc, add-zero, arith}
 use Rattle.std.proofs.lemmas.Bool.{cases_eq}
-use Rattle.std.proofs.lemmas.List.{length-append}
+use Rattle.std.proofs.lemmas.List.{length-append, take-append-le, drop-append-le, take_more, take-append-drop, length-take-le}
+use Rattle.std.proofs.lemmas.List.Kept.{AllPairs-filter}
 use Rattle.std.proofs.lemmas.List.Elements.{All-append, Contains-append_left, Contains-append_right, Contains-append_cases, Contains-push, Contains-push_cases}
-use Rattle.std.proofs.lemmas.Option.{same_Some, none-some, slice_get-get_or, slice_get_within}
-use Rattle.std.proofs.Math.Seq.{drop-append_seam}
+use Rattle.std.proofs.lemmas.Option.{same_Some, none-some, slice_get-get_or, slice_get_within, get_or_from_slice_get}
+use Rattle.std.specs.List.{list_any}
 use Rattle.std.specs.Option.{option_or}
 use Rattle.std.specs.FinMap.{get, insert, remove, empty, get-empty}
 use Rattle.fz_model.specs.declared.answers.Entry.{Entry}
@@ -14,19 +15,22 @@ use Rattle.fz_model.specs.declared.kinds.LinkKind.{LinkKind}
 use Rattle.fz_model.specs.declared.kinds.LinkKind.TheVariants.{Short, Long}
 use Rattle.fz_model.specs.Pass.{entries_of}
 use Rattle.fz_model.specs.State.{Map}
+use Rattle.fz_model.specs.Events.{same_entry}
+use Rattle.fz_model.proofs.Events.{one_entry, same_itself}
 use Rattle.fz_model.specs.Steps.{registration_of}
-use Rattle.fz_model.proofs.Lists.{slice_get-left, slice_get-cases, slice_get-right, place_of, AllPairs-append}
+use Rattle.fz_model.proofs.Lists.{slice_get-left, slice_get-cases, place_of, contains_at, any_at, filter_at, AllPairs-append}
 use Rattle.fz_model.proofs.Maps.{get-insert_same, get-insert_other, get-remove_same, get-remove_other}
 use Rattle.fz_model.proofs.Sound.{entry_at, length-entries_of}
 use Rattle.fz_pass.specs.Late.{AreApart}
 use Rattle.fz_finalizers.specs.declared.kinds.Finalizer.{Finalizer}
 use Rattle.fz_finalizers.specs.Kinds.{is_late, table_finalizer}
-use Rattle.fz_finalizers.specs.States.{State, opening, registered, with_links}
+use Rattle.fz_finalizers.specs.States.{State, opening, registered, unfinished, with_links}
 use Rattle.fz_finalizers.specs.Follows.{Event, Follows, Queues, with_registration, Register, Unregister, Link, Unlink, Move, Pass, Begin, Queue, QueueAll, Take, TakeFinished, Finish}
-use Rattle.fz_finalizers.specs.Promises.{Past, came, with_event, IsReached, Opened, Then, Promises}
-use Rattle.fz_finalizers.proofs.Fitting.{still, apart_removed, apart_entered, apart_entered_late}
+use Rattle.fz_finalizers.specs.Promises.{Past, with_event, IsReached, Opened, Then, Promises}
+use Rattle.fz_finalizers.proofs.Fitting.{apart_removed, apart_entered, apart_entered_late}
 use Rattle.fz_finalizers.proofs.Queueing as queueing
 use Rattle.fz_finalizers.proofs.OneQueued.{queued_queues}
+use Rattle.fz_finalizers.proofs.Taking.{next_waits}
 
 -- no entries are among none
 none_among : {X : Type 0} (x : X) → Contains [] x → ⊥
@@ -34,19 +38,19 @@ none_among x here = let at = place_of [] x here in none-some x at.1
 
 -- ---- the opening
 
-opened : Promises opening (record { queue = []; taken = []; finished = [] })
+opened : Promises opening (record { taken = []; finished = [] })
 opened = record {
   takes = refl;
+  within = omega arith;
   numbered = λ k e at. absurd (none-some e at);
-  counted = refl;
   apart = λ a here _. true≢false (sym here ∙ ap is_some (get-empty nat_cmp a));
   one = λ a b r q here. absurd (nothing a r here);
   once = λ i j d lt within. absurd (omega (arith, within));
   gone = λ a r here. absurd (nothing a r here);
   below = λ a r here. absurd (nothing a r here);
   queued_below = λ k d within. absurd (omega (arith, within));
-  held = λ e. (λ here. absurd (none-some e (sym (get-empty nat_cmp e.seq) ∙ here)), λ here. absurd (none_among e here.0));
-  by_number = λ k e here. absurd (none-some e (sym (get-empty nat_cmp k) ∙ here));
+  held = λ e. (λ here. absurd (none_among e here), λ here. absurd (none_among e here.0));
+  in_order = λ i j d lt within. absurd (omega (arith, within));
   finished_taken = λ e here. here;
   kept = λ e here _. absurd (none_among e here);
 }
@@ -59,8 +63,8 @@ opened = record {
 beside : (s : State) (past : Past) (short long : Map ℕ) (passes : ℕ) → Promises s past → Promises (record s { short = short; long = long; passes = passes }) past
 beside s past short long passes p = record {
   takes = p.takes;
+  within = p.within;
   numbered = p.numbered;
-  counted = p.counted;
   apart = p.apart;
   one = p.one;
   once = p.once;
@@ -68,7 +72,7 @@ beside s past short long passes p = record {
   below = p.below;
   queued_below = p.queued_below;
   held = p.held;
-  by_number = p.by_number;
+  in_order = p.in_order;
   finished_taken = p.finished_taken;
   kept = p.kept;
 }
@@ -85,8 +89,8 @@ begun s past = beside s past s.short s.long
 unregistered : (s : State) (past : Past) (object : ℕ) → Promises s past → Promises (record s { registrations = remove s.registrations object; late = remove s.late object }) past
 unregistered s past object p = record {
   takes = p.takes;
+  within = p.within;
   numbered = p.numbered;
-  counted = p.counted;
   apart = apart_removed s.registrations s.late object p.apart;
   one = λ a b r q here there. p.one a b r q (was a r here) (was b q there);
   once = p.once;
@@ -94,7 +98,7 @@ unregistered s past object p = record {
   below = λ a r here. p.below a r (was a r here);
   queued_below = p.queued_below;
   held = p.held;
-  by_number = p.by_number;
+  in_order = p.in_order;
   finished_taken = p.finished_taken;
   kept = p.kept;
 }
@@ -139,7 +143,7 @@ module _ (s : State) (past : Past) (table late : Map Registration) (object : ℕ
       ⊎_elim (λ (y : (b ≡ object) × (t.number ≡ s.next_number)). absurd (let lt = p.below a q x.1 in let n = y.1 in omega (arith, lt, n, same))) (λ (y : (b ≢ object) × (registered s b ≡ Some t)). p.one a b q t x.1 y.1 same) (cases_of b t there))
       (cases_of a q here)
 
-  gone : (a : ℕ) (q : Registration) → option_or (get table a) (get late a) ≡ Some q → All (λ (e : Entry). e.reg ≢ q.number) past.queue
+  gone : (a : ℕ) (q : Registration) → option_or (get table a) (get late a) ≡ Some q → All (λ (e : Entry). e.reg ≢ q.number) s.queue
   gone a q here k d within same =
       ⊎_elim
       (λ (x : (a ≡ object) × (q.number ≡ s.next_number)). absurd (let lt = p.queued_below k d within in let n = x.1 in omega (arith, lt, n, same)))
@@ -156,8 +160,8 @@ module _ (s : State) (past : Past) (table late : Map Registration) (object : ℕ
   gained : Promises new past
   gained = record {
     takes = p.takes;
+    within = p.within;
     numbered = p.numbered;
-    counted = p.counted;
     apart = gains.apart;
     one = one;
     once = p.once;
@@ -165,7 +169,7 @@ module _ (s : State) (past : Past) (table late : Map Registration) (object : ℕ
     below = below;
     queued_below = λ k d within. let lt = p.queued_below k d within in omega (arith, lt);
     held = p.held;
-    by_number = p.by_number;
+    in_order = p.in_order;
     finished_taken = p.finished_taken;
     kept = p.kept;
   }
@@ -201,25 +205,19 @@ module _ (pass : ℕ) (s t : State) (past : Past) (p : Promises s past) (queues 
   picks = queues.picks ++ queues.late
 
   abbrev entries : List Entry
-  entries = entries_of pass s.queued picks
+  entries = entries_of pass (length s.queue) picks
 
-  abbrev queue : List Entry
-  queue = past.queue ++ came s t
-
-  came_is : came s t ≡ entries
-  came_is = ap (drop (length s.waiting)) queues.waiting ∙ drop-append_seam s.waiting entries
-
-  entry_is : (k : ℕ) (e : Entry) → slice_get (came s t) k ≡ Some e → (q : Pick) × (slice_get picks k ≡ Some q) × (e.seq ≡ s.queued + k) × (e.reg ≡ q.reg)
-  entry_is k e at = let is = entry_at pass s.queued picks k e (sym (ap (λ es. slice_get es k) came_is) ∙ at) in (is.0, is.1, is.2, is.3)
+  entry_is : (k : ℕ) (e : Entry) → slice_get entries k ≡ Some e → (q : Pick) × (slice_get picks k ≡ Some q) × (e.seq ≡ length s.queue + k) × (e.reg ≡ q.reg)
+  entry_is k e at = let is = entry_at pass (length s.queue) picks k e at in (is.0, is.1, is.2, is.3)
 
   -- an entry has the number of a registration that an object had
-  reg_of : (k : ℕ) (d : Entry) → k < length (came s t) → (q : Pick) × (r : Registration) × (slice_get picks k ≡ Some q) × (registered s q.obj ≡ Some r) × ((get_or (came s t) k d).reg ≡ r.number)
+  reg_of : (k : ℕ) (d : Entry) → k < length entries → (q : Pick) × (r : Registration) × (slice_get picks k ≡ Some q) × (registered s q.obj ≡ Some r) × ((get_or entries k d).reg ≡ r.number)
   reg_of k d within =
-      let is = entry_is k (get_or (came s t) k d) (slice_get-get_or (came s t) k d within) in
+      let is = entry_is k (get_or entries k d) (slice_get-get_or entries k d within) in
       let of = queueing.registered_at pass s t p.apart queues k is.0 is.1 in
       (is.0, of.0, is.1, of.1, is.3 ∙ of.2)
 
-  came_below : All (λ (e : Entry). e.reg < t.next_number) (came s t)
+  came_below : All (λ (e : Entry). e.reg < t.next_number) entries
   came_below k d within =
       let of = reg_of k d within in
       let lt = p.below of.0.obj of.1 of.3 in
@@ -227,139 +225,125 @@ module _ (pass : ℕ) (s t : State) (past : Past) (p : Promises s past) (queues 
       let same = queues.next_number in
       omega (arith, lt, n, same)
 
-  came_gone : (a : ℕ) (r : Registration) → registered t a ≡ Some r → All (λ (e : Entry). e.reg ≢ r.number) (came s t)
+  came_gone : (a : ℕ) (r : Registration) → registered t a ≡ Some r → All (λ (e : Entry). e.reg ≢ r.number) entries
   came_gone a r here k d within same =
       let of = reg_of k d within in
       let was = queueing.still_registered pass s t p.apart queues a r here in
       was.1 k of.0 of.2 (p.one a of.0.obj r of.1 was.0 of.3 (sym (sym of.4 ∙ same)))
 
-  came_once : AllPairs (λ (d e : Entry). d.reg ≢ e.reg) (came s t)
+  came_once : AllPairs (λ (d e : Entry). d.reg ≢ e.reg) entries
   came_once i j d lt within same =
       let x = reg_of i d (omega (arith, lt, within)) in
       let y = reg_of j d within in
       queueing.differ pass s t p.apart queues i j x.0 y.0 lt x.2 y.2 (p.one x.0.obj y.0.obj x.1 y.1 x.3 y.3 (sym x.4 ∙ same ∙ y.4))
 
-  across : (i j : ℕ) (d : Entry) → i < length past.queue → j < length (came s t) → (get_or past.queue i d).reg ≢ (get_or (came s t) j d).reg
+  across : (i j : ℕ) (d : Entry) → i < length s.queue → j < length entries → (get_or s.queue i d).reg ≢ (get_or entries j d).reg
   across i j d within there same = let y = reg_of j d there in p.gone y.0.obj y.1 y.3 i d within (same ∙ y.4)
 
-  come : (past_new : Past) → past_new ≡ record past { queue = queue } → Promises t past_new
-  come past_new is = subst (Promises t) (sym is) (record {
-    takes = ap (λ es. es ++ came s t) p.takes ∙ append_assoc past.taken s.waiting (came s t) ∙ ap (λ es. past.taken ++ es) (ap (λ es. s.waiting ++ es) came_is ∙ sym queues.waiting);
+  longer : length t.queue ≡ length s.queue + length entries
+  longer = ap length queues.queue ∙ length-append s.queue entries
+
+  -- what isn't finished grows by what comes
+  grown : unfinished t ≡ unfinished s ++ entries
+  grown =
+      (λ i. queues.held i ++ drop (queues.taken i) (queues.queue i)) ∙ ap (λ es. s.held ++ es) (drop-append-le s.taken s.queue entries p.within)
+      ∙ sym (append_assoc s.held (drop s.taken s.queue) entries)
+
+  come : Promises t past
+  come = record {
+    takes = p.takes ∙ sym (take-append-le s.taken s.queue entries p.within) ∙ sym (λ i. take (queues.taken i) (queues.queue i));
+    within = let all = longer in let was = p.within in let same = queues.taken in omega (arith, all, was, same);
     numbered = λ k e at.
         ⊎_elim (p.numbered k e)
-        (λ (x : (i : ℕ) × (k ≡ length past.queue + i) × (slice_get (came s t) i ≡ Some e)). let is = entry_is x.0 e x.2 in let n = is.2 in let c = p.counted in let k_is = x.1 in omega (arith, n, c, k_is))
-        (slice_get-cases past.queue (came s t) k e at);
-    counted =
-        let all = length-append past.queue (came s t) in
-        let long = ap length came_is ∙ length-entries_of pass s.queued picks in
-        let c = p.counted in
-        let n = queues.queued in
-        omega (arith, all, long, c, n);
+        (λ (x : (i : ℕ) × (k ≡ length s.queue + i) × (slice_get entries i ≡ Some e)). let is = entry_is x.0 e x.2 in let n = is.2 in let k_is = x.1 in omega (arith, n, k_is))
+        (slice_get-cases s.queue entries k e (ap (λ es. slice_get es k) (sym queues.queue) ∙ at));
     apart = queueing.still_apart pass s t p.apart queues;
     one = λ a b r q here there. p.one a b r q (queueing.still_registered pass s t p.apart queues a r here).0 (queueing.still_registered pass s t p.apart queues b q there).0;
-    once = AllPairs-append (λ (d e : Entry). d.reg ≢ e.reg) past.queue (came s t) p.once came_once across;
-    gone = λ a r here. All-append (λ (e : Entry). e.reg ≢ r.number) past.queue (came s t) (p.gone a r (queueing.still_registered pass s t p.apart queues a r here).0) (came_gone a r here);
+    once = subst (AllPairs (λ (d e : Entry). d.reg ≢ e.reg)) (sym queues.queue) (AllPairs-append (λ (d e : Entry). d.reg ≢ e.reg) s.queue entries p.once came_once across);
+    gone = λ a r here. subst (All (λ (e : Entry). e.reg ≢ r.number)) (sym queues.queue) (All-append (λ (e : Entry). e.reg ≢ r.number) s.queue entries (p.gone a r (queueing.still_registered pass s t p.apart queues a r here).0) (came_gone a r here));
     below = λ a r here. let lt = p.below a r (queueing.still_registered pass s t p.apart queues a r here).0 in let same = queues.next_number in omega (arith, lt, same);
-    queued_below = All-append (λ (e : Entry). e.reg < t.next_number) past.queue (came s t) (λ k d within. let lt = p.queued_below k d within in let same = queues.next_number in omega (arith, lt, same)) came_below;
-    held = λ e. (λ here. (p.held e).0 (ap (λ (m : Map Entry). get m e.seq) (sym queues.held) ∙ here), λ was. ap (λ (m : Map Entry). get m e.seq) queues.held ∙ (p.held e).1 was);
-    by_number = λ k e here. p.by_number k e (ap (λ (m : Map Entry). get m k) (sym queues.held) ∙ here);
+    queued_below = subst (All (λ (e : Entry). e.reg < t.next_number)) (sym queues.queue) (All-append (λ (e : Entry). e.reg < t.next_number) s.queue entries (λ k d within. let lt = p.queued_below k d within in let same = queues.next_number in omega (arith, lt, same)) came_below);
+    held = λ e. (λ here. (p.held e).0 (subst (λ es. Contains es e) queues.held here), λ was. subst (λ es. Contains es e) (sym queues.held) ((p.held e).1 was));
+    in_order = subst (AllPairs (λ (d e : Entry). d.seq < e.seq)) (sym queues.held) p.in_order;
     finished_taken = p.finished_taken;
     kept = λ e here alive.
-        ⊎_elim
-        (λ (old : Contains past.queue e).
-        ⊎_elim (λ (w : Contains s.waiting e). inl (subst (λ es. Contains es e) (sym queues.waiting) (Contains-append_left s.waiting entries e w)))
-        (λ (h : get s.held e.seq ≡ Some e). inr (ap (λ (m : Map Entry). get m e.seq) queues.held ∙ h))
-        (p.kept e old alive))
-        (λ (fresh : Contains (came s t) e). inl (subst (λ es. Contains es e) (sym queues.waiting) (Contains-append_right s.waiting entries e (subst (λ es. Contains es e) came_is fresh))))
-        (Contains-append_cases past.queue (came s t) e here);
-  })
+        subst (λ es. Contains es e) (sym grown)
+        (⊎_elim
+        (λ (old : Contains s.queue e). Contains-append_left (unfinished s) entries e (p.kept e old alive))
+        (λ (fresh : Contains entries e). Contains-append_right (unfinished s) entries e fresh)
+        (Contains-append_cases s.queue entries e (subst (λ es. Contains es e) queues.queue here)));
+  }
 
 -- ---- an entry is taken
 
-module _ (s : State) (past : Past) (e : Entry) (rest : List Entry) (p : Promises s past) (first : s.waiting ≡ e ∷ rest) where
-  queue_is : past.queue ≡ past.taken ++ e ∷ rest
-  queue_is = p.takes ∙ ap (λ es. past.taken ++ es) first
+module _ (s : State) (past : Past) (e : Entry) (p : Promises s past) (at : slice_get s.queue s.taken ≡ Some e) where
+  seq_is : e.seq ≡ s.taken
+  seq_is = p.numbered s.taken e at
 
-  seq_is : e.seq ≡ length past.taken
-  seq_is =
-      p.numbered (length past.taken) e
-      (ap (λ es. slice_get es (length past.taken)) queue_is ∙ ap (slice_get (past.taken ++ e ∷ rest)) (sym (add-zero (length past.taken))) ∙ slice_get-right past.taken (e ∷ rest) 0)
+  inside : s.taken < length s.queue
+  inside = slice_get_within s.queue s.taken e at
 
-  before : (d : Entry) → Contains past.taken d → d.seq < length past.taken
+  takes_on : past.taken ++ e ∷ [] ≡ take (s.taken + 1) s.queue
+  takes_on =
+      ap (λ es. es ++ e ∷ []) p.takes ∙ ap (λ (d : Entry). take s.taken s.queue ++ d ∷ []) (sym (get_or_from_slice_get s.queue s.taken e e at))
+      ∙ sym (take_more s.queue s.taken e inside)
+
+  before : (d : Entry) → Contains past.taken d → d.seq < s.taken
   before d here =
-      let at = place_of past.taken d here in
-      let n = p.numbered at.0 d (ap (λ es. slice_get es at.0) queue_is ∙ slice_get-left past.taken (e ∷ rest) at.0 d at.1) in
-      let within = slice_get_within past.taken at.0 d at.1 in
-      omega (arith, n, within)
+      let found = place_of (take s.taken s.queue) d (subst (λ es. Contains es d) p.takes here) in
+      let there = slice_get-left (take s.taken s.queue) (drop s.taken s.queue) found.0 d found.1 in
+      let n = p.numbered found.0 d (ap (λ es. slice_get es found.0) (sym (take-append-drop s.taken s.queue)) ∙ there) in
+      let within = slice_get_within (take s.taken s.queue) found.0 d found.1 in
+      let size = length-take-le s.taken s.queue p.within in
+      omega (arith, n, within, size)
 
   fresh : Contains past.taken e → ⊥
   fresh here = absurd (let lt = before e here in let n = seq_is in omega (arith, lt, n))
 
-  takes_on : past.queue ≡ (past.taken ++ e ∷ []) ++ rest
-  takes_on = queue_is ∙ sym (append_assoc past.taken (e ∷ []) rest)
+  waits : drop s.taken s.queue ≡ e ∷ drop (s.taken + 1) s.queue
+  waits = next_waits s.queue s.taken e at
 
-  in_rest : (d : Entry) → Contains s.waiting d → (d ≡ e) ⊎ Contains rest d
-  in_rest d here =
-      ⊎_elim (λ (a : Contains (e ∷ []) d). inl (only d a)) (λ (b : Contains rest d). inr b)
-      (Contains-append_cases (e ∷ []) rest d (subst (λ es. Contains es d) first here))
-    where
-      only : (d : Entry) → Contains (e ∷ []) d → d ≡ e
-      only d h = let at = place_of (e ∷ []) d h in one at.0 at.1
-        where
-          one : (k : ℕ) → slice_get (e ∷ []) k ≡ Some d → d ≡ e
-          one zero is = sym (same_Some e d is)
-          one (suc k) is = absurd (none-some d is)
+  held_before : (i : ℕ) (d : Entry) → i < length s.held → (get_or s.held i d).seq < e.seq
+  held_before i d within =
+      let lt = before (get_or s.held i d) ((p.held (get_or s.held i d)).0 (i, within, get_or_from_slice_get s.held i (get_or s.held i d) (get_or s.held i d) (slice_get-get_or s.held i d within))).0 in
+      let n = seq_is in
+      omega (arith, lt, n)
 
-  abbrev held_on : Map Entry
-  held_on = insert s.held e.seq e
-
-  taken_held : (d : Entry) → (get held_on d.seq ≡ Some d) ↔ (Contains (past.taken ++ e ∷ []) d × (Contains past.finished d → ⊥))
-  taken_held d = (to, back)
-    where
-      to : get held_on d.seq ≡ Some d → Contains (past.taken ++ e ∷ []) d × (Contains past.finished d → ⊥)
-      to here =
-          ⊎_elim
-          (λ (is : d.seq ≡ e.seq).
-          let same = same_Some e d (sym (ap (get held_on) is ∙ get-insert_same s.held e.seq e) ∙ here) in
-          (subst (Contains (past.taken ++ e ∷ [])) same (Contains-push past.taken e), λ f. fresh (p.finished_taken e (subst (Contains past.finished) (sym same) f))))
-          (λ (ne : d.seq ≢ e.seq). let was = (p.held d).0 (sym (get-insert_other s.held e.seq e d.seq ne) ∙ here) in (Contains-append_left past.taken (e ∷ []) d was.0, was.1))
-          (cases_eq d.seq e.seq)
-
-      back : Contains (past.taken ++ e ∷ []) d × (Contains past.finished d → ⊥) → get held_on d.seq ≡ Some d
-      back here =
-          ⊎_elim
-          (λ (old : Contains past.taken d). get-insert_other s.held e.seq e d.seq (λ same. absurd (let lt = before d old in let n = seq_is in omega (arith, lt, n, same))) ∙ (p.held d).1 (old, here.1))
-          (λ (same : e ≡ d). subst (λ (x : Entry). get held_on x.seq ≡ Some x) same (get-insert_same s.held e.seq e))
-          (Contains-push_cases past.taken e d here.0)
-
-  taken : Promises (record s { waiting = rest; held = held_on }) (record past { taken = past.taken ++ e ∷ [] })
+  taken : Promises (record s { taken = s.taken + 1; held = s.held ++ e ∷ [] }) (record past { taken = past.taken ++ e ∷ [] })
   taken = record {
     takes = takes_on;
+    within = let lt = inside in omega (arith, lt);
     numbered = p.numbered;
-    counted = p.counted;
     apart = p.apart;
     one = p.one;
     once = p.once;
     gone = p.gone;
     below = p.below;
     queued_below = p.queued_below;
-    held = taken_held;
-    by_number = λ k d here.
-        ⊎_elim (λ (is : k ≡ e.seq). ap (λ (x : Entry). x.seq) (same_Some d e (sym here ∙ ap (get held_on) is ∙ get-insert_same s.held e.seq e)) ∙ sym is) (λ (ne : k ≢ e.seq). p.by_number k d (sym (get-insert_other s.held e.seq e k ne) ∙ here)) (cases_eq k e.seq);
+    held = λ d. (
+      λ here.
+          ⊎_elim (λ (old : Contains s.held d). let was = (p.held d).0 old in (Contains-append_left past.taken (e ∷ []) d was.0, was.1))
+          (λ (same : e ≡ d). (subst (Contains (past.taken ++ e ∷ [])) same (Contains-push past.taken e), λ f. fresh (p.finished_taken e (subst (Contains past.finished) (sym same) f))))
+          (Contains-push_cases s.held e d here),
+      λ here.
+          ⊎_elim (λ (old : Contains past.taken d). Contains-append_left s.held (e ∷ []) d ((p.held d).1 (old, here.1)))
+          (λ (same : e ≡ d). subst (Contains (s.held ++ e ∷ [])) same (Contains-push s.held e))
+          (Contains-push_cases past.taken e d here.0),
+    );
+    in_order = AllPairs-append (λ (d x : Entry). d.seq < x.seq) s.held (e ∷ []) p.in_order (λ i j d lt within. absurd (omega (arith, lt, within))) last;
     finished_taken = λ d here. Contains-append_left past.taken (e ∷ []) d (p.finished_taken d here);
-    kept = λ d here alive.
-        ⊎_elim
-        (λ (w : Contains s.waiting d).
-        ⊎_elim (λ (same : d ≡ e). inr (subst (λ (x : Entry). get held_on x.seq ≡ Some x) (sym same) (get-insert_same s.held e.seq e))) (λ (r : Contains rest d). inl r) (in_rest d w))
-        (λ (h : get s.held d.seq ≡ Some d). let was = (p.held d).0 h in inr ((taken_held d).1 (Contains-append_left past.taken (e ∷ []) d was.0, alive)))
-        (p.kept d here alive);
+    kept = λ d here alive. subst (λ es. Contains es d) (ap (λ es. s.held ++ es) waits ∙ sym (append_assoc s.held (e ∷ []) (drop (s.taken + 1) s.queue))) (p.kept d here alive);
   }
+    where
+      last : (i j : ℕ) (d : Entry) → i < length s.held → j < length (e ∷ []) → (get_or s.held i d).seq < (get_or (e ∷ []) j d).seq
+      last i zero d within there = held_before i d within
+      last i (suc j) d within there = absurd (omega (arith, there))
 
-  taken_finished : Promises (record s { waiting = rest }) (record past { taken = past.taken ++ e ∷ []; finished = past.finished ++ e ∷ [] })
+  taken_finished : Promises (record s { taken = s.taken + 1 }) (record past { taken = past.taken ++ e ∷ []; finished = past.finished ++ e ∷ [] })
   taken_finished = record {
     takes = takes_on;
+    within = let lt = inside in omega (arith, lt);
     numbered = p.numbered;
-    counted = p.counted;
     apart = p.apart;
     one = p.one;
     once = p.once;
@@ -371,44 +355,74 @@ module _ (s : State) (past : Past) (e : Entry) (rest : List Entry) (p : Promises
       λ here.
           ⊎_elim (λ (old : Contains past.taken d). (p.held d).1 (old, λ f. here.1 (Contains-append_left past.finished (e ∷ []) d f))) (λ (same : e ≡ d). absurd (here.1 (subst (Contains (past.finished ++ e ∷ [])) same (Contains-push past.finished e)))) (Contains-push_cases past.taken e d here.0),
     );
-    by_number = p.by_number;
+    in_order = p.in_order;
     finished_taken = λ d here. ⊎_elim (λ (old : Contains past.finished d). Contains-append_left past.taken (e ∷ []) d (p.finished_taken d old)) (λ (same : e ≡ d). subst (Contains (past.taken ++ e ∷ [])) same (Contains-push past.taken e)) (Contains-push_cases past.finished e d here);
     kept = λ d here alive.
         ⊎_elim
-        (λ (w : Contains s.waiting d).
-        ⊎_elim (λ (same : d ≡ e). absurd (alive (subst (Contains (past.finished ++ e ∷ [])) (sym same) (Contains-push past.finished e)))) (λ (r : Contains rest d). inl r) (in_rest d w))
-        (λ (h : get s.held d.seq ≡ Some d). inr h)
-        (p.kept d here (λ f. alive (Contains-append_left past.finished (e ∷ []) d f)));
+        (λ (h : Contains s.held d). Contains-append_left s.held (drop (s.taken + 1) s.queue) d h)
+        (λ (w : Contains (drop s.taken s.queue) d).
+        ⊎_elim (λ (same : d ≡ e). absurd (alive (subst (Contains (past.finished ++ e ∷ [])) (sym same) (Contains-push past.finished e)))) (λ (r : Contains (drop (s.taken + 1) s.queue) d). Contains-append_right s.held (drop (s.taken + 1) s.queue) d r) (in_rest d w))
+        (Contains-append_cases s.held (drop s.taken s.queue) d (p.kept d here (λ f. alive (Contains-append_left past.finished (e ∷ []) d f))));
   }
+    where
+      only : (d : Entry) → Contains (e ∷ []) d → d ≡ e
+      only d h = let found = place_of (e ∷ []) d h in one found.0 found.1
+        where
+          one : (k : ℕ) → slice_get (e ∷ []) k ≡ Some d → d ≡ e
+          one zero is = sym (same_Some e d is)
+          one (suc k) is = absurd (none-some d is)
+
+      in_rest : (d : Entry) → Contains (drop s.taken s.queue) d → (d ≡ e) ⊎ Contains (drop (s.taken + 1) s.queue) d
+      in_rest d here =
+          ⊎_elim (λ (a : Contains (e ∷ []) d). inl (only d a)) (λ (b : Contains (drop (s.taken + 1) s.queue) d). inr b)
+          (Contains-append_cases (e ∷ []) (drop (s.taken + 1) s.queue) d (subst (λ es. Contains es d) waits here))
 
 -- ---- an entry is finished
 
-module _ (s : State) (past : Past) (e : Entry) (p : Promises s past) (here : get s.held e.seq ≡ Some e) where
-  abbrev left : Map Entry
-  left = remove s.held e.seq
+-- what a test keeps stands among what is left
+kept_in : (q : Entry → Bool) (xs : List Entry) (k : ℕ) (x : Entry) → slice_get xs k ≡ Some x → q x ≡ true → (i : ℕ) × (slice_get (filter q xs) i ≡ Some x)
+kept_in q [] k x at on = absurd (none-some x at)
+kept_in q (y ∷ ys) zero x at on = (0, ap (λ b. slice_get (cond b (y ∷ filter q ys) (filter q ys)) 0) (ap q (same_Some y x at) ∙ on) ∙ at)
+kept_in q (y ∷ ys) (suc k) x at on = further (q y) (kept_in q ys k x at on)
+  where
+    further : (b : Bool) → (i : ℕ) × (slice_get (filter q ys) i ≡ Some x) → (i : ℕ) × (slice_get (cond b (y ∷ filter q ys) (filter q ys)) i ≡ Some x)
+    further true rest = (suc rest.0, rest.1)
+    further false rest = rest
 
-  left_held : (d : Entry) → (get left d.seq ≡ Some d) ↔ (Contains past.taken d × (Contains (past.finished ++ e ∷ []) d → ⊥))
-  left_held d = (to, back)
+module _ (s : State) (past : Past) (e : Entry) (p : Promises s past) (here : list_any (same_entry e) s.held ≡ true) where
+  abbrev stays : Entry → Bool
+  stays d = not (same_entry e d)
+
+  is_there : Contains s.held e
+  is_there = let some = any_at (same_entry e) s.held here in subst (Contains s.held) (sym (one_entry e some.1 some.3)) (contains_at s.held some.0 some.1 some.2)
+
+  left_held : (d : Entry) → Contains (filter stays s.held) d ↔ (Contains past.taken d × (Contains (past.finished ++ e ∷ []) d → ⊥))
+  left_held d = (to, λ was. back was (same_entry e d) refl)
     where
-      apart_of : get left d.seq ≡ Some d → d.seq ≢ e.seq
-      apart_of there same = none-some d (sym (ap (get left) same ∙ get-remove_same s.held e.seq) ∙ there)
-
-      to : get left d.seq ≡ Some d → Contains past.taken d × (Contains (past.finished ++ e ∷ []) d → ⊥)
+      to : Contains (filter stays s.held) d → Contains past.taken d × (Contains (past.finished ++ e ∷ []) d → ⊥)
       to there =
-          let ne = apart_of there in
-          let was = (p.held d).0 (sym (get-remove_other s.held e.seq d.seq ne) ∙ there) in
-          (was.0, λ f. ⊎_elim was.1 (λ (same : e ≡ d). ne (ap (λ (x : Entry). x.seq) (sym same))) (Contains-push_cases past.finished e d f))
+          let found = place_of (filter stays s.held) d there in
+          let kept = filter_at stays s.held found.0 d found.1 in
+          let was = (p.held d).0 (contains_at s.held kept.0 d kept.1) in
+          (was.0, λ f. ⊎_elim was.1 (λ (same : e ≡ d). true≢false (sym (same_itself e) ∙ ap (same_entry e) same ∙ not_from (same_entry e d) kept.2)) (Contains-push_cases past.finished e d f))
+        where
+          not_from : (b : Bool) → not b ≡ true → b ≡ false
+          not_from true is = sym is
+          not_from false is = refl
 
-      back : Contains past.taken d × (Contains (past.finished ++ e ∷ []) d → ⊥) → get left d.seq ≡ Some d
-      back was =
+      back : Contains past.taken d × (Contains (past.finished ++ e ∷ []) d → ⊥) → (b : Bool) → same_entry e d ≡ b → Contains (filter stays s.held) d
+      back was true is = absurd (was.1 (subst (Contains (past.finished ++ e ∷ [])) (one_entry e d is) (Contains-push past.finished e)))
+      back was false is =
           let there = (p.held d).1 (was.0, λ f. was.1 (Contains-append_left past.finished (e ∷ []) d f)) in
-          get-remove_other s.held e.seq d.seq (λ same. was.1 (subst (Contains (past.finished ++ e ∷ [])) (same_Some e d (sym here ∙ ap (get s.held) (sym same) ∙ there)) (Contains-push past.finished e))) ∙ there
+          let found = place_of s.held d there in
+          let left = kept_in stays s.held found.0 d found.1 (ap not is) in
+          contains_at (filter stays s.held) left.0 d left.1
 
-  finished : Promises (record s { held = left }) (record past { finished = past.finished ++ e ∷ [] })
+  finished : Promises (record s { held = filter stays s.held }) (record past { finished = past.finished ++ e ∷ [] })
   finished = record {
     takes = p.takes;
+    within = p.within;
     numbered = p.numbered;
-    counted = p.counted;
     apart = p.apart;
     one = p.one;
     once = p.once;
@@ -416,27 +430,30 @@ module _ (s : State) (past : Past) (e : Entry) (p : Promises s past) (here : get
     below = p.below;
     queued_below = p.queued_below;
     held = left_held;
-    by_number = λ k d there. p.by_number k d (still s.held e.seq k d there);
-    finished_taken = λ d f. ⊎_elim (p.finished_taken d) (λ (same : e ≡ d). subst (Contains past.taken) same ((p.held e).0 here).0) (Contains-push_cases past.finished e d f);
+    in_order = AllPairs-filter (λ (d x : Entry). d.seq < x.seq) stays s.held p.in_order;
+    finished_taken = λ d f. ⊎_elim (p.finished_taken d) (λ (same : e ≡ d). subst (Contains past.taken) same ((p.held e).0 is_there).0) (Contains-push_cases past.finished e d f);
     kept = λ d queued alive.
-        ⊎_elim (λ (w : Contains s.waiting d). inl w) (λ (h : get s.held d.seq ≡ Some d). inr ((left_held d).1 (((p.held d).0 h).0, alive))) (p.kept d queued (λ f. alive (Contains-append_left past.finished (e ∷ []) d f)));
+        ⊎_elim
+        (λ (h : Contains s.held d). Contains-append_left (filter stays s.held) (drop s.taken s.queue) d ((left_held d).1 (((p.held d).0 h).0, alive)))
+        (λ (w : Contains (drop s.taken s.queue) d). Contains-append_right (filter stays s.held) (drop s.taken s.queue) d w)
+        (Contains-append_cases s.held (drop s.taken s.queue) d (p.kept d queued (λ f. alive (Contains-append_left past.finished (e ∷ []) d f))));
   }
 
 -- ---- each event
 
-step : (old now : State) (past : Past) (event : Event) → Promises old past → Follows old event now → Promises now (with_event past old event now)
+step : (old now : State) (past : Past) (event : Event) → Promises old past → Follows old event now → Promises now (with_event past event)
 step old now past (Register object finalizer) p does = subst (λ s. Promises s past) (sym does) (entered old past object finalizer p)
 step old now past (Unregister object) p does = subst (λ s. Promises s past) (sym does) (unregistered old past object p)
 step old now past (Link kind word target) p does = subst (λ s. Promises s past) (sym does) (linked old past kind _ p)
 step old now past (Unlink kind word) p does = subst (λ s. Promises s past) (sym does) (linked old past kind _ p)
 step old now past (Move kind word to) p does = subst (λ s. Promises s past) (sym does) (linked old past kind _ p)
-step old now past Pass p does = come _ old now past p does.0 _ refl
+step old now past Pass p does = come _ old now past p does.0
 step old now past Begin p does = subst (λ s. Promises s past) (sym does) (begun old past _ p)
-step old now past (Queue object) p does = come _ old now past p (queued_queues old now object p.apart does) _ refl
-step old now past QueueAll p does = come _ old now past p does.0 _ refl
-step old now past (Take entry) p does = subst (λ s. Promises s (record past { taken = past.taken ++ entry ∷ [] })) (sym does.1) (taken old past entry now.waiting p does.0)
+step old now past (Queue object) p does = come _ old now past p (queued_queues old now object p.apart does)
+step old now past QueueAll p does = come _ old now past p does.0
+step old now past (Take entry) p does = subst (λ s. Promises s (record past { taken = past.taken ++ entry ∷ [] })) (sym does.1) (taken old past entry p does.0)
 step old now past (TakeFinished entry) p does =
-    subst (λ s. Promises s (record past { taken = past.taken ++ entry ∷ []; finished = past.finished ++ entry ∷ [] })) (sym does.1) (taken_finished old past entry now.waiting p does.0)
+    subst (λ s. Promises s (record past { taken = past.taken ++ entry ∷ []; finished = past.finished ++ entry ∷ [] })) (sym does.1) (taken_finished old past entry p does.0)
 step old now past (Finish entry) p does = subst (λ s. Promises s (record past { finished = past.finished ++ entry ∷ [] })) (sym does.1) (finished old past entry p does.0)
 
 pub promised : (s : State) (past : Past) → IsReached s past → Promises s past

@@ -8,7 +8,7 @@ use Rattle.fz_model.specs.State.{Map}
 use Rattle.fz_table.specs.Places.{lacks_place}
 use Rattle.fz_finalizers.specs.declared.refused.Refused.{Refused}
 use Rattle.fz_finalizers.specs.declared.refused.Refused.TheVariants.{Zero, Exhausted, Full, NoMemory, NotHeld}
-use Rattle.fz_finalizers.specs.Views.{is_held}
+use Rattle.fz_finalizers.specs.States.{is_held}
 
 -- a list of causes: for each whether it applies, and the refusal that it gives
 abbrev pub Causes : Type 0
@@ -43,5 +43,5 @@ abbrev pub move_causes : ℕ → Causes
 move_causes to = (to == 0, Zero) ∷ []
 
 -- the causes of finishing an entry
-abbrev pub finish_causes : Map Entry → Entry → Causes
+abbrev pub finish_causes : List Entry → Entry → Causes
 finish_causes held entry = (not (is_held held entry), NotHeld) ∷ []

@@ -1,6 +1,6 @@
 -- The invariant between the parts of finalizers: each registration has room for its entry, and each link for a move.
 -- code: fz_finalizers/src/finalizers.rt
-use Rattle.std.specs.Prelude.{◌≡◌, ℕ, ◌+◌, ◌-◌, ◌≤◌, min, List, []}
+use Rattle.std.specs.Prelude.{◌≡◌, ℕ, ◌+◌, ◌-◌, ◌≤◌, min, List, [], length}
 use Rattle.std.specs.FinMap.{len}
 use Rattle.fz_model.specs.declared.limits.TheConstants.{COUNT_LIMIT}
 use Rattle.fz_table.specs.Registered.{Registered}
@@ -16,7 +16,7 @@ count_of table late = len table.registrations + len late.registrations
 
 pub record Fits (table late : Registered) (ready : Ready) : Type 0 where
   pub room : count_of table late ≤ ready.room
-  pub numbers : ready.queued + count_of table late ≤ table.next_number
+  pub numbers : length ready.queue + count_of table late ≤ table.next_number
   pub few : table.next_number ≤ COUNT_LIMIT
   pub one : late.next_number ≡ table.next_number
   pub apart : AreApart table.registrations late.registrations
@@ -35,9 +35,9 @@ state_of table late short long ready passes = record {
   next_number = table.next_number;
   short = short.links;
   long = long.links;
-  waiting = ready.waiting;
+  queue = ready.queue;
+  taken = ready.taken;
   held = ready.held;
-  queued = ready.queued;
   passes = passes;
 }
 
@@ -50,4 +50,4 @@ rooms_of table late short long ready moves = record {
 }
 
 abbrev pub order_of : Tabled → Tabled → Linked → Linked → Ready → Order
-order_of table late short long ready = record { registrations = table.order; late = late.order; short = short.order; long = long.order; held = ready.order }
+order_of table late short long ready = record { registrations = table.order; late = late.order; short = short.order; long = long.order; entries = ready.places }

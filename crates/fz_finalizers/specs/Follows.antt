@@ -1,6 +1,6 @@
 -- What the calls do, whatever the host does: each is an event, which leads from one state to another.
 -- code: fz_finalizers/src/registrations.rt, links.rt, passes.rt, entries.rt, stepwise.rt
-use Rattle.std.specs.Prelude.{◌≡◌, ◌≢◌, ℕ, ◌+◌, ◌-◌, ◌^◌, min, if◌then◌else◌, List, [], ◌++◌, ◌∷◌, length, Some, All, AllPairs}
+use Rattle.std.specs.Prelude.{◌≡◌, ◌≢◌, ℕ, ◌+◌, ◌-◌, ◌^◌, min, not, if◌then◌else◌, List, [], ◌++◌, ◌∷◌, filter, length, slice_get, Some, All, AllPairs, IsTrue}
 use Rattle.std.specs.FinMap.{get, insert, remove, empty}
 use Rattle.std.specs.Option.{option_map_or}
 use Rattle.fz_model.specs.declared.answers.Entry.{Entry}
@@ -8,13 +8,14 @@ use Rattle.fz_model.specs.declared.answers.Pick.{Pick}
 use Rattle.fz_model.specs.declared.answers.Registration.{Registration}
 use Rattle.fz_model.specs.declared.kinds.LinkKind.{LinkKind}
 use Rattle.fz_model.specs.Pass.{entry_of, entries_of, without_picks}
+use Rattle.fz_model.specs.Events.{same_entry}
 use Rattle.fz_model.specs.State.{Map}
 use Rattle.fz_model.specs.Steps.{registration_of, moved_to}
 use Rattle.fz_pass.specs.All.{unknown}
 use Rattle.fz_pass.specs.Picking.{pick_of}
 use Rattle.fz_finalizers.specs.declared.kinds.Finalizer.{Finalizer}
 use Rattle.fz_finalizers.specs.Kinds.{is_late, table_finalizer}
-use Rattle.fz_finalizers.specs.States.{State, links_of, registered, with_links}
+use Rattle.fz_finalizers.specs.States.{State, is_held, links_of, registered, with_links}
 
 -- the number of the next pass; it never exceeds 2 ^ 64 - 1
 abbrev pub next_pass : ℕ → ℕ
@@ -29,14 +30,14 @@ pub record ArePicksIn (table : Map Registration) (picks : List Pick) : Type 0 wh
   pub each : All (IsOf table) picks
   pub apart : AllPairs (λ (p q : Pick). p.obj ≢ q.obj) picks
 
--- entries of some registrations are appended to the waiting entries, with successive numbers, and these registrations are removed
+-- entries of some registrations are appended to the queue, with successive numbers, and these registrations are removed
 pub record Queues (pass : ℕ) (old new : State) : Type 0 where
   pub picks : List Pick
   pub late : List Pick
   pub picked : ArePicksIn old.registrations picks
   pub came_late : ArePicksIn old.late late
-  pub waiting : new.waiting ≡ old.waiting ++ entries_of pass old.queued (picks ++ late)
-  pub queued : new.queued ≡ old.queued + length (picks ++ late)
+  pub queue : new.queue ≡ old.queue ++ entries_of pass (length old.queue) (picks ++ late)
+  pub taken : new.taken ≡ old.taken
   pub left : new.registrations ≡ without_picks old.registrations picks
   pub left_late : new.late ≡ without_picks old.late late
   pub held : new.held ≡ old.held
@@ -64,13 +65,12 @@ with_registration s object finalizer =
     then record s { registrations = remove s.registrations object; late = insert s.late object registration; next_number = s.next_number + 1 }
     else record s { registrations = insert s.registrations object registration; late = remove s.late object; next_number = s.next_number + 1 }
 
--- the object's registration is appended to the waiting entries, as an entry of the last pass begun
+-- the object's registration is appended to the queue, as an entry of the last pass begun
 abbrev pub queued_one : State → ℕ → Registration → State
 queued_one s object r = record s {
   registrations = remove s.registrations object;
   late = remove s.late object;
-  waiting = s.waiting ++ entry_of s.passes s.queued (pick_of r object unknown) ∷ [];
-  queued = s.queued + 1;
+  queue = s.queue ++ entry_of s.passes (length s.queue) (pick_of r object unknown) ∷ [];
 }
 
 -- the same, if the object is registered
@@ -87,6 +87,6 @@ Follows old Pass new = Queues (next_pass old.passes) old new × (new.passes ≡ 
 Follows old Begin new = new ≡ record old { passes = next_pass old.passes }
 Follows old (Queue object) new = new ≡ queued_object old object
 Follows old QueueAll new = Queues 0 old new × (new.registrations ≡ empty) × (new.late ≡ empty) × (new.short ≡ old.short) × (new.long ≡ old.long) × (new.passes ≡ old.passes)
-Follows old (Take entry) new = (old.waiting ≡ entry ∷ new.waiting) × (new ≡ record old { waiting = new.waiting; held = insert old.held entry.seq entry })
-Follows old (TakeFinished entry) new = (old.waiting ≡ entry ∷ new.waiting) × (new ≡ record old { waiting = new.waiting })
-Follows old (Finish entry) new = (get old.held entry.seq ≡ Some entry) × (new ≡ record old { held = remove old.held entry.seq })
+Follows old (Take entry) new = (slice_get old.queue old.taken ≡ Some entry) × (new ≡ record old { taken = old.taken + 1; held = old.held ++ entry ∷ [] })
+Follows old (TakeFinished entry) new = (slice_get old.queue old.taken ≡ Some entry) × (new ≡ record old { taken = old.taken + 1 })
+Follows old (Finish entry) new = IsTrue (is_held old.held entry) × (new ≡ record old { held = filter (λ h. not (same_entry entry h)) old.held })

@@ -1,5 +1,5 @@
 pub mod Kinds
-pub mod Views
+pub mod Queue
 pub mod Ready
 pub mod Causes
 pub mod Registering

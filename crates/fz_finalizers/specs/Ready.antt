@@ -1,55 +1,63 @@
--- The model of the entries: those that wait, in queue order; those that are held, by number; how many were ever queued; for how many further ones there is
--- room; and the order of iterators over the held ones.
--- code: fz_finalizers/src/ready.rt
-use Rattle.std.specs.Prelude.{◌≡◌, ℕ, ◌+◌, ◌-◌, ◌≤◌, List, [], ◌∷◌, length, Option, Some, None, refl, Bool}
-use Rattle.std.specs.Coded.{Coded, code_by, coded×, coded_ℕ, coded_list}
-use Rattle.std.specs.FinMap as map
-use Rattle.std.specs.FinMap.{insert}
+-- The model of the entries: every entry ever queued, how many of them were taken, those taken and not finished, for how many further ones there is room, and
+-- the places of the unfinished ones, over which iterators go.
+-- code: fz_finalizers/src/ready.rt, queue.rt
+use Rattle.std.specs.Prelude.{◌≡◌, ℕ, ◌+◌, ◌-◌, ◌≤◌, ◌<◌, ◌++◌, List, [], ◌∷◌, length, drop, take, slice_get, Option, Some, None, refl, Bool, All}
+use Rattle.std.specs.Coded.{Coded, code_by, coded×, coded_ℕ, coded_list, coded_option}
 use Rattle.fz_model.specs.declared.answers.Entry.{Entry}
 use Rattle.fz_model.specs.declared.answers.Registration.{Registration}
 use Rattle.fz_model.specs.Codes.{entry_code}
 use Rattle.fz_model.specs.State.{Map}
 use Rattle.fz_pass.specs.All.{QueuesAll}
 use Rattle.fz_pass.specs.Late.{Parts, DecidesLate}
-use Rattle.fz_finalizers.specs.Views.{Waiting, Held}
+use Rattle.fz_finalizers.specs.Queue.{Queue, AreNumbered}
 
 pub record Ready : Type 0 where
-  pub waiting : List Entry
-  pub held : Map Entry
-  pub queued : ℕ
+  pub queue : List Entry
+  pub taken : ℕ
+  pub held : List Entry
   pub room : ℕ
-  pub order : List (ℕ × Entry)
+  pub forgotten : ℕ
+  pub remembered : ℕ
+  pub places : List (Option Entry)
 
 abbrev pub ready_code : Coded Ready
 ready_code =
-    code_by (List Entry × (Map Entry × (ℕ × (ℕ × List (ℕ × Entry)))))
-    (coded× (coded_list entry_code) (coded× (map.code coded_ℕ entry_code) (coded× coded_ℕ (coded× coded_ℕ (coded_list (coded× coded_ℕ entry_code))))))
-    (λ r. (r.waiting, (r.held, (r.queued, (r.room, r.order))))) (λ p. record { waiting = p.0; held = p.1.0; queued = p.1.1.0; room = p.1.1.1.0; order = p.1.1.1.1 }) (λ _. refl)
+    code_by (List Entry × (ℕ × (List Entry × (ℕ × (ℕ × (ℕ × List (Option Entry)))))))
+    (coded× (coded_list entry_code) (coded× coded_ℕ (coded× (coded_list entry_code) (coded× coded_ℕ (coded× coded_ℕ (coded× coded_ℕ (coded_list (coded_option entry_code))))))))
+    (λ r. (r.queue, (r.taken, (r.held, (r.room, (r.forgotten, (r.remembered, r.places)))))))
+    (λ p. record { queue = p.0; taken = p.1.0; held = p.1.1.0; room = p.1.1.1.0; forgotten = p.1.1.1.1.0; remembered = p.1.1.1.1.1.0; places = p.1.1.1.1.1.1 }) (λ _. refl)
 
--- there is room to hold each waiting entry, and no more wait than were ever queued
-pub record IsReady (waiting : Waiting) (held : Held) (queued : ℕ) : Type 0 where
-  pub within : length waiting.entries ≤ waiting.capacity
-  pub holdable : length waiting.entries ≤ held.room
-  pub few : length waiting.entries ≤ queued
+-- the taken entries that aren't finished: the unfinished ones except those that wait
+abbrev pub held_of : Queue → ℕ → List Entry
+held_of q taken = take (length q.held - (length q.queue - taken)) q.held
 
--- only the reserved room has changed
+-- waiting entries aren't finished, and come after the taken ones
+pub record IsTaken (q : Queue) (taken : ℕ) : Type 0 where
+  pub window : q.forgotten ≤ taken
+  pub within : taken ≤ length q.queue
+  pub early : List Entry
+  pub open_is : q.held ≡ early ++ drop taken q.queue
+  pub before : All (λ (e : Entry). e.seq < taken) early
+  pub numbered : AreNumbered taken (drop taken q.queue)
+
+-- only reserved room and memory have changed
 abbrev pub HasSameEntries : Ready → Ready → Type 0
-HasSameEntries old new = (new.waiting ≡ old.waiting) × (new.held ≡ old.held) × (new.queued ≡ old.queued)
+HasSameEntries old new = (new.queue ≡ old.queue) × (new.taken ≡ old.taken) × (new.held ≡ old.held)
 
--- the first waiting entry is taken, and held or not; if none waits, nothing changes
+-- the next entry of the queue is taken, and held or not; if none waits, nothing changes
 abbrev pub Takes : Option Entry → Ready → Ready → Type 0
-Takes None old new = (old.waiting ≡ []) × HasSameEntries old new
-Takes (Some e) old new = (old.waiting ≡ e ∷ new.waiting) × (new.held ≡ insert old.held e.seq e) × (new.queued ≡ old.queued)
+Takes None old new = (length old.queue ≤ old.taken) × HasSameEntries old new
+Takes (Some e) old new = (slice_get old.queue old.taken ≡ Some e) × (new.queue ≡ old.queue) × (new.taken ≡ old.taken + 1) × (new.held ≡ old.held ++ e ∷ [])
 
 abbrev pub TakesFinished : Option Entry → Ready → Ready → Type 0
-TakesFinished None old new = (old.waiting ≡ []) × HasSameEntries old new
-TakesFinished (Some e) old new = (old.waiting ≡ e ∷ new.waiting) × (new.held ≡ old.held) × (new.queued ≡ old.queued)
+TakesFinished None old new = (length old.queue ≤ old.taken) × HasSameEntries old new
+TakesFinished (Some e) old new = (slice_get old.queue old.taken ≡ Some e) × (new.queue ≡ old.queue) × (new.taken ≡ old.taken + 1) × (new.held ≡ old.held)
 
 -- every registration is appended to the queue, those of kind `Unreachable` after the others
 abbrev pub QueuesTables : ℕ → Map Registration → Map Registration → List Entry → List Entry → Type 0
 QueuesTables first registrations late queue new_queue =
     (between : List Entry) × QueuesAll first registrations queue between × QueuesAll (first + (length between - length queue)) late between new_queue
 
--- the entries that a pass decides on are appended to the waiting ones
-abbrev pub Decides : Type 0 → ℕ → Parts → (ℕ → Bool) → Parts → Ready → Ready → Type 0
-Decides Exact pass parts found new_parts old new = DecidesLate Exact pass old.queued parts found new_parts old.waiting new.waiting
+-- the entries that a pass decides on are appended to the queue
+abbrev pub Decides : Type 0 → ℕ → Parts → (ℕ → Bool) → Parts → List Entry → List Entry → Type 0
+Decides Exact pass parts found new_parts old new = DecidesLate Exact pass (length old) parts found new_parts old new

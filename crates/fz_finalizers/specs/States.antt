@@ -1,8 +1,9 @@
 -- The model of finalizers: registrations, links, entries, the room that is reserved, and the order of iterators.
 -- code: fz_finalizers/src/finalizers.rt
-use Rattle.std.specs.Prelude.{ℕ, ◌≤◌, min, if◌then◌else◌, List, [], Option, option_map, refl}
-use Rattle.std.specs.Coded.{Coded, code_by, coded×, coded_ℕ, coded_list}
+use Rattle.std.specs.Prelude.{◌≡◌, ℕ, ◌≤◌, min, if◌then◌else◌, Bool, List, [], ◌++◌, drop, Option, option_map, refl}
+use Rattle.std.specs.Coded.{Coded, code_by, coded×, coded_ℕ, coded_list, coded_option}
 use Rattle.std.specs.Option.{option_or}
+use Rattle.std.specs.List.{list_any}
 use Rattle.std.specs.FinMap as map
 use Rattle.std.specs.FinMap.{get, empty}
 use Rattle.fz_model.specs.declared.answers.Entry.{Entry}
@@ -10,6 +11,7 @@ use Rattle.fz_model.specs.declared.answers.Registration.{Registration}
 use Rattle.fz_model.specs.declared.kinds.LinkKind.{LinkKind}
 use Rattle.fz_model.specs.declared.kinds.LinkKind.TheVariants.{Short, Long}
 use Rattle.fz_model.specs.Codes.{entry_code, registration_code}
+use Rattle.fz_model.specs.Events.{same_entry}
 use Rattle.fz_model.specs.State.{Map}
 use Rattle.fz_finalizers.specs.declared.kinds.Kind.{Kind}
 use Rattle.fz_table.specs.declared.limits.TheConstants.{MOST_ENTRIES}
@@ -22,9 +24,9 @@ pub record State : Type 0 where
   pub next_number : ℕ  -- the next registration number
   pub short : Map ℕ  -- the short links: from the word of a link to its target
   pub long : Map ℕ  -- the long links
-  pub waiting : List Entry  -- entries that wait to be taken, in queue order
-  pub held : Map Entry  -- entries that were taken and aren't finished, by number
-  pub queued : ℕ  -- how many entries were ever queued
+  pub queue : List Entry  -- every entry ever queued, in order
+  pub taken : ℕ  -- how many of them were taken: these are a prefix of the queue
+  pub held : List Entry  -- the taken entries that aren't finished, in queue order
   pub passes : ℕ
 
 -- how many more fit without allocating
@@ -40,7 +42,11 @@ pub record Order : Type 0 where
   pub late : List (ℕ × Registration)
   pub short : List (ℕ × ℕ)
   pub long : List (ℕ × ℕ)
-  pub held : List (ℕ × Entry)
+  pub entries : List (Option Entry)  -- the unfinished entries in order, with none for each finished one in memory
+
+-- iterators over registrations and over links are unchanged
+abbrev pub KeepsTables : Order → Order → Type 0
+KeepsTables old new = new ≡ record old { entries = new.entries }
 
 pub record View : Type 0 where
   pub state : State
@@ -50,18 +56,18 @@ pub record View : Type 0 where
 
 abbrev state_code : Coded State
 state_code =
-    code_by ((Map Registration × (Map Registration × ℕ)) × ((Map ℕ × Map ℕ) × (List Entry × (Map Entry × (ℕ × ℕ)))))
-    (coded× (coded× (map.code coded_ℕ registration_code) (coded× (map.code coded_ℕ registration_code) coded_ℕ)) (coded× (coded× (map.code coded_ℕ coded_ℕ) (map.code coded_ℕ coded_ℕ)) (coded× (coded_list entry_code) (coded× (map.code coded_ℕ entry_code) (coded× coded_ℕ coded_ℕ)))))
-    (λ s. ((s.registrations, (s.late, s.next_number)), ((s.short, s.long), (s.waiting, (s.held, (s.queued, s.passes))))))
+    code_by ((Map Registration × (Map Registration × ℕ)) × ((Map ℕ × Map ℕ) × (List Entry × (ℕ × (List Entry × ℕ)))))
+    (coded× (coded× (map.code coded_ℕ registration_code) (coded× (map.code coded_ℕ registration_code) coded_ℕ)) (coded× (coded× (map.code coded_ℕ coded_ℕ) (map.code coded_ℕ coded_ℕ)) (coded× (coded_list entry_code) (coded× coded_ℕ (coded× (coded_list entry_code) coded_ℕ)))))
+    (λ s. ((s.registrations, (s.late, s.next_number)), ((s.short, s.long), (s.queue, (s.taken, (s.held, s.passes))))))
     (λ p. record {
       registrations = p.0.0;
       late = p.0.1.0;
       next_number = p.0.1.1;
       short = p.1.0.0;
       long = p.1.0.1;
-      waiting = p.1.1.0;
-      held = p.1.1.1.0;
-      queued = p.1.1.1.1.0;
+      queue = p.1.1.0;
+      taken = p.1.1.1.0;
+      held = p.1.1.1.1.0;
       passes = p.1.1.1.1.1;
     })
     (λ _. refl)
@@ -73,9 +79,9 @@ rooms_code =
 
 abbrev order_code : Coded Order
 order_code =
-    code_by ((List (ℕ × Registration) × List (ℕ × Registration)) × ((List (ℕ × ℕ) × List (ℕ × ℕ)) × List (ℕ × Entry)))
-    (coded× (coded× (coded_list (coded× coded_ℕ registration_code)) (coded_list (coded× coded_ℕ registration_code))) (coded× (coded× (coded_list (coded× coded_ℕ coded_ℕ)) (coded_list (coded× coded_ℕ coded_ℕ))) (coded_list (coded× coded_ℕ entry_code))))
-    (λ o. ((o.registrations, o.late), ((o.short, o.long), o.held))) (λ p. record { registrations = p.0.0; late = p.0.1; short = p.1.0.0; long = p.1.0.1; held = p.1.1 }) (λ _. refl)
+    code_by ((List (ℕ × Registration) × List (ℕ × Registration)) × ((List (ℕ × ℕ) × List (ℕ × ℕ)) × List (Option Entry)))
+    (coded× (coded× (coded_list (coded× coded_ℕ registration_code)) (coded_list (coded× coded_ℕ registration_code))) (coded× (coded× (coded_list (coded× coded_ℕ coded_ℕ)) (coded_list (coded× coded_ℕ coded_ℕ))) (coded_list (coded_option entry_code))))
+    (λ o. ((o.registrations, o.late), ((o.short, o.long), o.entries))) (λ p. record { registrations = p.0.0; late = p.0.1; short = p.1.0.0; long = p.1.0.1; entries = p.1.1 }) (λ _. refl)
 
 abbrev pub view_code : Coded View
 view_code =
@@ -84,7 +90,19 @@ view_code =
 
 -- nothing is registered or queued
 abbrev pub opening : State
-opening = record { registrations = empty; late = empty; next_number = 0; short = empty; long = empty; waiting = []; held = empty; queued = 0; passes = 0 }
+opening = record { registrations = empty; late = empty; next_number = 0; short = empty; long = empty; queue = []; taken = 0; held = []; passes = 0 }
+
+-- the entries that wait to be taken
+abbrev pub waiting : State → List Entry
+waiting s = drop s.taken s.queue
+
+-- the unfinished entries, in queue order: the taken ones before the waiting ones
+abbrev pub unfinished : State → List Entry
+unfinished s = s.held ++ waiting s
+
+-- a held entry equals this one in all fields
+abbrev pub is_held : List Entry → Entry → Bool
+is_held held entry = list_any (same_entry entry) held
 
 -- an object's registration, of any kind
 abbrev pub registered : State → ℕ → Option Registration

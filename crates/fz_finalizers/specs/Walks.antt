@@ -1,6 +1,6 @@
 -- What iterators yield.
 -- code: fz_finalizers/src/walks.rt, roots.rt
-use Rattle.std.specs.Prelude.{◌≡◌, ℕ, nat_eq, List, ◌++◌, map}
+use Rattle.std.specs.Prelude.{◌≡◌, ℕ, ◌-◌, nat_eq, List, [], ◌∷◌, ◌++◌, drop, length, map, Option, None, Some, option_map}
 use Rattle.std.specs.Ordering.{nat_cmp}
 use Rattle.std.specs.FinMap.{get, from_entries}
 use Rattle.std.specs.List.{IsDistinct}
@@ -11,21 +11,34 @@ use Rattle.fz_model.specs.declared.kinds.LinkKind.{LinkKind}
 use Rattle.fz_model.specs.declared.kinds.LinkKind.TheVariants.{Short, Long}
 use Rattle.fz_finalizers.specs.declared.roots.Root.{Root}
 use Rattle.fz_finalizers.specs.declared.roots.Root.TheVariants.{HeldObject, HeldData, RegisteredData}
-use Rattle.fz_finalizers.specs.States.{State, View, links_of, registered}
+use Rattle.fz_finalizers.specs.States.{State, View, links_of, registered, unfinished}
 
--- the values of the pairs
-abbrev pub values_of : {X : Type 0} → List (ℕ × X) → List X
-values_of es = map (λ e. e.1) es
+-- the values of the places that have one
+abbrev pub somes : {X : Type 0} → List (Option X) → List X
+somes [] = []
+somes (None ∷ xs) = somes xs
+somes (Some x ∷ xs) = x ∷ somes xs
 
--- the words of one kind of roots, of these entries or registrations
-abbrev pub words_left : Root → List Entry → List (ℕ × Registration) → List ℕ
-words_left HeldObject entries registrations = map (λ (e : Entry). e.obj) entries
-words_left HeldData entries registrations = map (λ (e : Entry). e.cd) entries
-words_left RegisteredData entries registrations = map (λ (e : ℕ × Registration). e.1.cd) registrations
+-- the remaining places of an iterator
+abbrev pub IsRest : {X : Type 0} → List X → List X → Type 0
+IsRest old new = new ≡ drop (length old - length new) old
 
--- these are the entries that wait or are held, each once
-abbrev pub AreEntries : State → List Entry → Type 0
-AreEntries s entries = (held : List (ℕ × Entry)) × (from_entries held ≡ s.held) × IsDistinct nat_eq (keys_of held) × (entries ≡ s.waiting ++ values_of held)
+-- an iterator moves to its next place that has a value, or none remains
+abbrev pub Steps : {X : Type 0} → Option X → List (Option X) → List (Option X) → Type 0
+Steps None old new = (somes old ≡ []) × (new ≡ old)
+Steps (Some x) old new = (somes old ≡ x ∷ somes new) × IsRest old new
+
+-- the words of one kind of roots, at the places of these entries or registrations
+abbrev pub words_left : Root → List (Option Entry) → List (ℕ × Registration) → List (Option ℕ)
+words_left HeldObject entries registrations = map (option_map (λ (e : Entry). e.obj)) entries
+words_left HeldData entries registrations = map (option_map (λ (e : Entry). e.cd)) entries
+words_left RegisteredData entries registrations = map (λ (e : ℕ × Registration). Some e.1.cd) registrations
+
+-- the words of one kind of roots
+abbrev pub words_of : Root → List Entry → List (ℕ × Registration) → List ℕ
+words_of HeldObject entries registrations = map (λ (e : Entry). e.obj) entries
+words_of HeldData entries registrations = map (λ (e : Entry). e.cd) entries
+words_of RegisteredData entries registrations = map (λ (e : ℕ × Registration). e.1.cd) registrations
 
 -- these are the registrations, each once
 abbrev pub AreRegistrations : State → List (ℕ × Registration) → Type 0
@@ -37,13 +50,9 @@ AreLinks s kind links = (from_entries links ≡ links_of s kind) × IsDistinct n
 
 -- what an iterator over one kind of roots yields
 abbrev pub YieldsRoots : Root → State → List ℕ → Type 0
-YieldsRoots root s words = (entries : List Entry) × (registrations : List (ℕ × Registration)) × AreEntries s entries × AreRegistrations s registrations × (words ≡ words_left root entries registrations)
+YieldsRoots root s words = (registrations : List (ℕ × Registration)) × AreRegistrations s registrations × (words ≡ words_of root (unfinished s) registrations)
 
--- the order of iterators over entries, over registrations, over the links of one kind, and over the roots of one kind: it stays the same until something
--- changes
-abbrev pub entries_in_order : View → List Entry
-entries_in_order v = v.waiting ++ values_of v.order.held
-
+-- the order of iterators over registrations, over the links of one kind, and over the roots of one kind: it stays the same until something changes
 abbrev pub registrations_in_order : View → List (ℕ × Registration)
 registrations_in_order v = v.order.registrations ++ v.order.late
 
@@ -51,5 +60,5 @@ abbrev pub links_in_order : View → LinkKind → List (ℕ × ℕ)
 links_in_order v Short = v.order.short
 links_in_order v Long = v.order.long
 
-abbrev pub roots_of : Root → View → List ℕ
-roots_of root v = words_left root (entries_in_order v) (registrations_in_order v)
+abbrev pub roots_of : Root → View → List (Option ℕ)
+roots_of root v = words_left root v.order.entries (registrations_in_order v)

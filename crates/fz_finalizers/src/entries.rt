@@ -1,10 +1,9 @@
 //! Taking and finishing entries.
 
 ghost use Rattle.std.specs.Prelude.{◌≡◌, [], length, MatchOption, OnOk, OnErr, IsTrue, MatchResult};
-ghost use Rattle.std.specs.FinMap.{get, len};
 ghost use Rattle.fz_finalizers.specs.Causes.{IsJudgedBy, finish_causes};
 ghost use Rattle.fz_finalizers.specs.Follows.{Follows, Take, TakeFinished, Finish};
-ghost use Rattle.fz_finalizers.specs.Views.{is_held};
+ghost use Rattle.fz_finalizers.specs.States.{is_held, waiting};
 
 use crate::finalizers::Finalizers;
 use crate::refused::Refused;
@@ -13,7 +12,7 @@ use fz_model::Entry;
 impl Finalizers {
     /// Takes the first waiting entry. It is held until it is finished: its object and its client data stay roots.
     pub fn take(&mut self) -> Option<Entry>
-        ensures { MatchOption result ((self.old.waiting ≡ []) × (self.new.state ≡ self.old.state)) (λ entry. Follows self.old.state (Take entry) self.new.state) }
+        ensures { MatchOption result ((waiting self.old.state ≡ []) × (self.new.state ≡ self.old.state)) (λ entry. Follows self.old.state (Take entry) self.new.state) }
     {
         self.ready.take()
     }
@@ -24,16 +23,15 @@ impl Finalizers {
         ensures refused { OnErr result (self.new.state ≡ self.old.state) }
         ensures follows { OnOk result (Follows self.old.state (Finish entry.now) self.new.state) }
     {
-        if !self.ready.is_held(entry) {
+        if !self.ready.finish(entry) {
             return Err(Refused::NotHeld);
         }
-        self.ready.release(entry.seq);
         Ok(())
     }
 
     /// Takes the first waiting entry and finishes it at once, for a finalizer that may never return. Its object and its client data are no longer roots.
     pub fn take_finished(&mut self) -> Option<Entry>
-        ensures { MatchOption result ((self.old.waiting ≡ []) × (self.new.state ≡ self.old.state)) (λ entry. Follows self.old.state (TakeFinished entry) self.new.state) }
+        ensures { MatchOption result ((waiting self.old.state ≡ []) × (self.new.state ≡ self.old.state)) (λ entry. Follows self.old.state (TakeFinished entry) self.new.state) }
     {
         self.ready.take_finished()
     }
@@ -47,21 +45,21 @@ impl Finalizers {
 
     /// How many entries wait to be taken.
     pub fn waiting(&self) -> u64
-        ensures { result ≡ length self.now.waiting }
+        ensures { result ≡ length (waiting self.now.state) }
     {
-        self.ready.waiting().len() as u64
+        self.ready.waiting()
     }
 
     /// How many entries are held.
     pub fn held(&self) -> u64
-        ensures { result ≡ len self.now.held }
+        ensures { result ≡ length self.now.held }
     {
-        self.ready.held_count() as u64
+        self.ready.held()
     }
 
     /// How many entries were ever queued.
     pub fn queued(&self) -> u64
-        ensures { result ≡ self.now.queued }
+        ensures { result ≡ length self.now.queue }
     {
         self.ready.queued()
     }

@@ -1,6 +1,6 @@
 //! The finalizers of a host, and their parts.
 
-ghost use Rattle.std.specs.Prelude.{◌≡◌, ◌≤◌, ◌<◌, ◌+◌, IfErr, OnOk, OnErr};
+ghost use Rattle.std.specs.Prelude.{◌≡◌, ◌≤◌, ◌<◌, ◌+◌, IfOk, IfErr, OnOk, OnErr};
 ghost use Rattle.fz_finalizers.specs.States.{opening};
 
 use crate::ready::Ready;
@@ -17,7 +17,8 @@ use std::marker::Model;
 ///
 /// Its model is a state, the room that is reserved, and the order of iterators. If several refusals of a call apply, it returns the first in the documented
 /// order. A refused call leaves the state unchanged. Only `reserve`, a new registration and a new link allocate. Each registration has room reserved for its
-/// entry, so a pass, a take and a move of a link can't run out of memory. Finished entries are forgotten.
+/// entry, so a pass, a take and a move of a link can't run out of memory. A registration without reserved room and the begin of a pass first reuse the memory
+/// of finished entries.
 pub struct Finalizers {
     pub(crate) table: Table,
     /// The registrations of kind `Unreachable`, which this table has as normal ones.
@@ -64,18 +65,20 @@ impl Model for Finalizers {
 }
 
 impl Finalizers {
-    /// Finalizers without registrations.
-    pub fn new(alloc: Global) -> Finalizers
-        ensures { result.state ≡ opening }
+    /// Finalizers without registrations. Fails with `NoMemory` if an allocation fails.
+    pub fn new(alloc: Global) -> Result<Finalizers, Refused>
+        ensures refused { IfErr result (λ r. r ≡ Refused.NoMemory) }
+        ensures opened { IfOk result (λ f. f.state ≡ opening) }
     {
-        Finalizers {
+        let ready = Ready::new(alloc)?;
+        Ok(Finalizers {
             table: Table::new(alloc),
             late: Table::new(alloc),
             short: Links::new(alloc),
             long: Links::new(alloc),
             moves: Vec::new(alloc),
-            ready: Ready::new(alloc),
+            ready,
             passes: 0,
-        }
+        })
     }
 }

@@ -3,12 +3,13 @@
 
 mod entries;
 mod finalizers;
-mod held;
 mod kinds;
 mod law;
 mod linking;
 mod links;
 mod passes;
+mod past;
+mod queue;
 mod ready;
 mod refused;
 mod registering;
@@ -16,7 +17,8 @@ mod registrations;
 mod roots;
 mod shrinking;
 mod stepwise;
-mod waiting;
+mod stored;
+mod unfinished;
 mod walks;
 
 pub use finalizers::Finalizers;
@@ -26,4 +28,5 @@ pub use law::every_sequence;
 pub use passes::Passed;
 pub use refused::Refused;
 pub use roots::{Root, Roots};
-pub use walks::{Entries, Registrations};
+pub use unfinished::Entries;
+pub use walks::Registrations;

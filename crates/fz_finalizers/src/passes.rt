@@ -1,6 +1,6 @@
 //! Passes, and reserving room for them.
 
-ghost use Rattle.std.specs.Prelude.{◌≡◌, ◌≤◌, ◌+◌, ℕ, None, IfErr, OnOk, OnErr, IsTrue};
+ghost use Rattle.std.specs.Prelude.{◌≡◌, ◌≤◌, ◌+◌, ℕ, None, length, IfErr, OnOk, OnErr, IsTrue};
 ghost use Rattle.fz_model.specs.Memory.{points};
 ghost use Rattle.fz_pass.specs.Marks.{IsClosed, AreRegistered, AreTargets};
 ghost use Rattle.fz_finalizers.specs.Follows.{Follows, Pass, QueueAll, next_pass};
@@ -76,13 +76,14 @@ impl Finalizers {
         ensures decided { DecidesFor H.is_exact (next_pass self.old.passes) self.old.state (H.objects host.old) (H.marked host.old) self.new.state (H.objects host.new) (H.marked host.new) }
         ensures follows { Follows self.old.state Pass self.new.state }
         ensures pass { result.pass ≡ next_pass self.old.passes }
-        ensures picked { self.new.queued ≡ self.old.queued + result.picked }
+        ensures picked { length self.new.queue ≡ length self.old.queue + result.picked }
         // Marked objects stay marked, and everything that they reach is marked.
         ensures marks { (a : ℕ) → IsTrue (H.marked host.old a) → IsTrue (H.marked host.new a) }
         ensures closed { IsClosed (H.objects host.new) (H.marked host.new) }
         // Everything else in the host is unchanged.
         ensures same { H.is_same host.old host.new }
     {
+        self.ready.forget();
         let before = self.ready.queued();
         let pass = self.passes.saturating_add(1);
         self.ready.pass(
@@ -104,9 +105,9 @@ impl Finalizers {
     /// kind `Unreachable` after the others. The entries' pass is 0, and so are their births. Links are unchanged. Takes time proportional to the
     /// registrations.
     pub fn queue_all(&mut self) -> u64
-        ensures queued { QueuesTables self.old.queued self.old.registrations self.old.late self.old.waiting self.new.waiting }
+        ensures queued { QueuesTables (length self.old.queue) self.old.registrations self.old.late self.old.queue self.new.queue }
         ensures follows { Follows self.old.state QueueAll self.new.state }
-        ensures count { self.new.queued ≡ self.old.queued + result }
+        ensures count { length self.new.queue ≡ length self.old.queue + result }
     {
         let before = self.ready.queued();
         self.ready.queue_all(&mut self.table, &mut self.late);

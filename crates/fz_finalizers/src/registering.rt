@@ -1,6 +1,6 @@
 //! Registering in the table of the finalizer's kind.
 
-ghost use Rattle.std.specs.Prelude.{◌≡◌, ◌≤◌, ◌<◌, ◌+◌, ◌^◌, ◌⊎◌, None, IfOk, IfErr, OnOk, OnErr};
+ghost use Rattle.std.specs.Prelude.{◌≡◌, ◌≤◌, ◌<◌, ◌+◌, ◌^◌, ◌⊎◌, None, length, IfOk, IfErr, OnOk, OnErr};
 ghost use Rattle.std.specs.FinMap.{get, insert, remove, len};
 ghost use Rattle.fz_model.specs.declared.limits.TheConstants.{COUNT_LIMIT};
 ghost use Rattle.fz_model.specs.declared.answers.Registration.{Registration};
@@ -34,7 +34,7 @@ pub(crate) fn check(table: &Table, object: Addr) -> Result<(), Refused>
 #[tactic(auto, using(crate::proofs::Counting::room_made, crate::proofs::Counting::room_known, crate::proofs::Counting::neither))]
 fn make_room(table: &Table, other: &Table, ready: &mut Ready, object: Addr) -> Result<(), Refused>
     requires room { len table.now.registrations + len other.now.registrations ≤ ready.old.room }
-    requires numbers { ready.old.queued + (len table.now.registrations + len other.now.registrations) + 1 < 2 ^ 64 }
+    requires few { len table.now.registrations + len other.now.registrations < 2 ^ 50 }
     ensures refused { IfErr result (λ r. r ≡ Refused.NoMemory) }
     ensures fresh { OnErr result (get table.now.registrations object ≡ None) }
     ensures wanting { OnErr result (ready.old.room ≤ len table.now.registrations + len other.now.registrations) }
@@ -84,7 +84,7 @@ pub(crate) fn register(
     finalizer: Finalizer,
 ) -> Result<(u64, Option<Old>), Refused>
     requires room { len table.old.registrations + len other.old.registrations ≤ ready.old.room }
-    requires numbers { ready.old.queued + (len table.old.registrations + len other.old.registrations) ≤ table.old.next_number }
+    requires numbers { length ready.old.queue + (len table.old.registrations + len other.old.registrations) ≤ table.old.next_number }
     requires few { table.old.next_number ≤ COUNT_LIMIT }
     requires one { other.old.next_number ≡ table.old.next_number }
     ensures judged { IsJudgedOrLacks (register_causes table.old.registrations table.old.next_number object) result }

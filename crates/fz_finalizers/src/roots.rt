@@ -5,10 +5,11 @@ ghost use Rattle.std.specs.FinMap.{get, from_entries};
 ghost use Rattle.std.specs.Iterator.{YieldsFirst, UpTo, at_most, item_count};
 ghost use Rattle.fz_model.specs.declared.answers.Entry.{Entry};
 ghost use Rattle.fz_model.specs.declared.answers.Registration.{Registration};
-ghost use Rattle.fz_finalizers.specs.Walks.{values_of, roots_of, YieldsRoots};
+ghost use Rattle.fz_finalizers.specs.Walks.{IsRest, Steps, YieldsRoots, roots_of, somes};
 
 use crate::finalizers::Finalizers;
-use crate::walks::{Entries, Registrations};
+use crate::unfinished::Entries;
+use crate::walks::Registrations;
 use std::marker::Model;
 
 /// A kind of roots.
@@ -22,7 +23,7 @@ pub enum Root {
     RegisteredData,
 }
 
-/// An iterator over the roots of one kind. Its model is the list of the remaining words.
+/// An iterator over the roots of one kind. Its model is the list of the remaining places, each with its word, or with none if the entry is finished.
 #[derive(Drop)]
 pub struct Roots<'a> {
     root: Root,
@@ -31,10 +32,10 @@ pub struct Roots<'a> {
 }
 
 impl<'a> Model for Roots<'a> {
-    ghost use Rattle.std.specs.Prelude.{ℕ, List};
+    ghost use Rattle.std.specs.Prelude.{ℕ, List, Option};
     ghost use Rattle.fz_finalizers.specs.Walks.{words_left};
 
-    ghost Value = { List ℕ };
+    ghost Value = { List (Option ℕ) };
 
     ghost view = { λ r. words_left r.root r.entries r.registrations };
 }
@@ -42,16 +43,12 @@ impl<'a> Model for Roots<'a> {
 impl<'a> Iterator for Roots<'a> {
     type Item = u64;
 
-    ghost next_gives = { YieldsFirst (λ rest. rest) };
+    ghost next_gives = { YieldsFirst somes };
 
-    ghost remaining = { item_count (λ rest. rest) };
+    ghost remaining = { item_count somes };
 
     fn next(&mut self) -> Option<u64> {
-        match self.root {
-            Root::HeldObject => Some(self.entries.next()?.obj),
-            Root::HeldData => Some(self.entries.next()?.cd),
-            Root::RegisteredData => Some(self.registrations.next()?.1.cd),
-        }
+        self.step()
     }
 }
 
@@ -67,15 +64,40 @@ impl<'a> Roots<'a> {
         }
     }
 
-    /// Writes the next words into the buffer, as many as fit or remain. Returns their number.
-    pub fn fill(&mut self, buffer: &mut [u64]) -> usize
-        ensures count { result ≡ min (length buffer.old) (length self.old) }
-        ensures filled { take result buffer.new ≡ take result self.old }
-        ensures left { self.new ≡ drop result self.old }
+    /// How many places remain. The number of places passed is the difference to the number at the begin.
+    pub fn places(&self) -> usize
+        ensures { result ≡ length self.now }
+    {
+        match self.root {
+            Root::HeldObject | Root::HeldData => self.entries.places(),
+            Root::RegisteredData => self.registrations.places(),
+        }
+    }
+
+    /// The next word. Afterwards the iterator is at the place after it.
+    fn step(&mut self) -> Option<u64>
+        ensures { Steps result self.old self.new }
+    {
+        match self.root {
+            Root::HeldObject => Some(self.entries.step()?.obj),
+            Root::HeldData => Some(self.entries.step()?.cd),
+            Root::RegisteredData => Some(self.registrations.next()?.1.cd),
+        }
+    }
+
+    /// Writes the next words into the buffer, as many as fit or remain, but at most `most`. Returns their number.
+    pub fn fill(&mut self, buffer: &mut [u64], most: usize) -> usize
+        ensures count { result ≡ min (min (length buffer.old) most) (length (somes self.old)) }
+        ensures filled { take result buffer.new ≡ take result (somes self.old) }
+        ensures left { somes self.new ≡ drop result (somes self.old) }
+        ensures rest { IsRest self.old self.new }
     {
         let mut filled = 0;
         for place in buffer.iter_mut() {
-            let Some(word) = self.next() else {
+            if filled == most {
+                return filled;
+            }
+            let Some(word) = self.step() else {
                 return filled;
             };
             *place = word;
@@ -87,9 +109,9 @@ impl<'a> Roots<'a> {
 
 impl Finalizers {
     /// An iterator over the roots of one kind. A host marks from the held objects and their data before each pass, so the arguments of a finalizer are
-    /// retained until it is finished. The order stays the same until something changes, so an iteration can continue later from an index.
+    /// retained until it is finished. The iterator stays the same until something changes, so an iteration can continue later from an index.
     pub fn roots(&self, root: Root) -> Roots<'_>
-        ensures sort { YieldsRoots root self.now.state result }
+        ensures sort { YieldsRoots root self.now.state (somes result) }
         ensures order { result ≡ roots_of root self.now }
     {
         Roots {

@@ -1,15 +1,16 @@
 //! Giving back memory.
 
 ghost use Rattle.std.specs.Prelude.{◌≡◌, ◌≤◌};
+ghost use Rattle.fz_finalizers.specs.States.{KeepsTables};
 
 use crate::finalizers::Finalizers;
 
 impl Finalizers {
-    /// Frees the memory that registrations, links and entries don't need. If a smaller table or list can't be allocated, the old one stays. Takes time
-    /// proportional to all of these. A pass never does this.
+    /// Frees the memory that registrations, links and entries don't need. If a smaller table or list can't be allocated, the old one stays. An iteration over
+    /// roots has to begin anew. Takes time proportional to all of these. A pass never does this.
     pub fn shrink(&mut self)
         ensures state { self.new.state ≡ self.old.state }
-        ensures order { self.new.order ≡ self.old.order }
+        ensures order { KeepsTables self.old.order self.new.order }
     {
         self.table.shrink();
         self.late.shrink();

@@ -15,6 +15,7 @@ impl Finalizers {
         ensures number { result ≡ next_pass self.old.passes }
         ensures follows { Follows self.old.state Begin self.new.state }
     {
+        self.ready.forget();
         self.passes = self.passes.saturating_add(1);
         self.passes
     }

@@ -7,12 +7,12 @@ ghost use Rattle.std.specs.Iterator.{YieldsFirst, UpTo, at_most, item_count};
 ghost use Rattle.std.specs.Iterator.SizeHint.{IsWithinCount};
 ghost use Rattle.std.specs.List.{IsDistinct};
 ghost use Rattle.std.specs.Map.{keys_of};
-ghost use Rattle.fz_finalizers.specs.States.{links_of};
-ghost use Rattle.fz_model.specs.declared.answers.Entry.{Entry};
-ghost use Rattle.fz_finalizers.specs.Walks.{AreEntries, AreRegistrations, entries_in_order, links_in_order, registrations_in_order};
+ghost use Rattle.fz_finalizers.specs.States.{links_of, unfinished};
+ghost use Rattle.fz_finalizers.specs.Walks.{AreRegistrations, links_in_order, registrations_in_order, somes};
 
 use crate::finalizers::Finalizers;
-use fz_model::{Addr, Entry, LinkKind, Registration};
+use crate::unfinished::Entries;
+use fz_model::{Addr, LinkKind, Registration};
 use fz_table::Pairs;
 use std::marker::Model;
 
@@ -24,12 +24,14 @@ pub struct Registrations<'a> {
 }
 
 impl<'a> Model for Registrations<'a> {
-    ghost use Rattle.std.specs.Prelude.{◌++◌, ℕ, List};
+    ghost use Rattle.std.specs.Prelude.{◌++◌, ◌+◌, ◌<◌, ◌^◌, ℕ, List, length};
     ghost use Rattle.fz_model.specs.declared.answers.Registration.{Registration};
 
     ghost Value = { List (ℕ × Registration) };
 
     ghost view = { λ r. r.first ++ r.late };
+
+    ghost invariant = { λ r. length r.first + length r.late < 2 ^ 64 };
 }
 
 impl<'a> Iterator for Registrations<'a> {
@@ -47,41 +49,14 @@ impl<'a> Iterator for Registrations<'a> {
     }
 }
 
-/// An iterator over the entries that wait or are held. Its model is the list of the remaining ones.
-#[derive(Drop)]
-pub struct Entries<'a> {
-    waiting: &'a [Entry],
-    held: Pairs<'a, u64, Entry>,
-}
-
-impl<'a> Model for Entries<'a> {
-    ghost use Rattle.std.specs.Prelude.{◌++◌, List};
-    ghost use Rattle.fz_model.specs.declared.answers.Entry.{Entry};
-    ghost use Rattle.fz_finalizers.specs.Walks.{values_of};
-
-    ghost Value = { List Entry };
-
-    ghost view = { λ e. e.waiting.now ++ values_of e.held };
-}
-
-impl<'a> Iterator for Entries<'a> {
-    type Item = Entry;
-
-    ghost next_gives = { YieldsFirst (λ rest. rest) };
-
-    ghost remaining = { item_count (λ rest. rest) };
-
-    fn next(&mut self) -> Option<Entry> {
-        if let Some((entry, rest)) = self.waiting.split_first() {
-            self.waiting = rest;
-            return Some(*entry);
-        }
-        let (_, entry) = self.held.next()?;
-        Some(entry)
-    }
-}
-
 impl<'a> Registrations<'a> {
+    /// How many registrations remain.
+    pub fn places(&self) -> usize
+        ensures { result ≡ length self.now }
+    {
+        self.first.len() + self.late.len()
+    }
+
     /// The registrations from an index on. Takes constant time.
     pub fn from_place(self, place: usize) -> Registrations<'a>
         ensures { result ≡ drop place self.entry }
@@ -90,20 +65,6 @@ impl<'a> Registrations<'a> {
         Registrations {
             first: self.first.from_place(place),
             late: self.late.from_place(place.saturating_sub(first)),
-        }
-    }
-}
-
-impl<'a> Entries<'a> {
-    /// The entries from an index on. Takes constant time.
-    pub fn from_place(self, place: usize) -> Entries<'a>
-        ensures { result ≡ drop place self.entry }
-    {
-        let passed = place.min(self.waiting.len());
-        let (_, waiting) = self.waiting.split_at(passed);
-        Entries {
-            waiting,
-            held: self.held.from_place(place - passed),
         }
     }
 }
@@ -153,15 +114,12 @@ impl Finalizers {
         }
     }
 
-    /// The waiting entries, in queue order, followed by the held entries, in an order that stays the same until something changes.
+    /// An iterator over the unfinished entries, in queue order: those that are held, and then those that wait. It stays the same until something changes, so
+    /// an iteration can continue later from an index.
     pub fn entries(&self) -> Entries<'_>
-        ensures all { AreEntries self.now.state result }
-        ensures count { length result ≡ length self.now.waiting + len self.now.held }
-        ensures order { result ≡ entries_in_order self.now }
+        ensures all { somes result ≡ unfinished self.now.state }
+        ensures order { result ≡ self.now.order.entries }
     {
-        Entries {
-            waiting: self.ready.waiting(),
-            held: self.ready.held_entries(),
-        }
+        self.ready.unfinished()
     }
 }

@@ -119,17 +119,11 @@ module _ (E : Type 0) (old begun new : Machine) (past : Past) (before after_it :
 
   -- what comes and goes in the finalizers
   as_pass : Follows old.finalizers.state Pass new.finalizers.state
-  as_pass =
-      let picks = at_end.chosen.first.picks ++ at_end.chosen.late_picks in
-      let come = entries_of c.passes c.queued picks in
-      let long = ap length (ap (λ (s : State). s.waiting) at_end.state) ∙ length-append c.waiting come in
-      let entries = length-entries_of c.passes c.queued picks in
-      let queued = ap (λ (s : State). s.queued) at_end.state in
-      let count : length old.finalizers.waiting + new.finalizers.queued ≡ length new.finalizers.waiting + old.finalizers.queued = omega (arith, long, entries, queued) in (
-        decided_queues E c.passes before.objects (retain_keys after_it.objects after_it.marked) before.marked old.finalizers.state new.finalizers.state begins_so.apart
-            (decides E c before begins_so new.finalizers.state after_it at_end) count (ap (λ (s : State). s.held) at_end.state) (ap (λ (s : State). s.next_number) at_end.state),
-        ap (λ (s : State). s.passes) at_end.state,
-      )
+  as_pass = (
+    decided_queues E c.passes before.objects (retain_keys after_it.objects after_it.marked) before.marked old.finalizers.state new.finalizers.state begins_so.apart
+        (decides E c before begins_so new.finalizers.state after_it at_end) (ap (λ (s : State). s.taken) at_end.state) (ap (λ (s : State). s.held) at_end.state) (ap (λ (s : State). s.next_number) at_end.state),
+    ap (λ (s : State). s.passes) at_end.state,
+  )
 
   pub makes_pass : MakesPass E old.finalizers.state before new.finalizers.state after_it
   makes_pass = record {

@@ -9,6 +9,7 @@ use Rattle.fz_model.specs.declared.answers.Registration.{Registration}
 use Rattle.fz_model.specs.State.{Map}
 use Rattle.fz_model.specs.Pass.{entry_of, entries_of}
 use Rattle.fz_model.proofs.Maps.{get-remove_same, get-remove_other}
+use Rattle.fz_model.proofs.Sound.{length-entries_of}
 use Rattle.fz_pass.specs.All.{unknown}
 use Rattle.fz_pass.specs.Picking.{pick_of}
 use Rattle.fz_pass.proofs.Gathering.{entries_of-append}
@@ -27,14 +28,11 @@ module _ (b : State) where
     long = long;
     registrations = registrations;
     late = late;
-    waiting = b.waiting ++ entries_of b.passes b.queued picks;
-    queued = b.queued + length picks;
+    queue = b.queue ++ entries_of b.passes (length b.queue) picks;
   }
 
   pub as_begun : b ≡ state_with b.short b.long b.registrations b.late []
-  as_begun =
-      let count : b.queued ≡ b.queued + 0 = omega arith in
-      λ i. record b { waiting = sym (append-nil b.waiting) i; queued = count i }
+  as_begun = λ i. record b { queue = sym (append-nil b.queue) i }
 
   module _ (short long : Map ℕ) (registrations late : Map Registration) (picks : List Pick) (object : ℕ) where
     abbrev s : State
@@ -47,11 +45,14 @@ module _ (b : State) where
       one_more : queued_one s object r ≡ state_with short long (remove registrations object) (remove late object) more_picks
       one_more =
           let p = pick_of r object unknown in
-          let entries : (b.waiting ++ entries_of b.passes b.queued picks) ++ entry_of b.passes (b.queued + length picks) p ∷ [] ≡ b.waiting ++ entries_of b.passes b.queued more_picks =
-          append_assoc b.waiting (entries_of b.passes b.queued picks) (entry_of b.passes (b.queued + length picks) p ∷ []) ∙ ap (λ es. b.waiting ++ es) (sym (entries_of-append b.passes b.queued picks (p ∷ []))) in
-          let grown = length-append picks (p ∷ []) in
-          let count : (b.queued + length picks) + 1 ≡ b.queued + length more_picks = omega (arith, grown) in
-          λ i. record b { short = short; long = long; registrations = remove registrations object; late = remove late object; waiting = entries i; queued = count i }
+          let so_far = entries_of b.passes (length b.queue) picks in
+          let grown = length-append b.queue so_far in
+          let count = length-entries_of b.passes (length b.queue) picks in
+          let number : length (b.queue ++ so_far) ≡ length b.queue + length picks = omega (arith, grown, count) in
+          let queue : (b.queue ++ so_far) ++ entry_of b.passes (length (b.queue ++ so_far)) p ∷ [] ≡ b.queue ++ entries_of b.passes (length b.queue) more_picks =
+          ap (λ n. (b.queue ++ so_far) ++ entry_of b.passes n p ∷ []) number ∙ append_assoc b.queue so_far (entry_of b.passes (length b.queue + length picks) p ∷ [])
+          ∙ ap (λ es. b.queue ++ es) (sym (entries_of-append b.passes (length b.queue) picks (p ∷ []))) in
+          λ i. record b { short = short; long = long; registrations = remove registrations object; late = remove late object; queue = queue i }
 
       pub queued_first : get registrations object ≡ Some r → get late object ≡ None → queued_object s object ≡ state_with short long (remove registrations object) late more_picks
       queued_first here none =

@@ -1,5 +1,5 @@
 -- From phase to phase, and to the end.
-use Rattle.std.proofs.Common.{◌≡◌, ◌++◌, ◌∙◌, [], ℕ, Bool, false, List, refl, sym, ap, subst, inl, inr, ⊎_elim, is_some, append-nil, IsTrue}
+use Rattle.std.proofs.Common.{◌≡◌, ◌++◌, ◌∙◌, [], ℕ, Bool, false, List, length, refl, sym, ap, subst, inl, inr, ⊎_elim, is_some, append-nil, IsTrue}
 use Rattle.std.specs.FinMap.{retain_keys}
 use Rattle.fz_model.specs.State.{Map, Object}
 use Rattle.fz_model.specs.Memory.{points}
@@ -168,10 +168,10 @@ module _ (E : Type 0) (b : State) (before : Graph) (begin : HasBegun b before) w
     decides =
         let objects_are : retain_keys (last E b before c) c.kept ≡ retain_keys h.objects h.marked = λ i. retain_keys (sym p.objects_are i) (sym p.marks_are i) in
         subst (λ (t : State). DecidesFor E b.passes b before.objects before.marked t h.objects h.marked) (sym p.state)
-        (subst (λ (new : Parts). DecidesLate E b.passes b.queued (parts_in before.objects b) before.marked new b.waiting end.waiting)
+        (subst (λ (new : Parts). DecidesLate E b.passes (length b.queue) (parts_in before.objects b) before.marked new b.queue end.queue)
         (λ i. record { objects = objects_are i; registrations = c.first.table; late = c.late; short = sym short_is i; long = sym long_is i })
         (decided before.objects b.short before.marked E (tabled b.registrations) (tabled c.first.table) (tabled b.late) (tabled c.late) b.long c.first.leading.led c.first.mid c.kept c.first.picks c.late_picks
-        (registered E b before begin) (late_registered E b before begin) begin.apart begin.normal c.first.leading.marks c.first.marks c.marks c.first.are c.are b.passes b.queued b.waiting end.waiting refl))
+        (registered E b before begin) (late_registered E b before begin) begin.apart begin.normal c.first.leading.marks c.first.marks c.marks c.first.are c.are b.passes (length b.queue) b.queue end.queue refl))
 
     pub still_marked : (a : ℕ) → IsTrue (before.marked a) → IsTrue (h.marked a)
     still_marked a on = subst (λ (m : ℕ → Bool). IsTrue (m a)) (sym p.marks_are) (c.marks.least a (inl (c.first.marks.least a (inl (c.first.leading.marks.least a (inl on))))))

@@ -1,9 +1,9 @@
 -- The model of finalizers whose pass asks questions.
 -- code: fz_machine/src/machine.rt, pass.rt
-use Rattle.std.specs.Prelude.{◌≡◌, ℕ, ◌-◌, zero, suc, Bool, List, [], Option, Some, None, is_some, IsTrue, refl}
+use Rattle.std.specs.Prelude.{◌≡◌, ℕ, ◌-◌, zero, suc, Bool, List, [], length, Option, Some, None, is_some, IsTrue, refl}
 use Rattle.std.specs.Coded.{Coded, code_by, coded×, coded_ℕ, coded_option}
 use Rattle.fz_model.specs.declared.answers.Entry.{Entry}
-use Rattle.fz_finalizers.specs.States.{View, view_code}
+use Rattle.fz_finalizers.specs.States.{View, view_code, waiting}
 use Rattle.fz_machine.specs.declared.phase.Phase.{Phase}
 use Rattle.fz_machine.specs.declared.phase.Phase.TheVariants.{ShortTargets, ShortWords, Objects, Children, Again, Picks, LateAgain, LatePicks, LongTargets, LongWords, ShortHolders, LongHolders}
 use Rattle.fz_machine.specs.declared.pass.Next.{Next}
@@ -76,7 +76,7 @@ IsIdle m = m.phase ≡ None
 
 -- the first waiting entry is taken, as this event says; if none waits, the finalizers are unchanged
 abbrev pub Takes : (Entry → Event) → Machine → Machine → Option Entry → Type 0
-Takes event old new None = (old.finalizers.waiting ≡ []) × (new.finalizers.state ≡ old.finalizers.state)
+Takes event old new None = (waiting old.finalizers.state ≡ []) × (new.finalizers.state ≡ old.finalizers.state)
 Takes event old new (Some e) = Follows old.finalizers.state (event e) new.finalizers.state
 
 -- a pass has begun
@@ -85,12 +85,12 @@ pub record IsBegun (old new : Machine) : Type 0 where
   pub finalizers : new.finalizers.state ≡ record old.finalizers.state { passes = next_pass old.finalizers.passes }
   pub begins : Begins ShortTargets (record (going old.finalizers old.walk) { finalizers = new.finalizers.state }) (going new.finalizers new.walk)
   pub asked : new.asked ≡ 0
-  pub before : new.before ≡ old.finalizers.queued
+  pub before : new.before ≡ length old.finalizers.queue
 
 -- what a pass returns: the question of its phase, or what it has done
 abbrev pub Tells : Machine → Next → Type 0
 Tells m (Asks question) = (phase : Phase) × (m.phase ≡ Some phase) × IsQuestion phase m.walk.left question × (m.asked ≡ question.count)
-Tells m (Ended passed) = (m.phase ≡ None) × (passed.pass ≡ m.finalizers.passes) × (passed.picked ≡ m.finalizers.queued - m.before)
+Tells m (Ended passed) = (m.phase ≡ None) × (passed.pass ≡ m.finalizers.passes) × (passed.picked ≡ length m.finalizers.queue - m.before)
 
 -- a pass processes answers and proceeds
 pub record GoesTo (old : Machine) (answers : List Bool) (new : Machine) (next : Next) : Type 0 where

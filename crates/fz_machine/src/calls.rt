@@ -1,13 +1,13 @@
 //! The calls that change finalizers. They are refused while a pass is open.
 
-ghost use Rattle.std.specs.Prelude.{◌≡◌, ◌≤◌, ◌+◌, ◌⊎◌, [], None, if◌then◌else◌, IfOk, IfErr, OnOk, OnErr};
+ghost use Rattle.std.specs.Prelude.{◌≡◌, ◌≤◌, ◌+◌, ◌⊎◌, [], None, length, if◌then◌else◌, IfOk, IfErr, OnOk, OnErr};
 ghost use Rattle.std.specs.FinMap.{get, len, contains_key};
 ghost use Rattle.fz_model.specs.Steps.{move_answer};
 ghost use Rattle.fz_finalizers.specs.Causes.{finish_causes, link_causes, move_causes, register_causes};
 ghost use Rattle.fz_finalizers.specs.Follows.{Follows, Register, Unregister, Link, Unlink, Move, QueueAll, Take, TakeFinished, Finish};
 ghost use Rattle.fz_finalizers.specs.Ready.{QueuesTables};
 ghost use Rattle.fz_finalizers.specs.Registering.{old_in_either};
-ghost use Rattle.fz_finalizers.specs.States.{HasRooms, IsRoomier, links_of, room_of, registration_room, table_of};
+ghost use Rattle.fz_finalizers.specs.States.{HasRooms, IsRoomier, KeepsTables, links_of, room_of, registration_room, table_of};
 ghost use Rattle.fz_machine.specs.Causes.{IsJudgedBy, IsJudgedOrLacks};
 ghost use Rattle.fz_machine.specs.Going.{HasRoomForMore};
 ghost use Rattle.fz_machine.specs.Machines.{IsIdle, Takes};
@@ -63,7 +63,7 @@ impl Machine {
         ensures refused { OnErr result (self.new ≡ self.old) }
         ensures idle { OnOk result (IsIdle self.new) }
         ensures state { self.new.finalizers.state ≡ self.old.finalizers.state }
-        ensures order { self.new.finalizers.order ≡ self.old.finalizers.order }
+        ensures order { KeepsTables self.old.finalizers.order self.new.finalizers.order }
     {
         self.check()?;
         reserving::shrink(&mut self.finalizers, &mut self.walk);
@@ -156,9 +156,9 @@ impl Machine {
     pub fn queue_all(&mut self) -> Result<u64, Refused>
         ensures judged { IsJudgedBy self.old.phase [] result }
         ensures refused { OnErr result (self.new ≡ self.old) }
-        ensures queued { OnOk result (QueuesTables self.old.finalizers.queued self.old.finalizers.registrations self.old.finalizers.late self.old.finalizers.waiting self.new.finalizers.waiting) }
+        ensures queued { OnOk result (QueuesTables (length self.old.finalizers.queue) self.old.finalizers.registrations self.old.finalizers.late self.old.finalizers.queue self.new.finalizers.queue) }
         ensures follows { OnOk result (IsIdle self.new × Follows self.old.finalizers.state QueueAll self.new.finalizers.state) }
-        ensures count { IfOk result (λ count. self.new.finalizers.queued ≡ self.old.finalizers.queued + count) }
+        ensures count { IfOk result (λ count. length self.new.finalizers.queue ≡ length self.old.finalizers.queue + count) }
     {
         self.check()?;
         Ok(self.finalizers.queue_all())

@@ -1,12 +1,11 @@
 //! Finalizers whose pass asks questions, and their parts.
 
-ghost use Rattle.std.specs.Prelude.{◌≡◌, ◌≤◌, ◌+◌, None, is_some};
+ghost use Rattle.std.specs.Prelude.{◌≡◌, ◌≤◌, ◌+◌, None, is_some, IfOk, IfErr};
 ghost use Rattle.fz_finalizers.specs.States.{opening};
 
 use crate::phase::Phase;
-use crate::refused::Refused;
 use crate::walk::Walk;
-use fz_finalizers::Finalizers;
+use fz_finalizers::{Finalizers, Refused};
 use std::alloc::Global;
 use std::marker::Model;
 
@@ -50,18 +49,20 @@ impl Model for Machine {
 }
 
 impl Machine {
-    /// Finalizers without registrations, and without an open pass.
-    pub fn new(alloc: Global) -> Machine
-        ensures finalizers { result.finalizers.state ≡ opening }
-        ensures phase { result.phase ≡ None }
+    /// Finalizers without registrations, and without an open pass. Fails with `NoMemory` if an allocation fails.
+    pub fn new(alloc: Global) -> Result<Machine, Refused>
+        ensures refused { IfErr result (λ r. r ≡ Refused.NoMemory) }
+        ensures finalizers { IfOk result (λ m. m.finalizers.state ≡ opening) }
+        ensures phase { IfOk result (λ m. m.phase ≡ None) }
     {
-        Machine {
-            finalizers: Finalizers::new(alloc),
+        let finalizers = Finalizers::new(alloc)?;
+        Ok(Machine {
+            finalizers,
             walk: Walk::new(alloc),
             phase: None,
             asked: 0,
             before: 0,
-        }
+        })
     }
 
     /// The finalizers, which may be read while a pass is open.

@@ -5,7 +5,7 @@ ghost use Rattle.std.specs.FinMap.{get, insert, len, contains_key};
 ghost use Rattle.fz_finalizers.specs.Causes.{IsJudgedOrLacks, link_causes, register_causes};
 ghost use Rattle.fz_finalizers.specs.Follows.{Follows, Register, Link};
 ghost use Rattle.fz_finalizers.specs.Registering.{HasRoomFor, old_in_either};
-ghost use Rattle.fz_finalizers.specs.States.{HasRooms, limited, links_of, room_of, registration_room, table_of};
+ghost use Rattle.fz_finalizers.specs.States.{HasRooms, KeepsTables, limited, links_of, room_of, registration_room, table_of};
 ghost use Rattle.fz_machine.specs.Causes.{RefusesOrLacks};
 ghost use Rattle.fz_machine.specs.Going.{HasRoom, HasRoomForMore, LacksToLink, LacksToRegister};
 
@@ -156,7 +156,7 @@ pub(crate) fn reserve(
 pub(crate) fn shrink(finalizers: &mut Finalizers, walk: &mut Walk)
     requires { HasRoom finalizers.old.state walk.old.room }
     ensures state { finalizers.new.state ≡ finalizers.old.state }
-    ensures order { finalizers.new.order ≡ finalizers.old.order }
+    ensures order { KeepsTables finalizers.old.order finalizers.new.order }
     ensures room { HasRoom finalizers.new.state walk.new.room }
 {
     finalizers.shrink();

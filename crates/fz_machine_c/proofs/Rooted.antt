@@ -1,5 +1,5 @@
 -- Walks from a place on.
-use Rattle.std.proofs.Common.{◌≡◌, ◌≢◌, ◌<◌, ℕ, zero, suc, min, nat_eq, List, drop, map, take, length, Option, Some, refl, sym, ap, subst, ◌∙◌, inl, inr, arith}
+use Rattle.std.proofs.Common.{◌≡◌, ◌≢◌, ◌<◌, ◌≤◌, ◌-◌, ℕ, zero, suc, min, nat_eq, List, drop, map, take, length, Option, Some, refl, sym, ap, subst, ◌∙◌, inl, inr, arith}
 use Rattle.std.proofs.lemmas.List.{drop-map, length-drop, length-map}
 use Rattle.std.specs.FinMap.{from_entries}
 use Rattle.std.specs.List.{IsDistinct}
@@ -9,7 +9,8 @@ use Rattle.fz_model.specs.declared.kinds.LinkKind.{LinkKind}
 use Rattle.fz_finalizers.specs.declared.kinds.Kind.{Kind}
 use Rattle.fz_finalizers.specs.declared.roots.Root.{Root}
 use Rattle.fz_finalizers.specs.States.{State, View, kind_at, links_of}
-use Rattle.fz_finalizers.specs.Walks.{AreLinks, AreRegistrations, YieldsRoots, links_in_order, registrations_in_order, roots_of}
+use Rattle.fz_finalizers.specs.Walks.{AreLinks, AreRegistrations, IsRest, YieldsRoots, links_in_order, registrations_in_order, roots_of, somes}
+use Rattle.fz_finalizers.proofs.Shown.{rest_place}
 use Rattle.fz_machine.specs.Machines.{Machine}
 use Rattle.fz_machine_c.specs.declared.codes.TheConstants.{OK, EMPTY}
 use Rattle.fz_machine_c.specs.declared.shown.TheConstants.{WORDS}
@@ -22,10 +23,10 @@ use Rattle.fz_machine_c.specs.Codes.{Behind}
 use Rattle.fz_machine_c.specs.Shows.{ShowsFrom, ShowsLinks, ShowsRegistrations, ShowsRoots, kind_number, link_told, registration_told}
 
 -- what a walk of the finalizers behind the handle yields is their list
-rooted : (r root : Root) (w v : View) (words : List ℕ) → r ≡ root → w ≡ v → YieldsRoots r w.state words → words ≡ roots_of r w → YieldsRoots root v.state (roots_of root v) × (words ≡ roots_of root v)
+rooted : (r root : Root) (w v : View) (words : List (Option ℕ)) → r ≡ root → w ≡ v → YieldsRoots r w.state (somes words) → words ≡ roots_of r w → YieldsRoots root v.state (somes (roots_of root v)) × (words ≡ roots_of root v)
 rooted r root w v words is same yields listed =
     let all = listed ∙ (λ i. roots_of (is i) (same i)) in
-    (subst (λ ws. YieldsRoots root v.state ws) all (subst (λ (u : View). YieldsRoots root u.state words) same (subst (λ (q : Root). YieldsRoots q w.state words) is yields)), all)
+    (subst (λ ws. YieldsRoots root v.state (somes ws)) all (subst (λ (u : View). YieldsRoots root u.state (somes words)) same (subst (λ (q : Root). YieldsRoots q w.state (somes words)) is yields)), all)
 
 -- a part of a list that was filled from a place on
 module _ {X Told : Type 0} (room : ℕ) (count : Told → ℕ) (part : Told → List X) (all left : List X) (from n : ℕ) (some_room : 0 < room) (from_there : left ≡ drop from all) (counted : n ≡ min room (length left)) where
@@ -45,19 +46,40 @@ module _ {X Told : Type 0} (room : ℕ) (count : Told → ℕ) (part : Told → 
       positive zero ne = absurd (ne refl)
       positive (suc k) ne = omega arith
 
--- the same of a walk over roots as the finalizers behind the handle yield it
-module _ (r root : Root) (w v : View) (words left : List ℕ) (from n : ℕ) (is : r ≡ root) (same : w ≡ v) (yields : YieldsRoots r w.state words) (listed : words ≡ roots_of r w) (from_there : left ≡ drop from words) (counted : n ≡ min WORDS (length left)) where
-  walk : YieldsRoots root v.state (roots_of root v) × (words ≡ roots_of root v)
+-- a walk over roots as the finalizers behind the handle yield it, of which some words were written
+module _ (r root : Root) (w v : View) (words left : List (Option ℕ)) (from most n : ℕ) (is : r ≡ root) (same : w ≡ v) (yields : YieldsRoots r w.state (somes words)) (listed : words ≡ roots_of r w) (from_there : left ≡ drop from words) (counted : n ≡ min (min WORDS most) (length (somes left))) where
+  walk : YieldsRoots root v.state (somes (roots_of root v)) × (words ≡ roots_of root v)
   walk = rooted r root w v words is same yields listed
 
-  rest : left ≡ drop from (roots_of root v)
-  rest = from_there ∙ ap (drop from) walk.1
+  there : left ≡ drop from (roots_of root v)
+  there = from_there ∙ ap (drop from) walk.1
 
-  pub none_rooted : (old : Words) → n ≡ 0 → ShowsRoots root v from EMPTY old old
-  none_rooted old none = (walk.0, none_left WORDS (λ (t : Words). t.count) (λ (t : Words). t.words) (roots_of root v) left from n (omega arith) rest counted old none)
+  as_many : n ≡ min (min WORDS most) (length (somes (drop from (roots_of root v))))
+  as_many = counted ∙ ap (λ (xs : List (Option ℕ)). min (min WORDS most) (length (somes xs))) there
 
-  pub some_rooted : (old told : Words) → n ≢ 0 → told.count ≡ n → take n told.words ≡ take n left → ShowsRoots root v from OK old told
-  some_rooted old told some is filled = (walk.0, some_left WORDS (λ (t : Words). t.count) (λ (t : Words). t.words) (roots_of root v) left from n (omega arith) rest counted old told some is filled)
+  pub none_rooted : (old : Words) → n ≡ 0 → ShowsRoots root v from most EMPTY old old
+  none_rooted old none = (walk.0, inl (refl, sym as_many ∙ none, refl))
+
+  pub some_rooted : (old told : Words) (after : List (Option ℕ)) → n ≢ 0 → told.count ≡ n → take n told.words ≡ take n (somes left) → somes after ≡ drop n (somes left) → IsRest left after → told.next ≡ length words - length after
+      → ShowsRoots root v from most OK old told
+  some_rooted old told after some is filled goes_on rest next =
+      let all = roots_of root v in
+      let at : drop told.next all ≡ after =
+      ap (λ k. drop k all) (next ∙ ap (λ (xs : List (Option ℕ)). length xs - length after) walk.1) ∙ rest_place all from after (subst (λ xs. IsRest xs after) there rest) in
+      let more : 0 < told.count = subst (λ k. 0 < k) (sym is) (positive n some) in (
+        walk.0,
+        inr (
+          refl,
+          more,
+          is ∙ as_many,
+          subst (λ k. take k told.words ≡ take k (somes (drop from all))) (sym is) (filled ∙ ap (λ (xs : List (Option ℕ)). take n (somes xs)) there),
+          ap somes at ∙ goes_on ∙ ap (λ (xs : List (Option ℕ)). drop n (somes xs)) there ∙ ap (λ k. drop k (somes (drop from all))) (sym is),
+        ),
+      )
+    where
+      positive : (k : ℕ) → k ≢ 0 → 0 < k
+      positive zero ne = absurd (ne refl)
+      positive (suc k) ne = omega arith
 
 -- what is told of a registration with the kind that the finalizers show
 abbrev with_kind : ℕ → answers.Registration → Option Kind → Registration
@@ -110,6 +132,13 @@ module _ (k kind : LinkKind) (w v : View) (all left : List (ℕ × ℕ)) (from n
   some_linked old told some told_count filled =
       subst (λ (u : View). ShowsLinks kind u from OK old told) same
       (subst (λ (q : LinkKind). ShowsLinks q w from OK old told) is (are_linked, some_left PART (λ (t : Links). t.count) (λ (t : Links). t.links) (map link_told (links_in_order w k)) (map link_told left) from n (omega arith) linked_left linked_count old told some told_count filled))
+
+-- no more places are left behind a part of a walk than there are
+pub rest_short : (all left after : List (Option ℕ)) (from : ℕ) → left ≡ drop from all → IsRest left after → length after ≤ length all
+rest_short all left after from is rest =
+    let one = ap length is ∙ length-drop from all in
+    let size = ap length rest ∙ length-drop (length left - length after) left in
+    omega (arith, one, size)
 
 -- nothing changes behind a handle
 pub behind : (old new : Option Machine) (m : Machine) (code : ℕ) (Kept : Type 0) (does : Machine → Machine → Type 0) → old ≡ Some m → new ≡ Some m → does m m → Behind old new code Kept does

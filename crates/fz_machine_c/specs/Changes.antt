@@ -1,6 +1,6 @@
 -- What a change does to the finalizers behind a handle, the code that it returns, and what C gets.
 -- code: fz_machine_c/src/registering.rt, linking.rt
-use Rattle.std.specs.Prelude.{◌≡◌, ◌⊎◌, ℕ, ◌+◌, ◌≤◌, Bool, [], None}
+use Rattle.std.specs.Prelude.{◌≡◌, ◌⊎◌, ℕ, ◌+◌, ◌≤◌, Bool, [], length, None}
 use Rattle.std.specs.FinMap.{get, len, contains_key}
 use Rattle.fz_model.specs.declared.answers.Entry.{Entry}
 use Rattle.fz_model.specs.Steps.{move_answer}
@@ -9,7 +9,7 @@ use Rattle.fz_finalizers.specs.Causes.{register_causes, link_causes, move_causes
 use Rattle.fz_finalizers.specs.Follows.{Follows, Register, Unregister, Link, Unlink, Move, QueueAll, Finish}
 use Rattle.fz_finalizers.specs.Ready.{QueuesTables}
 use Rattle.fz_finalizers.specs.Registering.{old_in_either}
-use Rattle.fz_finalizers.specs.States.{HasRooms, links_of, registration_room, room_of, table_of}
+use Rattle.fz_finalizers.specs.States.{HasRooms, KeepsTables, links_of, registration_room, room_of, table_of}
 use Rattle.fz_machine.specs.Causes.{first_of}
 use Rattle.fz_machine.specs.Going.{HasRoomForMore}
 use Rattle.fz_machine.specs.Machines.{Machine}
@@ -81,8 +81,8 @@ abbrev pub QueuesAll : ℕ → ℕ → ℕ → Machine → Machine → Type 0
 QueuesAll code old told m n =
     Answers (first_of m.phase []) code
     (Follows m.finalizers.state QueueAll n.finalizers.state
-    × QueuesTables m.finalizers.queued m.finalizers.registrations m.finalizers.late m.finalizers.waiting n.finalizers.waiting
-    × (n.finalizers.queued ≡ m.finalizers.queued + told))
+    × QueuesTables (length m.finalizers.queue) m.finalizers.registrations m.finalizers.late m.finalizers.queue n.finalizers.queue
+    × (length n.finalizers.queue ≡ length m.finalizers.queue + told))
     ((n ≡ m) × (told ≡ old))
 
 abbrev pub Finishes : Entry → ℕ → Machine → Machine → Type 0
@@ -94,4 +94,4 @@ Finishes e code m n =
 -- only memory is freed
 abbrev pub Shrinks : ℕ → Machine → Machine → Type 0
 Shrinks code m n =
-    Answers (first_of m.phase []) code ((n.phase ≡ None) × (n.finalizers.state ≡ m.finalizers.state) × (n.finalizers.order ≡ m.finalizers.order)) (n ≡ m)
+    Answers (first_of m.phase []) code ((n.phase ≡ None) × (n.finalizers.state ≡ m.finalizers.state) × KeepsTables m.finalizers.order n.finalizers.order) (n ≡ m)

@@ -3,6 +3,7 @@
 use Rattle.std.specs.Prelude.{◌≡◌, ◌⊎◌, ℕ, [], Option, Some, None}
 use Rattle.fz_model.specs.declared.answers.Entry as answers
 use Rattle.fz_finalizers.specs.Follows.{Event, Follows}
+use Rattle.fz_finalizers.specs.States.{waiting}
 use Rattle.fz_machine.specs.declared.phase.Phase.{Phase}
 use Rattle.fz_machine.specs.declared.refused.Refused.TheVariants.{PassOpen}
 use Rattle.fz_machine.specs.Machines.{Machine}
@@ -20,5 +21,5 @@ TellsEntry e told = told ≡ record { seq = e.seq; pass = e.pass; reg = e.reg; o
 abbrev pub Takes : (answers.Entry → Event) → Option Phase → Machine → Machine → ℕ → Entry → Entry → Type 0
 Takes event (Some phase) m n code old told = (code ≡ code_of PassOpen) × (n ≡ m) × (told ≡ old)
 Takes event None m n code old told =
-    ((code ≡ EMPTY) × (m.finalizers.waiting ≡ []) × (n.finalizers.state ≡ m.finalizers.state) × (told ≡ old))
+    ((code ≡ EMPTY) × (waiting m.finalizers.state ≡ []) × (n.finalizers.state ≡ m.finalizers.state) × (told ≡ old))
     ⊎ ((code ≡ OK) × ((e : answers.Entry) × Follows m.finalizers.state (event e) n.finalizers.state × TellsEntry e told))

@@ -9,8 +9,8 @@ use Rattle.fz_finalizers.specs.declared.kinds.Kind.{Kind}
 use Rattle.fz_finalizers.specs.declared.kinds.Kind.TheVariants.{Normal, IgnoreSelf, NoOrder, Unreachable}
 use Rattle.fz_finalizers.specs.declared.roots.Root.{Root}
 use Rattle.fz_finalizers.specs.declared.roots.Root.TheVariants.{HeldObject, HeldData, RegisteredData}
-use Rattle.fz_finalizers.specs.States.{State, View, kind_at, registered}
-use Rattle.fz_finalizers.specs.Walks.{AreLinks, AreRegistrations, YieldsRoots, links_in_order, registrations_in_order, roots_of}
+use Rattle.fz_finalizers.specs.States.{State, View, kind_at, registered, waiting}
+use Rattle.fz_finalizers.specs.Walks.{AreLinks, AreRegistrations, YieldsRoots, links_in_order, registrations_in_order, roots_of, somes}
 use Rattle.fz_machine_c.specs.declared.codes.TheConstants.{OK, EMPTY}
 use Rattle.fz_machine_c.specs.declared.shown.TheConstants.{WORDS}
 use Rattle.fz_machine_c.specs.declared.shown.Counts.{Counts}
@@ -35,7 +35,7 @@ kind_number (Some Unreachable) = 3
 
 abbrev pub IsCounted : State → Counts → Type 0
 IsCounted s told =
-    told ≡ record { registrations = len s.registrations + len s.late; short_links = len s.short; long_links = len s.long; waiting = length s.waiting; held = len s.held; queued = s.queued; passes = s.passes }
+    told ≡ record { registrations = len s.registrations + len s.late; short_links = len s.short; long_links = len s.long; waiting = length (waiting s); held = length s.held; queued = length s.queue; passes = s.passes }
 
 -- the part of a list from an index on, as much as fits, so that the iteration continues after it; or nothing remains, and C's variable is unchanged
 abbrev pub ShowsFrom : {X Told : Type 0} → ℕ → List X → (Told → ℕ) → (Told → List X) → ℕ → ℕ → Told → Told → Type 0
@@ -43,8 +43,16 @@ ShowsFrom room all count part from code old told =
     ((code ≡ EMPTY) × (length all ≤ from) × (told ≡ old))
     ⊎ ((code ≡ OK) × (from < length all) × (count told ≡ min room (length (drop from all))) × (take (count told) (part told) ≡ take (count told) (drop from all)))
 
-abbrev pub ShowsRoots : Root → View → ℕ → ℕ → Words → Words → Type 0
-ShowsRoots root v from code old told = YieldsRoots root v.state (roots_of root v) × ShowsFrom WORDS (roots_of root v) (λ (w : Words). w.count) (λ (w : Words). w.words) from code old told
+-- the words of an iteration from a place on, as many as fit, and the place from which it continues; or nothing remains, or none is asked for, and C's
+-- variable is unchanged
+abbrev pub ShowsWords : ℕ → List (Option ℕ) → ℕ → ℕ → Words → Words → Type 0
+ShowsWords room all from code old told =
+    ((code ≡ EMPTY) × (min room (length (somes (drop from all))) ≡ 0) × (told ≡ old))
+    ⊎ ((code ≡ OK) × (0 < told.count) × (told.count ≡ min room (length (somes (drop from all))))
+    × (take told.count told.words ≡ take told.count (somes (drop from all))) × (somes (drop told.next all) ≡ drop told.count (somes (drop from all))))
+
+abbrev pub ShowsRoots : Root → View → ℕ → ℕ → ℕ → Words → Words → Type 0
+ShowsRoots root v from most code old told = YieldsRoots root v.state (somes (roots_of root v)) × ShowsWords (min WORDS most) (roots_of root v) from code old told
 
 -- an object's registration, and a link, as C represents them
 abbrev pub registration_told : State → ℕ × answers.Registration → Registration

@@ -20,7 +20,9 @@ pub extern "C" fn fz_machine_open(alloc: Global, finalizers: &mut Handle) -> Cod
         finalizers.put(session);
         return IS_OPEN;
     }
-    let machine = Machine::new(alloc);
+    let Ok(machine) = Machine::new(alloc) else {
+        return NO_MEMORY;
+    };
     let Ok(session) = Box::new(alloc, Session { machine }) else {
         return NO_MEMORY;
     };

@@ -15,12 +15,13 @@ use std::alloc::Global;
 /// The size of the buffer of words, which one call fills.
 const WORDS: usize = 512;
 
-/// The words of an iteration over roots, and their number.
+/// The words of an iteration over roots, their number, and the place from which it continues.
 #[repr(C)]
 #[derive(Clone, Copy)]
 pub struct Words {
     pub words: [u64; WORDS],
     pub count: u64,
+    pub next: u64,
 }
 
 /// The number of registrations, links and entries.
@@ -91,24 +92,28 @@ fn kind_number(kind: Option<Kind>) -> u8
     }
 }
 
-/// `Finalizers::roots`: the words of the iteration from an index on, as many as fit. Takes the same time at each index.
+/// `Finalizers::roots`: the words of the iteration from a place on, as many as are asked for and fit. The iteration continues from the place `next`. Places
+/// don't count words, since the place of a finished entry has none. Takes the same time at each place.
 #[unsafe(no_mangle)]
 pub extern "C" fn fz_machine_roots(
     alloc: Global,
     finalizers: &mut Handle,
     sort: u8,
     from: u64,
+    most: u64,
     words: &mut Words,
 ) -> Code
-    ensures { Behind finalizers.old.value finalizers.new.value result (words.new ≡ words.old) (λ m n. (n ≡ m) × ShowsRoots (root_of sort) m.finalizers from result words.old words.new) }
+    ensures { Behind finalizers.old.value finalizers.new.value result (words.new ≡ words.old) (λ m n. (n ≡ m) × ShowsRoots (root_of sort) m.finalizers from most result words.old words.new) }
 {
     let Some(session) = finalizers.take(alloc) else {
         return NOT_OPEN;
     };
     let roots = session.machine.finalizers().roots(root_of(sort));
+    let all = roots.places();
     let mut left = roots.from_place(from as usize);
     let mut found = [0; WORDS];
-    let count = left.fill(&mut found);
+    let count = left.fill(&mut found, most as usize);
+    let next = all - left.places();
     finalizers.put(session);
     if count == 0 {
         return EMPTY;
@@ -116,6 +121,7 @@ pub extern "C" fn fz_machine_roots(
     *words = Words {
         words: found,
         count: count as u64,
+        next: next as u64,
     };
     OK
 }

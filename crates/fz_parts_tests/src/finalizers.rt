@@ -32,7 +32,7 @@ fn entry(seq: u64, reg: u64, obj: Addr) -> Entry {
 
 #[test]
 fn registers_replaces_and_removes(rt: HostRuntime) {
-    let mut finalizers = Finalizers::new(rt.alloc());
+    let mut finalizers = Finalizers::new(rt.alloc()).expect(&rt, "memory");
     let first = finalizers.register(16, finalizer(Kind::Normal, 16, 0));
     must_be(&rt, first, Ok((0, None)), "the first object");
     let zero = finalizers.register(0, finalizer(Kind::Normal, 0, 0));
@@ -61,7 +61,7 @@ fn registers_replaces_and_removes(rt: HostRuntime) {
 
 #[test]
 fn links_move_and_go(rt: HostRuntime) {
-    let mut finalizers = Finalizers::new(rt.alloc());
+    let mut finalizers = Finalizers::new(rt.alloc()).expect(&rt, "memory");
     must_be(&rt, finalizers.reserve(4, 4, 4), Ok(()), "room");
     let kinds = [LinkKind::Short, LinkKind::Long];
     for kind in kinds {
@@ -95,7 +95,7 @@ fn links_move_and_go(rt: HostRuntime) {
 /// Moves one link from word to word, many times, where the table has no place to spare.
 #[test]
 fn moves_in_a_full_table(rt: HostRuntime) {
-    let mut finalizers = Finalizers::new(rt.alloc());
+    let mut finalizers = Finalizers::new(rt.alloc()).expect(&rt, "memory");
     for word in 1..=72u64 {
         let linked = finalizers.link(LinkKind::Short, word, 1_000 + word);
         must_be(&rt, linked, Ok(LinkAnswer::Success), "one of 72 links");
@@ -114,7 +114,7 @@ fn moves_in_a_full_table(rt: HostRuntime) {
 /// Of 2,000 registrations and links the last of each stay, and are as they were once memory is given back.
 #[test]
 fn memory_is_given_back(rt: HostRuntime) {
-    let mut finalizers = Finalizers::new(rt.alloc());
+    let mut finalizers = Finalizers::new(rt.alloc()).expect(&rt, "memory");
     for object in 1..=2_000u64 {
         let _ = finalizers.register(object, finalizer(Kind::Normal, object, 0));
         let _ = finalizers.link(LinkKind::Long, object, object);
@@ -140,7 +140,7 @@ fn memory_is_given_back(rt: HostRuntime) {
 
 /// Finalizers whose four registrations are queued, two of which come first for their rank.
 fn with_four_queued(rt: &impl Abort, alloc: Global) -> Finalizers {
-    let mut finalizers = Finalizers::new(alloc);
+    let mut finalizers = Finalizers::new(alloc).expect(rt, "memory");
     let objects = [
         (32, Kind::Normal, 1),
         (16, Kind::Normal, 1),
@@ -165,12 +165,17 @@ fn queues_all_and_walks_over_roots(rt: HostRuntime) {
     must_be(&rt, second, Some(entry(1, 1, 16)), "then by address");
     let (mut two, mut others) = ([0; 2], [0; 8]);
     let mut roots = finalizers.roots(Root::HeldObject);
-    must_be(&rt, roots.fill(&mut two), 2, "two roots");
-    must_be(&rt, roots.fill(&mut others), 1, "and a third");
-    must_be(&rt, (two[0], two[1]), (32, 8), "what waits");
-    must_be(&rt, others[0], 48, "what is held");
-    let data = finalizers.roots(Root::HeldData).fill(&mut others);
-    must_be(&rt, (data, others[2]), (3, 50), "their client data");
+    must_be(&rt, roots.fill(&mut two, 2), 2, "two roots");
+    must_be(&rt, roots.fill(&mut others, 8), 1, "and a third");
+    must_be(
+        &rt,
+        (two[0], two[1]),
+        (48, 32),
+        "what is held, then what waits",
+    );
+    must_be(&rt, others[0], 8, "the last that waits");
+    let data = finalizers.roots(Root::HeldData).fill(&mut others, 8);
+    must_be(&rt, (data, others[0]), (3, 50), "their client data");
     let registered = finalizers.roots(Root::RegisteredData).next();
     must_be(&rt, registered, None, "no data of registrations");
 }
@@ -181,11 +186,12 @@ fn walks_by_parts(rt: &impl Abort, finalizers: &Finalizers, root: Root, buffer: 
     let mut place: usize = 0;
     for _ in 0..21 {
         let mut part = finalizers.roots(root).from_place(place);
-        let count = part.fill(buffer);
+        let before = part.places();
+        let count = part.fill(buffer, usize::MAX);
         for word in buffer.iter().take(count) {
             must_be(rt, whole.next(), Some(*word), "the next word");
         }
-        place = place.saturating_add(count);
+        place = place.saturating_add(before.saturating_sub(part.places()));
     }
     must_be(rt, whole.next(), None, "all words came");
 }
@@ -208,12 +214,12 @@ fn walks_from_places(rt: HostRuntime) {
         walks_by_parts(&rt, &finalizers, root, &mut seven);
         walks_by_parts(&rt, &finalizers, root, &mut all);
     }
-    let held = finalizers
+    let last = finalizers
         .entries()
         .from_place(3)
         .next()
         .map(|entry| entry.obj);
-    must_be(&rt, held, Some(48), "what is held comes last");
+    must_be(&rt, last, Some(8), "what came last comes last");
     let late = finalizers.iter().from_place(13).next().map(|late| late.0);
     must_be(&rt, late, Some(1), "the late ones come after the others");
     let none = finalizers.iter().from_place(20).next().map(|late| late.0);
@@ -266,7 +272,7 @@ fn round(rt: &impl Abort, finalizers: &mut Finalizers, late: &mut [Option<Entry>
 
 #[test]
 fn thousands_of_rounds_leave_as_much_as_one(rt: HostRuntime) {
-    let mut finalizers = Finalizers::new(rt.alloc());
+    let mut finalizers = Finalizers::new(rt.alloc()).expect(&rt, "memory");
     let mut late = [None; 5];
     for _ in 0..3_000 {
         round(&rt, &mut finalizers, &mut late);

@@ -12,8 +12,7 @@ use Rattle.fz_model.specs.State.{Map, Object}
 use Rattle.fz_model.specs.Memory.{points}
 use Rattle.fz_model.specs.Reachability.{Itself}
 use Rattle.fz_finalizers.specs.declared.roots.Root.TheVariants.{HeldObject}
-use Rattle.fz_finalizers.specs.States.{State}
-use Rattle.fz_finalizers.specs.Walks.{values_of}
+use Rattle.fz_finalizers.specs.States.{State, unfinished}
 use Rattle.own_heap.specs.declared.record.Record.{Record}
 use Rattle.own_heap.specs.Records.{start_of, objects_of}
 use Rattle.own_heap.specs.Sound.{IsSound}
@@ -37,26 +36,7 @@ mapped_within f [] x within = absurd (omega (arith, within.1))
 mapped_within f (y ∷ xs) x (zero, low, is) = (0, omega arith, ap f is)
 mapped_within f (y ∷ xs) x (suc k, low, is) = let rest = mapped_within f xs x (k, omega arith, is) in (suc rest.0, omega (arith, rest.1), rest.2)
 
-value_within : (es : List (ℕ × Entry)) (number : ℕ) (e : Entry) → finmap.find nat_cmp number es ≡ Some e → Contains (values_of es) e
-value_within [] number e is = absurd (none-some e is)
-value_within (x ∷ es) number e is = at (eq_by_cmp nat_cmp number x.0) (value_within es number e) is
-  where
-    at : (b : Bool) → (finmap.find nat_cmp number es ≡ Some e → Contains (values_of es) e) → cond b (Some x.1) (finmap.find nat_cmp number es) ≡ Some e → Contains (x.1 ∷ values_of es) e
-    at true further is = (0, omega arith, same_Some x.1 e is)
-    at false further is = let rest = further is in (suc rest.0, omega (arith, rest.1), rest.2)
-
 module _ (slots : List (Option Record)) (s : State) (sound : IsSound (objects_of slots) s) (old new : ℕ → Bool) (kept : MarksKept (objects_of slots) HeldObject s old new) where
-  entry_found : (e : Entry) → Contains kept.yielded.0 e → IsTrue (contains_key (objects_of slots) e.obj) → IsTrue (new e.obj)
-  entry_found e within here =
-      kept.marked.least e.obj (inr (e.obj, subst (λ ws. Contains ws e.obj) (sym kept.yielded.4) (mapped_within (λ (x : Entry). x.obj) kept.yielded.0 e within), (e.obj, object_points slots e.obj here, Itself)))
-
-  pub waiting_found : (e : Entry) → Contains s.waiting e → IsTrue (new e.obj)
-  waiting_found e within =
-      let are = kept.yielded.2 in
-      entry_found e (subst (λ es. Contains es e) (sym are.3) (Contains-append_left s.waiting (values_of are.0) e within)) (sound.waiting e within)
-
-  pub held_found : (number : ℕ) (e : Entry) → get s.held number ≡ Some e → IsTrue (new e.obj)
-  held_found number e is =
-      let are = kept.yielded.2 in
-      let found = sym (get-from_entries nat_cmp_total are.0 number) ∙ ap (λ (m : Map Entry). get m number) are.1 ∙ is in
-      entry_found e (subst (λ es. Contains es e) (sym are.3) (Contains-append_right s.waiting (values_of are.0) e (value_within are.0 number e found))) (sound.held number e is)
+  pub held_found : (e : Entry) → Contains (unfinished s) e → IsTrue (new e.obj)
+  held_found e here =
+      kept.marked.least e.obj (inr (e.obj, subst (λ ws. Contains ws e.obj) (sym kept.yielded.2) (mapped_within (λ (x : Entry). x.obj) (unfinished s) e here), (e.obj, object_points slots e.obj (sound.held e here), Itself)))

@@ -1,5 +1,5 @@
 -- What is registered stays there.
-use Rattle.std.proofs.Common.{◌≡◌, ℕ, ◌+◌, ◌<◌, length, set, get_or, Result, Ok, Err, OnOk, OnErr, MatchOption, get_or-set_same, get_or-set_other, ◌&&◌, not, Bool, true, false, cond, List, Option, Some, None, is_some, option_map, refl, sym, ap, ◌∙◌, subst, ⊎_elim, IsTrue, arith, ◌∷◌, [], Contains, ◌++◌, zero, suc}
+use Rattle.std.proofs.Common.{◌≡◌, ℕ, ◌+◌, ◌<◌, length, set, get_or, Result, Ok, Err, OnOk, OnErr, MatchOption, get_or-set_same, get_or-set_other, ◌&&◌, not, Bool, true, false, cond, List, Option, Some, None, is_some, option_map, refl, sym, ap, ◌∙◌, subst, ⊎_elim, IsTrue, arith, ◌∷◌, [], Contains, ◌++◌, ◌⊎◌, inr, append_assoc, drop, take, filter, slice_get, zero, suc}
 use Rattle.std.proofs.lemmas.Bool.{both_ways, cases_eq, and_parts, and_from}
 use Rattle.std.proofs.lemmas.Option.{same_Some, none-some}
 use Rattle.std.specs.Option.{option_map_or}
@@ -29,12 +29,17 @@ use Rattle.fz_model.specs.Pass.{is_dead}
 use Rattle.fz_model.proofs.Maps.{get-mapped, filling}
 use Rattle.fz_finalizers.specs.declared.kinds.Finalizer.{Finalizer}
 use Rattle.fz_finalizers.specs.Kinds.{is_late, table_finalizer}
-use Rattle.fz_finalizers.specs.States.{State, opening, links_of, with_links}
+use Rattle.fz_finalizers.specs.States.{State, opening, links_of, unfinished, waiting, with_links}
 use Rattle.fz_finalizers.specs.Follows.{Follows, Register, Link, Take, Finish, with_registration}
 use Rattle.fz_pass.specs.Late.{both, IsLast, ArePicksOf}
 use Rattle.fz_model.specs.declared.answers.Pick.{Pick}
 use Rattle.fz_model.specs.Pass.{entries_of, IsPicked}
-use Rattle.std.proofs.lemmas.List.Elements.{All-contains, Contains-append_cases}
+use Rattle.std.proofs.lemmas.List.Elements.{All-contains, Contains-append_cases, Contains-append_left, Contains-append_right}
+use Rattle.std.proofs.lemmas.List.{take-append-drop}
+use Rattle.fz_model.proofs.Lists as lists
+use Rattle.fz_model.proofs.Lists.{filter_at, contains_at}
+use Rattle.fz_model.specs.Events.{same_entry}
+use Rattle.fz_finalizers.proofs.Taking.{next_waits}
 use Rattle.fz_pass.proofs.Both.{in_first, in_second}
 
 -- the objects that stand in one map stand in the other
@@ -63,8 +68,7 @@ sound_kept old new s kept sound = record {
   late = λ a r is. kept a (sound.late a r is);
   short = λ link target is. kept target (sound.short link target is);
   long = λ link target is. kept target (sound.long link target is);
-  waiting = λ e within. kept e.obj (sound.waiting e within);
-  held = λ number e is. kept e.obj (sound.held number e is);
+  held = λ e here. kept e.obj (sound.held e here);
 }
 
 insert_keeps : (m : Map Object) (k : ℕ) (o : Object) → AreKept m (insert m k o)
@@ -108,8 +112,7 @@ sound_opening objects = record {
   late = λ a r is. absurd (none-some r (sym (get-empty nat_cmp a) ∙ is));
   short = λ a r is. absurd (none-some r (sym (get-empty nat_cmp a) ∙ is));
   long = λ a r is. absurd (none-some r (sym (get-empty nat_cmp a) ∙ is));
-  waiting = λ e within. absurd (omega (arith, within.1));
-  held = λ a r is. absurd (none-some r (sym (get-empty nat_cmp a) ∙ is));
+  held = λ e within. absurd (omega (arith, within.1));
 }
 
 with_registration_sound : (objects : Map Object) (s : State) (o : ℕ) (f : Finalizer) → IsTrue (contains_key objects o) → IsSound objects s → IsSound objects (with_registration s o f)
@@ -119,58 +122,66 @@ with_registration_sound objects s o f here sound = at (is_late f.kind)
     r = registration_of s.next_number (table_finalizer f)
 
     at : (late : Bool) → IsSound objects (cond late (record s { registrations = remove s.registrations o; late = insert s.late o r; next_number = s.next_number + 1 }) (record s { registrations = insert s.registrations o r; late = remove s.late o; next_number = s.next_number + 1 }))
-    at true = record { registered = registered_less objects s.registrations o sound.registered; late = registered_more objects s.late o r here sound.late; short = sound.short; long = sound.long; waiting = sound.waiting; held = sound.held }
-    at false = record { registered = registered_more objects s.registrations o r here sound.registered; late = registered_less objects s.late o sound.late; short = sound.short; long = sound.long; waiting = sound.waiting; held = sound.held }
+    at true = record { registered = registered_less objects s.registrations o sound.registered; late = registered_more objects s.late o r here sound.late; short = sound.short; long = sound.long; held = sound.held }
+    at false = record { registered = registered_more objects s.registrations o r here sound.registered; late = registered_less objects s.late o sound.late; short = sound.short; long = sound.long; held = sound.held }
 
 pub register_sound : {A E : Type 0} (objects : Map Object) (old new : State) (o : ℕ) (f : Finalizer) (r : Result A E) → OnErr r (new ≡ old) → OnOk r (Follows old (Register o f) new) → IsTrue (contains_key objects o) → IsSound objects old → IsSound objects new
 register_sound objects old new o f (Ok x) refused follows here sound = subst (IsSound objects) (sym follows) (with_registration_sound objects old o f here sound)
 register_sound objects old new o f (Err e) refused follows here sound = subst (IsSound objects) (sym refused) sound
 
 with_link_sound : (objects : Map Object) (s : State) (kind : LinkKind) (word target : ℕ) → IsTrue (contains_key objects target) → IsSound objects s → IsSound objects (with_links s kind (insert (links_of s kind) word target))
-with_link_sound objects s Short word target here sound = record { registered = sound.registered; late = sound.late; short = targets_more objects s.short word target here sound.short; long = sound.long; waiting = sound.waiting; held = sound.held }
-with_link_sound objects s Long word target here sound = record { registered = sound.registered; late = sound.late; short = sound.short; long = targets_more objects s.long word target here sound.long; waiting = sound.waiting; held = sound.held }
+with_link_sound objects s Short word target here sound = record { registered = sound.registered; late = sound.late; short = targets_more objects s.short word target here sound.short; long = sound.long; held = sound.held }
+with_link_sound objects s Long word target here sound = record { registered = sound.registered; late = sound.late; short = sound.short; long = targets_more objects s.long word target here sound.long; held = sound.held }
 
 pub link_sound : {A E : Type 0} (objects : Map Object) (old new : State) (kind : LinkKind) (word target : ℕ) (r : Result A E) → OnErr r (new ≡ old) → OnOk r (Follows old (Link kind word target) new) → IsTrue (contains_key objects target) → IsSound objects old → IsSound objects new
 link_sound objects old new kind word target (Ok x) refused follows here sound = subst (IsSound objects) (sym follows) (with_link_sound objects old kind word target here sound)
 link_sound objects old new kind word target (Err e) refused follows here sound = subst (IsSound objects) (sym refused) sound
 
-with_taken_sound : (objects : Map Object) (s : State) (entry : Entry) (rest : List Entry) → s.waiting ≡ entry ∷ rest → IsSound objects s → IsSound objects (record s { waiting = rest; held = insert s.held entry.seq entry })
-with_taken_sound objects s entry rest first sound = record {
+-- what is taken isn't finished, as before
+taken_unfinished : (s : State) (entry : Entry) → slice_get s.queue s.taken ≡ Some entry → unfinished s ≡ (s.held ++ entry ∷ []) ++ drop (s.taken + 1) s.queue
+taken_unfinished s entry at = ap (λ es. s.held ++ es) (next_waits s.queue s.taken entry at) ∙ sym (append_assoc s.held (entry ∷ []) (drop (s.taken + 1) s.queue))
+
+pub take_sound : (objects : Map Object) (old new : State) (r : Option Entry) → MatchOption r ((waiting old ≡ []) × (new ≡ old)) (λ entry. Follows old (Take entry) new) → IsSound objects old → IsSound objects new
+take_sound objects old new None same sound = subst (IsSound objects) (sym same.1) sound
+take_sound objects old new (Some entry) follows sound = subst (IsSound objects) (sym follows.1) (record {
   registered = sound.registered;
   late = sound.late;
   short = sound.short;
   long = sound.long;
-  waiting = λ e within. sound.waiting e (subst (λ es. Contains es e) (sym first) (suc within.0, omega (arith, within.1), within.2));
-  held = λ number e is.
-      ⊎_elim
-      (λ (same : number ≡ entry.seq).
-      let it = same_Some entry e (sym (get-insert_same s.held entry.seq entry) ∙ ap (get (insert s.held entry.seq entry)) (sym same) ∙ is) in
-      subst (λ (x : Entry). IsTrue (contains_key objects x.obj)) it (sound.waiting entry (subst (λ es. Contains es entry) (sym first) (0, omega arith, refl))))
-      (λ far. sound.held number e (sym (get-insert_other s.held entry.seq entry number far) ∙ is))
-      (cases_eq number entry.seq);
-}
+  held = λ e here. sound.held e (subst (λ es. Contains es e) (sym (taken_unfinished old entry follows.0)) here);
+})
 
-pub take_sound : (objects : Map Object) (old new : State) (r : Option Entry) → MatchOption r ((old.waiting ≡ []) × (new ≡ old)) (λ entry. Follows old (Take entry) new) → IsSound objects old → IsSound objects new
-take_sound objects old new None same sound = subst (IsSound objects) (sym same.1) sound
-take_sound objects old new (Some entry) follows sound = subst (IsSound objects) (sym follows.1) (with_taken_sound objects old entry new.waiting follows.0 sound)
-
-with_finished_sound : (objects : Map Object) (s : State) (entry : Entry) → IsSound objects s → IsSound objects (record s { held = remove s.held entry.seq })
+with_finished_sound : (objects : Map Object) (s : State) (entry : Entry) → IsSound objects s → IsSound objects (record s { held = filter (λ h. not (same_entry entry h)) s.held })
 with_finished_sound objects s entry sound = record {
   registered = sound.registered;
   late = sound.late;
   short = sound.short;
   long = sound.long;
-  waiting = sound.waiting;
-  held = λ number e is.
-      ⊎_elim (λ same. absurd (none-some e (sym (get-remove_same s.held entry.seq) ∙ ap (get (remove s.held entry.seq)) (sym same) ∙ is)))
-      (λ far. sound.held number e (sym (get-remove_other s.held entry.seq number far) ∙ is)) (cases_eq number entry.seq);
+  held = λ e here.
+      ⊎_elim
+      (λ (left : Contains (filter stays s.held) e).
+      let found = lists.place_of (filter stays s.held) e left in
+      let kept = filter_at stays s.held found.0 e found.1 in
+      sound.held e (Contains-append_left s.held (drop s.taken s.queue) e (contains_at s.held kept.0 e kept.1)))
+      (λ (waits : Contains (drop s.taken s.queue) e). sound.held e (Contains-append_right s.held (drop s.taken s.queue) e waits))
+      (Contains-append_cases (filter stays s.held) (drop s.taken s.queue) e here);
 }
+  where
+    stays : Entry → Bool
+    stays h = not (same_entry entry h)
 
 pub finish_sound : {A E : Type 0} (objects : Map Object) (old new : State) (entry : Entry) (r : Result A E) → OnErr r (new ≡ old) → OnOk r (Follows old (Finish entry) new) → IsSound objects old → IsSound objects new
 finish_sound objects old new entry (Ok x) refused follows sound = subst (IsSound objects) (sym follows.1) (with_finished_sound objects old entry sound)
 finish_sound objects old new entry (Err e) refused follows sound = subst (IsSound objects) (sym refused) sound
 
 -- ---- a pass
+
+-- what stands behind a place of two lists
+drop_cases : (n : ℕ) (xs ys : List Entry) (e : Entry) → Contains (drop n (xs ++ ys)) e → Contains (drop n xs) e ⊎ Contains ys e
+drop_cases zero xs ys e here = Contains-append_cases xs ys e here
+drop_cases (suc n) [] ys e here =
+    inr (subst (λ es. Contains es e) (take-append-drop (suc n) ys) (Contains-append_right (take (suc n) ys) (drop (suc n) ys) e here))
+drop_cases (suc n) (x ∷ xs) ys e here = drop_cases n xs ys e here
 
 entries_have : (pass seq : ℕ) (ps : List Pick) (e : Entry) → Contains (entries_of pass seq ps) e → (p : Pick) × Contains ps p × (p.obj ≡ e.obj)
 entries_have pass seq [] e within = absurd (omega (arith, within.1))
@@ -249,15 +260,21 @@ module _ (E : Type 0) (pass first : ℕ) (old : Parts) (found : ℕ → Bool) (n
       let here = ap is_some picked.here in
       kept_stands p.obj (registered_kept p.obj picked.registration picked.unreachable.registered here) here
 
-  -- what waits then stands, where what waited was found
-  pub passed_waiting : ((e : Entry) → Contains queue e → IsTrue (found e.obj) × IsTrue (contains_key old.objects e.obj)) → (e : Entry) → Contains new_queue e → IsTrue (contains_key new.objects e.obj)
-  passed_waiting all e within =
-      ⊎_elim (λ before. let was = all e before in kept_stands e.obj (found_kept e.obj was.0) was.1)
-      (λ came.
+  -- what came stands
+  came_stands : (e : Entry) → Contains (entries_of pass first (d.picks ++ d.late)) e → IsTrue (contains_key new.objects e.obj)
+  came_stands e came =
       let from = entries_have pass first (d.picks ++ d.late) e came in
       subst (λ a. IsTrue (contains_key new.objects a)) from.2
-      (⊎_elim (picked_kept old.registrations (λ _. Unit {0}) d.picks d.picked from.0) (picked_kept old.late (IsLast old found) d.late d.came_late from.0) (Contains-append_cases d.picks d.late from.0 from.1)))
-      (Contains-append_cases queue (entries_of pass first (d.picks ++ d.late)) e (subst (λ es. Contains es e) d.queued within))
+      (⊎_elim (picked_kept old.registrations (λ _. Unit {0}) d.picks d.picked from.0) (picked_kept old.late (IsLast old found) d.late d.came_late from.0) (Contains-append_cases d.picks d.late from.0 from.1))
 
-  pub passed_held : (held : Map Entry) → ((number : ℕ) (e : Entry) → get held number ≡ Some e → IsTrue (found e.obj) × IsTrue (contains_key old.objects e.obj)) → (number : ℕ) (e : Entry) → get held number ≡ Some e → IsTrue (contains_key new.objects e.obj)
-  passed_held held all number e is = let was = all number e is in kept_stands e.obj (found_kept e.obj was.0) was.1
+  -- what isn't finished stands then, where what wasn't before was found
+  pub passed_held : (s t : State) → queue ≡ s.queue → t.queue ≡ new_queue → t.taken ≡ s.taken → t.held ≡ s.held → ((e : Entry) → Contains (unfinished s) e → IsTrue (found e.obj) × IsTrue (contains_key old.objects e.obj)) → (e : Entry) → Contains (unfinished t) e → IsTrue (contains_key new.objects e.obj)
+  passed_held s t was is taken held all e here =
+      let come = entries_of pass first (d.picks ++ d.late) in
+      let grown : unfinished t ≡ s.held ++ drop s.taken (s.queue ++ come) = (λ i. held i ++ drop (taken i) ((is ∙ d.queued ∙ ap (λ es. es ++ come) was) i)) in
+      let stood = λ (old_one : Contains (unfinished s) e). let found_it = all e old_one in kept_stands e.obj (found_kept e.obj found_it.0) found_it.1 in
+      ⊎_elim
+      (λ (h : Contains s.held e). stood (Contains-append_left s.held (drop s.taken s.queue) e h))
+      (λ (w : Contains (drop s.taken (s.queue ++ come)) e).
+      ⊎_elim (λ (before : Contains (drop s.taken s.queue) e). stood (Contains-append_right s.held (drop s.taken s.queue) e before)) (came_stands e) (drop_cases s.taken s.queue come e w))
+      (Contains-append_cases s.held (drop s.taken (s.queue ++ come)) e (subst (λ es. Contains es e) grown here))

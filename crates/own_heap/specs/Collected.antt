@@ -1,6 +1,6 @@
 -- What a collection does.
 -- code: own_heap/src/runtime.rt (collect)
-use Rattle.std.specs.Prelude.{ℕ, Bool, false, List, Contains}
+use Rattle.std.specs.Prelude.{ℕ, Bool, false, List, length, Contains}
 use Rattle.fz_model.specs.State.{Map, Object}
 use Rattle.fz_pass.specs.Marks.{Marks}
 use Rattle.fz_pass.specs.Late.{DecidesLate}
@@ -33,4 +33,4 @@ pub record Collects (objects : Map Object) (roots : List RecordId) (old : State)
   pub by_objects : MarksKept objects HeldObject old rooted held
   pub by_data : MarksKept objects HeldData old held handed
   pub by_registered : MarksKept objects RegisteredData old handed found
-  pub decided : DecidesLate (Unit {0}) (next_pass old.passes) old.queued (parts_in objects old) found (parts_in left new) old.waiting new.waiting
+  pub decided : DecidesLate (Unit {0}) (next_pass old.passes) (length old.queue) (parts_in objects old) found (parts_in left new) old.queue new.queue

@@ -1,20 +1,19 @@
 -- Registered addresses, the targets of links and the objects of unfinished entries are addresses of existing records.
 -- code: own_heap/src/runtime.rt
-use Rattle.std.specs.Prelude.{◌≡◌, ℕ, Some, Contains, IsTrue}
-use Rattle.std.specs.FinMap.{get, contains_key}
+use Rattle.std.specs.Prelude.{Contains, IsTrue}
+use Rattle.std.specs.FinMap.{contains_key}
 use Rattle.fz_model.specs.declared.answers.Entry.{Entry}
 use Rattle.fz_model.specs.State.{Map, Object}
 use Rattle.fz_pass.specs.Marks.{AreRegistered, AreTargets}
-use Rattle.fz_finalizers.specs.States.{State}
+use Rattle.fz_finalizers.specs.States.{State, unfinished}
 
--- the objects of the entries that were taken and aren't finished exist
+-- the objects of the entries that aren't finished exist, whether they wait or were taken
 abbrev pub HeldStand : Map Object → State → Type 0
-HeldStand objects s = (number : ℕ) (e : Entry) → get s.held number ≡ Some e → IsTrue (contains_key objects e.obj)
+HeldStand objects s = (e : Entry) → Contains (unfinished s) e → IsTrue (contains_key objects e.obj)
 
 pub record IsSound (objects : Map Object) (s : State) : Type 0 where
   pub registered : AreRegistered objects s.registrations
   pub late : AreRegistered objects s.late
   pub short : AreTargets objects s.short
   pub long : AreTargets objects s.long
-  pub waiting : (e : Entry) → Contains s.waiting e → IsTrue (contains_key objects e.obj)
   pub held : HeldStand objects s

@@ -44,7 +44,7 @@ impl Runtime {
     {
         Ok(Runtime {
             heap: Heap::new(alloc, size)?,
-            finalizers: Finalizers::new(alloc),
+            finalizers: Finalizers::new(alloc).map_err(|_| AllocError)?,
         })
     }
 

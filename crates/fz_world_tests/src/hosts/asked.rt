@@ -116,7 +116,7 @@ pub(crate) struct Asked {
 }
 
 impl Asked {
-    pub(crate) fn new(alloc: Global) -> Asked {
+    pub(crate) fn new(rt: &impl Abort, alloc: Global) -> Asked {
         Asked {
             graph: Graph {
                 words: [[0; FIELDS]; OBJECTS],
@@ -124,7 +124,7 @@ impl Asked {
                 roots: [false; OBJECTS],
                 gone: [false; OBJECTS],
             },
-            machine: Machine::new(alloc),
+            machine: Machine::new(alloc).expect(rt, "memory"),
         }
     }
 
@@ -238,7 +238,7 @@ fn answers_of(graph: &mut Graph, question: &Question) -> [bool; BATCH] {
 
 #[test]
 fn a_pass_that_is_open_takes_answers_alone(rt: HostRuntime) {
-    let mut asked = Asked::new(rt.alloc());
+    let mut asked = Asked::new(&rt, rt.alloc());
     asked.machine.begin().expect(&rt, "a pass");
     must_be(&rt, asked.machine.is_open(), true, "it is open");
     must_be(&rt, asked.machine.begin().is_err(), true, "no other opens");
@@ -280,7 +280,7 @@ fn take_of(rt: &impl Abort, machine: &mut Machine, object: u64) {
 
 /// Forty objects, one in four of kind unreachable, are queued in turn, whatever number of answers comes at a time.
 fn forty_are_picked(rt: &impl Abort, alloc: Global, answers: &[bool]) {
-    let mut machine = Machine::new(alloc);
+    let mut machine = Machine::new(alloc).expect(rt, "memory");
     for object in 1..=40 {
         let finalizer = Finalizer {
             kind: if object % 4 == 0 {
@@ -316,7 +316,7 @@ fn lists_are_longer_than_questions(rt: HostRuntime) {
 
 /// Twenty objects, whose pass is abandoned after this many questions: what it has queued waits, and the next pass queues the others.
 fn twenty_are_picked_by_two_passes(rt: &impl Abort, alloc: Global, questions: u64) {
-    let mut machine = Machine::new(alloc);
+    let mut machine = Machine::new(alloc).expect(rt, "memory");
     for object in 1..=20 {
         let finalizer = Finalizer {
             kind: Kind::Normal,

@@ -52,7 +52,7 @@ fn objects(rt: &impl Abort, alloc: Global) -> All {
     let mut all = All {
         world: World::open(alloc, config).expect(rt, "a world"),
         runtime: Runtime::new(alloc, OBJECTS as u32).expect(rt, "a runtime"),
-        asked: Asked::new(alloc),
+        asked: Asked::new(rt, alloc),
         starts: Vec::new(alloc),
         ids: Vec::new(alloc),
     };

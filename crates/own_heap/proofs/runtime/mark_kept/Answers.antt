@@ -1,4 +1,5 @@
-use Rattle.std.proofs.Common.{◌≡◌, ◌++◌, ◌∷◌, [], ◌∙◌, refl, sym, subst}
+use Rattle.std.proofs.Common.{◌≡◌, ◌++◌, ◌∷◌, [], ◌∙◌, refl, sym, ap, subst}
+use Rattle.fz_finalizers.specs.Walks.{somes}
 use Rattle.fz_pass.specs.Marks.{IsClosed, Marks}
 use Rattle.fz_pass.proofs.Walking.{one_on, all_of}
 use Rattle.own_heap.specs.declared.records.Records.{Records}
@@ -28,12 +29,12 @@ loop-word-preserved c =
       roots = c.mark_word.ensures.rest.1 ∙ inv.roots;
       births = c.mark_word.ensures.rest.2 ∙ inv.births;
       marked = marks_on (IsLedByAny objects (c.loop-word.yielded ++ word ∷ [])) inv.marked led (led_by_more objects c.loop-word.yielded word);
-      rest = one_on c.loop-word.yielded c.loop-word.word-iterator _ c.next.new.self word inv.rest c.in-Some.ensures.steps;
+      rest = one_on c.loop-word.yielded (somes c.loop-word.word-iterator) _ (somes c.next.new.self) word inv.rest c.in-Some.ensures.steps;
     }
 
 pub returns-clause-marked : goal.returns-clause-marked
 returns-clause-marked c =
     let objects = objects_of c.args.heap.now.records.slots.items in
-    let words = c.roots-word-items.result in
-    let all : c.loop-word.yielded ≡ words = all_of c.loop-word.yielded _ words (c.loop-word.invariant.rest ∙ c.into_iter-word-iterator.ensures.into_iter_gives) c.in-None.ensures.steps.0 in
+    let words = somes c.roots-word-items.result in
+    let all : c.loop-word.yielded ≡ words = all_of c.loop-word.yielded _ words (c.loop-word.invariant.rest ∙ ap somes c.into_iter-word-iterator.ensures.into_iter_gives) c.in-None.ensures.steps.0 in
     record { words = words; yielded = c.roots-word-items.ensures.sort; marked = subst (λ ws. Marks (Unit {0}) objects (is_marked c.args.heap.now.marks) (is_marked c.loop-word.heap.marks) (IsLedByAny objects ws)) all c.loop-word.invariant.marked }

@@ -1,5 +1,6 @@
 use Rattle.std.proofs.Common.{◌≡◌, ◌++◌}
 use Rattle.fz_pass.specs.Marks.{Marks}
+use Rattle.fz_finalizers.specs.Walks.{somes}
 use Rattle.own_heap.specs.Records.{objects_of}
 use Rattle.own_heap.specs.Marking.{is_marked}
 use Rattle.own_heap.specs.Collected.{IsLedByAny}
@@ -12,5 +13,5 @@ invariant-loop-word l = record {
   roots : l.heap.roots ≡ l.initial.heap.roots;
   births : l.heap.births ≡ l.initial.heap.births;
   marked : Marks (Unit {0}) (objects_of l.initial.heap.records.slots.items) (is_marked l.initial.heap.marks) (is_marked l.heap.marks) (IsLedByAny (objects_of l.initial.heap.records.slots.items) l.yielded);
-  rest : l.yielded ++ l.word-iterator ≡ l.initial.word-iterator;
+  rest : l.yielded ++ somes l.word-iterator ≡ somes l.initial.word-iterator;
 }

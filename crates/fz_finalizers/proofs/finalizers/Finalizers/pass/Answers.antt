@@ -5,9 +5,9 @@ use Rattle.fz_pass.specs.Late.{Parts}
 use Rattle.fz_table.specs.Registered.{Registered}
 use Rattle.fz_finalizers.specs.Fits.{state_of}
 use Rattle.fz_finalizers.specs.Follows.{Queues, next_pass}
-use Rattle.fz_finalizers.specs.States.{View}
+use Rattle.fz_finalizers.specs.States.{State, View}
 use Rattle.fz_finalizers.proofs.Counting.{len_within}
-use Rattle.fz_finalizers.proofs.Fitting.{queued_fits}
+use Rattle.fz_finalizers.proofs.Fitting.{queued_fits, roomier_fits}
 use Rattle.fz_finalizers.proofs.Following.{decided_queues}
 use Rattle.fz_finalizers.proofs.finalizers.Finalizers.pass.Goals as goal
 
@@ -24,7 +24,7 @@ invariant_of-self g c =
     let moves = c.self.invariant.1 in
     let old_short = c.self.inside.short.links in
     let old_long = c.self.inside.long.links in (
-      queued_fits c.self.inside.table.registered c.self.inside.late.registered c.self.inside.ready c.self.invariant.0 c.pass.new.table.registered c.pass.new.late.registered c.pass.new.self e.table e.late
+      queued_fits c.self.inside.table.registered c.self.inside.late.registered c.forget.new.self (roomier_fits c.self.inside.table.registered c.self.inside.late.registered c.self.inside.ready c.self.invariant.0 c.forget.new.self c.forget.ensures.same c.forget.ensures.room) c.pass.new.table.registered c.pass.new.late.registered c.pass.new.self e.table e.late
           (λ a r here. left_back c.self.inside.table.registrations decided.picks a r (sym (ap (λ (p : Parts). get p.registrations a) decided.is) ∙ here))
           (λ a r here. left_back c.self.inside.late.registrations decided.late a r (sym (ap (λ (p : Parts). get p.late a) decided.is) ∙ here))
           e.count e.room,
@@ -39,9 +39,10 @@ pub returns-clause-follows : goal.returns-clause-follows
 returns-clause-follows g c =
     let e = c.pass.ensures in
     let new = state_of c.pass.new.table c.pass.new.late c.pass.new.short c.pass.new.long c.pass.new.self c.saturating_add-pass.result in
-    let old = state_of c.self.inside.table c.self.inside.late c.self.inside.short c.self.inside.long c.self.inside.ready c.self.inside.passes in
+    let old = state_of c.self.inside.table c.self.inside.late c.self.inside.short c.self.inside.long c.forget.new.self c.self.inside.passes in
+    let same = (λ i. record old { queue = c.forget.ensures.same.0 i; taken = c.forget.ensures.same.1 i; held = c.forget.ensures.same.2 i }) ∙ ap (λ (v : View). v.state) c.self.view_is in
     let queues =
-    decided_queues g.H.Host.is_exact c.saturating_add-pass.result (g.H.Host.objects c.args.host.now) _ (g.H.Host.marked c.args.host.now) old new c.self.invariant.0.apart e.decided e.queued e.held
+    decided_queues g.H.Host.is_exact c.saturating_add-pass.result (g.H.Host.objects c.args.host.now) _ (g.H.Host.marked c.args.host.now) old new c.self.invariant.0.apart e.decided e.taken e.held
     (ap (λ (t : Registered). t.next_number) e.table) in
     let number = c.saturating_add-pass.ensures ∙ ap (λ (v : View). next_pass v.passes) c.self.view_is in
-    (subst (λ (v : View). Queues (next_pass v.passes) v.state new) c.self.view_is (subst (λ n. Queues n old new) c.saturating_add-pass.ensures queues), number)
+    (subst (λ (s : State). Queues (next_pass s.passes) s new) same (subst (λ n. Queues n old new) c.saturating_add-pass.ensures queues), number)

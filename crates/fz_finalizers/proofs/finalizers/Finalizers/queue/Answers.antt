@@ -1,4 +1,4 @@
-use Rattle.std.proofs.Common.{◌∙◌, sym, ap}
+use Rattle.std.proofs.Common.{◌∙◌, length, length-append, sym, ap}
 use Rattle.std.specs.Option.{option_or}
 use Rattle.fz_finalizers.specs.Fits.{state_of}
 use Rattle.fz_finalizers.specs.Follows.{queued_object}
@@ -26,6 +26,6 @@ push-requires-clause-room c =
 pub invariant_of-self-2 : goal.invariant_of-self-2
 invariant_of-self-2 c =
     let here = (λ i. option_or (sym c.take-first.ensures.answer i) (sym c.take_late-late.ensures.answer i)) ∙ sym c.or.ensures ∙ c.in-Some.is in (
-      taken_fits c.self.inside.table.registered c.self.inside.late.registered c.self.inside.ready c.self.invariant.0 c.args.object c.in-Some.registration here _ _ c.push.new.self c.take-first.ensures.removed c.take_late-late.ensures.removed c.push.ensures.queued c.push.ensures.room,
+      taken_fits c.self.inside.table.registered c.self.inside.late.registered c.self.inside.ready c.self.invariant.0 c.args.object c.in-Some.registration here _ _ c.push.new.self c.take-first.ensures.removed c.take_late-late.ensures.removed (ap length c.push.ensures.queue ∙ length-append c.self.inside.ready.queue _) c.push.ensures.room,
       c.self.invariant.1,
     )

@@ -19,5 +19,5 @@ returns-clause-follows c =
     let old = state_of c.self.inside.table c.self.inside.late c.self.inside.short c.self.inside.long c.self.inside.ready c.self.inside.passes in
     let none = ap (λ (t : Registered). t.registrations) e.table in
     let none_late = ap (λ (t : Registered). t.registrations) e.late in
-    let queues = all_queues old new e.queued e.grown none none_late e.held (ap (λ (t : Registered). t.next_number) e.table) in
+    let queues = all_queues old new e.queued none none_late e.taken e.held (ap (λ (t : Registered). t.next_number) e.table) in
     (subst (λ (v : View). Queues 0 v.state new) c.self.view_is queues, none, none_late, ap (λ (v : View). v.short) c.self.view_is, ap (λ (v : View). v.long) c.self.view_is, ap (λ (v : View). v.passes) c.self.view_is)

@@ -1,9 +1,12 @@
-use Rattle.std.proofs.Common.{◌≡◌}
+use Rattle.std.proofs.Common.{◌≡◌, ◌≤◌}
+use Rattle.fz_finalizers.specs.Walks.{IsRest, somes}
 use Rattle.fz_finalizers.proofs.Filled.{IsFilled}
 use Rattle.fz_finalizers.proofs.roots.Roots.fill.Given as goal
 
 abbrev pub invariant-loop-place : goal.invariant-loop-place
 invariant-loop-place l = record {
   counted : l.filled ≡ l.place-index;
-  filled : IsFilled l.place-index l.fn.self l.self l.buffer;
+  filled : IsFilled l.place-index (somes l.fn.self) (somes l.self) l.buffer;
+  rest : IsRest l.fn.self l.self;
+  few : l.filled ≤ l.most;
 }

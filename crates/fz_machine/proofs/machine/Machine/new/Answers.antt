@@ -5,4 +5,4 @@ use Rattle.fz_machine.proofs.Rooms.{opened}
 use Rattle.fz_machine.proofs.machine.Machine.new.Goals as goal
 
 pub invariant_of-result : goal.invariant_of-result
-invariant_of-result c = subst (λ (s : State). HasRoom s c.new-2.result.room) (sym c.new.ensures) (opened c.new-2.result.room)
+invariant_of-result c = subst (λ (s : State). HasRoom s c.new-2.result.room) (sym c.in_ok-finalizers.ensures.opened) (opened c.new-2.result.room)

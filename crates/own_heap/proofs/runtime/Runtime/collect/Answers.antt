@@ -1,4 +1,4 @@
-use Rattle.std.proofs.Common.{◌∙◌, ℕ, sym, ap, subst, inl, IsTrue}
+use Rattle.std.proofs.Common.{◌∙◌, ℕ, length, refl, sym, ap, subst, inl, IsTrue}
 use Rattle.fz_model.specs.State.{Map, Object}
 use Rattle.fz_pass.specs.Marks.{IsClosed}
 use Rattle.fz_pass.specs.Late.{DecidesLate}
@@ -11,10 +11,8 @@ use Rattle.own_heap.specs.Marking.{is_marked}
 use Rattle.own_heap.specs.Sound.{IsSound}
 use Rattle.own_heap.specs.Collected.{MarksKept}
 use Rattle.own_heap.proofs.Collected.{zero_nowhere}
-use Rattle.own_heap.proofs.Keeping.{passed_registered, passed_late, passed_short, passed_long, passed_waiting, passed_held}
-use Rattle.own_heap.proofs.Holding.{waiting_found, held_found}
-use Rattle.fz_model.specs.declared.answers.Entry.{Entry}
-use Rattle.std.specs.FinMap.{get}
+use Rattle.own_heap.proofs.Keeping.{passed_registered, passed_late, passed_short, passed_long, passed_held}
+use Rattle.own_heap.proofs.Holding.{held_found}
 use Rattle.own_heap.proofs.runtime.Runtime.collect.Goals as goal
 
 pub mark_kept-requires : goal.mark_kept-requires
@@ -48,17 +46,15 @@ invariant_of-self c =
     let last = c.mark_kept-3.ensures.rest.0 ∙ third in
     let by_objects = subst (λ (r : Records). MarksKept (objects_of r.slots.items) HeldObject state (is_marked c.mark_roots.new.self.marks) (is_marked c.mark_kept.new.heap.marks)) first c.mark_kept.ensures.marked in
     let still = λ (a : ℕ) (h : IsTrue (is_marked c.mark_kept.new.heap.marks a)). c.mark_kept-3.ensures.marked.marked.least a (inl (c.mark_kept-2.ensures.marked.marked.least a (inl h))) in
-    let d = subst (λ (r : Records). DecidesLate (Unit {0}) (next_pass state.passes) state.queued (parts_in (objects_of r.slots.items) state) (is_marked c.mark_kept-3.new.heap.marks) (parts_left_in (objects_of c.pass-passed.new.host.records.slots.items) (is_marked c.pass-passed.new.host.marks) c.pass-passed.new.self.state) state.waiting c.pass-passed.new.self.state.waiting) last c.pass-passed.ensures.decided in
+    let d = subst (λ (r : Records). DecidesLate (Unit {0}) (next_pass state.passes) (length state.queue) (parts_in (objects_of r.slots.items) state) (is_marked c.mark_kept-3.new.heap.marks) (parts_left_in (objects_of c.pass-passed.new.host.records.slots.items) (is_marked c.pass-passed.new.host.marks) c.pass-passed.new.self.state) state.queue c.pass-passed.new.self.state.queue) last c.pass-passed.ensures.decided in
     record {
       sound = subst (λ m. IsSound m c.pass-passed.new.self.state) (sym c.sweep.ensures.objects) (record {
         registered = passed_registered _ _ _ _ _ _ _ _ d old.sound.registered;
         late = passed_late _ _ _ _ _ _ _ _ d old.sound.late;
         short = passed_short _ _ _ _ _ _ _ _ d old.sound.short;
         long = passed_long _ _ _ _ _ _ _ _ d old.sound.long;
-        waiting = passed_waiting _ _ _ _ _ _ _ _ d (λ e within. (still e.obj (waiting_found slots state old.sound _ _ by_objects e within), old.sound.waiting e within));
-        held = λ number e is.
-            let was = ap (λ (m : Map Entry). get m number) (sym c.pass-passed.ensures.follows.0.held) ∙ is in
-            passed_held _ _ _ _ _ _ _ _ d state.held (λ n x here. (still x.obj (held_found slots state old.sound _ _ by_objects n x here), old.sound.held n x here)) number e was;
+        held = let queues = c.pass-passed.ensures.follows.0 in
+            passed_held _ _ _ _ _ _ _ _ d state c.pass-passed.new.self.state refl refl queues.taken queues.held (λ e here. (still e.obj (held_found slots state old.sound _ _ by_objects e here), old.sound.held e here));
       });
     }
 
@@ -80,8 +76,8 @@ returns-clause-collected c =
       by_objects = subst (λ (r : Records). MarksKept (objects_of r.slots.items) HeldObject state (is_marked c.mark_roots.new.self.marks) (is_marked c.mark_kept.new.heap.marks)) first c.mark_kept.ensures.marked;
       by_data = subst (λ (r : Records). MarksKept (objects_of r.slots.items) HeldData state (is_marked c.mark_kept.new.heap.marks) (is_marked c.mark_kept-2.new.heap.marks)) second c.mark_kept-2.ensures.marked;
       by_registered = subst (λ (r : Records). MarksKept (objects_of r.slots.items) RegisteredData state (is_marked c.mark_kept-2.new.heap.marks) (is_marked c.mark_kept-3.new.heap.marks)) third c.mark_kept-3.ensures.marked;
-      decided = subst (λ (left : Map Object). DecidesLate (Unit {0}) (next_pass state.passes) state.queued (parts_in (objects_of old.heap.records.slots.items) state) (is_marked c.mark_kept-3.new.heap.marks) (parts_in left new.state) state.waiting new.waiting)
+      decided = subst (λ (left : Map Object). DecidesLate (Unit {0}) (next_pass state.passes) (length state.queue) (parts_in (objects_of old.heap.records.slots.items) state) (is_marked c.mark_kept-3.new.heap.marks) (parts_in left new.state) state.queue new.queue)
           (sym c.sweep.ensures.objects)
-          (subst (λ (r : Records). DecidesLate (Unit {0}) (next_pass state.passes) state.queued (parts_in (objects_of r.slots.items) state) (is_marked c.mark_kept-3.new.heap.marks) (parts_left_in (objects_of c.pass-passed.new.host.records.slots.items) (is_marked c.pass-passed.new.host.marks) new.state) state.waiting new.waiting)
+          (subst (λ (r : Records). DecidesLate (Unit {0}) (next_pass state.passes) (length state.queue) (parts_in (objects_of r.slots.items) state) (is_marked c.mark_kept-3.new.heap.marks) (parts_left_in (objects_of c.pass-passed.new.host.records.slots.items) (is_marked c.pass-passed.new.host.marks) new.state) state.queue new.queue)
           last c.pass-passed.ensures.decided);
     }

@@ -1,0 +1,12 @@
+use Rattle.std.proofs.Common.{◌≡◌, ◌≤◌, ◌<◌, ◌+◌, ◌-◌, ◌++◌, [], ◌∷◌, ℕ, List, Some, drop, length, refl, sym, ap, ◌∙◌, subst, arith}
+use Rattle.std.proofs.lemmas.List.{length-drop}
+use Rattle.fz_finalizers.specs.Ready.{Ready, IsTaken, held_of}
+use Rattle.fz_finalizers.specs.Queue.{Queue}
+use Rattle.fz_finalizers.proofs.Taking.{gains, held_still}
+use Rattle.fz_finalizers.proofs.ready.Ready.pass.Goals as goal
+
+pub invariant_of-self : goal.invariant_of-self
+invariant_of-self g c = gains c.self.inside.queue _ c.self.inside.taken c.self.invariant c.args.number _ c.pass.ensures.gained.1
+
+pub returns-clause-held : goal.returns-clause-held
+returns-clause-held g c = held_still c.self.inside.queue _ c.self.inside.taken c.self.invariant c.args.number _ c.pass.ensures.gained.1 ∙ ap (λ (r : Ready). r.held) c.self.view_is

@@ -1,0 +1,18 @@
+use Rattle.std.proofs.Common.{◌≡◌, ◌≤◌, ◌<◌, ◌+◌, ◌-◌, ◌++◌, [], ◌∷◌, ℕ, List, Some, slice_get, drop, length, refl, sym, ap, ◌∙◌, subst, arith}
+use Rattle.std.proofs.lemmas.List.{length-drop}
+use Rattle.fz_finalizers.specs.Ready.{Ready, IsTaken, held_of}
+use Rattle.fz_finalizers.specs.Queue.{Queue}
+use Rattle.fz_finalizers.proofs.Taking.{takes, held_taken}
+use Rattle.fz_finalizers.proofs.ready.Ready.take.Goals as goal
+
+pub invariant_of-self : goal.invariant_of-self
+invariant_of-self c = takes c.self.inside.queue c.self.inside.taken c.self.invariant c.in_ok-entry.entry (sym (c.in_ok-entry.ensures c.self.invariant.window))
+
+pub returns-clause-takes : goal.returns-clause-takes
+returns-clause-takes c =
+    let at = sym (c.in_ok-entry.ensures c.self.invariant.window) in (
+      subst (λ (r : Ready). slice_get r.queue r.taken ≡ Some c.in_ok-entry.entry) c.self.view_is at,
+      ap (λ (r : Ready). r.queue) c.self.view_is,
+      ap (λ (r : Ready). r.taken + 1) c.self.view_is,
+      held_taken c.self.inside.queue c.self.inside.taken c.self.invariant c.in_ok-entry.entry at ∙ ap (λ (r : Ready). r.held ++ c.in_ok-entry.entry ∷ []) c.self.view_is,
+    )
