@@ -71,12 +71,12 @@ COST cost_walking_links(void)
 
 COST cost_walking_roots(void)
 {
-    uint64_t from = 0, some[PART * 8];
+    uint64_t from = 0, all = 0, some[PART * 8];
     size_t count;
 
     while (derrimas_finalizers_roots(&finalizers, DERRIMAS_FINALIZERS_REGISTERED_DATA, &from, some, PART * 8, &count) == DERRIMAS_FINALIZERS_OK)
-        continue;
-    wrong += from != size;
+        all += count;
+    wrong += all != size;
 }
 
 /* As many moves as there are links, to words that are new. */
