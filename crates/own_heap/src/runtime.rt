@@ -42,10 +42,11 @@ impl Runtime {
         ensures roots { IfOk result (λ r. r.heap.roots.items ≡ []) }
         ensures finalizers { IfOk result (λ r. r.finalizers.state ≡ opening) }
     {
-        Ok(Runtime {
-            heap: Heap::new(alloc, size)?,
-            finalizers: Finalizers::new(alloc).map_err(|_| AllocError)?,
-        })
+        let heap = Heap::new(alloc, size)?;
+        let Ok(finalizers) = Finalizers::new(alloc) else {
+            return Err(AllocError);
+        };
+        Ok(Runtime { heap, finalizers })
     }
 
     /// The heap.

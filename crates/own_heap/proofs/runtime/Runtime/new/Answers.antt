@@ -6,5 +6,5 @@ use Rattle.own_heap.proofs.runtime.Runtime.new.Goals as goal
 
 pub invariant_of-result : goal.invariant_of-result
 invariant_of-result c =
-    let objects = objects_of c.in_ok-new.field-0.records.slots.items in
-    record { sound = subst (IsSound objects) (sym c.new-2.ensures) (sound_opening objects) }
+    let objects = objects_of c.in_ok-heap.heap.records.slots.items in
+    record { sound = subst (IsSound objects) (sym c.in-Ok.ensures.opened) (sound_opening objects) }
