@@ -276,8 +276,8 @@ derrimas_code derrimas_get(derrimas_world *world, derrimas_slot slot, uint64_t *
  * Refused: DERRIMAS_NO_WORLD, DERRIMAS_BAD_SLOT. */
 derrimas_code derrimas_copy(derrimas_world *world, derrimas_slot slot, derrimas_slot to) DERRIMAS_NONNULL(1);
 
-/* Reads the word of the heap at the slot's word plus the offset, into *word (NULL: not) and into the slot `to`, which
- * so keeps what it points to. The slot's word may point anywhere into an object, and the offset is from there.
+/* Reads the word of the heap at the slot's word plus the offset, and stores it in the slot `to`, which then keeps what it
+ * points to. *word, which may be NULL, is that word too. The slot's word may point anywhere into an object, and the offset is from there.
  * Refused: DERRIMAS_NO_WORLD, DERRIMAS_BAD_SLOT, DERRIMAS_NOT_POINTER, DERRIMAS_OUTSIDE_OBJECT. */
 derrimas_code derrimas_load(derrimas_world *world, derrimas_slot slot, uint64_t offset, derrimas_slot to, uint64_t *word)
     DERRIMAS_NONNULL(1);

@@ -27,9 +27,9 @@
  * - Before the host frees, reuses or moves the memory of a link's word, it unlinks or moves the link. A pass writes to the
  *   word of each link that it clears, also where no object has the word.
  *
- * Memory is taken by derrimas_finalizers_open, .._reserve, .._shrink, and by a new registration and a new link alone, by
- * the handle's allocator; and it is freed by those and by .._destroy alone. All other calls may be made while other
- * threads are stopped at any place. By .._reserve memory comes beforehand. A registration is new, too, where one of kind
+ * Memory is taken by derrimas_finalizers_open, .._reserve, .._shrink, .._register and .._link alone, by the handle's
+ * allocator; and it is freed by those and by .._destroy alone. All other calls may be made while other threads are
+ * stopped at any place. By .._reserve memory comes beforehand. A registration is new, too, where one of kind
  * UNREACHABLE takes the place of one of another kind, or the other way round. Each new registration takes room for its
  * entry, so that a pass, a take and a move of a link never lack memory. Where the list of a pass has no room left,
  * .._register and .._link make it grow, even if they replace what there is or are refused.
@@ -303,7 +303,7 @@ bool derrimas_finalizers_has_waiting(const derrimas_finalizers *finalizers) DERR
 
 /* ---- what a handle has; nothing changes by it, and a pass may be open */
 
-/* The roots: what a host marks from before a pass, and keeps. */
+/* The roots: before each pass a host marks what they reach, and it keeps these. */
 typedef enum derrimas_finalizers_root {
     DERRIMAS_FINALIZERS_HELD_OBJECTS = 0,   /* the objects of entries that wait or are held: roots themselves */
     DERRIMAS_FINALIZERS_HELD_DATA = 1,      /* their client data */

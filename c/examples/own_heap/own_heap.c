@@ -157,7 +157,7 @@ size_t own_heap_collect(own_heap *heap)
     mark_roots_of_finalizers(heap, DERRIMAS_FINALIZERS_HELD_DATA);
     mark_roots_of_finalizers(heap, DERRIMAS_FINALIZERS_REGISTERED_DATA);
     mark_on(heap);
-    (void)derrimas_finalizers_pass(&heap->finalizers, &host, heap, NULL); /* refused to no host that makes no call in it */
+    (void)derrimas_finalizers_pass(&heap->finalizers, &host, heap, NULL); /* can't fail: it is open, and no answer calls it */
     return sweep(heap);
 }
 
