@@ -14,8 +14,8 @@
 #define OF_SLOT(at) (at).frame, (at).slot
 #define OF_ENTRY(it) (it)->seq, (it)->pass, (it)->reg, (it)->obj, (it)->birth, (it)->proc, (it)->cd
 
-static uint8_t codes[32];  /* what the exports return, one after another; behind them DERRIMAS_OK */
-static size_t due;         /* the next of these */
+static uint8_t codes[32];  /* what the exports return, one after another; behind them DERRIMAS_NO_WORLD, so that each walk ends */
+static size_t due, end;    /* the next of these, and their number */
 static uint64_t value;     /* what goes into places */
 static int64_t open;       /* how many handles are open */
 static char text[4096];    /* the calls, as "get 0:1; set 0:2 9" */
@@ -23,9 +23,9 @@ static char text[4096];    /* the calls, as "get 0:1; set 0:2 9" */
 /* Starts over, with these codes and this value. */
 void noted_start(const uint8_t *wanted, size_t count, uint64_t filled)
 {
-    memset(codes, DERRIMAS_OK, sizeof codes);
-    memcpy(codes, wanted, count < sizeof codes ? count : sizeof codes);
     due = 0;
+    end = count < sizeof codes ? count : sizeof codes;
+    memcpy(codes, wanted, end);
     value = filled;
     text[0] = 0;
 }
@@ -50,7 +50,7 @@ static uint8_t noted(const char *form, ...)
     va_start(arguments, form);
     add(form, arguments);
     va_end(arguments);
-    return due < sizeof codes ? codes[due++] : DERRIMAS_OK;
+    return due < end ? codes[due++] : DERRIMAS_NO_WORLD;
 }
 
 /* Notes a procedure of the test's. */

@@ -234,7 +234,8 @@ static string outcome(fixture &f, const row &of)
 static void is_tried(const row &of, derrimas_code code, std::uint64_t value, const string &result)
 {
     auto [calls, codes] = wanted(of, code);
-    noted_start(nullptr, 0, 0);
+    const std::uint8_t accepted[3] = {};
+    noted_start(accepted, 3, 0);
     {
         fixture f;
         noted_start(codes.data(), codes.size(), value);

@@ -166,7 +166,7 @@ class Row:
     def is_tried(self, code, value, wanted):
         """Makes the call, where the export in turn returns this code."""
         codes = [NAMES[code if due == '?' else due] for text, due in self.exports if text.split()[0] not in ('run', 'ready')]
-        LIBRARY.noted_start(b'', 0, 0)
+        LIBRARY.noted_start(b'\0', 1, 0)
         world = World()
         LIBRARY.noted_start(bytes(codes), len(codes), value)
         found = outcome(world, self.call, map(argument, self.words))
