@@ -255,6 +255,22 @@ static void try_all(const row &of)
     }
 }
 
+/* A take that is refused leaves the caller's entry as it was, also where the line's entries aren't numbered from 0. */
+static void refused_takes()
+{
+    const std::uint8_t accepted[3] = {};
+    noted_start(accepted, 3, 0);
+    fixture f;
+
+    for (derrimas_code code : {DERRIMAS_NO_WORLD, DERRIMAS_IN_HAND, DERRIMAS_EMPTY, DERRIMAS_BUSY}) {
+        const std::uint8_t refusal = static_cast<std::uint8_t>(code);
+        entry place = {1, 2, 3, 4, 5, 6, 7};
+        noted_start(&refusal, 1, 5);
+        check(derrimas_name(derrimas_seat_take(f.seat.get(), &place)), derrimas_name(code), "a refused take");
+        check(shown(place), "1,2,3,4,5,6,7", "the entry of a refused take");
+    }
+}
+
 /* The row of a line: four fields, of which the last may be empty. */
 static row row_of(const string &line)
 {
@@ -285,6 +301,7 @@ int main(int, char **paths)
         }
     for (const auto &[call, ignored] : members)
         check(tried.count(call) == 1 ? call : "none", call, "a member that is in the table");
+    refused_takes();
     std::printf("%u checks, %u failed\n", checks, failures);
     return failures != 0;
 }
