@@ -72,11 +72,14 @@ def scoped(world, at):
 
 
 def procedure(world, how):
-    """Names a procedure for the entry whose first number is 5, which notes it, and then does so."""
+    """Names a procedure for the entry whose first number is 5, which notes it, and then does so. What it raises has the number of its turn."""
+    turns = []
+
     def run(_, entry):
         LIBRARY.noted_run(ctypes.byref(entry))
+        turns.append(entry)
         if how != 'returns':
-            raise OSError(how) if how == 'throws' else KeyboardInterrupt(how)
+            raise (OSError if how == 'throws' else KeyboardInterrupt)(len(turns))
     world.finalizer(10, run)
 
 
@@ -141,10 +144,9 @@ def outcome(world, call, arguments):
     except Refused as why:
         check((why.code, str(why)), (NAMES[why.name], LIBRARY.derrimas_strerror(why.code).decode()), call)
         return f'!{why.name}'
-    except OSError:
-        return 'thrown'
-    except KeyboardInterrupt:
-        return 'interrupted'
+    except (OSError, KeyboardInterrupt) as why:
+        check(why.args, (1,), f'{call}: the turn of what is raised')
+        return 'thrown' if isinstance(why, OSError) else 'interrupted'
 
 
 def argument(word):
