@@ -287,13 +287,15 @@ private:
     derrimas_world handle_{};
 };
 
-/* Slots of a frame from one on, lent until the scope's end. The world has to outlive it, and an inner scope to end first. */
+/* Slots of a frame from one on, lent until the scope's end. The world has to outlive it where it is, and an inner scope to end first. One that was moved
+ * from has no slot. */
 class scope {
 public:
     explicit scope(world &world, std::uint64_t frame, std::uint64_t first = 0) : scope_(derrimas_scope_open(world.get(), frame, first)) {}
     ~scope() { close(); }
     scope(const scope &) = delete;
     scope &operator=(const scope &) = delete;
+    scope(scope &&other) noexcept : scope_(other.scope_) { other.scope_.first = other.scope_.next = DERRIMAS_SLOTS; }
 
     /* A scope within this one: of the slots that this one hasn't lent. */
     scope within() const { return scope(derrimas_scope_within(&scope_)); }
@@ -321,6 +323,11 @@ public:
     seat(const seat &) = delete;
     seat &operator=(const seat &) = delete;
     seat(seat &&other) noexcept { std::swap(handle_, other.handle_); }
+    seat &operator=(seat &&other) noexcept
+    {
+        std::swap(handle_, other.handle_);
+        return *this;
+    }
     derrimas_seat *get() noexcept { return &handle_; }
 
     /* The next entry, or none where the line was empty or another thread in the way. */
@@ -337,13 +344,19 @@ private:
     derrimas_seat handle_{};
 };
 
-/* The end of a line at which entries are published. */
+/* The end of a line at which entries are published. One that was moved from has none. */
 class line {
 public:
     explicit line(std::uint64_t seats, std::uint64_t first = 0) { check(derrimas_line_open(&handle_, seats, first)); }
     ~line() { derrimas_line_destroy(&handle_); }
     line(const line &) = delete;
     line &operator=(const line &) = delete;
+    line(line &&other) noexcept { std::swap(handle_, other.handle_); }
+    line &operator=(line &&other) noexcept
+    {
+        std::swap(handle_, other.handle_);
+        return *this;
+    }
 
     derrimas::seat seat()
     {

@@ -15,7 +15,7 @@ A slot is a pair of a frame and a slot of it. Sizes and offsets are in words; ad
 whose text is the library's sentence. Use a world from one thread at a time. The library is c/out/libderrimas.so.1, which c/build makes, or the file that
 the variable DERRIMAS names."""
 from __future__ import annotations
-import ctypes, enum, os
+import contextlib, ctypes, enum, os
 from ctypes import POINTER, Structure, byref, c_bool, c_char_p, c_uint8, c_uint32, c_uint64, c_void_p
 from typing import Any, Callable, Dict, Iterator, Optional, Tuple
 
@@ -247,26 +247,29 @@ class World:
         self.procedures[proc] = function
 
     def invoke_finalizers(self) -> int:
-        """Takes entries until none is left, calls the procedure of each, and finishes it, also where the procedure raised. Returns their number."""
+        """Takes entries until none is left, calls the procedure of each, and finishes it, unless the procedure did, and also where it raised. Returns their
+        number."""
         taken = 0
         while (entry := self.take()) is not None:
             taken += 1
             try:
                 self.procedures.get(entry.proc, lambda world, entry: None)(self, entry)
             finally:
-                self.finish(entry)
+                with contextlib.suppress(Refused):  # the procedure may have finished it
+                    self.finish(entry)
         return taken
 
     def finalize_all(self, slot: At) -> int:
         """For the end: runs the entries that wait, and then the finalizer of each registered object, by rank, then address, as no pass would. The slot keeps
-        an object meanwhile. Entries are copies, which a procedure may keep. What it raises is raised here, once all have run. Returns how many ran."""
+        an object meanwhile. Entries are copies, which a procedure may keep. The first exception of a procedure, also one that exits, is raised here, once
+        all have run. Returns how many ran."""
         raised = []
 
         def run(_: Any, entry: Any, __: Any) -> None:
             own = Entry.from_buffer_copy(entry.contents)  # C's lies on its stack
             try:
                 self.procedures.get(own.proc, lambda world, entry: None)(self, own)
-            except Exception as why:  # nothing may be raised through C
+            except BaseException as why:  # nothing may be raised through C
                 raised.append(why)
         count = max(self.procedures, default=-1) + 1
         table = (PROCEDURE * max(count, 1))(*[PROCEDURE(run)] * count)

@@ -164,7 +164,9 @@ static void moves_and_scopes()
         v.alloc(lent, 32);
         IS(lent.slot == 1);
         IS(refusal([&] { v.alloc_or_collect(inner.slot(), 1, words::scanned, ready); }) == "NoSpace" && called == 1);
-        while (refusal([&] { inner.slot(); }) == "")
+        scope kept(std::move(inner));
+        IS(refusal([&] { inner.slot(); }) == "BadSlot" && v.get(lent) != 0);
+        while (refusal([&] { kept.slot(); }) == "")
             ;
     }
     v.alloc_or_collect(A, 64, words::atomic, ready);
@@ -202,8 +204,13 @@ static void seats()
     IS(refusal([&] { later.publish(*taken); }) == "NotNext");
     taken->seq = 3;
     later.publish(*taken);
-    seat moved(later.seat());
+    line kept(std::move(later));
+    IS(refusal([&] { later.seat(); }) == "NoWorld");
+    seat moved(kept.seat());
     IS(moved.take()->seq == 3);
+    first = std::move(moved);
+    first.done();
+    IS(refusal([&] { first.done(); }) == "Empty");
 }
 
 int main()

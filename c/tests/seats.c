@@ -101,7 +101,9 @@ static void from_an_entry_on(uint64_t first)
     derrimas_entry entry = numbered(first), taken;
 
     OK(derrimas_line_open(&line, 1, first));
+    IS(derrimas_line_open(&line, 1, first + 1), DERRIMAS_HAS_WORLD);
     OK(derrimas_line_seat(&line, &seat));
+    REFUSED(DERRIMAS_EMPTY, taken, derrimas_seat_take(&seat, &taken));
     if (first > 0) {
         entry = numbered(first - 1);
         IS(derrimas_line_publish(&line, &entry), DERRIMAS_NOT_NEXT);
@@ -116,7 +118,10 @@ static void from_an_entry_on(uint64_t first)
         IS(entry.seq, n);
         OK(derrimas_seat_take(&seat, &taken));
         IS(memcmp(&taken, &entry, sizeof taken), 0);
+        REFUSED(DERRIMAS_IN_HAND, taken, derrimas_seat_take(&seat, &taken));
+        IS(derrimas_line_seat(&line, &seat), DERRIMAS_HAS_WORLD);
         OK(derrimas_seat_done(&seat));
+        REFUSED(DERRIMAS_EMPTY, taken, derrimas_seat_take(&seat, &taken));
     }
     derrimas_line_destroy(&line);
     derrimas_seat_destroy(&seat);

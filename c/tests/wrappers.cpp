@@ -1,0 +1,307 @@
+/* derrimas.hpp by the table of wrappers.txt, whose path is given, over noted.c: each call with each kind, result and code. */
+#include "derrimas.hpp"
+#include <cstdio>
+#include <fstream>
+#include <functional>
+#include <initializer_list>
+#include <map>
+#include <set>
+#include <sstream>
+#include <vector>
+
+using namespace derrimas;
+using std::string;
+
+extern "C" {
+void noted_start(const std::uint8_t *codes, std::size_t count, std::uint64_t value);
+const char *noted_text(void);
+std::int64_t noted_open(void);
+void noted_ready(void);
+void noted_run(const derrimas_entry *entry);
+}
+
+static unsigned checks = 0, failures = 0;
+
+static void check(const string &found, const string &wanted, const string &where)
+{
+    checks++;
+    if (found != wanted && ++failures)
+        std::printf("%s: %s, not %s\n", where.c_str(), found.c_str(), wanted.c_str());
+}
+
+/* ---- what members return, as the table writes it */
+
+static string shown(std::initializer_list<std::uint64_t> fields)
+{
+    string text;
+    for (std::uint64_t field : fields)
+        text += (text.empty() ? "" : ",") + std::to_string(field);
+    return text;
+}
+
+static string shown(std::uint64_t it) { return std::to_string(it); }
+static string shown(slot it) { return std::to_string(it.frame) + ":" + std::to_string(it.slot); }
+static string shown(made it) { return shown({it.address, it.birth}); }
+static string shown(old it) { return shown({it.proc, it.cd, it.was}); }
+static string shown(passed it) { return shown({it.pass, it.picked, it.reclaimed}); }
+static string shown(object it) { return shown({it.start, it.size, it.birth, it.atomic}); }
+static string shown(linked it) { return shown({it.place, it.target}); }
+static string shown(const entry &it) { return shown({it.seq, it.pass, it.reg, it.obj, it.birth, it.proc, it.cd}); }
+static string shown(const registered &it) { return shown({it.number, it.replaced.proc, it.replaced.cd, it.replaced.was, it.made}); }
+static string shown(const registration &it) { return shown({it.object, it.number, it.proc, it.cd, static_cast<std::uint64_t>(it.kind), it.rank}); }
+static string shown(const counts &it) { return shown({it.passes, it.reclaimed, it.queued, it.taken, it.outstanding, it.scans, it.noted}); }
+template <typename T> static string shown(const std::optional<T> &it) { return it ? shown(*it) : "none"; }
+
+static string shown(link_answer it)
+{
+    return it == link_answer::linked ? "linked" : it == link_answer::duplicate ? "duplicate" : it == link_answer::not_found ? "not_found" : "?";
+}
+
+/* ---- arguments */
+
+static const std::map<string, kind> kinds = {{"normal", kind::normal}, {"ignore_self", kind::ignore_self}, {"no_order", kind::no_order}};
+static const std::map<string, words> sorts = {{"scanned", words::scanned}, {"atomic", words::atomic}};
+static const std::map<string, links> lengths = {{"short", links::short_link}, {"default", links::short_link}, {"long", links::long_link}};
+
+struct arguments {
+    std::vector<string> words;
+
+    std::uint64_t number(std::size_t n) const { return std::stoull(words.at(n)); }
+    derrimas::slot slot(std::size_t n) const { return at(number(n), std::stoull(words.at(n).substr(words.at(n).find(':') + 1))); }
+    bool is(const char *word) const { return words.at(0) == word; }
+
+    /* The kind of this name, or of this number, which is none. */
+    template <typename T> T kind(const std::map<string, T> &named) const
+    {
+        auto found = named.find(words.at(0));
+        return found != named.end() ? found->second : static_cast<T>(number(0));
+    }
+
+    derrimas::entry entry(std::size_t n) const
+    {
+        std::uint64_t first = number(n);
+        return {first, first + 1, first + 2, first + 3, first + 4, first + 5, first + 6};
+    }
+};
+
+/* What members are called of. The line's entries are numbered from 100. */
+struct fixture {
+    derrimas::world world{4, 2};
+    derrimas::line line{2, 100};
+    derrimas::seat seat{line.seat()};
+};
+
+/* ---- procedures, which note their entries and then do as they are told */
+
+static void run(const entry &of, bool throws)
+{
+    noted_run(&of);
+    if (throws)
+        throw std::runtime_error("thrown");
+}
+
+static void procedure(derrimas_world *, const derrimas_entry *of, void *throws) { run(*of, *static_cast<bool *>(throws)); }
+
+static string finalized(world &w, const arguments &a)
+{
+    derrimas_proc procs[11] = {};
+    bool throws = a.is("throws");
+
+    procs[10] = procedure; /* that of the entry whose first number is 5 */
+    return shown(w.finalize_all(a.slot(1), procs, 11, &throws));
+}
+
+static string scoped(world &w, slot first)
+{
+    scope outer(w, first.frame, first.slot);
+    slot lent = outer.slot();
+    scope inner = outer.within();
+
+    return shown(lent) + "," + shown(inner.slot());
+}
+
+/* ---- members */
+
+using member = std::function<string(fixture &, const arguments &)>;
+#define SHOWN(call) [](fixture &f, const arguments &a) { return (void)f, (void)a, shown(call); }
+#define DONE(call) [](fixture &f, const arguments &a) { return (void)f, (void)a, (void)(call), string("done"); }
+#define LINKS a.kind(lengths)
+
+static const std::map<string, member> members = {
+    {"open", DONE(a.words.size() > 1 ? world(a.number(0), a.number(1)) : world(a.number(0)))},
+    {"close", DONE(f.world.close())},
+    {"alloc", SHOWN(a.is("default") ? f.world.alloc(a.slot(1), a.number(2)) : f.world.alloc(a.slot(1), a.number(2), a.kind(sorts)))},
+    {"alloc_or_collect", SHOWN(f.world.alloc_or_collect(a.slot(1), a.number(2), a.kind(sorts), [](world &) { noted_ready(); }))},
+    {"set", DONE(f.world.set(a.slot(0), a.number(1)))},
+    {"get", SHOWN(f.world.get(a.slot(0)))},
+    {"copy", DONE(f.world.copy(a.slot(0), a.slot(1)))},
+    {"load", SHOWN(f.world.load(a.slot(0), a.number(1), a.slot(2)))},
+    {"store", DONE(f.world.store(a.slot(0), a.number(1), a.slot(2)))},
+    {"write", DONE(f.world.write(a.slot(0), a.number(1), a.number(2)))},
+    {"read", SHOWN(f.world.read(a.number(0), a.number(1)))},
+    {"base", SHOWN(f.world.base(a.number(0)))},
+    {"register_object", SHOWN(a.is("default") ? f.world.register_object(a.slot(1), kind::normal, a.number(2), a.number(3))
+                                              : f.world.register_object(a.slot(1), a.kind(kinds), a.number(2), a.number(3),
+                                                                        static_cast<std::uint8_t>(a.number(4))))},
+    {"unregister", SHOWN(f.world.unregister(a.slot(0)))},
+    {"link", SHOWN(f.world.link(LINKS, a.slot(1), a.number(2), a.slot(3)))},
+    {"unlink", SHOWN(f.world.unlink(LINKS, a.slot(1), a.number(2)))},
+    {"move_link", SHOWN(f.world.move_link(LINKS, a.slot(1), a.number(2), a.slot(3), a.number(4)))},
+    {"collect", SHOWN(f.world.collect())},
+    {"begin", DONE(f.world.begin())},
+    {"mark", SHOWN(f.world.mark(a.number(0)))},
+    {"pause", SHOWN(f.world.pause())},
+    {"take", SHOWN(f.world.take())},
+    {"waiting", SHOWN(f.world.waiting())},
+    {"outstanding", SHOWN(f.world.outstanding())},
+    {"hold", DONE(f.world.hold(a.slot(0), a.entry(1)))},
+    {"finish", DONE(f.world.finish(a.entry(0)))},
+    {"forget", SHOWN(f.world.forget())},
+    {"line_open", DONE(line(a.number(0), a.number(1)))},
+    {"line_seat", DONE(f.line.seat())},
+    {"line_publish", DONE(f.line.publish(a.entry(0)))},
+    {"seat_take", SHOWN(f.seat.take())},
+    {"seat_done", DONE(f.seat.done())},
+    {"next_object", SHOWN(f.world.next_object(a.number(0)))},
+    {"next_registration", SHOWN(f.world.next_registration(a.number(0)))},
+    {"next_link", SHOWN(f.world.next_link(LINKS, a.number(1)))},
+    {"next_held", SHOWN(f.world.next_held(a.number(0)))},
+    {"queued", SHOWN(f.world.queued(a.number(0)))},
+    {"forgotten", SHOWN(f.world.forgotten())},
+    {"count", SHOWN(f.world.count())},
+    {"invoke_finalizers", SHOWN(f.world.invoke([&](world &, const entry &of) { run(of, a.is("throws")); }))},
+    {"finalize_all", [](fixture &f, const arguments &a) { return finalized(f.world, a); }},
+    {"scope", [](fixture &f, const arguments &a) { return scoped(f.world, a.slot(0)); }},
+};
+
+/* ---- the table */
+
+static std::vector<string> parts_of(const string &text, const string &mark)
+{
+    std::vector<string> parts;
+    for (std::size_t from = 0, to; from <= text.size(); from = to + mark.size()) {
+        to = std::min(text.find(mark, from), text.size());
+        string part = text.substr(from, to - from);
+        part.erase(0, part.find_first_not_of(' '));
+        part.erase(part.find_last_not_of(' ') + 1);
+        if (!part.empty())
+            parts.push_back(part);
+    }
+    return parts;
+}
+
+/* The number of a code by its name. */
+static derrimas_code numbered(const string &name)
+{
+    int code = 0;
+    while (code < 256 && name != derrimas_name(static_cast<derrimas_code>(code)))
+        code++;
+    return static_cast<derrimas_code>(code);
+}
+
+struct row {
+    string line, call;
+    std::vector<string> exports, results, codes;
+    arguments given;
+};
+
+/* The calls that are noted, and the codes that their exports return: this one where the table has a `?`. */
+static std::pair<string, std::vector<std::uint8_t>> wanted(const row &of, derrimas_code in_turn)
+{
+    std::pair<string, std::vector<std::uint8_t>> both;
+    for (const string &one : of.exports) {
+        std::vector<string> parts = parts_of(one, " = ");
+        both.first += (both.first.empty() ? "" : "; ") + parts[0];
+        if (parts[0].rfind("run", 0) != 0 && parts[0] != "ready")
+            both.second.push_back(static_cast<std::uint8_t>(parts.size() < 2 ? DERRIMAS_OK : parts[1] == "?" ? in_turn : numbered(parts[1])));
+    }
+    return both;
+}
+
+static string outcome(fixture &f, const row &of)
+{
+    try {
+        return members.at(of.call)(f, of.given);
+    } catch (const refused &why) {
+        check(why.what(), derrimas_strerror(why.number()), of.line);
+        check(why.name(), derrimas_name(static_cast<derrimas_code>(why.why())), of.line);
+        return "!" + why.name();
+    } catch (const std::runtime_error &) {
+        return "thrown";
+    }
+}
+
+static void is_tried(const row &of, derrimas_code code, std::uint64_t value, const string &result)
+{
+    auto [calls, codes] = wanted(of, code);
+    const std::uint8_t accepted[3] = {};
+    noted_start(accepted, 3, 0);
+    {
+        fixture f;
+        noted_start(codes.data(), codes.size(), value);
+        check(outcome(f, of), result, of.line);
+        check(noted_text(), calls, of.line);
+    }
+    check(std::to_string(noted_open()), "0", of.line + ": open handles");
+}
+
+static void try_all(const row &of)
+{
+    for (const string &one : of.results)
+        is_tried(of, DERRIMAS_OK, std::stoull(one), one.substr(one.find('>') + 1));
+    for (const string &one : of.codes) {
+        string name = one.substr(0, one.find('>'));
+        is_tried(of, numbered(name), 5, name == one ? "!" + name : one.substr(name.size() + 1));
+    }
+}
+
+/* A take that is refused leaves the caller's entry as it was, also where the line's entries aren't numbered from 0. */
+static void refused_takes()
+{
+    const std::uint8_t accepted[3] = {};
+    noted_start(accepted, 3, 0);
+    fixture f;
+
+    for (derrimas_code code : {DERRIMAS_NO_WORLD, DERRIMAS_IN_HAND, DERRIMAS_EMPTY, DERRIMAS_BUSY}) {
+        const std::uint8_t refusal = static_cast<std::uint8_t>(code);
+        entry place = {1, 2, 3, 4, 5, 6, 7};
+        noted_start(&refusal, 1, 5);
+        check(derrimas_name(derrimas_seat_take(f.seat.get(), &place)), derrimas_name(code), "a refused take");
+        check(shown(place), "1,2,3,4,5,6,7", "the entry of a refused take");
+    }
+}
+
+/* The row of a line: four fields, of which the last may be empty. */
+static row row_of(const string &line)
+{
+    row read{line, "", {}, {}, {}, {}};
+    std::istringstream fields(line);
+    string words, exports, results, codes, wrappers, word;
+
+    std::getline(std::getline(std::getline(std::getline(fields, words, '|'), exports, '|'), results, '|'), codes);
+    std::istringstream(words) >> wrappers >> read.call;
+    read.given.words = parts_of(words, " ");
+    read.given.words.erase(read.given.words.begin(), read.given.words.begin() + 2);
+    read.exports = parts_of(exports, ";");
+    read.results = parts_of(results, " ");
+    read.codes = parts_of(codes, " ");
+    return read;
+}
+
+int main(int, char **paths)
+{
+    std::ifstream table(paths[1]);
+    std::set<string> tried;
+
+    for (string line; std::getline(table, line);)
+        if (line.rfind("both ", 0) == 0 || line.rfind("c++ ", 0) == 0) {
+            row of = row_of(line);
+            tried.insert(of.call);
+            try_all(of);
+        }
+    for (const auto &[call, ignored] : members)
+        check(tried.count(call) == 1 ? call : "none", call, "a member that is in the table");
+    refused_takes();
+    std::printf("%u checks, %u failed\n", checks, failures);
+    return failures != 0;
+}

@@ -1,0 +1,228 @@
+#!/usr/bin/env python3
+"""derrimas.py by wrappers.txt, over the library of noted.c, which the variable DERRIMAS names: each call with each kind, result and code.
+
+And whether the table is whole: it has each call of derrimas.h, with each code of which its comment says "Refused"."""
+import ctypes, os, re, sys
+HERE = os.path.dirname(os.path.abspath(__file__))
+sys.path.insert(0, os.path.join(HERE, '..', 'python'))
+from derrimas import LIBRARY, Entry, Kind, LinkAnswer, Links, Refused, Words, World
+
+NAMES = {LIBRARY.derrimas_name(code).decode(): code for code in range(256)}
+KINDS = {name.lower(): it for kinds in (Kind, Words, Links) for name, it in kinds.__members__.items()}
+OWN = {'register', 'invoke_finalizers'}  # calls of derrimas.h that no wrapper makes: each has its own
+checks, failures = 0, 0
+LIBRARY.noted_start.argtypes, LIBRARY.noted_start.restype = [ctypes.c_char_p, ctypes.c_size_t, ctypes.c_uint64], None
+LIBRARY.noted_text.argtypes, LIBRARY.noted_text.restype = [], ctypes.c_char_p
+LIBRARY.noted_open.argtypes, LIBRARY.noted_open.restype = [], ctypes.c_int64
+LIBRARY.noted_run.argtypes, LIBRARY.noted_run.restype = [ctypes.POINTER(Entry)], None
+
+
+def check(found, wanted, where):
+    global checks, failures
+    checks += 1
+    if found != wanted:
+        failures += 1
+        print(f'{where}: {found}, not {wanted}')
+
+
+def entry_of(first):
+    return Entry(*range(first, first + 7))
+
+
+def flat(struct):
+    """The fields of a struct, those within it too."""
+    values = [getattr(struct, name) for name, _ in struct._fields_]
+    return [number for value in values for number in (flat(value) if hasattr(value, '_fields_') else [int(value)])]
+
+
+def shown(result):
+    """What a member returned, as the table writes it."""
+    if result is None:
+        return 'none'
+    if isinstance(result, LinkAnswer):
+        return result.name.lower()
+    if isinstance(result, tuple):
+        return ','.join(f'{frame}:{slot}' for frame, slot in result)
+    return ','.join(map(str, flat(result))) if hasattr(result, '_fields_') else str(int(result))
+
+
+def done(result):
+    """What a member that returns nothing returned."""
+    return 'done' if result is None else f'{result}'
+
+
+def walked(walk):
+    return ' '.join(map(shown, walk)) or 'none'
+
+
+def opened(*counts):
+    World(*counts).destroy()
+    return 'done'
+
+
+def unregistered(old):
+    return shown(old if old.was else None)
+
+
+def scoped(world, at):
+    with world.scope(*at) as outer:
+        slot = outer.slot()
+        with outer.scope() as inner:
+            return shown((slot, inner.slot()))
+
+
+def procedure(world, how):
+    """Names a procedure for the entry whose first number is 5, which notes it, and then does so. What it raises has the number of its turn."""
+    turns = []
+
+    def run(_, entry):
+        LIBRARY.noted_run(ctypes.byref(entry))
+        turns.append(entry)
+        if how != 'returns':
+            raise (OSError if how == 'throws' else KeyboardInterrupt)(len(turns))
+    world.finalizer(10, run)
+
+
+def with_kind(member, **names):
+    """A member whose last argument is the kind; the keyword `kind` if that has no place of its own."""
+    return lambda world, kind, *rest: member(world, *rest, **({} if kind == 'default' else {names.get('name', 'kind'): kind}))
+
+
+def invoked(world, how):
+    procedure(world, how)
+    return shown(world.invoke_finalizers())
+
+
+def finalized(world, how, slot):
+    procedure(world, how)
+    return shown(world.finalize_all(slot))
+
+
+MEMBERS = {
+    'open': lambda _, *counts: opened(*counts),
+    'close': lambda world: done(world.close()),
+    'alloc': lambda *arguments: shown(with_kind(World.alloc, name='words')(*arguments)),
+    'set': lambda world, *rest: done(world.set(*rest)),
+    'get': lambda world, slot: shown(world.get(slot)),
+    'copy': lambda world, *slots: done(world.copy(*slots)),
+    'load': lambda world, *rest: shown(world.load(*rest)),
+    'store': lambda world, *rest: done(world.store(*rest)),
+    'write': lambda world, *rest: done(world.write(*rest)),
+    'read': lambda world, *rest: shown(world.read(*rest)),
+    'base': lambda world, word: shown(world.base(word)),
+    'register_object': lambda *arguments: shown(with_kind(World.register)(*arguments)),
+    'unregister': lambda world, slot: unregistered(world.unregister(slot)),
+    'link': lambda *arguments: shown(with_kind(World.link)(*arguments)),
+    'unlink': lambda *arguments: shown(with_kind(World.unlink)(*arguments)),
+    'move_link': lambda *arguments: shown(with_kind(World.move_link)(*arguments)),
+    'collect': lambda world: shown(world.collect()),
+    'begin': lambda world: done(world.begin()),
+    'mark': lambda world, budget: shown(world.mark(budget)),
+    'pause': lambda world: shown(world.pause()),
+    'take': lambda world: shown(world.take()),
+    'waiting': lambda world: shown(world.waiting()),
+    'outstanding': lambda world: shown(world.outstanding()),
+    'hold': lambda world, slot, first: done(world.hold(slot, entry_of(first))),
+    'finish': lambda world, first: done(world.finish(entry_of(first))),
+    'forget': lambda world: shown(world.forget()),
+    'next_object': lambda world: walked(world.objects()),
+    'next_registration': lambda world: walked(world.registrations()),
+    'next_link': lambda world, kind, *_: walked(with_kind(World.links)(world, kind)),
+    'next_held': lambda world: walked(world.held()),
+    'queued': lambda world, seq: shown(world.queued(seq)),
+    'forgotten': lambda world: shown(world.forgotten()),
+    'count': lambda world: shown(world.counts()),
+    'invoke_finalizers': invoked,
+    'finalize_all': finalized,
+    'scope': scoped,
+}
+
+
+def outcome(world, call, arguments):
+    try:
+        return MEMBERS[call](world, *arguments)
+    except Refused as why:
+        check((why.code, str(why)), (NAMES[why.name], LIBRARY.derrimas_strerror(why.code).decode()), call)
+        return f'!{why.name}'
+    except (OSError, KeyboardInterrupt) as why:
+        check(why.args, (1,), f'{call}: the turn of what is raised')
+        return 'thrown' if isinstance(why, OSError) else 'interrupted'
+
+
+def argument(word):
+    if ':' in word:
+        return tuple(map(int, word.split(':')))
+    return int(word) if word.isdigit() else KINDS.get(word, word)
+
+
+class Row:
+    """A line of the table."""
+
+    def __init__(self, line):
+        words, exports, results, codes = (field.strip() for field in line.split('|'))
+        self.line, (self.wrappers, self.call, *self.words) = line, words.split()
+        self.exports = [(it.split(' = ') + ['Ok'])[:2] for it in exports.split('; ')] if exports else []
+        self.results = [it.split('>') for it in results.split()]
+        self.codes = [(it.split('>') + ['!' + it])[:2] for it in codes.split()]
+
+    def is_tried(self, code, value, wanted):
+        """Makes the call, where the export in turn returns this code."""
+        codes = [NAMES[code if due == '?' else due] for text, due in self.exports if text.split()[0] not in ('run', 'ready')]
+        LIBRARY.noted_start(b'\0', 1, 0)
+        world = World()
+        LIBRARY.noted_start(bytes(codes), len(codes), value)
+        found = outcome(world, self.call, map(argument, self.words))
+        noted = LIBRARY.noted_text().decode()
+        check((found, noted), (wanted, '; '.join(text for text, _ in self.exports)), f'{self.line}, {code}, {value}')
+        world.destroy()
+        check(LIBRARY.noted_open(), 0, f'{self.line}: open handles')
+
+    def try_all(self):
+        for value, wanted in self.results:
+            self.is_tried('Ok', int(value), wanted)
+        for code, wanted in self.codes:
+            self.is_tried(code, 5, wanted)
+
+    def refusals(self):
+        """The codes that the call can return, of those in this line."""
+        return {code for code, _ in self.codes} | {wanted[1:] for _, wanted in self.results if wanted.startswith('!')}
+
+
+def refusals_of_header():
+    """Of each call of derrimas.h the codes of which its comment says that it is refused with them. One comment may stand before several calls."""
+    text = open(os.path.join(HERE, '..', 'include', 'derrimas.h')).read()
+    names = {'DERRIMAS_' + re.sub('(?<!^)(?=[A-Z])', '_', name).upper(): name for name in NAMES if name != '?'}
+    codes = {}
+    for said, declared in re.findall(r'/\*((?:(?!\*/).)*?Refused:(?:(?!\*/).)*?)\*/\n((?:[^/\n][^\n]*\n)+)', text, re.S):
+        refused = re.sub(r'\s+\*?\s*', ' ', said.split('Refused:')[1]).split('. ')[0]
+        calls = re.findall(r'derrimas_code derrimas_(\w+)\(', declared)
+        for call in calls:
+            part = re.search(rf'derrimas_{call} ((?:DERRIMAS_.*?))(?:; derrimas_|$)', refused) if len(calls) > 1 else None
+            part = part[1] if part else refused
+            codes[call] = {names[it] for it in re.findall(r'\bDERRIMAS_[A-Z_]+\b', part) if it in names}
+            codes[call] |= {code for other in re.findall(r'as derrimas_(\w+)', part) for code in codes[other]}
+    return codes
+
+
+def is_whole(rows):
+    """The table has each call, with each of its codes and with no other."""
+    told = {}
+    for row in rows:
+        told.setdefault(row.call, set()).update(row.refusals())
+    for call, codes in refusals_of_header().items():
+        if call not in OWN:
+            check(sorted(told.get(call, ())), sorted(codes), f'the codes of {call} in the table')
+
+
+def main():
+    rows = [Row(line.rstrip('\n')) for line in open(os.path.join(HERE, 'wrappers.txt')) if line.strip() and line[0] != '#']
+    is_whole(rows)
+    own = [row for row in rows if row.wrappers in ('both', 'python')]
+    check({row.call for row in own}, set(MEMBERS), 'the calls of the table')
+    for row in own:
+        row.try_all()
+    print(f'{checks} checks, {failures} failed')
+    sys.exit(failures > 0)
+
+
+main()
