@@ -334,7 +334,8 @@ fn twenty_are_picked_by_two_passes(rt: &impl Abort, alloc: Global, questions: u6
     machine.abandon().expect(rt, "an open pass");
     must_be(rt, machine.abandon().is_err(), true, "none is open");
     let left = machine.finalizers().registrations();
-    must_be(rt, machine.finalizers().waiting() + left, 20, "all stay");
+    let all = machine.finalizers().waiting().saturating_add(left);
+    must_be(rt, all, 20, "all stay");
     let passed = pass_of_unmarked(rt, &mut machine, &[false; BATCH]);
     must_be(rt, passed.picked, left, "the others are picked");
     for object in 1..=20 {
