@@ -49,6 +49,7 @@
 #ifndef DERRIMAS_H
 #define DERRIMAS_H
 
+#include "derrimas_version.h"
 #include <stdbool.h>
 #include <stddef.h>
 #include <stdint.h>
@@ -56,10 +57,6 @@
 #ifdef __cplusplus
 extern "C" {
 #endif
-
-#define DERRIMAS_VERSION_MAJOR 1
-#define DERRIMAS_VERSION_MINOR 0
-#define DERRIMAS_VERSION_PATCH 0
 
 /* DERRIMAS_NONNULL: which arguments aren't NULL. DERRIMAS_CHECKED: the result has to be looked at. */
 #if defined(__GNUC__)

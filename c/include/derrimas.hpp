@@ -1,4 +1,4 @@
-/* derrimas.hpp: derrimas.h for C++17 and later, in this header alone.
+/* derrimas.hpp: derrimas.h for C++17 and later, in headers alone.
  *
  * Worlds, lines, seats and scopes free what they have at their end, and can be moved but not copied. A refusal is an exception, `derrimas::refused`; what
  * may not be there is a std::optional. Each member is the call of its name: derrimas.h says what it does, and what a caller owes.
@@ -16,9 +16,8 @@
 #define DERRIMAS_HPP
 
 #include "derrimas.h"
+#include "derrimas_error.hpp"
 #include <optional>
-#include <stdexcept>
-#include <string>
 #include <utility>
 
 namespace derrimas {
@@ -44,12 +43,11 @@ using linked = derrimas_linked;
 using counts = derrimas_counts;
 
 /* A call was refused, and changed nothing. `what` is the sentence of its code. */
-class refused : public std::runtime_error {
+class refused : public error {
 public:
-    explicit refused(derrimas_code code) : std::runtime_error(derrimas_strerror(code)), number_(code) {}
+    explicit refused(derrimas_code code) : error(derrimas_name(code), derrimas_strerror(code)), number_(code) {}
     code why() const noexcept { return static_cast<code>(number_); }
     derrimas_code number() const noexcept { return number_; }
-    std::string name() const { return derrimas_name(number_); }
 
 private:
     derrimas_code number_;

@@ -39,6 +39,7 @@
 #ifndef DERRIMAS_FINALIZERS_H
 #define DERRIMAS_FINALIZERS_H
 
+#include "derrimas_version.h"
 #include <stdbool.h>
 #include <stddef.h>
 #include <stdint.h>
@@ -58,7 +59,7 @@ extern "C" {
 
 /* ---- codes and kinds */
 
-/* What a call returns. */
+/* What a call returns. The comments are what derrimas_finalizers_strerror returns. */
 typedef enum derrimas_finalizers_code {
     DERRIMAS_FINALIZERS_OK = 0,           /* the call was accepted */
     DERRIMAS_FINALIZERS_ZERO = 1,         /* the object or the word is 0 */
@@ -348,6 +349,18 @@ derrimas_finalizers_code derrimas_finalizers_registrations(const derrimas_finali
 derrimas_finalizers_code derrimas_finalizers_links(const derrimas_finalizers *finalizers, derrimas_finalizers_link_kind kind,
                                                    uint64_t *from, derrimas_finalizers_link_at *buffer, size_t room,
                                                    size_t *count) DERRIMAS_FINALIZERS_NONNULL(1, 3, 6);
+
+/* ---- texts */
+
+/* The name of a code ("PassOpen"), or "?" where it is none. */
+const char *derrimas_finalizers_name(derrimas_finalizers_code code);
+
+/* What a code means: "no pass is open". */
+const char *derrimas_finalizers_strerror(derrimas_finalizers_code code);
+
+/* The library's version, as "1.0.0". Where its first number isn't DERRIMAS_VERSION_MAJOR, the library isn't that of this
+ * header. */
+const char *derrimas_finalizers_version(void);
 
 /* ---- a host's procedures, and a pass that they drive */
 

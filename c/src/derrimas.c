@@ -3,9 +3,6 @@
  */
 #include "exports.h"
 
-#define TEXT(word) #word
-#define VERSION_OF(major, minor, patch) TEXT(major) "." TEXT(minor) "." TEXT(patch)
-
 /* ---- worlds, objects and slots */
 
 derrimas_code derrimas_open(derrimas_world *world, uint64_t blocks, uint64_t frames) { return fz_open(world, blocks, frames); }
@@ -288,10 +285,7 @@ const char *derrimas_strerror(derrimas_code code)
     }
 }
 
-const char *derrimas_version(void)
-{
-    return VERSION_OF(DERRIMAS_VERSION_MAJOR, DERRIMAS_VERSION_MINOR, DERRIMAS_VERSION_PATCH);
-}
+const char *derrimas_version(void) { return DERRIMAS_VERSION; }
 
 /* ---- finalizers that are C procedures */
 

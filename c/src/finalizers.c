@@ -1,5 +1,6 @@
 /* derrimas_finalizers.h over the proved exports: their C types, places for results that may be NULL, kinds and options that are checked, each handle's
- * allocator, roots in the host's buffer, and how many entries wait, which is read without the lock. Nothing here is proved; c/tests runs each line of it.
+ * allocator, roots in the host's buffer, the texts of codes, and how many entries wait, which is read without the lock. Nothing here is proved; c/tests runs
+ * each line of it.
  */
 #include "finalizers_exports.h"
 #include <stdlib.h>
@@ -377,3 +378,27 @@ code derrimas_finalizers_count(const derrimas_finalizers *finalizers, derrimas_f
 
     return fz_machine_count(&copy, counts);
 }
+
+/* ---- texts: c/build writes finalizers_codes.h from the codes of derrimas_finalizers.h and their comments */
+
+const char *derrimas_finalizers_name(derrimas_finalizers_code code)
+{
+    switch (code) {
+#define CODE(constant, name, sentence) case constant: return name;
+#include "finalizers_codes.h"
+#undef CODE
+    default: return "?";
+    }
+}
+
+const char *derrimas_finalizers_strerror(derrimas_finalizers_code code)
+{
+    switch (code) {
+#define CODE(constant, name, sentence) case constant: return sentence;
+#include "finalizers_codes.h"
+#undef CODE
+    default: return "no code of derrimas_finalizers.h";
+    }
+}
+
+const char *derrimas_finalizers_version(void) { return DERRIMAS_VERSION; }

@@ -324,6 +324,25 @@ static void bad_kinds(void)
     IS(calls, 0);
 }
 
+/* Each code has a name and a sentence of its own, as its constant and its comment have it, and no other number has one. */
+static void texts(void)
+{
+    static const char version[] = DERRIMAS_VERSION;
+
+    for (unsigned code = 0; code <= DERRIMAS_FINALIZERS_BAD_OPTIONS; code++)
+        for (unsigned other = 0; other <= code; other++) {
+            const bool is_same = strcmp(derrimas_finalizers_name((derrimas_finalizers_code)code), derrimas_finalizers_name((derrimas_finalizers_code)other)) == 0;
+
+            IS(is_same, code == other);
+            IS(strlen(derrimas_finalizers_strerror((derrimas_finalizers_code)code)) > 10, true);
+        }
+    IS(strcmp(derrimas_finalizers_name(DERRIMAS_FINALIZERS_PASS_OPEN), "PassOpen"), 0);
+    IS(strcmp(derrimas_finalizers_strerror(DERRIMAS_FINALIZERS_NO_PASS), "no pass is open"), 0);
+    IS(strcmp(derrimas_finalizers_name((derrimas_finalizers_code)(DERRIMAS_FINALIZERS_BAD_OPTIONS + 1)), "?"), 0);
+    IS(strcmp(derrimas_finalizers_strerror((derrimas_finalizers_code)255), "no code of derrimas_finalizers.h"), 0);
+    IS(strcmp(derrimas_finalizers_version(), version), 0);
+}
+
 int main(void)
 {
     finalizers.inside = &finalizers;
@@ -337,5 +356,6 @@ int main(void)
     }
     derrimas_finalizers_destroy(&finalizers);
     IS(finalizers.waiting == 0 && given[0], true);
+    texts();
     return told();
 }

@@ -1,20 +1,16 @@
-/* derrimas.c over exports that only note what they are given, for a test of what stands above them. A test says which codes they return one after another, so
- * that each call returns each of its codes, also those that take 2^48 calls, a failed allocation or another thread. A place is filled only where its export
- * returns DERRIMAS_OK: with a number that the test gives, and the ones after it.
- */
+/* derrimas.c over exports that only note what they are given, by noted.h, whose functions stand here. */
 #include "../src/derrimas.c"
-#include <inttypes.h>
+#include "noted.h"
 #include <stdarg.h>
 #include <stdio.h>
 #include <string.h>
 
-#define N " %" PRIu64
 #define SLOT " %" PRIu64 ":%" PRIu64
 #define ENTRY N ",%" PRIu64 ",%" PRIu64 ",%" PRIu64 ",%" PRIu64 ",%" PRIu64 ",%" PRIu64
 #define OF_SLOT(at) (at).frame, (at).slot
 #define OF_ENTRY(it) (it)->seq, (it)->pass, (it)->reg, (it)->obj, (it)->birth, (it)->proc, (it)->cd
 
-static uint8_t codes[32];  /* what the exports return, one after another; behind them DERRIMAS_NO_WORLD, so that each walk ends */
+static uint8_t codes[32];  /* what the exports return, one after another */
 static size_t due, end;    /* the next of these, and their number */
 static uint64_t value;     /* what goes into places */
 static int64_t open;       /* how many handles are open */
@@ -32,6 +28,8 @@ void noted_start(const uint8_t *wanted, size_t count, uint64_t filled)
 
 const char *noted_text(void) { return text; }
 int64_t noted_open(void) { return open; }
+uint64_t noted_value(uint64_t further) { return value + further; }
+void noted_opened(int64_t more) { open += more; }
 
 static void add(const char *form, va_list arguments)
 {
@@ -42,43 +40,41 @@ static void add(const char *form, va_list arguments)
         (void)vsnprintf(text + length, sizeof text - length, form, arguments);
 }
 
-/* Notes an export, and returns the code that is due. */
-static uint8_t noted(const char *form, ...)
+uint8_t noted_export(uint8_t behind, const char *form, ...)
 {
     va_list arguments;
 
     va_start(arguments, form);
     add(form, arguments);
     va_end(arguments);
-    return due < end ? codes[due++] : DERRIMAS_NO_WORLD;
+    return due < end ? codes[due++] : behind;
 }
 
-/* Notes a procedure of the test's. */
-static void noted_procedure(const char *form, ...)
+void noted_procedure(const char *form, ...)
 {
     va_list arguments;
 
     va_start(arguments, form);
     add(form, arguments);
     va_end(arguments);
+}
+
+uint8_t noted_filled(uint8_t code, void *place, const void *what, size_t size)
+{
+    if (code == 0)
+        memcpy(place, what, size);
+    return code;
 }
 
 void noted_ready(void) { noted_procedure("ready"); }
 void noted_run(const derrimas_entry *entry) { noted_procedure("run" ENTRY, OF_ENTRY(entry)); }
-
-static uint8_t filled(uint8_t code, void *place, const void *what, size_t size)
-{
-    if (code == DERRIMAS_OK)
-        memcpy(place, what, size);
-    return code;
-}
 
 static uint8_t opened(uint8_t code, void **inside)
 {
     static char something;
 
     if (code == DERRIMAS_OK) {
-        open++;
+        noted_opened(1);
         *inside = &something;
     }
     return code;
@@ -86,12 +82,11 @@ static uint8_t opened(uint8_t code, void **inside)
 
 static void destroyed(void **inside)
 {
-    open -= *inside != NULL;
+    noted_opened(-(*inside != NULL));
     *inside = NULL;
 }
 
-#define V(n) (value + (n))
-#define FILLED(code, place, type, ...) filled(code, place, &(type){__VA_ARGS__}, sizeof(type))
+#define noted(...) noted_export(DERRIMAS_NO_WORLD, __VA_ARGS__)
 #define ENTRY_AT(code, place) FILLED(code, place, derrimas_entry, V(0), V(1), V(2), V(3), V(4), V(5), V(6))
 #define WORD_AT(code, place) FILLED(code, place, uint64_t, value)
 #define BOOL_AT(code, place) FILLED(code, place, bool, value != 0)

@@ -1,6 +1,8 @@
-/* derrimas.hpp: each member, refusals as exceptions, moves, scopes, and procedures that throw. */
+/* derrimas.hpp and derrimas_finalizers.hpp: each member, refusals as exceptions, moves, scopes, and procedures and hosts that throw. */
 #include "derrimas.hpp"
+#include "derrimas_finalizers.hpp"
 #include <cstdio>
+#include <cstdlib>
 #include <string>
 #include <vector>
 
@@ -21,7 +23,7 @@ template <typename Call> static std::string refusal(Call call)
 {
     try {
         call();
-    } catch (const refused &why) {
+    } catch (const error &why) {
         return why.name();
     }
     return "";
@@ -56,7 +58,7 @@ static void objects()
     }
 }
 
-static void finalizers()
+static void finalizers_of_worlds()
 {
     world w(8);
     std::vector<std::uint64_t> ran;
@@ -213,15 +215,201 @@ static void seats()
     IS(refusal([&] { first.done(); }) == "Empty");
 }
 
+/* ---- finalizers over a heap of this test's */
+
+/* Objects 1 to 15 with two words each; object o has the words 16 * o and 16 * o + 1. Word 1000 lies outside. */
+struct small_heap {
+    std::vector<std::uint64_t> words = std::vector<std::uint64_t>(16 * 16);
+    std::vector<bool> marked = std::vector<bool>(16);
+    std::uint64_t outside = 0;
+    unsigned until_throw = 1000; /* answers until one throws */
+
+    bool is_marked(std::uint64_t object)
+    {
+        if (until_throw-- == 0)
+            throw std::runtime_error("a page is gone");
+        return marked[object];
+    }
+    void mark(std::uint64_t object)
+    {
+        if (object == 0 || marked[object])
+            return;
+        marked[object] = true;
+        mark(words[16 * object]);
+        mark(words[16 * object + 1]);
+    }
+    void mark_alone(std::uint64_t object) { marked[object] = true; }
+    void mark_children(std::uint64_t object, bool but_itself)
+    {
+        for (std::uint64_t n = 0; n < 2; n++)
+            if (!but_itself || words[16 * object + n] != object)
+                mark(words[16 * object + n]);
+    }
+    void clear(std::uint64_t word) { (word == 1000 ? outside : words[word]) = 0; }
+    bool holder_is_marked(std::uint64_t word) { return word == 1000 || marked[word / 16]; }
+};
+
+using fin = finalizers;
+
+/* Marks from no root but those of the finalizers, and makes a pass. */
+static fin::passed collected(fin &f, small_heap &heap)
+{
+    heap.marked.assign(16, false);
+    f.roots(fin::root::held_objects, [&heap](std::uint64_t object) { heap.mark(object); });
+    return f.pass(heap);
+}
+
+static void passes_of_finalizers()
+{
+    fin f;
+    small_heap heap;
+    std::vector<std::uint64_t> ran;
+
+    heap.words[16 * 1] = 2; /* object 1 points to object 2 */
+    heap.outside = 2;
+    heap.words[16 * 3] = 2;
+    IS(f.register_object(1, fin::kind::normal, 5, 10).number == 0 && f.register_object(2, fin::kind::no_order, 5, 20, 9).number == 1);
+    IS(f.link(fin::link_kind::long_link, 1000, 2) == fin::link_answer::linked && f.link(fin::link_kind::short_link, 48, 2) == fin::link_answer::linked);
+    fin::passed first = collected(f, heap);
+    IS(first.pass == 1 && first.picked == 1 && f.has_waiting() && f.count().waiting == 1);
+    IS(heap.outside == 2 && heap.words[48] == 0 && !f.target(fin::link_kind::short_link, 48));
+    IS(f.invoke([&ran](fin &, const fin::entry &e) { ran.push_back(e.cd); }) == 1 && ran == std::vector<std::uint64_t>({10}));
+    IS(collected(f, heap).picked == 1 && heap.outside == 2);
+    auto entry = f.take();
+    IS(entry && entry->cd == 20 && entry->obj == 2 && !f.take() && f.count().held == 1);
+    IS(collected(f, heap).picked == 0 && heap.outside == 2);
+    f.finish(*entry);
+    IS(refusal([&] { f.finish(*entry); }) == "NotHeld");
+    IS(collected(f, heap).picked == 0 && heap.outside == 0 && f.count().long_links == 0 && f.count().passes == 4);
+}
+
+static void calls_of_finalizers()
+{
+    fin f;
+    std::vector<std::uint64_t> seen;
+
+    for (std::uint64_t object = 1; object <= 200; object++)
+        f.register_object(object, object % 2 ? fin::kind::unreachable : fin::kind::ignore_self, 7, 1000 + object);
+    f.registrations([&seen](const fin::registration &it) { seen.push_back(it.object); });
+    IS(seen.size() == 200 && f.registration_of(200)->cd == 1200 && f.registration_of(199)->kind == DERRIMAS_FINALIZERS_UNREACHABLE);
+    IS(!f.registration_of(201) && f.unregister(200)->cd == 1200 && !f.unregister(200));
+    IS(f.register_object(199, fin::kind::normal, 8, 9, 3).replaced.cd == 1199 && f.registration_of(199)->rank == 3);
+    for (std::uint64_t word = 1; word <= 100; word++)
+        f.link(fin::link_kind::short_link, word, word);
+    IS(f.link(fin::link_kind::short_link, 100, 5) == fin::link_answer::duplicate && f.target(fin::link_kind::short_link, 100) == 5);
+    IS(f.move_link(fin::link_kind::short_link, 100, 300) == fin::link_answer::linked);
+    IS(f.move_link(fin::link_kind::short_link, 100, 301) == fin::link_answer::not_found);
+    IS(f.move_link(fin::link_kind::short_link, 300, 1) == fin::link_answer::duplicate);
+    seen.clear();
+    f.links(fin::link_kind::short_link, [&seen](const fin::linked &it) { seen.push_back(it.word); });
+    IS(seen.size() == 100 && f.unlink(fin::link_kind::short_link, 300) && !f.unlink(fin::link_kind::short_link, 300));
+    IS(f.queue_all() == 199 && f.take_finished()->seq == 0 && f.count().held == 0 && f.count().waiting == 198);
+    seen.clear();
+    f.roots(fin::root::held_data, [&seen](std::uint64_t cd) { seen.push_back(cd); });
+    IS(seen.size() == 198);
+    f.shrink();
+    f.reserve(1000, 10, 10);
+    IS(refusal([&] { f.register_object(0, fin::kind::normal, 0, 0); }) == "Zero");
+}
+
+/* A host that throws, and a scope that is left: the pass is abandoned, and the next one is whole. */
+static void abandoned_passes()
+{
+    fin f;
+    small_heap heap;
+
+    f.register_object(1, fin::kind::normal, 5, 10);
+    heap.until_throw = 0;
+    try {
+        f.pass(heap);
+        IS(false);
+    } catch (const std::runtime_error &why) {
+        IS(std::string(why.what()) == "a page is gone" && f.count().registrations == 1);
+    }
+    {
+        fin::open_pass open(f);
+        fin::question question;
+        IS(open.next(0, &question) && question.ask == DERRIMAS_ASK_IS_MARKED && question.count == 1 && question.what[0] == 1);
+        IS(refusal([&] { f.register_object(2, fin::kind::normal, 0, 0); }) == "PassOpen" && refusal([&] { fin::open_pass again(f); }) == "PassOpen");
+    }
+    fin::open_pass open(f);
+    open.abandon();
+    IS(refusal([&] { open.abandon(); }) == "NoPass");
+    heap.until_throw = 1000;
+    IS(f.pass(heap).picked == 1);
+    try {
+        f.invoke([](fin &, const fin::entry &) { throw std::runtime_error("a file is gone"); });
+        IS(false);
+    } catch (const std::runtime_error &) {
+        IS(f.count().held == 1 && !f.has_waiting());
+    }
+}
+
+/* An allocator that counts what it has given, and has no memory where it is told so. */
+struct counting {
+    long given = 0;
+    bool refuses = false;
+};
+
+static void *allocated(void *data, std::size_t size)
+{
+    counting *it = static_cast<counting *>(data);
+    void *memory = it->refuses ? nullptr : std::malloc(size);
+    it->given += memory != nullptr;
+    return memory;
+}
+
+static void *reallocated(void *data, void *memory, std::size_t size)
+{
+    counting *it = static_cast<counting *>(data);
+    void *other = it->refuses ? nullptr : std::realloc(memory, size);
+    it->given += other && !memory;
+    return other;
+}
+
+static void released(void *data, void *memory)
+{
+    static_cast<counting *>(data)->given -= memory != nullptr;
+    std::free(memory);
+}
+
+static void memory_of_finalizers()
+{
+    counting own, lost;
+    {
+        fin f(fin::allocator{allocated, reallocated, released, &own});
+        IS(own.given > 0 && f.register_object(1, fin::kind::normal, 0, 0).number == 0);
+        fin moved(std::move(f));
+        IS(refusal([&] { f.count(); }) == "NotOpen" && moved.count().registrations == 1);
+        f = std::move(moved);
+        own.refuses = true;
+        IS(refusal([&] { f.reserve(1'000'000, 0, 0); }) == "NoMemory" && f.count().registrations == 1);
+        try {
+            f.reserve(1'000'000, 0, 0);
+        } catch (const fin::refused &why) {
+            IS(why.why() == fin::code::no_memory && std::string(why.what()) == "the handle's allocator returned NULL");
+        }
+        own.refuses = false;
+    }
+    IS(own.given == 0);
+    lost.refuses = true;
+    IS(refusal([&] { fin none(fin::allocator{allocated, reallocated, released, &lost}); }) == "NoMemory");
+    IS(refusal([&] { fin none(fin::allocator{allocated, nullptr, released, &lost}); }) == "BadOptions" && lost.given == 0);
+}
+
 int main()
 {
     objects();
-    finalizers();
+    finalizers_of_worlds();
     thrown();
     thrown_through_c();
     link_calls();
     moves_and_scopes();
     seats();
+    passes_of_finalizers();
+    calls_of_finalizers();
+    abandoned_passes();
+    memory_of_finalizers();
     std::printf("%u checks, %u failed\n", checks, failures);
     return failures != 0;
 }

@@ -1,6 +1,10 @@
-/* derrimas.hpp by the table of wrappers.txt, whose path is given, over noted.c: each call with each kind, result and code. */
+/* derrimas.hpp and derrimas_finalizers.hpp by the table of wrappers.txt, whose path is given, over noted.c and noted_finalizers.c: each call with each kind,
+ * result and code.
+ */
 #include "derrimas.hpp"
+#include "derrimas_finalizers.hpp"
 #include <cstdio>
+#include <cstdlib>
 #include <fstream>
 #include <functional>
 #include <initializer_list>
@@ -18,6 +22,10 @@ const char *noted_text(void);
 std::int64_t noted_open(void);
 void noted_ready(void);
 void noted_run(const derrimas_entry *entry);
+void noted_question(const char *what, std::uint64_t object);
+void noted_children(std::uint64_t object, bool but_itself);
+void noted_memory(const char *what, std::uint64_t size);
+void noted_finalizers_run(const derrimas_finalizers_entry *entry);
 }
 
 static unsigned checks = 0, failures = 0;
@@ -50,7 +58,30 @@ static string shown(const entry &it) { return shown({it.seq, it.pass, it.reg, it
 static string shown(const registered &it) { return shown({it.number, it.replaced.proc, it.replaced.cd, it.replaced.was, it.made}); }
 static string shown(const registration &it) { return shown({it.object, it.number, it.proc, it.cd, static_cast<std::uint64_t>(it.kind), it.rank}); }
 static string shown(const counts &it) { return shown({it.passes, it.reclaimed, it.queued, it.taken, it.outstanding, it.scans, it.noted}); }
+
+static string shown(const finalizers::old &it) { return shown({it.proc, it.cd, it.was}); }
+static string shown(const finalizers::passed &it) { return shown({it.pass, it.picked}); }
+static string shown(const finalizers::linked &it) { return shown({it.word, it.target}); }
+static string shown(const finalizers::entry &it) { return shown({it.seq, it.pass, it.reg, it.obj, it.proc, it.cd}); }
+static string shown(const finalizers::registered &it) { return shown({it.number, it.replaced.proc, it.replaced.cd, it.replaced.was}); }
+static string shown(const finalizers::counts &it)
+{
+    return shown({it.registrations, it.short_links, it.long_links, it.waiting, it.held, it.queued, it.passes});
+}
+static string shown(const finalizers::registration &it)
+{
+    return shown({it.object, it.number, it.proc, it.cd, static_cast<std::uint64_t>(it.kind), it.rank});
+}
+static string shown(const finalizers::question &it) { return std::to_string(it.ask) + ":" + shown({it.what[0], it.what[1]}); }
 template <typename T> static string shown(const std::optional<T> &it) { return it ? shown(*it) : "none"; }
+
+static string shown(finalizers::link_answer it)
+{
+    return it == finalizers::link_answer::linked      ? "linked"
+           : it == finalizers::link_answer::duplicate ? "duplicate"
+           : it == finalizers::link_answer::not_found ? "not_found"
+                                                      : "?";
+}
 
 static string shown(link_answer it)
 {
@@ -62,6 +93,12 @@ static string shown(link_answer it)
 static const std::map<string, kind> kinds = {{"normal", kind::normal}, {"ignore_self", kind::ignore_self}, {"no_order", kind::no_order}};
 static const std::map<string, words> sorts = {{"scanned", words::scanned}, {"atomic", words::atomic}};
 static const std::map<string, links> lengths = {{"short", links::short_link}, {"default", links::short_link}, {"long", links::long_link}};
+static const std::map<string, finalizers::kind> finalizer_kinds = {{"normal", finalizers::kind::normal}, {"ignore_self", finalizers::kind::ignore_self},
+    {"no_order", finalizers::kind::no_order}, {"unreachable", finalizers::kind::unreachable}};
+static const std::map<string, finalizers::link_kind> link_kinds = {{"short", finalizers::link_kind::short_link},
+    {"default", finalizers::link_kind::short_link}, {"long", finalizers::link_kind::long_link}};
+static const std::map<string, finalizers::root> sorts_of_roots = {{"held_objects", finalizers::root::held_objects},
+    {"held_data", finalizers::root::held_data}, {"registered_data", finalizers::root::registered_data}};
 
 struct arguments {
     std::vector<string> words;
@@ -82,6 +119,12 @@ struct arguments {
         std::uint64_t first = number(n);
         return {first, first + 1, first + 2, first + 3, first + 4, first + 5, first + 6};
     }
+
+    finalizers::entry finalizers_entry(std::size_t n) const
+    {
+        std::uint64_t first = number(n);
+        return {first, first + 1, first + 2, first + 3, first + 4, first + 5};
+    }
 };
 
 /* What members are called of. The line's entries are numbered from 100. */
@@ -89,7 +132,9 @@ struct fixture {
     derrimas::world world{4, 2};
     derrimas::line line{2, 100};
     derrimas::seat seat{line.seat()};
+    derrimas::finalizers finalizers{};
 };
+static const std::uint8_t opened[4] = {}; /* what the exports return that open one */
 
 /* ---- procedures, which note their entries and then do as they are told */
 
@@ -120,12 +165,98 @@ static string scoped(world &w, slot first)
     return shown(lent) + "," + shown(inner.slot());
 }
 
+/* ---- finalizers */
+
+/* A host that says yes of odd numbers, or throws at its first question. */
+struct noting_host {
+    bool throws;
+
+    bool answer(const char *what, std::uint64_t object) const
+    {
+        noted_question(what, object);
+        if (throws)
+            throw std::runtime_error("thrown");
+        return object % 2 == 1;
+    }
+    bool is_marked(std::uint64_t object) { return answer("is_marked", object); }
+    void mark_children(std::uint64_t object, bool but_itself) { noted_children(object, but_itself); }
+    void mark(std::uint64_t object) { answer("mark", object); }
+    void mark_alone(std::uint64_t object) { answer("mark_alone", object); }
+    void clear(std::uint64_t word) { answer("clear", word); }
+    bool holder_is_marked(std::uint64_t word) { return answer("holder_is_marked", word); }
+};
+
+/* An allocator that notes its calls; one that `refuses` has no memory; and one that is `lacking` a function. */
+static void *allocated(void *refuses, std::size_t size)
+{
+    noted_memory("allocate", size);
+    return refuses ? nullptr : std::malloc(size);
+}
+
+static void *reallocated(void *, void *memory, std::size_t size)
+{
+    noted_memory("reallocate", size);
+    return std::realloc(memory, size);
+}
+
+static void released(void *, void *memory)
+{
+    noted_memory("release", 0);
+    std::free(memory);
+}
+
+static finalizers opened_with(const string &memory)
+{
+    static bool refuses = true;
+    return finalizers(finalizers::allocator{allocated, reallocated, memory == "lacking" ? nullptr : released, memory == "refuses" ? &refuses : nullptr});
+}
+
+static string reserved(finalizers &f, const arguments &a)
+{
+    finalizers own = a.words.size() > 3 ? opened_with(a.words[3]) : std::move(f);
+    own.reserve(a.number(0), a.number(1), a.number(2));
+    return "done";
+}
+
+static string asked(finalizers &f, std::uint64_t answers)
+{
+    finalizers::open_pass pass(f);
+    finalizers::question question;
+    return pass.next(answers, &question) ? shown(question) : "ended:" + shown(pass.did());
+}
+
+static string abandoned(finalizers &f, bool by_scope)
+{
+    finalizers::open_pass pass(f);
+    if (!by_scope)
+        pass.abandon();
+    return "done";
+}
+
+/* What a walk visits. */
+template <typename Walk> static string walked(Walk walk)
+{
+    string text;
+    walk([&text](const auto &it) { text += (text.empty() ? "" : "+") + shown(it); });
+    return text.empty() ? "none" : text;
+}
+
+static string invoked(finalizers &f, bool throws)
+{
+    return shown(f.invoke([throws](finalizers &, const finalizers::entry &of) {
+        noted_finalizers_run(&of);
+        if (throws)
+            throw std::runtime_error("thrown");
+    }));
+}
+
 /* ---- members */
 
 using member = std::function<string(fixture &, const arguments &)>;
 #define SHOWN(call) [](fixture &f, const arguments &a) { return (void)f, (void)a, shown(call); }
 #define DONE(call) [](fixture &f, const arguments &a) { return (void)f, (void)a, (void)(call), string("done"); }
 #define LINKS a.kind(lengths)
+#define LINK_KIND a.kind(link_kinds)
 
 static const std::map<string, member> members = {
     {"open", DONE(a.words.size() > 1 ? world(a.number(0), a.number(1)) : world(a.number(0)))},
@@ -172,6 +303,32 @@ static const std::map<string, member> members = {
     {"invoke_finalizers", SHOWN(f.world.invoke([&](world &, const entry &of) { run(of, a.is("throws")); }))},
     {"finalize_all", [](fixture &f, const arguments &a) { return finalized(f.world, a); }},
     {"scope", [](fixture &f, const arguments &a) { return scoped(f.world, a.slot(0)); }},
+    {"finalizers_open", DONE(a.words.empty() ? finalizers() : opened_with(a.words[0]))},
+    {"finalizers_reserve", [](fixture &f, const arguments &a) { return reserved(f.finalizers, a); }},
+    {"finalizers_shrink", DONE(f.finalizers.shrink())},
+    {"finalizers_register", SHOWN(a.is("default") ? f.finalizers.register_object(a.number(1), finalizers::kind::normal, a.number(2), a.number(3))
+                                                  : f.finalizers.register_object(a.number(1), a.kind(finalizer_kinds), a.number(2), a.number(3),
+                                                                                 static_cast<std::uint8_t>(a.number(4))))},
+    {"finalizers_unregister", SHOWN(f.finalizers.unregister(a.number(0)))},
+    {"finalizers_link", SHOWN(f.finalizers.link(LINK_KIND, a.number(1), a.number(2)))},
+    {"finalizers_unlink", SHOWN(f.finalizers.unlink(LINK_KIND, a.number(1)))},
+    {"finalizers_move_link", SHOWN(f.finalizers.move_link(LINK_KIND, a.number(1), a.number(2)))},
+    {"finalizers_begin", [](fixture &f, const arguments &) { return abandoned(f.finalizers, true); }},
+    {"finalizers_abandon", [](fixture &f, const arguments &) { return abandoned(f.finalizers, false); }},
+    {"finalizers_next", [](fixture &f, const arguments &a) { return asked(f.finalizers, a.number(0)); }},
+    {"finalizers_pass", SHOWN(f.finalizers.pass(noting_host{a.is("throws")}))},
+    {"finalizers_queue_all", SHOWN(f.finalizers.queue_all())},
+    {"finalizers_take", SHOWN(f.finalizers.take())},
+    {"finalizers_take_finished", SHOWN(f.finalizers.take_finished())},
+    {"finalizers_finish", DONE(f.finalizers.finish(a.finalizers_entry(0)))},
+    {"finalizers_has_waiting", SHOWN((f.finalizers.queue_all(), f.finalizers.has_waiting()))},
+    {"finalizers_invoke", [](fixture &f, const arguments &a) { return invoked(f.finalizers, a.is("throws")); }},
+    {"finalizers_roots", [](fixture &f, const arguments &a) { return walked([&](auto visit) { f.finalizers.roots(a.kind(sorts_of_roots), visit); }); }},
+    {"finalizers_registrations", [](fixture &f, const arguments &) { return walked([&](auto visit) { f.finalizers.registrations(visit); }); }},
+    {"finalizers_links", [](fixture &f, const arguments &a) { return walked([&](auto visit) { f.finalizers.links(LINK_KIND, visit); }); }},
+    {"finalizers_registration", SHOWN(f.finalizers.registration_of(a.number(0)))},
+    {"finalizers_target", SHOWN(f.finalizers.target(LINK_KIND, a.number(1)))},
+    {"finalizers_count", SHOWN(f.finalizers.count())},
 };
 
 /* ---- the table */
@@ -190,30 +347,40 @@ static std::vector<string> parts_of(const string &text, const string &mark)
     return parts;
 }
 
-/* The number of a code by its name. */
-static derrimas_code numbered(const string &name)
-{
-    int code = 0;
-    while (code < 256 && name != derrimas_name(static_cast<derrimas_code>(code)))
-        code++;
-    return static_cast<derrimas_code>(code);
-}
-
 struct row {
     string line, call;
     std::vector<string> exports, results, codes;
     arguments given;
+
+    bool is_of_finalizers() const { return call.rfind("finalizers_", 0) == 0; }
+
+    const char *name(int code) const
+    {
+        return is_of_finalizers() ? derrimas_finalizers_name(static_cast<derrimas_finalizers_code>(code)) : derrimas_name(static_cast<derrimas_code>(code));
+    }
+
+    /* The number of a code by its name. */
+    std::uint8_t numbered(const string &named) const
+    {
+        int code = 0;
+        while (code < 255 && named != name(code))
+            code++;
+        return static_cast<std::uint8_t>(code);
+    }
 };
 
+/* Whether a part of EXPORTS is a procedure of the test's. */
+static bool is_own(const string &part) { return part.rfind("run", 0) == 0 || part.rfind("host.", 0) == 0 || part == "ready"; }
+
 /* The calls that are noted, and the codes that their exports return: this one where the table has a `?`. */
-static std::pair<string, std::vector<std::uint8_t>> wanted(const row &of, derrimas_code in_turn)
+static std::pair<string, std::vector<std::uint8_t>> wanted(const row &of, std::uint8_t in_turn)
 {
     std::pair<string, std::vector<std::uint8_t>> both;
     for (const string &one : of.exports) {
         std::vector<string> parts = parts_of(one, " = ");
         both.first += (both.first.empty() ? "" : "; ") + parts[0];
-        if (parts[0].rfind("run", 0) != 0 && parts[0] != "ready")
-            both.second.push_back(static_cast<std::uint8_t>(parts.size() < 2 ? DERRIMAS_OK : parts[1] == "?" ? in_turn : numbered(parts[1])));
+        if (!is_own(parts[0]))
+            both.second.push_back(parts.size() < 2 ? std::uint8_t{0} : parts[1] == "?" ? in_turn : of.numbered(parts[1]));
     }
     return both;
 }
@@ -226,16 +393,19 @@ static string outcome(fixture &f, const row &of)
         check(why.what(), derrimas_strerror(why.number()), of.line);
         check(why.name(), derrimas_name(static_cast<derrimas_code>(why.why())), of.line);
         return "!" + why.name();
+    } catch (const finalizers::refused &why) {
+        check(why.what(), derrimas_finalizers_strerror(why.number()), of.line);
+        check(why.name(), derrimas_finalizers_name(static_cast<derrimas_finalizers_code>(why.why())), of.line);
+        return "!" + why.name();
     } catch (const std::runtime_error &) {
         return "thrown";
     }
 }
 
-static void is_tried(const row &of, derrimas_code code, std::uint64_t value, const string &result)
+static void is_tried(const row &of, std::uint8_t code, std::uint64_t value, const string &result)
 {
     auto [calls, codes] = wanted(of, code);
-    const std::uint8_t accepted[3] = {};
-    noted_start(accepted, 3, 0);
+    noted_start(opened, sizeof opened, 0);
     {
         fixture f;
         noted_start(codes.data(), codes.size(), value);
@@ -248,18 +418,17 @@ static void is_tried(const row &of, derrimas_code code, std::uint64_t value, con
 static void try_all(const row &of)
 {
     for (const string &one : of.results)
-        is_tried(of, DERRIMAS_OK, std::stoull(one), one.substr(one.find('>') + 1));
+        is_tried(of, 0, std::stoull(one), one.substr(one.find('>') + 1));
     for (const string &one : of.codes) {
         string name = one.substr(0, one.find('>'));
-        is_tried(of, numbered(name), 5, name == one ? "!" + name : one.substr(name.size() + 1));
+        is_tried(of, of.numbered(name), 5, name == one ? "!" + name : one.substr(name.size() + 1));
     }
 }
 
 /* A take that is refused leaves the caller's entry as it was, also where the line's entries aren't numbered from 0. */
 static void refused_takes()
 {
-    const std::uint8_t accepted[3] = {};
-    noted_start(accepted, 3, 0);
+    noted_start(opened, sizeof opened, 0);
     fixture f;
 
     for (derrimas_code code : {DERRIMAS_NO_WORLD, DERRIMAS_IN_HAND, DERRIMAS_EMPTY, DERRIMAS_BUSY}) {

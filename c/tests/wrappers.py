@@ -1,20 +1,41 @@
 #!/usr/bin/env python3
-"""derrimas.py by wrappers.txt, over the library of noted.c, which the variable DERRIMAS names: each call with each kind, result and code.
+"""The package derrimas by wrappers.txt, over the library of noted.c and noted_finalizers.c, which the variables DERRIMAS and DERRIMAS_FINALIZERS name: each call
+with each kind, result and code.
 
-And whether the table is whole: it has each call of derrimas.h, with each code of which its comment says "Refused"."""
+And whether the table is whole: it has each call of both headers, with each code of which its comment says "Refused"."""
 import ctypes, os, re, sys
 HERE = os.path.dirname(os.path.abspath(__file__))
 sys.path.insert(0, os.path.join(HERE, '..', 'python'))
 from derrimas import LIBRARY, Entry, Kind, LinkAnswer, Links, Refused, Words, World
+from derrimas import finalizers as over
+from derrimas._library import Error
 
-NAMES = {LIBRARY.derrimas_name(code).decode(): code for code in range(256)}
-KINDS = {name.lower(): it for kinds in (Kind, Words, Links) for name, it in kinds.__members__.items()}
+
+class Worlds:
+    """What is of derrimas.h alone."""
+    header, refused, strerror = 'derrimas.h', Refused, LIBRARY.derrimas_strerror
+    names = {LIBRARY.derrimas_name(code).decode(): code for code in range(256)}
+    constants = 'DERRIMAS_'
+
+
+class OfFinalizers:
+    """The same of derrimas_finalizers.h, whose calls begin with `finalizers_`."""
+    header, refused, strerror = 'derrimas_finalizers.h', over.Refused, over.LIBRARY.derrimas_finalizers_strerror
+    names = {over.LIBRARY.derrimas_finalizers_name(code).decode(): code for code in range(256)}
+    constants = ''
+
+
+KINDS = {name.lower(): it for kinds in (Kind, Words, Links, over.Kind, over.Root) for name, it in kinds.__members__.items()}
 OWN = {'register', 'invoke_finalizers'}  # calls of derrimas.h that no wrapper makes: each has its own
 checks, failures = 0, 0
 LIBRARY.noted_start.argtypes, LIBRARY.noted_start.restype = [ctypes.c_char_p, ctypes.c_size_t, ctypes.c_uint64], None
 LIBRARY.noted_text.argtypes, LIBRARY.noted_text.restype = [], ctypes.c_char_p
 LIBRARY.noted_open.argtypes, LIBRARY.noted_open.restype = [], ctypes.c_int64
 LIBRARY.noted_run.argtypes, LIBRARY.noted_run.restype = [ctypes.POINTER(Entry)], None
+LIBRARY.noted_question.argtypes, LIBRARY.noted_question.restype = [ctypes.c_char_p, ctypes.c_uint64], None
+LIBRARY.noted_children.argtypes, LIBRARY.noted_children.restype = [ctypes.c_uint64, ctypes.c_bool], None
+LIBRARY.noted_memory.argtypes, LIBRARY.noted_memory.restype = [ctypes.c_char_p, ctypes.c_uint64], None
+LIBRARY.noted_finalizers_run.argtypes, LIBRARY.noted_finalizers_run.restype = [ctypes.POINTER(over.Entry)], None
 
 
 def check(found, wanted, where):
@@ -23,6 +44,11 @@ def check(found, wanted, where):
     if found != wanted:
         failures += 1
         print(f'{where}: {found}, not {wanted}')
+
+
+def of(call):
+    """To which header a call belongs."""
+    return OfFinalizers if call.startswith('finalizers_') else Worlds
 
 
 def entry_of(first):
@@ -39,8 +65,10 @@ def shown(result):
     """What a member returned, as the table writes it."""
     if result is None:
         return 'none'
-    if isinstance(result, LinkAnswer):
+    if isinstance(result, (LinkAnswer, over.LinkAnswer)):
         return result.name.lower()
+    if isinstance(result, over.Question):
+        return f'{result.ask}:{",".join(map(str, result.what))}'
     if isinstance(result, tuple):
         return ','.join(f'{frame}:{slot}' for frame, slot in result)
     return ','.join(map(str, flat(result))) if hasattr(result, '_fields_') else str(int(result))
@@ -52,7 +80,7 @@ def done(result):
 
 
 def walked(walk):
-    return ' '.join(map(shown, walk)) or 'none'
+    return '+'.join(map(shown, walk)) or 'none'
 
 
 def opened(*counts):
@@ -98,6 +126,94 @@ def finalized(world, how, slot):
     return shown(world.finalize_all(slot))
 
 
+class Host:
+    """A host that says yes of odd numbers, or raises at its first question; and an allocator over the C library."""
+    memory = ctypes.CDLL(None)
+    memory.malloc.argtypes, memory.malloc.restype = [ctypes.c_size_t], ctypes.c_void_p
+    memory.realloc.argtypes, memory.realloc.restype = [ctypes.c_void_p, ctypes.c_size_t], ctypes.c_void_p
+    memory.free.argtypes, memory.free.restype = [ctypes.c_void_p], None
+
+    def __init__(self, how):
+        self.how = how
+
+    def _answer(self, what, object):
+        LIBRARY.noted_question(what, object)
+        if self.how in ('throws', 'interrupts'):
+            raise (OSError if self.how == 'throws' else KeyboardInterrupt)(1)
+        return object % 2 == 1
+
+    def is_marked(self, object):
+        return self._answer(b'is_marked', object)
+
+    def mark_children(self, object, but_itself):
+        LIBRARY.noted_children(object, but_itself)
+        return True
+
+    def mark(self, object):
+        return self._answer(b'mark', object)
+
+    def mark_alone(self, object):
+        return self._answer(b'mark_alone', object)
+
+    def clear(self, word):
+        return self._answer(b'clear', word)
+
+    def holder_is_marked(self, word):
+        return self._answer(b'holder_is_marked', word)
+
+    def allocate(self, size):
+        LIBRARY.noted_memory(b'allocate', size)
+        if self.how in ('throws', 'interrupts'):
+            raise (OSError if self.how == 'throws' else KeyboardInterrupt)(1)
+        return None if self.how == 'refuses' else self.memory.malloc(size)
+
+    def reallocate(self, memory, size):
+        LIBRARY.noted_memory(b'reallocate', size)
+        return self.memory.realloc(memory, size)
+
+    def release(self, memory):
+        LIBRARY.noted_memory(b'release', 0)
+        self.memory.free(memory)
+
+
+def opened_with(how=None):
+    """Finalizers with an allocator that is so: one that is `lacking` has no function."""
+    return over.Finalizers(object() if how == 'lacking' else Host(how)) if how else over.Finalizers()
+
+
+def reserved(finalizers, registrations, shorts, longs, how=None):
+    with opened_with(how) if how else finalizers as own:
+        return done(own.reserve(registrations, shorts, longs))
+
+
+def abandoned(finalizers, by_scope):
+    with finalizers.open_pass() as questions:
+        return 'done' if by_scope else done(questions.abandon())
+
+
+def asked(finalizers, answers):
+    with finalizers.open_pass() as questions:
+        question = questions.next(answers)
+        return shown(question) if question else f'ended:{shown(questions.did)}'
+
+
+def run_of_finalizers(finalizers, how):
+    turns = []
+
+    def run(_, entry):
+        LIBRARY.noted_finalizers_run(ctypes.byref(entry))
+        turns.append(entry)
+        if how != 'returns':
+            raise (OSError if how == 'throws' else KeyboardInterrupt)(len(turns))
+    finalizers.finalizer(9, run)
+    return shown(finalizers.invoke_finalizers())
+
+
+def waiting_after_all(finalizers):
+    finalizers.queue_all()
+    return shown(finalizers.has_waiting())
+
+
 MEMBERS = {
     'open': lambda _, *counts: opened(*counts),
     'close': lambda world: done(world.close()),
@@ -136,13 +252,41 @@ MEMBERS = {
     'finalize_all': finalized,
     'scope': scoped,
 }
+OVER = over.Finalizers
+MEMBERS_OF_FINALIZERS = {
+    'open': lambda _, how=None: done(opened_with(how).destroy()),
+    'reserve': reserved,
+    'shrink': lambda it: done(it.shrink()),
+    'register': lambda *arguments: shown(with_kind(OVER.register)(*arguments)),
+    'unregister': lambda it, object: unregistered(it.unregister(object)),
+    'link': lambda *arguments: shown(with_kind(OVER.link)(*arguments)),
+    'unlink': lambda *arguments: shown(with_kind(OVER.unlink)(*arguments)),
+    'move_link': lambda *arguments: shown(with_kind(OVER.move_link)(*arguments)),
+    'begin': lambda it: abandoned(it, True),
+    'abandon': lambda it: abandoned(it, False),
+    'next': asked,
+    'pass': lambda it, how: shown(it.run_pass(Host(how))),
+    'queue_all': lambda it: shown(it.queue_all()),
+    'take': lambda it: shown(it.take()),
+    'take_finished': lambda it: shown(it.take_finished()),
+    'finish': lambda it, first: done(it.finish(over.Entry(*range(first, first + 6)))),
+    'has_waiting': waiting_after_all,
+    'invoke': run_of_finalizers,
+    'roots': lambda it, sort: walked(it.roots(sort)),
+    'registrations': lambda it: walked(it.registrations()),
+    'links': lambda it, kind: walked(with_kind(OVER.links)(it, kind)),
+    'registration': lambda it, object: shown(it.registration(object)),
+    'target': lambda *arguments: shown(with_kind(OVER.target)(*arguments)),
+    'count': lambda it: shown(it.counts()),
+}
+MEMBERS.update({f'finalizers_{name}': member for name, member in MEMBERS_OF_FINALIZERS.items()})
 
 
-def outcome(world, call, arguments):
+def outcome(handle, call, arguments):
     try:
-        return MEMBERS[call](world, *arguments)
-    except Refused as why:
-        check((why.code, str(why)), (NAMES[why.name], LIBRARY.derrimas_strerror(why.code).decode()), call)
+        return MEMBERS[call](handle, *arguments)
+    except Error as why:
+        check((type(why), why.code, str(why)), (of(call).refused, of(call).names[why.name], of(call).strerror(why.code).decode()), call)
         return f'!{why.name}'
     except (OSError, KeyboardInterrupt) as why:
         check(why.args, (1,), f'{call}: the turn of what is raised')
@@ -153,6 +297,9 @@ def argument(word):
     if ':' in word:
         return tuple(map(int, word.split(':')))
     return int(word) if word.isdigit() else KINDS.get(word, word)
+
+
+OWN_PART = re.compile(r'run |ready$|host\.')  # a procedure of the test's among the exports
 
 
 class Row:
@@ -167,14 +314,14 @@ class Row:
 
     def is_tried(self, code, value, wanted):
         """Makes the call, where the export in turn returns this code."""
-        codes = [NAMES[code if due == '?' else due] for text, due in self.exports if text.split()[0] not in ('run', 'ready')]
+        codes = [of(self.call).names[code if due == '?' else due] for text, due in self.exports if not OWN_PART.match(text)]
         LIBRARY.noted_start(b'\0', 1, 0)
-        world = World()
+        handle = OVER() if of(self.call) is OfFinalizers else World()
         LIBRARY.noted_start(bytes(codes), len(codes), value)
-        found = outcome(world, self.call, map(argument, self.words))
+        found = outcome(handle, self.call, map(argument, self.words))
         noted = LIBRARY.noted_text().decode()
         check((found, noted), (wanted, '; '.join(text for text, _ in self.exports)), f'{self.line}, {code}, {value}')
-        world.destroy()
+        handle.destroy()
         check(LIBRARY.noted_open(), 0, f'{self.line}: open handles')
 
     def try_all(self):
@@ -188,20 +335,20 @@ class Row:
         return {code for code, _ in self.codes} | {wanted[1:] for _, wanted in self.results if wanted.startswith('!')}
 
 
-def refusals_of_header():
-    """Of each call of derrimas.h the codes of which its comment says that it is refused with them. One comment may stand before several calls."""
-    text = open(os.path.join(HERE, '..', 'include', 'derrimas.h')).read()
-    names = {'DERRIMAS_' + re.sub('(?<!^)(?=[A-Z])', '_', name).upper(): name for name in NAMES if name != '?'}
+def refusals_of(library):
+    """Of each call of a header the codes of which its comment says that it is refused with them. One comment may stand before several calls."""
+    text = open(os.path.join(HERE, '..', 'include', library.header)).read()
+    names = {library.constants + re.sub('(?<!^)(?=[A-Z])', '_', name).upper(): name for name in library.names if name != '?'}
     codes = {}
     for said, declared in re.findall(r'/\*((?:(?!\*/).)*?Refused:(?:(?!\*/).)*?)\*/\n((?:[^/\n][^\n]*\n)+)', text, re.S):
         refused = re.sub(r'\s+\*?\s*', ' ', said.split('Refused:')[1]).split('. ')[0]
-        calls = re.findall(r'derrimas_code derrimas_(\w+)\(', declared)
+        calls = re.findall(r'\w+_code\s(derrimas_\w+)\(', declared)
         for call in calls:
-            part = re.search(rf'derrimas_{call} ((?:DERRIMAS_.*?))(?:; derrimas_|$)', refused) if len(calls) > 1 else None
+            part = re.search(rf'{call} ((?:DERRIMAS_.*?))(?:; derrimas_|$)', refused) if len(calls) > 1 else None
             part = part[1] if part else refused
-            codes[call] = {names[it] for it in re.findall(r'\bDERRIMAS_[A-Z_]+\b', part) if it in names}
-            codes[call] |= {code for other in re.findall(r'as derrimas_(\w+)', part) for code in codes[other]}
-    return codes
+            codes[call] = {names[it] for it in re.findall(r'\b[A-Z_]+\b', part) if it in names}
+            codes[call] |= {code for other in re.findall(r'as (derrimas_\w+)', part) for code in codes[other]}
+    return {call[9:]: of_call for call, of_call in codes.items()}
 
 
 def is_whole(rows):
@@ -209,9 +356,12 @@ def is_whole(rows):
     told = {}
     for row in rows:
         told.setdefault(row.call, set()).update(row.refusals())
-    for call, codes in refusals_of_header().items():
-        if call not in OWN:
-            check(sorted(told.get(call, ())), sorted(codes), f'the codes of {call} in the table')
+    for library in (Worlds, OfFinalizers):
+        refused = refusals_of(library)
+        check(len(refused) > 20, True, f'the calls of {library.header}')
+        for call, codes in refused.items():
+            if call not in OWN:
+                check(sorted(told.get(call, ())), sorted(codes), f'the codes of {call} in the table')
 
 
 def main():

@@ -12,14 +12,14 @@
         world.invoke_finalizers()
 
 A slot is a pair of a frame and a slot of it. Sizes and offsets are in words; addresses, words and client data are numbers. A refused call raises Refused,
-whose text is the library's sentence. Use a world from one thread at a time. The library is c/out/libderrimas.so.1, which c/build makes, or the file that
-the variable DERRIMAS names."""
+whose text is the library's sentence. Use a world from one thread at a time. The library is libderrimas.so.1: that of the package, or the file that the
+variable DERRIMAS names. The module derrimas.finalizers is derrimas_finalizers.h, for a heap of your own."""
 from __future__ import annotations
-import contextlib, ctypes, enum, os
-from ctypes import POINTER, Structure, byref, c_bool, c_char_p, c_uint8, c_uint32, c_uint64, c_void_p
+import contextlib, ctypes, enum
+from ctypes import POINTER, byref, c_bool, c_char_p, c_uint8, c_uint32, c_uint64, c_void_p
 from typing import Any, Callable, Dict, Iterator, Optional, Tuple
+from ._library import Error, declare, load, struct
 
-HERE = os.path.dirname(os.path.abspath(__file__))
 EMPTY = 66
 At = Tuple[int, int]
 
@@ -44,21 +44,11 @@ class LinkAnswer(enum.IntEnum):
     LINKED, DUPLICATE, NOT_FOUND = range(128, 131)
 
 
-class Refused(Exception):
-    """A call was refused, and changed nothing: `code` is the number of the refusal, `name` its name, and the text says what it means."""
+class Refused(Error):
+    """A call of a world was refused, and changed nothing."""
 
     def __init__(self, code: int) -> None:
-        super().__init__(LIBRARY.derrimas_strerror(code).decode())
-        self.code, self.name = code, LIBRARY.derrimas_name(code).decode()
-
-
-def struct(name: str, doc: str, *fields: Any) -> Any:
-    """A struct of C whose fields are numbers, but for those that name their type."""
-    typed = [field if isinstance(field, tuple) else (field, c_uint64) for field in fields]
-
-    def show(self: Any) -> str:
-        return f"{name}({', '.join(f'{field}={getattr(self, field)}' for field, _ in typed)})"
-    return type(name, (Structure,), {"__doc__": doc, "_fields_": typed, "__repr__": show})
+        super().__init__(code, LIBRARY.derrimas_name(code).decode(), LIBRARY.derrimas_strerror(code).decode())
 
 
 Slot = struct("Slot", "A slot of a frame.", "frame", "slot")
@@ -81,7 +71,7 @@ PROCEDURE = ctypes.CFUNCTYPE(None, POINTER(Handle), POINTER(Entry), c_void_p)
 
 def library() -> ctypes.CDLL:
     """The library, each of whose calls knows its types: after the world the arguments, and last the place for a result."""
-    lib, n, kind = ctypes.CDLL(os.environ.get("DERRIMAS", os.path.join(HERE, "..", "out", "libderrimas.so.1"))), c_uint64, c_uint32
+    lib, n, kind = load("DERRIMAS", "libderrimas.so.1", "derrimas_version"), c_uint64, c_uint32
     for name, types in {
         "open": [n, n], "close": [], "alloc": [Slot, n, kind, POINTER(Made)], "set": [Slot, n], "get": [Slot, POINTER(n)], "copy": [Slot, Slot],
         "load": [Slot, n, Slot, POINTER(n)], "store": [Slot, n, Slot], "write": [Slot, n, n], "read": [n, n, POINTER(n)], "base": [n, POINTER(Object)],
@@ -93,13 +83,11 @@ def library() -> ctypes.CDLL:
         "next_held": [n, POINTER(Entry)], "queued": [n, POINTER(Entry)], "count": [POINTER(Counts)],
         "finalize_all": [Slot, POINTER(PROCEDURE), ctypes.c_size_t, c_void_p, POINTER(n)],
     }.items():
-        call = getattr(lib, "derrimas_" + name)
-        call.restype, call.argtypes = c_uint32, [POINTER(Handle), *types]
+        declare(lib, f"derrimas_{name}", c_uint32, [POINTER(Handle), *types])
     for name in ("name", "strerror"):
-        text = getattr(lib, "derrimas_" + name)
-        text.restype, text.argtypes = c_char_p, [c_uint32]
-    lib.derrimas_destroy.restype, lib.derrimas_destroy.argtypes = None, [POINTER(Handle)]
-    lib.derrimas_sample.restype, lib.derrimas_sample.argtypes = None, [POINTER(Samples)]
+        declare(lib, f"derrimas_{name}", c_char_p, [c_uint32])
+    declare(lib, "derrimas_destroy", None, [POINTER(Handle)])
+    declare(lib, "derrimas_sample", None, [POINTER(Samples)])
     return lib
 
 

@@ -1,0 +1,310 @@
+/* derrimas_finalizers.hpp: derrimas_finalizers.h for C++17 and later, in headers alone.
+ *
+ * The handle frees what it has at its end, and can be moved but not copied. A refusal is an exception, `derrimas::finalizers::refused`; what may not be there
+ * is a std::optional; a walk calls a function for each. Each member is the call of its name: derrimas_finalizers.h says what it does, what it costs, and what
+ * a host owes.
+ *
+ *     derrimas::finalizers finalizers;
+ *     finalizers.register_object(object, derrimas::finalizers::kind::normal, CLOSE, number);
+ *     mark_roots(heap);
+ *     finalizers.roots(derrimas::finalizers::root::held_objects, [&](std::uint64_t object) { heap.mark(object); });
+ *     finalizers.pass(heap);
+ *     sweep(heap);
+ *     finalizers.invoke([](derrimas::finalizers &, const derrimas::finalizers::entry &entry) { close_file(entry.cd); });
+ */
+#ifndef DERRIMAS_FINALIZERS_HPP
+#define DERRIMAS_FINALIZERS_HPP
+
+#include "derrimas_error.hpp"
+#include "derrimas_finalizers.h"
+#include <optional>
+#include <utility>
+
+namespace derrimas {
+
+/* The finalizers of a heap. One that was moved from has none: its calls are refused as not_open. */
+class finalizers {
+public:
+    enum class code { /* those that a program looks for by name; the others by their numbers */
+        ok = DERRIMAS_FINALIZERS_OK, no_memory = DERRIMAS_FINALIZERS_NO_MEMORY, not_held = DERRIMAS_FINALIZERS_NOT_HELD,
+        pass_open = DERRIMAS_FINALIZERS_PASS_OPEN, no_pass = DERRIMAS_FINALIZERS_NO_PASS, not_open = DERRIMAS_FINALIZERS_NOT_OPEN,
+        empty = DERRIMAS_FINALIZERS_EMPTY
+    };
+    enum class kind {
+        normal = DERRIMAS_FINALIZERS_NORMAL, ignore_self = DERRIMAS_FINALIZERS_IGNORE_SELF, no_order = DERRIMAS_FINALIZERS_NO_ORDER,
+        unreachable = DERRIMAS_FINALIZERS_UNREACHABLE
+    };
+    enum class link_kind { short_link = DERRIMAS_FINALIZERS_SHORT, long_link = DERRIMAS_FINALIZERS_LONG };
+    enum class link_answer { linked = DERRIMAS_FINALIZERS_LINKED, duplicate = DERRIMAS_FINALIZERS_DUPLICATE, not_found = DERRIMAS_FINALIZERS_NOT_FOUND };
+    enum class root {
+        held_objects = DERRIMAS_FINALIZERS_HELD_OBJECTS, held_data = DERRIMAS_FINALIZERS_HELD_DATA, registered_data = DERRIMAS_FINALIZERS_REGISTERED_DATA
+    };
+
+    using allocator = derrimas_allocator; /* its functions don't throw: the library can't be left through */
+    using old = derrimas_finalizers_old;
+    using entry = derrimas_finalizers_entry;
+    using registration = derrimas_finalizers_registration_at;
+    using linked = derrimas_finalizers_link_at;
+    using counts = derrimas_finalizers_counts;
+    using passed = derrimas_finalizers_passed;
+    using question = derrimas_question;
+    using ask = derrimas_ask;
+
+    /* A new registration: its number, and what it replaced. */
+    struct registered {
+        std::uint64_t number;
+        old replaced;
+    };
+
+    /* A call was refused, and changed nothing. `what` is the sentence of its code. */
+    class refused : public error {
+    public:
+        explicit refused(derrimas_finalizers_code code)
+            : error(derrimas_finalizers_name(code), derrimas_finalizers_strerror(code)), number_(code) {}
+        finalizers::code why() const noexcept { return static_cast<finalizers::code>(number_); }
+        derrimas_finalizers_code number() const noexcept { return number_; }
+
+    private:
+        derrimas_finalizers_code number_;
+    };
+
+    finalizers() { check(derrimas_finalizers_open(&handle_, nullptr)); }
+    explicit finalizers(const allocator &memory)
+    {
+        const derrimas_finalizers_options options = {sizeof options, memory};
+        check(derrimas_finalizers_open(&handle_, &options));
+    }
+    ~finalizers() { derrimas_finalizers_destroy(&handle_); }
+    finalizers(const finalizers &) = delete;
+    finalizers &operator=(const finalizers &) = delete;
+    finalizers(finalizers &&other) noexcept { std::swap(handle_, other.handle_); }
+    finalizers &operator=(finalizers &&other) noexcept
+    {
+        std::swap(handle_, other.handle_);
+        return *this;
+    }
+
+    /* For calls of derrimas_finalizers.h. */
+    derrimas_finalizers *get() noexcept { return &handle_; }
+
+    void reserve(std::uint64_t registrations, std::uint64_t shorts, std::uint64_t longs)
+    {
+        check(derrimas_finalizers_reserve(&handle_, registrations, shorts, longs));
+    }
+
+    void shrink() { check(derrimas_finalizers_shrink(&handle_)); }
+
+    registered register_object(std::uint64_t object, kind kind, std::uint64_t proc, std::uint64_t cd, std::uint8_t rank = 0)
+    {
+        registered registered;
+        check(derrimas_finalizers_register(&handle_, object, static_cast<derrimas_finalizers_kind>(kind), proc, cd, rank, &registered.number,
+                                           &registered.replaced));
+        return registered;
+    }
+
+    /* What was registered, if anything was. */
+    std::optional<old> unregister(std::uint64_t object)
+    {
+        old old;
+        check(derrimas_finalizers_unregister(&handle_, object, &old));
+        return old.was ? std::optional(old) : std::nullopt;
+    }
+
+    link_answer link(link_kind kind, std::uint64_t word, std::uint64_t target)
+    {
+        derrimas_finalizers_linked answer;
+        check(derrimas_finalizers_link(&handle_, of(kind), word, target, &answer));
+        return static_cast<link_answer>(answer);
+    }
+
+    bool unlink(link_kind kind, std::uint64_t word)
+    {
+        bool was;
+        check(derrimas_finalizers_unlink(&handle_, of(kind), word, &was));
+        return was;
+    }
+
+    link_answer move_link(link_kind kind, std::uint64_t word, std::uint64_t to)
+    {
+        derrimas_finalizers_linked answer;
+        check(derrimas_finalizers_move_link(&handle_, of(kind), word, to, &answer));
+        return static_cast<link_answer>(answer);
+    }
+
+    /* An open pass, question by question. Its end before the last question abandons it: then the host reclaims nothing before its next pass has ended. The
+     * finalizers have to outlive it where they are. */
+    class open_pass {
+    public:
+        explicit open_pass(finalizers &finalizers) : handle_(&finalizers.handle_) { check(derrimas_finalizers_begin(handle_)); }
+        ~open_pass()
+        {
+            if (is_open_)
+                (void)derrimas_finalizers_abandon(handle_);
+        }
+        open_pass(const open_pass &) = delete;
+        open_pass &operator=(const open_pass &) = delete;
+
+        /* Takes the answers to the question before, at first any, and tells whether there is a further one, which is in *question then. */
+        bool next(std::uint64_t answers, question *question)
+        {
+            derrimas_finalizers_code code = derrimas_finalizers_next(handle_, answers, question, &did_);
+            is_open_ = code == DERRIMAS_FINALIZERS_OK;
+            return found(code);
+        }
+
+        void abandon()
+        {
+            is_open_ = false;
+            check(derrimas_finalizers_abandon(handle_));
+        }
+
+        /* What the pass did, once it has ended; zeros before. */
+        passed did() const noexcept { return did_; }
+
+    private:
+        derrimas_finalizers *handle_;
+        passed did_{};
+        bool is_open_ = true;
+    };
+
+    /* A whole pass, whose questions the members of `host` answer and carry out: bool is_marked(object), mark_children(object, but_itself), mark(object),
+     * mark_alone(object), clear(word), bool holder_is_marked(word). Where one throws, the pass is abandoned. */
+    template <typename Host> passed pass(Host &&host)
+    {
+        open_pass open(*this);
+        question question;
+        for (std::uint64_t answers = 0; open.next(answers, &question);)
+            answers = answers_of(host, question);
+        return open.did();
+    }
+
+    /* The answers to a question by the members of a host. */
+    template <typename Host> static std::uint64_t answers_of(Host &&host, const question &question)
+    {
+        std::uint64_t answers = 0;
+        for (std::uint64_t n = 0; n < question.count; n++)
+            answers |= static_cast<std::uint64_t>(answer_of(host, question.ask, question.what[n])) << n;
+        return answers;
+    }
+
+    std::uint64_t queue_all()
+    {
+        std::uint64_t queued;
+        check(derrimas_finalizers_queue_all(&handle_, &queued));
+        return queued;
+    }
+
+    std::optional<entry> take() { return taken(derrimas_finalizers_take); }
+    std::optional<entry> take_finished() { return taken(derrimas_finalizers_take_finished); }
+    void finish(const entry &entry) { check(derrimas_finalizers_finish(&handle_, &entry)); }
+
+    /* May be called without the lock of the others. */
+    bool has_waiting() const noexcept { return derrimas_finalizers_has_waiting(&handle_); }
+
+    /* Takes entries until none is left, calls `run` with these finalizers and each, and finishes it, unless `run` did. Where `run` throws, its entry stays
+     * held, and the caller has to finish it. Returns how many it took. */
+    template <typename Run> std::uint64_t invoke(Run run)
+    {
+        std::uint64_t taken = 0;
+        for (auto next = take(); next; next = take(), taken++) {
+            run(*this, *next);
+            (void)derrimas_finalizers_finish(&handle_, &*next);
+        }
+        return taken;
+    }
+
+    /* Calls `visit` with each root of the sort. In a walk nothing may change, so `visit` makes no call but those on a const handle. */
+    template <typename Visit> void roots(root sort, Visit visit) const
+    {
+        std::uint64_t some[PART], from = 0;
+        for (std::size_t count; found(derrimas_finalizers_roots(&handle_, static_cast<derrimas_finalizers_root>(sort), &from, some, PART, &count));)
+            for (std::size_t n = 0; n < count; n++)
+                visit(some[n]);
+    }
+
+    /* The same with each registration. */
+    template <typename Visit> void registrations(Visit visit) const
+    {
+        registration some[PART];
+        std::uint64_t from = 0;
+        for (std::size_t count; found(derrimas_finalizers_registrations(&handle_, &from, some, PART, &count));)
+            for (std::size_t n = 0; n < count; n++)
+                visit(some[n]);
+    }
+
+    /* The same with each link of the kind. */
+    template <typename Visit> void links(link_kind kind, Visit visit) const
+    {
+        linked some[PART];
+        std::uint64_t from = 0;
+        for (std::size_t count; found(derrimas_finalizers_links(&handle_, of(kind), &from, some, PART, &count));)
+            for (std::size_t n = 0; n < count; n++)
+                visit(some[n]);
+    }
+
+    std::optional<registration> registration_of(std::uint64_t object) const
+    {
+        registration registration;
+        return found(derrimas_finalizers_registration(&handle_, object, &registration)) ? std::optional(registration) : std::nullopt;
+    }
+
+    std::optional<std::uint64_t> target(link_kind kind, std::uint64_t word) const
+    {
+        std::uint64_t target;
+        return found(derrimas_finalizers_target(&handle_, of(kind), word, &target)) ? std::optional(target) : std::nullopt;
+    }
+
+    counts count() const
+    {
+        counts counts;
+        check(derrimas_finalizers_count(&handle_, &counts));
+        return counts;
+    }
+
+private:
+    static constexpr std::size_t PART = 64; /* of a walk */
+
+    static derrimas_finalizers_link_kind of(link_kind kind) noexcept { return static_cast<derrimas_finalizers_link_kind>(kind); }
+
+    static void check(derrimas_finalizers_code code)
+    {
+        if (code != DERRIMAS_FINALIZERS_OK)
+            throw refused(code);
+    }
+
+    /* Whether there is one; throws what was refused for another cause than that there is none. */
+    static bool found(derrimas_finalizers_code code)
+    {
+        if (code == DERRIMAS_FINALIZERS_EMPTY)
+            return false;
+        check(code);
+        return true;
+    }
+
+    std::optional<entry> taken(derrimas_finalizers_code take(derrimas_finalizers *, derrimas_finalizers_entry *))
+    {
+        entry entry;
+        return found(take(&handle_, &entry)) ? std::optional(entry) : std::nullopt;
+    }
+
+    /* The answer about one object or word; what is only to be done has none. */
+    template <typename Host> static bool answer_of(Host &host, ask ask, std::uint64_t what)
+    {
+        switch (ask) {
+        case DERRIMAS_ASK_IS_MARKED: return host.is_marked(what);
+        case DERRIMAS_ASK_MARK_CHILDREN: host.mark_children(what, false); break;
+        case DERRIMAS_ASK_MARK_OTHERS: host.mark_children(what, true); break;
+        case DERRIMAS_ASK_MARK: host.mark(what); break;
+        case DERRIMAS_ASK_MARK_ALONE: host.mark_alone(what); break;
+        case DERRIMAS_ASK_CLEAR: host.clear(what); break;
+        case DERRIMAS_ASK_HOLDER_IS_MARKED: return host.holder_is_marked(what);
+        }
+        return false;
+    }
+
+    derrimas_finalizers handle_{};
+};
+
+} // namespace derrimas
+
+#endif

@@ -1,0 +1,335 @@
+"""Finalizers and disappearing links over a heap of your own: c/include/derrimas_finalizers.h for Python, by ctypes.
+
+    from derrimas.finalizers import Finalizers
+
+    with Finalizers() as finalizers:
+        finalizers.finalizer(0, lambda finalizers, entry: print("finalized", entry.cd))
+        finalizers.register(object, proc=0, cd=7)
+        heap.mark_roots()
+        for root in finalizers.roots(Root.HELD_OBJECTS):
+            heap.mark(root)
+        finalizers.run_pass(heap)
+        heap.sweep()
+        finalizers.invoke_finalizers()
+
+Objects, words, procedures and client data are numbers below 2^64. The heap answers a pass by six methods: is_marked(object), mark_children(object,
+but_itself), mark(object), mark_alone(object), clear(word), holder_is_marked(word). A refused call raises Refused, whose text is the library's sentence. Use
+Finalizers from one thread at a time. The library is libderrimas_finalizers.so.1: that of the package, or the file that the variable DERRIMAS_FINALIZERS
+names."""
+from __future__ import annotations
+import contextlib, ctypes, enum
+from ctypes import CFUNCTYPE, POINTER, Structure, byref, c_bool, c_char_p, c_size_t, c_uint8, c_uint32, c_uint64, c_void_p
+from typing import Any, Callable, Dict, Iterator, List, Optional
+from ._library import Error, declare, load, struct
+
+EMPTY = 10
+BATCH = 16  # the most objects or words of a question
+PART = 64  # of a walk
+
+
+class Kind(enum.IntEnum):
+    """The kinds of registrations."""
+    NORMAL, IGNORE_SELF, NO_ORDER, UNREACHABLE = range(4)
+
+
+class LinkKind(enum.IntEnum):
+    """The kinds of links."""
+    SHORT, LONG = range(2)
+
+
+class LinkAnswer(enum.IntEnum):
+    """What is answered about a link."""
+    LINKED, DUPLICATE, NOT_FOUND = range(128, 131)
+
+
+class Root(enum.IntEnum):
+    """The roots that a host marks before a pass: objects and client data of entries, and client data of registrations, for hosts that keep it."""
+    HELD_OBJECTS, HELD_DATA, REGISTERED_DATA = range(3)
+
+
+class Ask(enum.IntEnum):
+    """What a question asks of each of its objects or words."""
+    IS_MARKED, MARK_CHILDREN, MARK_OTHERS, MARK, MARK_ALONE, CLEAR, HOLDER_IS_MARKED = range(1, 8)
+
+
+class Refused(Error):
+    """A call of finalizers was refused, and changed nothing."""
+
+    def __init__(self, code: int) -> None:
+        super().__init__(code, LIBRARY.derrimas_finalizers_name(code).decode(), LIBRARY.derrimas_finalizers_strerror(code).decode())
+
+
+ALLOCATE = CFUNCTYPE(c_void_p, c_void_p, c_size_t)
+REALLOCATE = CFUNCTYPE(c_void_p, c_void_p, c_void_p, c_size_t)
+RELEASE = CFUNCTYPE(None, c_void_p, c_void_p)
+Allocator = struct("Allocator", "An allocator's functions, in C.", ("allocate", ALLOCATE), ("reallocate", REALLOCATE), ("release", RELEASE), ("data", c_void_p))
+Options = struct("Options", "What a handle is opened with.", ("size", c_size_t), ("allocator", Allocator))
+Handle = struct("Handle", "What stands for finalizers in C.", ("inside", c_void_p), "waiting", ("allocator", Allocator))
+Old = struct("Old", "A registration that went away, if there `was` one.", "proc", "cd", ("was", c_bool))
+Registered = struct("Registered", "A new registration: its number, and what it replaced.", "number", ("replaced", Old))
+Entry = struct("Entry", "An entry of the queue: its place, its pass, its registration, object, procedure and client data.",
+               "seq", "passed", "reg", "obj", "proc", "cd")
+Registration = struct("Registration", "A registration that stands; its kind is a Kind.", "object", "number", "proc", "cd", ("kind", c_uint32), ("rank", c_uint8))
+Linked = struct("Linked", "A link that stands: its word and its target.", "word", "target")
+Counts = struct("Counts", "How many registrations, links, waiting and held entries there are; how many entries and passes there ever were.",
+                "registrations", "short_links", "long_links", "waiting", "held", "queued", "passes")
+Passed = struct("Passed", "What a pass did: its number, and the entries that it queued.", "number", "picked")
+CQuestion = struct("CQuestion", "A question, in C.", ("what", c_uint64 * BATCH), "count", ("ask", c_uint32))
+
+
+class Question:
+    """A question: what it asks, and of which objects or words."""
+
+    def __init__(self, asked: Any) -> None:
+        self.ask, self.what = Ask(asked.ask), list(asked.what[:asked.count])
+
+
+def library() -> ctypes.CDLL:
+    """The library, each of whose calls knows its types: after the handle the arguments, and last the places for results."""
+    lib, n, kind = load("DERRIMAS_FINALIZERS", "libderrimas_finalizers.so.1", "derrimas_finalizers_version"), c_uint64, c_uint32
+    walk = [POINTER(n), c_void_p, c_size_t, POINTER(c_size_t)]
+    for name, types in {
+        "open": [POINTER(Options)], "reserve": [n, n, n], "shrink": [], "register": [n, kind, n, n, c_uint8, POINTER(n), POINTER(Old)],
+        "unregister": [n, POINTER(Old)], "link": [kind, n, n, POINTER(kind)], "unlink": [kind, n, POINTER(c_bool)], "move_link": [kind, n, n, POINTER(kind)],
+        "begin": [], "next": [n, POINTER(CQuestion), POINTER(Passed)], "abandon": [], "queue_all": [POINTER(n)], "take": [POINTER(Entry)],
+        "take_finished": [POINTER(Entry)], "finish": [POINTER(Entry)], "roots": [kind, *walk], "registrations": walk, "links": [kind, *walk],
+        "registration": [n, POINTER(Registration)], "target": [kind, n, POINTER(n)], "count": [POINTER(Counts)],
+    }.items():
+        declare(lib, f"derrimas_finalizers_{name}", c_uint32, [POINTER(Handle), *types])
+    for name in ("name", "strerror"):
+        declare(lib, f"derrimas_finalizers_{name}", c_char_p, [c_uint32])
+    declare(lib, "derrimas_finalizers_destroy", None, [POINTER(Handle)])
+    declare(lib, "derrimas_finalizers_has_waiting", c_bool, [POINTER(Handle)])
+    return lib
+
+
+LIBRARY = library()
+
+
+class Finalizers:
+    """The finalizers of a heap. Leaving a `with` destroys them, and so does letting go of them.
+
+    An allocator has the methods allocate(size), reallocate(memory, size) and release(memory), whose memory are addresses; None is no memory. What one raises
+    is raised by the call in which it came, once that has ended, and counts as no memory."""
+
+    def __init__(self, allocator: Any = None) -> None:
+        self.handle = Handle()
+        self.procedures: Dict[int, Callable[[Finalizers, Any], Any]] = {}
+        self.raised: List[BaseException] = []
+        self.options = Options(ctypes.sizeof(Options), self._functions(allocator)) if allocator is not None else None
+        self._call("open", byref(self.options) if self.options else None)
+
+    def __enter__(self) -> Finalizers:
+        return self
+
+    def __exit__(self, *_: Any) -> None:
+        self.destroy()
+
+    def __del__(self) -> None:
+        self.destroy()
+
+    def _functions(self, allocator: Any) -> Any:
+        """The functions of an allocator for C. What it lacks is NULL there."""
+        def kept(kind: Any, name: str) -> Any:
+            method = getattr(allocator, name, None)
+
+            def call(_: Any, *arguments: Any) -> Any:
+                try:
+                    return method(*arguments)
+                except BaseException as why:  # nothing may be raised through C
+                    self.raised.append(why)
+                    return None
+            return kind(call) if method else kind()
+        return Allocator(kept(ALLOCATE, "allocate"), kept(REALLOCATE, "reallocate"), kept(RELEASE, "release"))
+
+    def _raise(self) -> None:
+        """Raises the first that an allocator raised."""
+        if self.raised:
+            first, self.raised = self.raised[0], []
+            raise first
+
+    def _call(self, name: str, *arguments: Any) -> None:
+        code = getattr(LIBRARY, f"derrimas_finalizers_{name}")(byref(self.handle), *arguments)
+        self._raise()
+        if code:
+            raise Refused(code)
+
+    def _answer(self, answer: Any, name: str, *arguments: Any) -> Any:
+        """Makes a call whose last argument is a place for a result of this type; numbers and truths come as Python's."""
+        place = answer()
+        self._call(name, *arguments, byref(place))
+        return getattr(place, "value", place)
+
+    def _or_none(self, answer: Any, name: str, *arguments: Any) -> Any:
+        try:
+            return self._answer(answer, name, *arguments)
+        except Refused as refused:
+            if refused.code != EMPTY:
+                raise
+            return None
+
+    def destroy(self) -> None:
+        """Frees all. No finalizer runs. Every call but this one is refused as NotOpen from then on."""
+        LIBRARY.derrimas_finalizers_destroy(byref(self.handle))
+        self._raise()
+
+    def reserve(self, registrations: int, shorts: int = 0, longs: int = 0) -> None:
+        """Makes room for so many further registrations, and links of each kind."""
+        self._call("reserve", registrations, shorts, longs)
+
+    def shrink(self) -> None:
+        """Gives back the memory that isn't needed."""
+        self._call("shrink")
+
+    def register(self, object: int, proc: int, cd: int = 0, rank: int = 0, kind: Kind = Kind.NORMAL) -> Registered:
+        """Registers a finalizer of the object, in the place of the one that it has."""
+        number, old = c_uint64(), Old()
+        self._call("register", object, kind, proc, cd, rank, byref(number), byref(old))
+        return Registered(number.value, old)
+
+    def unregister(self, object: int) -> Old:
+        """Removes the finalizer of the object, and tells what it was."""
+        return self._answer(Old, "unregister", object)
+
+    def link(self, word: int, target: int, kind: LinkKind = LinkKind.SHORT) -> LinkAnswer:
+        """Makes a link from the word to the target."""
+        return LinkAnswer(self._answer(c_uint32, "link", kind, word, target))
+
+    def unlink(self, word: int, kind: LinkKind = LinkKind.SHORT) -> bool:
+        """Removes the link at the word, and tells whether there was one."""
+        return self._answer(c_bool, "unlink", kind, word)
+
+    def move_link(self, word: int, to: int, kind: LinkKind = LinkKind.SHORT) -> LinkAnswer:
+        """Moves a link from the word to the word `to`."""
+        return LinkAnswer(self._answer(c_uint32, "move_link", kind, word, to))
+
+    def open_pass(self) -> OpenPass:
+        """Opens a pass, for a `with`, which is asked question by question."""
+        return OpenPass(self)
+
+    def run_pass(self, host: Any) -> Passed:
+        """A whole pass, which the methods of the host answer. Where one raises, the pass is abandoned: reclaim nothing before the next one has ended."""
+        with self.open_pass() as questions:
+            question = questions.next()
+            while question:
+                question = questions.next(answers_of(host, question))
+            return questions.did
+
+    def queue_all(self) -> int:
+        """Queues all that is registered; how many."""
+        return self._answer(c_uint64, "queue_all")
+
+    def take(self) -> Optional[Entry]:
+        """The first entry that waits, which is held until it is finished; or None."""
+        return self._or_none(Entry, "take")
+
+    def take_finished(self) -> Optional[Entry]:
+        """The first entry that waits, as finished; or None."""
+        return self._or_none(Entry, "take_finished")
+
+    def finish(self, entry: Entry) -> None:
+        """Ends the holding of the entry."""
+        self._call("finish", byref(entry))
+
+    def has_waiting(self) -> bool:
+        """Whether entries wait: a hint."""
+        return LIBRARY.derrimas_finalizers_has_waiting(byref(self.handle))
+
+    def finalizer(self, proc: int, function: Callable[[Finalizers, Any], Any]) -> None:
+        """Names the procedure of a number: a function of these finalizers and the entry."""
+        self.procedures[proc] = function
+
+    def invoke_finalizers(self) -> int:
+        """Takes entries until none is left, calls the procedure of each, and finishes it, unless the procedure did, and also where it raised. Returns their
+        number."""
+        taken = 0
+        while (entry := self.take()) is not None:
+            taken += 1
+            try:
+                self.procedures.get(entry.proc, lambda finalizers, entry: None)(self, entry)
+            finally:
+                with contextlib.suppress(Refused):  # the procedure may have finished it
+                    self.finish(entry)
+        return taken
+
+    def _walk(self, item: Any, name: str, *arguments: Any) -> Iterator[Any]:
+        """What a walk yields, in parts. Nothing may change meanwhile."""
+        start, some, count = c_uint64(0), (item * PART)(), c_size_t()
+        while True:
+            try:
+                self._call(name, *arguments, byref(start), some, PART, byref(count))
+            except Refused as refused:
+                if refused.code != EMPTY:
+                    raise
+                return
+            yield from [item.from_buffer_copy(it) if issubclass(item, Structure) else it for it in some[:count.value]]
+
+    def roots(self, sort: Root) -> Iterator[int]:
+        """The roots of this sort. As in each walk, no call but those that change nothing may come before its end."""
+        return self._walk(c_uint64, "roots", sort)
+
+    def registrations(self) -> Iterator[Registration]:
+        """The registrations that stand."""
+        return self._walk(Registration, "registrations")
+
+    def links(self, kind: LinkKind = LinkKind.SHORT) -> Iterator[Linked]:
+        """The links of a kind that stand."""
+        return self._walk(Linked, "links", kind)
+
+    def registration(self, object: int) -> Optional[Registration]:
+        """The registration of an object, or None."""
+        return self._or_none(Registration, "registration", object)
+
+    def target(self, word: int, kind: LinkKind = LinkKind.SHORT) -> Optional[int]:
+        """The target of the link at the word, or None."""
+        return self._or_none(c_uint64, "target", kind, word)
+
+    def counts(self) -> Counts:
+        """How much there is."""
+        return self._answer(Counts, "count")
+
+
+class OpenPass:
+    """An open pass. Leaving its `with` before the last question abandons it: then the host reclaims nothing before its next pass has ended."""
+
+    def __init__(self, finalizers: Finalizers) -> None:
+        self.finalizers, self.did = finalizers, Passed()
+        finalizers._call("begin")
+        self.is_open = True
+
+    def __enter__(self) -> OpenPass:
+        return self
+
+    def __exit__(self, *_: Any) -> None:
+        if self.is_open:
+            self.abandon()
+
+    def next(self, answers: int = 0) -> Optional[Question]:
+        """Takes the answers to the question before, at first any, and returns the next; None where the pass has ended: `did` is what it did then."""
+        asked, self.is_open = CQuestion(), False
+        try:
+            self.finalizers._call("next", answers, byref(asked), byref(self.did))
+        except Refused as refused:
+            if refused.code != EMPTY:
+                raise
+            return None
+        self.is_open = True
+        return Question(asked)
+
+    def abandon(self) -> None:
+        """Ends the pass here."""
+        self.is_open = False
+        self.finalizers._call("abandon")
+
+
+def answers_of(host: Any, question: Question) -> int:
+    """The answers to a question by the methods of a host: bit i is the answer about what[i]. What is only to be done has none."""
+    if question.ask in (Ask.IS_MARKED, Ask.HOLDER_IS_MARKED):
+        asked = host.is_marked if question.ask == Ask.IS_MARKED else host.holder_is_marked
+        return sum(bool(asked(what)) << n for n, what in enumerate(question.what))
+    for what in question.what:
+        if question.ask in (Ask.MARK_CHILDREN, Ask.MARK_OTHERS):
+            host.mark_children(what, question.ask == Ask.MARK_OTHERS)
+        else:
+            {Ask.MARK: host.mark, Ask.MARK_ALONE: host.mark_alone, Ask.CLEAR: host.clear}[question.ask](what)
+    return 0

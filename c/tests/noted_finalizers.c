@@ -1,0 +1,145 @@
+/* finalizers.c over exports that only note what they are given, by noted.h. The handle's memory is taken by the calls that c/build names, so that an allocator
+ * is called.
+ */
+#include "../src/finalizers.c"
+#include "noted.h"
+#include <string.h>
+
+#define ENTRY N ",%" PRIu64 ",%" PRIu64 ",%" PRIu64 ",%" PRIu64 ",%" PRIu64
+#define OF_ENTRY(it) (it)->seq, (it)->pass, (it)->reg, (it)->obj, (it)->proc, (it)->cd
+#define noted(...) noted_export(DERRIMAS_FINALIZERS_NOT_OPEN, __VA_ARGS__)
+#define ENTRY_AT(code, place) FILLED(code, place, derrimas_finalizers_entry, V(0), V(1), V(2), V(3), V(4), V(5))
+
+enum { HANDLE = 24, RESERVED = 48 }; /* bytes of a handle's memory */
+
+/* Procedures of a test's: a host's answers to questions, and an allocator's functions. */
+void noted_question(const char *what, uint64_t object) { noted_procedure("host.%s" N, what, object); }
+void noted_children(uint64_t object, bool but_itself) { noted_procedure("host.mark_children" N " %d", object, but_itself); }
+void noted_memory(const char *what, uint64_t size) { noted_procedure("host.%s" N, what, size); }
+void noted_finalizers_run(const derrimas_finalizers_entry *it) { noted_procedure("run" ENTRY, OF_ENTRY(it)); }
+
+uint8_t fz_machine_open(derrimas_finalizers *f)
+{
+    uint8_t code = noted("open");
+
+    if (code != DERRIMAS_FINALIZERS_OK)
+        return code;
+    f->inside = derrimas_malloc(HANDLE);
+    noted_opened(f->inside != NULL);
+    return f->inside ? code : DERRIMAS_FINALIZERS_NO_MEMORY;
+}
+
+void fz_machine_destroy(derrimas_finalizers *f)
+{
+    if (!f->inside)
+        return;
+    derrimas_free(f->inside);
+    noted_opened(-1);
+    f->inside = NULL;
+}
+
+uint8_t fz_machine_reserve(derrimas_finalizers *f, uint64_t registrations, uint64_t shorts, uint64_t longs)
+{
+    uint8_t code = noted("reserve" N N N, registrations, shorts, longs);
+    void *other = code == DERRIMAS_FINALIZERS_OK ? derrimas_realloc(f->inside, RESERVED) : NULL;
+
+    if (other)
+        f->inside = other;
+    return code == DERRIMAS_FINALIZERS_OK && !other ? DERRIMAS_FINALIZERS_NO_MEMORY : code;
+}
+
+uint8_t fz_machine_shrink(derrimas_finalizers *f) { return (void)f, noted("shrink"); }
+
+uint8_t fz_machine_register(derrimas_finalizers *f, uint64_t object, uint8_t kind, uint64_t proc, uint64_t cd, uint8_t rank, fz_machine_registered *place)
+{
+    (void)f;
+    return FILLED(noted("register" N " %d" N N " %d", object, kind, proc, cd, rank), place, fz_machine_registered, V(0), {V(1), V(2), V(0) % 2 == 1});
+}
+
+uint8_t fz_machine_unregister(derrimas_finalizers *f, uint64_t object, derrimas_finalizers_old *old)
+{
+    (void)f;
+    return FILLED(noted("unregister" N, object), old, derrimas_finalizers_old, V(0), V(1), V(0) != 0);
+}
+
+uint8_t fz_machine_link(derrimas_finalizers *f, bool is_long, uint64_t word, uint64_t target, uint8_t *answer)
+{
+    (void)f;
+    return FILLED(noted("link %d" N N, is_long, word, target), answer, uint8_t, (uint8_t)V(0));
+}
+
+uint8_t fz_machine_unlink(derrimas_finalizers *f, bool is_long, uint64_t word, bool *was)
+{
+    (void)f;
+    return FILLED(noted("unlink %d" N, is_long, word), was, bool, V(0) != 0);
+}
+
+uint8_t fz_machine_move_link(derrimas_finalizers *f, bool is_long, uint64_t word, uint64_t to, uint8_t *answer)
+{
+    (void)f;
+    return FILLED(noted("move_link %d" N N, is_long, word, to), answer, uint8_t, (uint8_t)V(0));
+}
+
+uint8_t fz_machine_begin(derrimas_finalizers *f) { return (void)f, noted("begin"); }
+
+/* A question about two objects, whose kind follows from the value. At the end of a pass what it did. */
+uint8_t fz_machine_next(derrimas_finalizers *f, uint64_t answers, fz_machine_question *question, derrimas_finalizers_passed *passed)
+{
+    uint8_t code = noted("next" N, answers);
+
+    (void)f;
+    if (code == DERRIMAS_FINALIZERS_EMPTY)
+        *passed = (derrimas_finalizers_passed){V(0), V(1)};
+    return FILLED(code, question, fz_machine_question, {V(0), V(1)}, 2, (uint8_t)(V(0) % 7 + 1));
+}
+
+uint8_t fz_machine_abandon(derrimas_finalizers *f) { return (void)f, noted("abandon"); }
+uint8_t fz_machine_queue_all(derrimas_finalizers *f, uint64_t *queued) { return (void)f, FILLED(noted("queue_all"), queued, uint64_t, V(0)); }
+uint8_t fz_machine_take(derrimas_finalizers *f, derrimas_finalizers_entry *entry) { return (void)f, ENTRY_AT(noted("take"), entry); }
+uint8_t fz_machine_take_finished(derrimas_finalizers *f, derrimas_finalizers_entry *entry) { return (void)f, ENTRY_AT(noted("take_finished"), entry); }
+uint8_t fz_machine_finish(derrimas_finalizers *f, const derrimas_finalizers_entry *it) { return (void)f, noted("finish" ENTRY, OF_ENTRY(it)); }
+
+uint8_t fz_machine_roots(derrimas_finalizers *f, uint8_t sort, uint64_t from, uint64_t most, fz_machine_words *words)
+{
+    (void)f;
+    return FILLED(noted("roots %d" N N, sort, from, most), words, fz_machine_words, {V(0), V(1)}, 2, from + 2);
+}
+
+uint8_t fz_machine_count(derrimas_finalizers *f, derrimas_finalizers_counts *counts)
+{
+    (void)f;
+    return FILLED(noted("count"), counts, derrimas_finalizers_counts, V(0), V(1), V(2), V(3), V(4), V(5), V(6));
+}
+
+static fz_machine_registration_at registration(uint64_t further)
+{
+    const fz_machine_registration_at it = {V(further), V(further + 1), V(further + 2), V(further + 3), (uint8_t)(V(further) % 4), (uint8_t)V(further + 5)};
+
+    return it;
+}
+
+uint8_t fz_machine_registrations(derrimas_finalizers *f, uint64_t from, fz_machine_some_registrations *some)
+{
+    (void)f;
+    return FILLED(noted("registrations" N, from), some, fz_machine_some_registrations, {registration(0), registration(10)}, 2);
+}
+
+uint8_t fz_machine_links(derrimas_finalizers *f, bool is_long, uint64_t from, fz_machine_some_links *some)
+{
+    (void)f;
+    return FILLED(noted("links %d" N, is_long, from), some, fz_machine_some_links, {{V(0), V(1)}, {V(10), V(11)}}, 2);
+}
+
+uint8_t fz_machine_registration(derrimas_finalizers *f, uint64_t object, fz_machine_registration_at *place)
+{
+    const fz_machine_registration_at it = registration(0);
+
+    (void)f;
+    return noted_filled(noted("registration" N, object), place, &it, sizeof it);
+}
+
+uint8_t fz_machine_target(derrimas_finalizers *f, bool is_long, uint64_t word, uint64_t *target)
+{
+    (void)f;
+    return FILLED(noted("target %d" N, is_long, word), target, uint64_t, V(0));
+}
