@@ -94,7 +94,8 @@ typedef enum derrimas_code {
     DERRIMAS_IN_HAND = 68,       /* the seat has an entry in hand */
     DERRIMAS_NOT_NEXT = 69,      /* the entry isn't the next by its place in the queue */
     DERRIMAS_NO_OBJECT = 70,     /* the slot's word is 0 or lies outside the heap, so there is nothing to register */
-    DERRIMAS_BAD_KIND = 71       /* the kind is none of its enum */
+    DERRIMAS_BAD_KIND = 71,      /* the kind is none of its enum */
+    DERRIMAS_BAD_PROCESSOR = 72  /* the processor lacks something of x86-64-v2, for which the library is made */
 } derrimas_code;
 
 /* The kinds of registrations: GC_register_finalizer, .._ignore_self, .._no_order. */
@@ -228,7 +229,8 @@ static inline derrimas_slot derrimas_at(uint64_t frame, uint64_t slot)
 
 /* Opens a world of a number of blocks (1 to DERRIMAS_MAX_BLOCKS) and a number of frames (1 to DERRIMAS_MAX_FRAMES):
  * GC_INIT. All slots are 0, and there is no object.
- * Refused: DERRIMAS_HAS_WORLD, DERRIMAS_BAD_COUNT (of the blocks or of the frames), DERRIMAS_NO_MEMORY. */
+ * Refused: DERRIMAS_BAD_PROCESSOR, DERRIMAS_HAS_WORLD, DERRIMAS_BAD_COUNT (of the blocks or of the frames),
+ * DERRIMAS_NO_MEMORY. */
 DERRIMAS_CHECKED derrimas_code derrimas_open(derrimas_world *world, uint64_t blocks, uint64_t frames) DERRIMAS_NONNULL(1);
 
 /* Frees all that the world has, and leaves it as {0}. No finalizer runs: derrimas_finalize_all runs them before. Does
@@ -438,7 +440,7 @@ derrimas_code derrimas_forget(derrimas_world *world, uint64_t *count) DERRIMAS_N
  * no world, so it hands out what was finished before, too: a line opened at 0 has to be given each entry from the first
  * on. An entry that was finished before its turn is passed over by derrimas_take, but not by a line: derrimas_queued
  * reads it for derrimas_line_publish, if it isn't forgotten, and a later derrimas_finish returns DERRIMAS_NOT_HELD.
- * Refused: DERRIMAS_HAS_WORLD, DERRIMAS_BAD_COUNT, DERRIMAS_NO_MEMORY. */
+ * Refused: DERRIMAS_BAD_PROCESSOR, DERRIMAS_HAS_WORLD, DERRIMAS_BAD_COUNT, DERRIMAS_NO_MEMORY. */
 DERRIMAS_CHECKED derrimas_code derrimas_line_open(derrimas_line *line, uint64_t seats, uint64_t first) DERRIMAS_NONNULL(1);
 
 /* Frees the line's end, with the seats that weren't handed out, and leaves it as {0}. Seats that were handed out may

@@ -73,7 +73,8 @@ typedef enum derrimas_finalizers_code {
     DERRIMAS_FINALIZERS_IS_OPEN = 9,      /* the handle is open already */
     DERRIMAS_FINALIZERS_EMPTY = 10,       /* there is none, or no further one, of what was asked for */
     DERRIMAS_FINALIZERS_BAD_KIND = 11,    /* the kind is none of its enum */
-    DERRIMAS_FINALIZERS_BAD_OPTIONS = 12  /* the options' size isn't known here, or the allocator lacks a function */
+    DERRIMAS_FINALIZERS_BAD_OPTIONS = 12, /* the options' size isn't known here, or the allocator lacks a function */
+    DERRIMAS_FINALIZERS_BAD_PROCESSOR = 13 /* the processor lacks something of x86-64-v2, for which the library is made */
 } derrimas_finalizers_code;
 
 /* When the finalizer of an unreachable object is ready: GC_register_finalizer, .._ignore_self, .._no_order, and
@@ -193,7 +194,7 @@ typedef struct derrimas_question {
 
 /* Opens a handle: nothing is registered. The options may be NULL: then memory is the C library's, by malloc, realloc and
  * free. They are copied. It takes memory.
- * Refused: BAD_OPTIONS, IS_OPEN, NO_MEMORY. */
+ * Refused: BAD_PROCESSOR, BAD_OPTIONS, IS_OPEN, NO_MEMORY. */
 DERRIMAS_FINALIZERS_CHECKED derrimas_finalizers_code derrimas_finalizers_open(derrimas_finalizers *finalizers,
                                                                               const derrimas_finalizers_options *options)
     DERRIMAS_FINALIZERS_NONNULL(1);

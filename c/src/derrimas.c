@@ -2,10 +2,15 @@
  * others. Nothing here is proved; c/tests runs each line of it.
  */
 #include "exports.h"
+#include "processor.h"
 
 /* ---- worlds, objects and slots */
 
-derrimas_code derrimas_open(derrimas_world *world, uint64_t blocks, uint64_t frames) { return fz_open(world, blocks, frames); }
+derrimas_code derrimas_open(derrimas_world *world, uint64_t blocks, uint64_t frames)
+{
+    return is_right_processor() ? (derrimas_code)fz_open(world, blocks, frames) : DERRIMAS_BAD_PROCESSOR;
+}
+
 void derrimas_destroy(derrimas_world *world) { fz_destroy(world); }
 derrimas_code derrimas_close(derrimas_world *world) { return fz_close(world); }
 
@@ -193,7 +198,7 @@ derrimas_code derrimas_finish(derrimas_world *world, const derrimas_entry *entry
 
 derrimas_code derrimas_line_open(derrimas_line *line, uint64_t seats, uint64_t first)
 {
-    derrimas_code code = fz_line_open(line, seats);
+    derrimas_code code = is_right_processor() ? (derrimas_code)fz_line_open(line, seats) : DERRIMAS_BAD_PROCESSOR;
 
     if (code == DERRIMAS_OK)
         line->first = first;

@@ -3,6 +3,7 @@
  * each line of it.
  */
 #include "finalizers_exports.h"
+#include "processor.h"
 #include <stdlib.h>
 
 typedef derrimas_finalizers_code code;
@@ -87,6 +88,8 @@ code derrimas_finalizers_open(derrimas_finalizers *finalizers, const derrimas_fi
 {
     code it;
 
+    if (!is_right_processor())
+        return DERRIMAS_FINALIZERS_BAD_PROCESSOR;
     if (options && !is_known(options))
         return DERRIMAS_FINALIZERS_BAD_OPTIONS;
     current = options ? &options->allocator : &libc;

@@ -329,7 +329,7 @@ static void texts(void)
 {
     static const char version[] = DERRIMAS_VERSION;
 
-    for (unsigned code = 0; code <= DERRIMAS_FINALIZERS_BAD_OPTIONS; code++)
+    for (unsigned code = 0; code <= DERRIMAS_FINALIZERS_BAD_PROCESSOR; code++)
         for (unsigned other = 0; other <= code; other++) {
             const bool is_same = strcmp(derrimas_finalizers_name((derrimas_finalizers_code)code), derrimas_finalizers_name((derrimas_finalizers_code)other)) == 0;
 
@@ -338,7 +338,7 @@ static void texts(void)
         }
     IS(strcmp(derrimas_finalizers_name(DERRIMAS_FINALIZERS_PASS_OPEN), "PassOpen"), 0);
     IS(strcmp(derrimas_finalizers_strerror(DERRIMAS_FINALIZERS_NO_PASS), "no pass is open"), 0);
-    IS(strcmp(derrimas_finalizers_name((derrimas_finalizers_code)(DERRIMAS_FINALIZERS_BAD_OPTIONS + 1)), "?"), 0);
+    IS(strcmp(derrimas_finalizers_name((derrimas_finalizers_code)(DERRIMAS_FINALIZERS_BAD_PROCESSOR + 1)), "?"), 0);
     IS(strcmp(derrimas_finalizers_strerror((derrimas_finalizers_code)255), "no code of derrimas_finalizers.h"), 0);
     IS(strcmp(derrimas_finalizers_version(), version), 0);
 }
@@ -346,7 +346,7 @@ static void texts(void)
 int main(void)
 {
     finalizers.inside = &finalizers;
-    for (answer = DERRIMAS_FINALIZERS_OK; answer <= DERRIMAS_FINALIZERS_BAD_OPTIONS; answer++) {
+    for (answer = DERRIMAS_FINALIZERS_OK; answer <= DERRIMAS_FINALIZERS_BAD_PROCESSOR; answer++) {
         changes();
         waiting();
         reads();

@@ -1,6 +1,9 @@
 /* derrimas.c over exports that only note what they are given, by noted.h, whose functions stand here. */
-#include "../src/derrimas.c"
 #include "noted.h"
+#include <cpuid.h>
+#define __get_cpuid noted_cpuid
+#include "../src/derrimas.c"
+#undef __get_cpuid
 #include <stdarg.h>
 #include <stdio.h>
 #include <string.h>
@@ -64,6 +67,27 @@ uint8_t noted_filled(uint8_t code, void *place, const void *what, size_t size)
     if (code == 0)
         memcpy(place, what, size);
     return code;
+}
+
+static unsigned lacking_leaf, lacking_bit; /* what the processor lacks */
+
+int noted_cpuid(unsigned leaf, unsigned *eax, unsigned *ebx, unsigned *ecx, unsigned *edx)
+{
+    int is_there = __get_cpuid(leaf, eax, ebx, ecx, edx);
+
+    *ecx &= leaf == lacking_leaf ? ~lacking_bit : ~0U;
+    return is_there;
+}
+
+void noted_finalizers_processor(void);
+
+/* From now on the processor lacks a bit of a leaf, or nothing where that is 0. */
+void noted_processor(unsigned leaf, unsigned bit)
+{
+    lacking_leaf = leaf;
+    lacking_bit = bit;
+    seen = NOT_SEEN;
+    noted_finalizers_processor();
 }
 
 void noted_ready(void) { noted_procedure("ready"); }

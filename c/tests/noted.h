@@ -24,6 +24,9 @@ uint8_t noted_filled(uint8_t code, void *place, const void *what, size_t size);
 /* What goes into places, so many further on. */
 uint64_t noted_value(uint64_t further);
 
+/* As the compiler's call of this name, of a processor that lacks something where a test says so. */
+int noted_cpuid(unsigned leaf, unsigned *eax, unsigned *ebx, unsigned *ecx, unsigned *edx);
+
 /* Counts handles that were opened and destroyed. */
 void noted_opened(int64_t more);
 

@@ -21,6 +21,7 @@ void noted_start(const std::uint8_t *codes, std::size_t count, std::uint64_t val
 const char *noted_text(void);
 std::int64_t noted_open(void);
 void noted_ready(void);
+void noted_processor(unsigned leaf, unsigned bit);
 void noted_run(const derrimas_entry *entry);
 void noted_question(const char *what, std::uint64_t object);
 void noted_children(std::uint64_t object, bool but_itself);
@@ -351,6 +352,7 @@ struct row {
     string line, call;
     std::vector<string> exports, results, codes;
     arguments given;
+    unsigned leaf = 0, bit = 0; /* what the processor lacks */
 
     bool is_of_finalizers() const { return call.rfind("finalizers_", 0) == 0; }
 
@@ -409,7 +411,9 @@ static void is_tried(const row &of, std::uint8_t code, std::uint64_t value, cons
     {
         fixture f;
         noted_start(codes.data(), codes.size(), value);
+        noted_processor(of.leaf, of.bit);
         check(outcome(f, of), result, of.line);
+        noted_processor(0, 0);
         check(noted_text(), calls, of.line);
     }
     check(std::to_string(noted_open()), "0", of.line + ": open handles");
@@ -443,7 +447,7 @@ static void refused_takes()
 /* The row of a line: four fields, of which the last may be empty. */
 static row row_of(const string &line)
 {
-    row read{line, "", {}, {}, {}, {}};
+    row read{line, "", {}, {}, {}, {}, 0, 0};
     std::istringstream fields(line);
     string words, exports, results, codes, wrappers, word;
 
@@ -451,6 +455,12 @@ static row row_of(const string &line)
     std::istringstream(words) >> wrappers >> read.call;
     read.given.words = parts_of(words, " ");
     read.given.words.erase(read.given.words.begin(), read.given.words.begin() + 2);
+    if (!read.given.words.empty() && read.given.words[0].rfind("cpuid:", 0) == 0) {
+        std::vector<string> lacks = parts_of(read.given.words[0], ":");
+        read.leaf = static_cast<unsigned>(std::stoul(lacks[1]));
+        read.bit = 1U << std::stoul(lacks[2]);
+        read.given.words.erase(read.given.words.begin());
+    }
     read.exports = parts_of(exports, ";");
     read.results = parts_of(results, " ");
     read.codes = parts_of(codes, " ");

@@ -31,6 +31,7 @@ checks, failures = 0, 0
 LIBRARY.noted_start.argtypes, LIBRARY.noted_start.restype = [ctypes.c_char_p, ctypes.c_size_t, ctypes.c_uint64], None
 LIBRARY.noted_text.argtypes, LIBRARY.noted_text.restype = [], ctypes.c_char_p
 LIBRARY.noted_open.argtypes, LIBRARY.noted_open.restype = [], ctypes.c_int64
+LIBRARY.noted_processor.argtypes, LIBRARY.noted_processor.restype = [ctypes.c_uint32, ctypes.c_uint32], None
 LIBRARY.noted_run.argtypes, LIBRARY.noted_run.restype = [ctypes.POINTER(Entry)], None
 LIBRARY.noted_question.argtypes, LIBRARY.noted_question.restype = [ctypes.c_char_p, ctypes.c_uint64], None
 LIBRARY.noted_children.argtypes, LIBRARY.noted_children.restype = [ctypes.c_uint64, ctypes.c_bool], None
@@ -308,6 +309,8 @@ class Row:
     def __init__(self, line):
         words, exports, results, codes = (field.strip() for field in line.split('|'))
         self.line, (self.wrappers, self.call, *self.words) = line, words.split()
+        lacks = self.words.pop(0) if self.words[:1] and self.words[0].startswith('cpuid:') else 'cpuid:0:0'
+        self.lacks = [int(it) for it in lacks.split(':')[1:]]
         self.exports = [(it.split(' = ') + ['Ok'])[:2] for it in exports.split('; ')] if exports else []
         self.results = [it.split('>') for it in results.split()]
         self.codes = [(it.split('>') + ['!' + it])[:2] for it in codes.split()]
@@ -318,7 +321,9 @@ class Row:
         LIBRARY.noted_start(b'\0', 1, 0)
         handle = OVER() if of(self.call) is OfFinalizers else World()
         LIBRARY.noted_start(bytes(codes), len(codes), value)
+        LIBRARY.noted_processor(self.lacks[0], 1 << self.lacks[1])
         found = outcome(handle, self.call, map(argument, self.words))
+        LIBRARY.noted_processor(0, 0)
         noted = LIBRARY.noted_text().decode()
         check((found, noted), (wanted, '; '.join(text for text, _ in self.exports)), f'{self.line}, {code}, {value}')
         handle.destroy()
