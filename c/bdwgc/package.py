@@ -1,5 +1,5 @@
-"""Debian's source package of libgc, built as it is and with finalize.c of this folder in the place of its own, over the finalizers for any heap: for `build`, which
-makes a library to preload, and `run`, which compares the two. The package comes by apt's own client, with lists of its own."""
+"""Debian's source package of libgc, built as it is and with finalize.c of this folder in the place of its own, over the finalizers for any heap: for `build`,
+which makes a library to preload, and `run`, which compares the two. The package comes by apt's own client, with lists of its own."""
 import fcntl, functools, glob, os, re, shutil, signal, subprocess, tempfile
 
 HERE = os.path.dirname(os.path.abspath(__file__))

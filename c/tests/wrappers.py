@@ -1,6 +1,6 @@
 #!/usr/bin/env python3
-"""The package derrimas by wrappers.txt, over the library of noted.c and noted_finalizers.c, which the variables DERRIMAS and DERRIMAS_FINALIZERS name: each call
-with each kind, result and code.
+"""The package derrimas by wrappers.txt, over the library of noted.c and noted_finalizers.c, which the variables DERRIMAS and DERRIMAS_FINALIZERS name: each
+call with each kind, result and code.
 
 And whether the table is whole: it has each call of both headers, with each code of which its comment says "Refused"."""
 import ctypes, os, re, sys
