@@ -5,7 +5,7 @@ call with each kind, result and code.
 And whether the table is whole: it has each call of both headers, with each code of which its comment says "Refused"."""
 import ctypes, os, re, sys
 HERE = os.path.dirname(os.path.abspath(__file__))
-sys.path.insert(0, os.path.join(HERE, '..', 'python'))
+sys.path.insert(0, os.path.normpath(os.path.join(HERE, '..', 'python')))
 from derrimas import LIBRARY, Entry, Kind, LinkAnswer, Links, Refused, Words, World
 from derrimas import finalizers as over
 from derrimas._library import Error
