@@ -23,7 +23,7 @@ OPENING = '''# The calls
 An index of the public calls of the libraries for programs: what each does, when it fails, and what it costs. The whole text is the comment of the call in its
 source. `tests/documents --write` writes this page from the sources, and the gate compares the two.
 
-- A signature leaves out `self`.
+- A signature leaves out `self`, except that of a method that a program implements.
 - Errors are listed in the order in which they are tested. A call that returns an error has no effect, except that `alloc_or_collect` may have collected.
 - Unless stated otherwise a call takes O(log n) time, amortized over the growth of tables.
 - `Addr` and `Word` are `u64`. The [last part](#answers) has the fields of what calls take and return.
@@ -55,8 +55,8 @@ def in_short(comment):
     return ' '.join([first, *filter(TOLD.match, others)])
 
 
-def signature(lines, number):
-    """The head of a function on one line, without what isn't its type."""
+def signature(lines, number, is_trait=False):
+    """The head of a function on one line, without what isn't its type; that of a trait's method has its `self`."""
     head = ''
     for line in lines[number:]:
         text = line.strip()
@@ -66,7 +66,8 @@ def signature(lines, number):
         if text.endswith((' {', ' {}', ';')) or text == '{':
             break
     head = re.sub(r'[ {};]+$', '', head.strip())
-    head = re.sub(r"&(?:'a )?(?:mut )?self(?:, )?|\b(?:mut )?self, |\(self\)", lambda found: '()' if found[0] == '(self)' else '', head)
+    if not is_trait:
+        head = re.sub(r"&(?:'a )?(?:mut )?self(?:, )?|\b(?:mut )?self, |\(self\)", lambda found: '()' if found[0] == '(self)' else '', head)
     head = re.sub(r'\bmut (?=\w+: )', '', re.sub(r'^(?:pub )?(?:const )?fn ', '', head))
     return re.sub(r'\( ', '(', re.sub(r',? \)', ')', head))
 
@@ -81,7 +82,13 @@ def calls_of(name, crate):
             if block or line.startswith('}'):
                 owner, is_trait = block and block[1], line.startswith('pub trait')
             if not block and call and owner == name and (call[1] or is_trait):
-                yield signature(lines, number), in_short(comment)
+                yield signature(lines, number, is_trait), in_short(comment)
+
+
+def trait_of(name, crate):
+    """The head of a trait that programs implement, with its parameters; empty for a type."""
+    heads = (re.search(rf'^pub (trait {name}\b.*?) \{{$', open(file).read(), re.M) for file in sorted(glob.glob(f'crates/{crate}/src/*.rt')))
+    return next((f', `{head[1]}`' for head in heads if head), '')
 
 
 def functions_of(crate):
@@ -134,7 +141,7 @@ def page():
     """The whole page."""
     text, heads = OPENING, ''
     for name, crate in TYPES:
-        text += f'## {name}\n\nIn `{crate}`:\n\n'
+        text += f'## {name}\n\nIn `{crate}`{trait_of(name, crate)}:\n\n'
         for head, told in calls_of(name, crate):
             heads += head + '\n'
             text += item(f'`{head}`: {told}')

@@ -467,7 +467,7 @@ DERRIMAS_CHECKED derrimas_code derrimas_seat_take(derrimas_seat *seat, derrimas_
  * Refused: DERRIMAS_NO_WORLD; DERRIMAS_EMPTY where no entry is in hand. */
 derrimas_code derrimas_seat_done(derrimas_seat *seat) DERRIMAS_NONNULL(1);
 
-/* Frees the seat, and leaves it as {0}. An entry in hand is given up: no seat takes it again, and the world holds it,
+/* Frees the seat, and leaves it as {0}. An entry in hand is abandoned: no seat takes it again, and the world holds it,
  * as one that isn't finished, until derrimas_finish. Does nothing where the seat isn't open. */
 void derrimas_seat_destroy(derrimas_seat *seat) DERRIMAS_NONNULL(1);
 

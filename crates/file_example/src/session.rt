@@ -59,7 +59,7 @@ fn print_files<O: Opening, R: Print + Wait>(
 /// Prints the totals.
 fn print_end<R: Print>(rt: &R, end: &Final) -> Result<()> {
     println!(rt;
-        "queued {}, finished {}, given up {}",
+        "queued {}, finished {}, abandoned {}",
         end.enqueued, end.finished, end.forfeited
     )?;
     let left = end.left.len();
