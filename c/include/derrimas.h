@@ -589,13 +589,6 @@ static inline void derrimas_scope_close(derrimas_scope *scope)
         (void)derrimas_set(scope->world, derrimas_at(scope->frame, --scope->next), 0);
 }
 
-/* ---- gc.h's calls without a counterpart
- *
- * GC_malloc_uncollectable (a slot keeps), GC_free (a collection frees), GC_realloc, GC_add_roots,
- * GC_set_finalizer_notifier (ask derrimas_waiting after a collection), GC_set_finalize_on_demand (finalizers run on
- * demand always), GC_toggleref_add, GC_register_finalizer_unreachable, GC_set_await_finalize_proc,
- * GC_call_with_alloc_lock, and all that is about threads, signals and pages of the process. */
-
 #ifdef __cplusplus
 }
 #endif
