@@ -372,7 +372,7 @@ derrimas_code derrimas_unlink(derrimas_world *world, derrimas_links kind, derrim
  * nothing changed, DERRIMAS_LINK_NOT_FOUND where there is no link to move, DERRIMAS_LINK_DUPLICATE where another link
  * of this kind stands at the new place.
  * Refused: DERRIMAS_BAD_KIND, DERRIMAS_NO_WORLD, DERRIMAS_BAD_SLOT; of the old place DERRIMAS_NOT_POINTER,
- * DERRIMAS_OUTSIDE_OBJECT; the same of the new one; DERRIMAS_NO_MEMORY. */
+ * DERRIMAS_OUTSIDE_OBJECT; the same of the new one. Never DERRIMAS_NO_MEMORY. */
 DERRIMAS_CHECKED derrimas_code derrimas_move_link(derrimas_world *world, derrimas_links kind, derrimas_slot slot,
                                                   uint64_t offset, derrimas_slot to, uint64_t to_offset,
                                                   derrimas_link_answer *answer) DERRIMAS_NONNULL(1);

@@ -29,10 +29,10 @@
  *
  * Memory is taken by derrimas_finalizers_open, .._reserve, .._shrink, .._register and .._link alone, by the handle's
  * allocator; and it is freed by those and by .._destroy alone. All other calls may be made while other threads are
- * stopped at any place. By .._reserve memory comes beforehand. A registration is new, too, where one of kind
- * UNREACHABLE takes the place of one of another kind, or the other way round. Each new registration takes room for its
- * entry, so that a pass, a take and a move of a link never lack memory. Where the list of a pass has no room left,
- * .._register and .._link make it grow, even if they replace what there is or are refused.
+ * stopped at any place. By .._reserve memory comes beforehand. A registration in place of another takes no room, also
+ * where its kind is another. Each new registration takes room for its entry, so that a pass, a take and a move of a link
+ * never lack memory. Where the list of a pass has no room left, .._register and .._link make it grow, even if they
+ * replace what there is or are refused.
  *
  * Unless a comment says otherwise a call takes constant time: .._register and .._link amortized over the growth of tables,
  * .._move_link over as many moves as there are links of its kind. */
@@ -64,7 +64,7 @@ typedef enum derrimas_finalizers_code {
     DERRIMAS_FINALIZERS_OK = 0,           /* the call was accepted */
     DERRIMAS_FINALIZERS_ZERO = 1,         /* the object or the word is 0 */
     DERRIMAS_FINALIZERS_EXHAUSTED = 2,    /* 2^48 registrations have been numbered */
-    DERRIMAS_FINALIZERS_FULL = 3,         /* there are 2^32 of this kind already */
+    DERRIMAS_FINALIZERS_FULL = 3,         /* there are 2^32 registrations, or links of this kind */
     DERRIMAS_FINALIZERS_NO_MEMORY = 4,    /* the handle's allocator returned NULL */
     DERRIMAS_FINALIZERS_NOT_HELD = 5,     /* no entry that is held is the same in all fields */
     DERRIMAS_FINALIZERS_PASS_OPEN = 6,    /* a pass is open: .._begin came, and its last question didn't */
@@ -202,9 +202,8 @@ DERRIMAS_FINALIZERS_CHECKED derrimas_finalizers_code derrimas_finalizers_open(de
 /* Frees all that the handle has, by its allocator, and leaves it as {0}. Does nothing where it isn't open. */
 void derrimas_finalizers_destroy(derrimas_finalizers *finalizers) DERRIMAS_FINALIZERS_NONNULL(1);
 
-/* Makes room for so many further registrations of the kinds but UNREACHABLE, and for so many further links of each kind:
- * up to there no call takes memory, as long as no registration of kind UNREACHABLE comes, which uses up room of the
- * others. It takes memory itself, and time by what it makes room for.
+/* Makes room for so many further registrations, and for so many further links of each kind: up to there no call takes
+ * memory. It takes memory itself, and time by what it makes room for.
  * Refused: NOT_OPEN, PASS_OPEN, NO_MEMORY. */
 DERRIMAS_FINALIZERS_CHECKED derrimas_finalizers_code derrimas_finalizers_reserve(derrimas_finalizers *finalizers,
                                                                                  uint64_t registrations, uint64_t shorts,

@@ -1,5 +1,5 @@
-/* The exports of crates/fz_c and crates/fz_line_c, which are proved. derrimas.c alone calls them, and c/build hides their
- * names. c/tests/header.py compares these declarations with the crates' own. Of a handle they use `inside` alone. */
+/* The exports of crates/fz_c for worlds and lines, which are proved. derrimas.c alone calls them, and c/build hides their
+ * names. c/tests/header.py compares these declarations with the crate's own. Of a handle they use `inside` alone. */
 #ifndef DERRIMAS_EXPORTS_H
 #define DERRIMAS_EXPORTS_H
 

@@ -1,4 +1,4 @@
-/* The exports of crates/fz_machine_c, which are proved. finalizers.c alone calls them, and c/build hides their names. c/tests/header.py compares these
+/* The exports of crates/fz_c for finalizers, which are proved. finalizers.c alone calls them, and c/build hides their names. c/tests/header.py compares these
  * declarations with the crate's own. Of a handle they use `inside` alone. They take memory by the three calls at the end, which finalizers.c has. */
 #ifndef DERRIMAS_FINALIZERS_EXPORTS_H
 #define DERRIMAS_FINALIZERS_EXPORTS_H

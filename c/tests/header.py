@@ -1,8 +1,8 @@
 #!/usr/bin/env python3
-"""Compares the headers of c/include and what c/src declares of the exports with the crates behind them, by reading all.
+"""Compares the headers of c/include and what c/src declares of the exports with the crate behind them, by reading all.
 
-derrimas.h stands with c/src/exports.h over crates/fz_c and crates/fz_line_c, and derrimas_finalizers.h with c/src/finalizers_exports.h over
-crates/fz_machine_c. Of each export the name, the types of its parameters in their order, and that of its result have to be the same, and each has to
+derrimas.h stands with c/src/exports.h over what crates/fz_c has for worlds and lines, and derrimas_finalizers.h with c/src/finalizers_exports.h over what it has
+for finalizers. Of each export the name, the types of its parameters in their order, and that of its result have to be the same, and each has to
 stand on both sides. Of each struct the fields, their types and their order. A parameter of type Global is the kit's heap, which has no bytes and isn't C's.
 How the structs lie in memory is for layout.c and finalizers.c. The codes are compared with the refusals and the constants of the crates; from a number on
 they are the C side's own. And each call that a header declares has to stand in its C side, and no other."""
@@ -15,19 +15,20 @@ found = []
 
 class Worlds:
     header, exports, side = 'derrimas.h', 'exports.h', 'derrimas.c'
-    crates, refusals = ['fz_c', 'fz_line_c'], 'crates/fz_model/src/refusal.rt'
+    parts, refusals = ['entry', 'old', 'world/**/*', 'line/**/*'], 'crates/fz_model/src/refusal.rt'
     prefix, own = 'derrimas_', 70  # the first code of the C side
     refused = range(15)  # the refusals that come to C
-    types = {'Handle': 'derrimas_world', 'LineHandle': 'derrimas_line', 'SeatHandle': 'derrimas_seat'}
+    types = {'WorldHandle': 'derrimas_world', 'LineHandle': 'derrimas_line', 'SeatHandle': 'derrimas_seat'}
     alone = [*types.values(), 'derrimas_scope']  # structs that no export has, and handles
 
 
 class Finalizers:
     header, exports, side = 'derrimas_finalizers.h', 'finalizers_exports.h', 'finalizers.c'
-    crates, refusals = ['fz_machine_c'], 'crates/fz_machine_c/src/codes.rt'
+    parts, refusals = ['old', 'machine/**/*'], 'crates/fz_c/src/machine/codes.rt'
     prefix, own = 'derrimas_finalizers_', 11
     refused = range(11)
-    types = {'Handle': 'derrimas_finalizers', 'Linked': 'derrimas_finalizers_link_at', 'Registration': 'fz_machine_registration_at',
+    types = {'MachineHandle': 'derrimas_finalizers', 'HostEntry': 'derrimas_finalizers_entry', 'Linked': 'derrimas_finalizers_link_at',
+             'RegistrationAt': 'fz_machine_registration_at',
              **{name: f'fz_machine_some_{name.lower()}' for name in ('Registrations', 'Links')},
              **{name: f'fz_machine_{name.lower()}' for name in ('Registered', 'Question', 'Words')}}
     alone = ['derrimas_finalizers', 'derrimas_finalizers_registration_at', 'derrimas_question', 'derrimas_host', 'derrimas_allocator',
@@ -122,7 +123,7 @@ def compare(what, here, there):
 def compared(of):
     """How many exports, structs, codes and calls were compared."""
     header, declared, side = (read(f'c/{it}') for it in (f'include/{of.header}', f'src/{of.exports}', f'src/{of.side}'))
-    crate = '\n'.join(read(f'crates/{it}/src/**/*.rt') for it in of.crates)
+    crate = '\n'.join(read(f'crates/fz_c/src/{it}.rt') for it in of.parts)
     constants = read('crates/fz_machine/src/question.rt')
     return (compare('export', declarations(declared), exports(crate, of)),
             compare('struct', structs_of_c(header + declared, of), structs_of_rust(constants + crate, of)),

@@ -2,9 +2,9 @@
 use Rattle.std.proofs.Common.{◌≡◌, ℕ, List, Option, refl, sym, subst, inl, inr}
 use Rattle.std.proofs.KnownBytes.{Keeps-refl, Keeps-trans}
 use Rattle.std.specs.Io.KnownBytes.{Keeps}
-use Rattle.fz_words.specs.declared.Program.{Program}
-use Rattle.fz_text.specs.declared.fault.DriveFault.{DriveFault}
-use Rattle.fz_text.specs.Devices.{Feed, Log, Says}
+use Rattle.fz_runs.specs.declared.arguments.Program.{Program}
+use Rattle.fz_runs.specs.declared.text.fault.DriveFault.{DriveFault}
+use Rattle.fz_runs.specs.Devices.{Feed, Log, Says}
 use Rattle.finalize.specs.Program.{fault_line, Completes, Stops, Runs, ReadFrom}
 
 pub completed : (program : Program) (known : Option (List ℕ)) (input : Feed) (out out' err : Log) → input.remaining ≡ known → Completes program input out out' → ReadFrom known (λ feed. Runs program feed 0 out out' err err)

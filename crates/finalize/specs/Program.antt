@@ -5,15 +5,15 @@ use Rattle.std.specs.declared.vec.Vec.{Vec}
 use Rattle.fz_model.specs.declared.limits.TheConstants.{MAX_WORKERS}
 use Rattle.fz_model.specs.declared.refusal.Refusal.{Refusal}
 use Rattle.fz_model.specs.declared.refusal.Refusal.TheVariants.{Input, Output, NoMemory}
-use Rattle.fz_words.specs.declared.Program.{Program}
-use Rattle.fz_words.specs.declared.Program.TheVariants.{Run, Threads}
-use Rattle.fz_words.specs.Words.{name_of, IsFile, NameNothing, AskFor}
-use Rattle.fz_drive.specs.declared.run.Summary.{Summary}
-use Rattle.fz_text.specs.declared.fault.DriveFault.{DriveFault}
+use Rattle.fz_runs.specs.declared.arguments.Program.{Program}
+use Rattle.fz_runs.specs.declared.arguments.Program.TheVariants.{Run, Threads}
+use Rattle.fz_runs.specs.Arguments.{name_of, IsFile, NameNothing, AskFor}
+use Rattle.fz_runs.specs.declared.script.run.Summary.{Summary}
+use Rattle.fz_runs.specs.declared.text.fault.DriveFault.{DriveFault}
 use Rattle.std.specs.Io.KnownBytes.{Keeps}
-use Rattle.fz_text.specs.Devices.{Feed, Log, Says}
-use Rattle.fz_drive.specs.Report.{Reported, Stopped}
-use Rattle.fz_threads.specs.Threads.{Summarized, RunStopped}
+use Rattle.fz_runs.specs.Devices.{Feed, Log, Says}
+use Rattle.fz_runs.specs.Report.{Reported, Stopped}
+use Rattle.fz_runs.specs.Threads.{Summarized, RunStopped}
 
 abbrev pub want_line : List ℕ
 want_line = codes "finalize: want run FILE or threads FILE\n"

@@ -11,9 +11,8 @@ mod stream;
 mod tests;
 
 use fz_model::MAX_WORKERS;
+use fz_runs::{Failures, Keep, Nothing, Sink};
 use fz_service::Proc;
-use fz_text::{Failures, Sink};
-use fz_threads::{Keep, Nothing};
 use program::{execute, out_of_memory, wrong_words};
 use shelf::Shelf;
 use std::alloc::AllocError;

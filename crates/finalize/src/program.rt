@@ -1,17 +1,17 @@
 //! The program, given its arguments and two writers.
 
 ghost use Rattle.std.specs.Prelude.{◌≡◌, map};
-ghost use Rattle.fz_text.specs.Devices.{Says};
+ghost use Rattle.fz_runs.specs.Devices.{Says};
 ghost use Rattle.finalize.specs.Program.{want_line, memory_line, fault_line, Runs, ReadFrom, RunsFile, Executes, AreForWorkers};
 
 use crate::shelf::Shelf;
 use crate::stream::Stream;
-use fz_drive::drive;
 use fz_model::Refusal;
+use fz_runs::{
+    DriveFault, Failures, Program, Sink, WordsFault, drive, drive_threads, program_and_file,
+    write_all,
+};
 use fz_service::Proc;
-use fz_text::{DriveFault, Failures, Sink, write_all};
-use fz_threads::drive_threads;
-use fz_words::{Program, WordsFault, program_and_file};
 use std::alloc::Global;
 use std::convert::AsStr;
 use std::io::Read;

@@ -2,10 +2,10 @@
 
 ghost use Rattle.std.specs.Prelude.{◌≡◌, ℕ, ◌+◌, ◌<◌, ◌≤◌, List, Option, None, length, take, unwrap_or, ⊤};
 ghost use Rattle.std.specs.Io.KnownBytes.{Appends};
-ghost use Rattle.fz_text.specs.Devices.{write_failures};
+ghost use Rattle.fz_runs.specs.Devices.{write_failures};
 ghost use Rattle.finalize.specs.Streams.{taken_of};
 
-use fz_text::{Failures, Sink, Source};
+use fz_runs::{Failures, Sink, Source};
 use std::io;
 use std::sync::ledger::Ledger;
 

@@ -1,6 +1,6 @@
 -- Forgetting through a handle, from what its parts ensure.
 use Rattle.std.proofs.Common.{◌≡◌, ℕ, Option, Some, None, refl, sym, subst}
-use Rattle.fz_c.specs.declared.codes.TheConstants.{OK, NO_WORLD}
+use Rattle.fz_c.specs.declared.world.codes.TheConstants.{OK, NO_WORLD}
 use Rattle.fz_c.specs.Owned.{Held}
 use Rattle.fz_c.specs.Forgets.{Forgot, Forgets}
 

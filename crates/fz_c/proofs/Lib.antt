@@ -1,6 +1,12 @@
+pub mod AsBox
+pub mod Typed
+pub mod Moves
+pub mod Sent
 pub mod Told
 pub mod Looking
 pub mod Taking
 pub mod Passing
 pub mod Opening
 pub mod Forgetting
+pub mod Answered
+pub mod Rooted

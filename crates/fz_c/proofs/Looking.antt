@@ -1,7 +1,7 @@
 -- A look through a handle, from what its parts ensure.
 use Rattle.std.proofs.Common.{◌≡◌, ℕ, Option, Some, None, Result, refl, sym, subst}
 use Rattle.fz_model.specs.declared.refusal.Refusal.{Refusal}
-use Rattle.fz_c.specs.declared.codes.TheConstants.{NO_WORLD}
+use Rattle.fz_c.specs.declared.world.codes.TheConstants.{NO_WORLD}
 use Rattle.fz_c.specs.Owned.{Held}
 use Rattle.fz_c.specs.Told.{IsTold, IsFound, Looks, Reads, Finds}
 

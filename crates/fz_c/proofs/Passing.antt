@@ -6,7 +6,7 @@ use Rattle.std.proofs.lemmas.Option.{none-some, same_Some, slice_get_past, slice
 use Rattle.fz_model.specs.declared.answers.Entry.{Entry}
 use Rattle.fz_model.specs.Events.{same_entry}
 use Rattle.fz_model.proofs.Events.{same_itself}
-use Rattle.fz_world.specs.Ready.{IsNextHeld}
+use Rattle.fz_world.specs.Shown.{IsNextHeld}
 use Rattle.fz_world.specs.World.{WorldView}
 use Rattle.fz_c.specs.Next.{IsNext, is_held}
 

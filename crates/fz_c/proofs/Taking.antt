@@ -2,8 +2,8 @@
 use Rattle.std.proofs.Common.{◌≡◌, ℕ, Bool, Option, Some, None, length, nat_lt, slice_get, IsFalse, refl, sym, subst}
 use Rattle.std.proofs.lemmas.Bool.{both_ways}
 use Rattle.fz_model.specs.declared.answers.Entry as answers
-use Rattle.fz_c.specs.declared.codes.TheConstants.{OK, NO_WORLD}
-use Rattle.fz_c.specs.declared.entries.Entry.{Entry}
+use Rattle.fz_c.specs.declared.world.codes.TheConstants.{OK, NO_WORLD}
+use Rattle.fz_c.specs.declared.entry.Entry.{Entry}
 use Rattle.fz_world.specs.World.{WorldView}
 use Rattle.fz_c.specs.Next.{IsNext, TakesNext, is_held}
 use Rattle.fz_c.specs.Owned.{Held}

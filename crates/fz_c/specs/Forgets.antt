@@ -1,9 +1,9 @@
 -- What `forget` does through a handle: it changes no state of the model, and returns how many entries were forgotten.
--- code: fz_c/src/entries.rt
+-- code: fz_c/src/world/entries.rt
 use Rattle.std.specs.Prelude.{◌≡◌, ◌+◌, ◌*◌, ◌≤◌, ℕ, Option, Some, None, length}
 use Rattle.fz_model.specs.State.{State}
 use Rattle.fz_world.specs.Does.{StandsFor}
-use Rattle.fz_c.specs.declared.codes.TheConstants.{OK, NO_WORLD}
+use Rattle.fz_c.specs.declared.world.codes.TheConstants.{OK, NO_WORLD}
 use Rattle.fz_c.specs.Owned.{Held}
 
 pub record Forgot (old new : Held) (code count : ℕ) : Type 0 where

@@ -1,3 +1,5 @@
+pub mod Pointers
+pub mod Values
 pub mod Owned
 pub mod Told
 pub mod Places
@@ -7,3 +9,12 @@ pub mod Takes
 pub mod Opens
 pub mod Samples
 pub mod Forgets
+pub mod Lines
+pub mod Seats
+pub mod MachineCodes
+pub mod MachineOpens
+pub mod MachineTold
+pub mod MachineChanges
+pub mod MachinePassing
+pub mod MachineEntries
+pub mod MachineShows

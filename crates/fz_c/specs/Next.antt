@@ -1,5 +1,5 @@
 -- The next entry to be taken: the first held entry after those that were taken.
--- code: fz_c/src/session.rt
+-- code: fz_c/src/world/session.rt
 use Rattle.std.specs.Prelude.{◌≡◌, ◌+◌, ◌<◌, ◌≤◌, ◌⊎◌, ℕ, Bool, Option, Some, if◌then◌else◌, is_some, length, slice_get, IsTrue, IsFalse}
 use Rattle.std.specs.List.{list_any}
 use Rattle.fz_model.specs.declared.answers.Entry.{Entry}

@@ -1,16 +1,13 @@
 -- How results are stored in C's variables, and which values of the model C's structs represent.
--- code: fz_c/src/objects.rt, finalizers.rt, links.rt, entries.rt, collections.rt
+-- code: fz_c/src/world/objects.rt, finalizers.rt, links.rt, entries.rt, collections.rt
 use Rattle.std.specs.Prelude.{◌≡◌, ℕ, Bool, true, false, Option, Some, None}
 use Rattle.fz_model.specs.declared.kinds.ObjKind.{ObjKind}
 use Rattle.fz_model.specs.declared.kinds.ObjKind.TheVariants as objects
-use Rattle.fz_model.specs.declared.kinds.LinkKind.{LinkKind}
 use Rattle.fz_model.specs.declared.kinds.RegKind.{RegKind}
 use Rattle.fz_model.specs.declared.kinds.RegKind.TheVariants as kinds
 use Rattle.fz_model.specs.declared.answers.Registration as answering
 use Rattle.fz_world.specs.declared.shown.Object as showing
-use Rattle.fz_model.specs.declared.kinds.LinkKind.TheVariants as links
 use Rattle.fz_model.specs.declared.answers.Entry as answers
-use Rattle.fz_model.specs.declared.answers.Old as answered
 use Rattle.fz_model.specs.declared.answers.Passed as passing
 use Rattle.fz_model.specs.declared.answers.Progress.{Progress}
 use Rattle.fz_model.specs.declared.answers.Progress.TheVariants as progress
@@ -20,23 +17,19 @@ use Rattle.fz_model.specs.declared.answers.LinkAnswer.{LinkAnswer}
 use Rattle.fz_model.specs.declared.answers.LinkAnswer.TheVariants as linking
 use Rattle.fz_model.specs.declared.answers.MoveAnswer.{MoveAnswer}
 use Rattle.fz_model.specs.declared.answers.MoveAnswer.TheVariants as moving
-use Rattle.fz_c.specs.declared.links.TheConstants.{SUCCESS, DUPLICATE, NOT_FOUND}
-use Rattle.fz_c.specs.declared.objects.Made.{Made}
-use Rattle.fz_c.specs.declared.collections.Passed.{Passed}
-use Rattle.fz_c.specs.declared.finalizers.Old.{Old}
-use Rattle.fz_c.specs.declared.finalizers.Registered.{Registered}
-use Rattle.fz_c.specs.declared.entries.Entry.{Entry}
-use Rattle.fz_c.specs.declared.shown.Object.{Object}
-use Rattle.fz_c.specs.declared.shown.Registration.{Registration}
-use Rattle.fz_c.specs.declared.shown.Linked.{Linked}
+use Rattle.fz_c.specs.declared.world.links.TheConstants.{SUCCESS, DUPLICATE, NOT_FOUND}
+use Rattle.fz_c.specs.declared.world.objects.Made.{Made}
+use Rattle.fz_c.specs.declared.world.collections.Passed.{Passed}
+use Rattle.fz_c.specs.declared.world.finalizers.Registered.{Registered}
+use Rattle.fz_c.specs.declared.entry.Entry.{Entry}
+use Rattle.fz_c.specs.Values.{entry_of, TellsOld}
+use Rattle.fz_c.specs.declared.world.shown.Object.{Object}
+use Rattle.fz_c.specs.declared.world.shown.Registration.{Registration}
+use Rattle.fz_c.specs.declared.world.shown.Linked.{Linked}
 
 abbrev pub kind_of : Bool → ObjKind
 kind_of true = objects.Atomic
 kind_of false = objects.Scanned
-
-abbrev pub link_kind_of : Bool → LinkKind
-link_kind_of true = links.Long
-link_kind_of false = links.Short
 
 abbrev pub TellsMade : Made → ℕ × ℕ → Type 0
 TellsMade made answer = (made.address ≡ answer.0) × (made.birth ≡ answer.1)
@@ -63,16 +56,9 @@ TellsMoved code moving.Success = code ≡ SUCCESS
 TellsMoved code moving.Duplicate = code ≡ DUPLICATE
 TellsMoved code moving.NotFound = code ≡ NOT_FOUND
 
-abbrev pub TellsOld : Old → Option answered.Old → Type 0
-TellsOld old None = old.was ≡ false
-TellsOld old (Some answer) = (old.was ≡ true) × (old.proc ≡ answer.proc) × (old.cd ≡ answer.cd)
-
 abbrev pub TellsRegistered : Registered → RegAnswer → Type 0
 TellsRegistered registered registering.Outside = registered.made ≡ false
 TellsRegistered registered (registering.Number number old) = (registered.made ≡ true) × (registered.number ≡ number) × TellsOld registered.replaced old
-
-abbrev pub entry_of : Entry → answers.Entry
-entry_of e = record { seq = e.seq; pass = e.pass; reg = e.reg; obj = e.obj; birth = e.birth; proc = e.proc; cd = e.cd }
 
 abbrev pub TellsEntry : Entry → answers.Entry → Type 0
 TellsEntry entry answer = entry_of entry ≡ answer

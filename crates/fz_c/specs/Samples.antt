@@ -1,8 +1,8 @@
 -- One value of each struct, with its fields numbered from 1 on.
--- code: fz_c/src/samples.rt
+-- code: fz_c/src/world/samples.rt
 use Rattle.std.specs.Prelude.{true}
-use Rattle.fz_c.specs.declared.finalizers.Old.{Old}
-use Rattle.fz_c.specs.declared.samples.Samples.{Samples}
+use Rattle.fz_c.specs.declared.old.Old.{Old}
+use Rattle.fz_c.specs.declared.world.samples.Samples.{Samples}
 
 abbrev pub first_two : Old
 first_two = record { proc = 1; cd = 2; was = true }

@@ -1,5 +1,5 @@
 -- What the readers of a world find, in terms of the world's own contracts.
--- code: fz_c/src/shown.rt
+-- code: fz_c/src/world/shown.rt
 use Rattle.std.specs.Prelude.{◌≡◌, ◌+◌, ◌-◌, ◌<◌, ◌≤◌, ℕ, Option, Some, Result, IfOk, IfSome, MatchOption, Contains, IsFalse, length, slice_get, option_map}
 use Rattle.std.specs.List.{list_any}
 use Rattle.std.specs.FinMap.{get, contains_key, len}
@@ -14,9 +14,9 @@ use Rattle.fz_model.specs.Causes.{IsJudgedBy, slot_causes, place_causes}
 use Rattle.fz_model.specs.Events.{links_of, same_entry}
 use Rattle.fz_world.specs.declared.shown.Object.{Object}
 use Rattle.fz_world.specs.World.{WorldView}
-use Rattle.fz_world.specs.Ready.{IsNextHeld}
+use Rattle.fz_world.specs.Shown.{IsNextHeld}
 use Rattle.fz_world.specs.Shown.{shown_object, HasNoneFrom, IsFirstFrom}
-use Rattle.fz_c.specs.declared.shown.Counts.{Counts}
+use Rattle.fz_c.specs.declared.world.shown.Counts.{Counts}
 
 abbrev pub IsWordOfSlot : WorldView → ℕ → ℕ → Result ℕ Refusal → Type 0
 IsWordOfSlot w frame slot reply = IsJudgedBy (slot_causes w.frames (slot_at frame slot)) reply × IfOk reply (λ word. word ≡ slot_word w.frames (slot_at frame slot))

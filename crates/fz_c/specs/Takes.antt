@@ -1,9 +1,9 @@
 -- Taking entries: in queue order, each once, and none that is finished.
--- code: fz_c/src/entries.rt, session.rt
+-- code: fz_c/src/world/entries.rt, session.rt
 use Rattle.std.specs.Prelude.{◌≡◌, ℕ, Bool, Option, Some, None, length, nat_lt}
 use Rattle.fz_model.specs.declared.answers.Entry as answers
-use Rattle.fz_c.specs.declared.codes.TheConstants.{OK, NO_WORLD}
-use Rattle.fz_c.specs.declared.entries.Entry.{Entry}
+use Rattle.fz_c.specs.declared.world.codes.TheConstants.{OK, NO_WORLD}
+use Rattle.fz_c.specs.declared.entry.Entry.{Entry}
 use Rattle.fz_c.specs.Next.{IsNext, TakesNext}
 use Rattle.fz_c.specs.Owned.{Held}
 use Rattle.fz_c.specs.Told.{IsFound}

@@ -1,11 +1,11 @@
 -- What C gets: the code, and the content of its variables.
--- code: fz_c/src/codes.rt
+-- code: fz_c/src/world/codes.rt
 use Rattle.std.specs.Prelude.{◌≡◌, ℕ, Option, Some, None, Result, Ok, Err, OnErr}
 use Rattle.fz_model.specs.declared.refusal.Refusal.{Refusal}
 use Rattle.fz_model.specs.Refusals.{code_of}
 use Rattle.fz_model.specs.Events.{Event, Answer}
 use Rattle.fz_world.specs.Does.{Does}
-use Rattle.fz_c.specs.declared.codes.TheConstants.{OK, NO_WORLD, EMPTY}
+use Rattle.fz_c.specs.declared.world.codes.TheConstants.{OK, NO_WORLD, EMPTY}
 use Rattle.fz_c.specs.Owned.{Held}
 
 -- for a result: 0 and the value, or the number of the refusal, and then C's variables are unchanged

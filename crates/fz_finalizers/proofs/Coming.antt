@@ -1,5 +1,5 @@
 -- Entries come to the end of the queue, and are held.
-use Rattle.std.proofs.Common.{◌≡◌, ◌≤◌, ◌<◌, ◌^◌, ◌+◌, ◌-◌, ◌++◌, ◌||◌, ℕ, List, take, drop, length, length-append, append_assoc, sym, ap, ◌∙◌, subst, arith}
+use Rattle.std.proofs.Common.{◌≡◌, ◌≤◌, ◌<◌, ◌^◌, ◌+◌, ◌-◌, ◌++◌, ◌||◌, ℕ, List, drop, length, length-append, append_assoc, sym, ap, ◌∙◌, subst, arith, Bool}
 use Rattle.std.proofs.lemmas.List.{drop-append-le}
 use Rattle.std.specs.FinSet.{contains}
 use Rattle.fz_bits.specs.Flags.{Set}
@@ -9,6 +9,9 @@ use Rattle.fz_model.specs.declared.answers.Pick.{Pick}
 use Rattle.fz_model.specs.declared.answers.Registration.{Registration}
 use Rattle.fz_model.specs.State.{Map}
 use Rattle.fz_pass.specs.All.{QueuesAll}
+use Rattle.fz_pass.specs.Decides.{Parts}
+use Rattle.fz_pass.specs.Flagged.{DecidesFlagged}
+use Rattle.fz_pass.specs.Picking.{without_flags}
 use Rattle.fz_model.specs.Pass.{entries_of}
 use Rattle.fz_finalizers.specs.Queue.{Queue, GainsPicks, IsReady, placed_in, is_between}
 use Rattle.fz_finalizers.proofs.Queues.{held_gained, ready_gained, window_gained, length_queue}
@@ -50,11 +53,19 @@ module _ (past entries now : List Entry) (kept first : ℕ) (held more : Set) (o
       }
 
 -- all that is registered comes behind the entries in memory, so to the end of the queue
-pub all_there : (past items now : List Entry) (kept next : ℕ) (registrations : Map Registration) → kept ≤ length items → QueuesAll next registrations items now → QueuesAll next registrations (past ++ drop kept items) (past ++ drop kept now)
-all_there past items now kept next registrations le q = record {
-  picks = q.picks;
-  queued = ap (λ es. past ++ drop kept es) q.queued ∙ ap (λ es. past ++ es) (drop-append-le kept items (entries_of 0 next q.picks) le) ∙ sym (append_assoc past (drop kept items) (entries_of 0 next q.picks));
-  ordered = q.ordered;
-  each = q.each;
-  whole = q.whole;
-}
+
+-- what is decided of the entries in memory is decided of the queue
+module _ (past items now queue : List Entry) (kept next first : ℕ) (late new_late : Set) (few : kept ≤ length items) (queue_is : past ++ drop kept items ≡ queue) (first_is : next ≡ first) where
+  longer : (pass : ℕ) (picks : List Pick) → now ≡ items ++ entries_of pass next picks → past ++ drop kept now ≡ queue ++ entries_of pass first picks
+  longer pass picks queued =
+      ap (λ es. past ++ drop kept es) queued ∙ ap (λ es. past ++ es) (drop-append-le kept items (entries_of pass next picks) few) ∙ sym (append_assoc past (drop kept items) (entries_of pass next picks))
+      ∙ (λ i. queue_is i ++ entries_of pass (first_is i) picks)
+
+  pub all_there : (registrations : Map Registration) (q : QueuesAll next registrations (contains late) items now) → new_late ≡ without_flags late q.picks
+      → (q : QueuesAll first registrations (contains late) queue (past ++ drop kept now)) × (new_late ≡ without_flags late q.picks)
+  all_there registrations q left = (record { picks = q.picks; queued = longer 0 q.picks q.queued; ordered = q.ordered; each = q.each; whole = q.whole }, left)
+
+  pub decided_there : (Exact : Type 0) (pass : ℕ) (old new : Parts) (found : ℕ → Bool) (d : DecidesFlagged Exact (contains late) pass next old found new items now) → new_late ≡ without_flags late d.picks
+      → (d : DecidesFlagged Exact (contains late) pass first old found new queue (past ++ drop kept now)) × (new_late ≡ without_flags late d.picks)
+  decided_there Exact pass old new found d left =
+      (record { picks = d.picks; picked = d.picked; queued = longer pass d.picks d.queued; kept = d.kept; keeps = d.keeps; most = d.most; is = d.is }, left)

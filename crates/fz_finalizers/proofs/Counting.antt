@@ -3,16 +3,13 @@ use Rattle.std.proofs.Common.{◌≡◌, ◌≢◌, ◌≤◌, ℕ, ◌+◌, ◌
 use Rattle.std.proofs.lemmas.Option.{slice_get_within, none-some}
 use Rattle.std.proofs.lemmas.List.{length-map}
 use Rattle.std.proofs.lemmas.List.Sums.{count_by-le-length}
-use Rattle.std.specs.Option.{option_or}
 use Rattle.std.specs.Cmp.{nat_cmp_total}
 use Rattle.std.specs.FinMap.{get, len, contains_key, insert, remove, keys, entries, retain_keys, len-entries, len-insert, len-remove}
-use Rattle.fz_model.specs.declared.answers.Registration.{Registration}
 use Rattle.fz_model.specs.State.{Map}
 use Rattle.fz_model.specs.Steps.{moved_to}
 use Rattle.fz_model.proofs.Counts.{len_retained}
 use Rattle.fz_model.proofs.MapEntries.{place_of_key}
 use Rattle.fz_links.proofs.Moved.{len_moved, moved_turns}
-use Rattle.fz_finalizers.specs.Registering.{HasRoomFor}
 
 module _ {X : Type 0} (m : Map X) (k : ℕ) where
   pub len_grown : (x : X) → len (insert m k x) ≤ len m + 1
@@ -42,24 +39,6 @@ module _ {X : Type 0} (m : Map X) (k : ℕ) where
           let some = slice_get_within (entries m) found.0 (k, x) found.1 in
           let less = len-remove nat_cmp_total m k ∙ ap (λ (o : Option X). cond (is_some o) (len m - 1) (len m)) at in
           omega (arith, some, less, len-entries m)
-
-module _ (table other : Map Registration) (object : ℕ) where
-  pub room_made : (room : ℕ) → len table + len other + 1 ≤ room → HasRoomFor table other object room
-  room_made room h r = let more = len_grown table object r in let less = len_less other object in omega (arith, h, more, less)
-
-  pub room_known : (room : ℕ) → is_some (option_or (get table object) (get other object)) ≡ true → len table + len other ≤ room → HasRoomFor table other object room
-  room_known room known h r = by (get table object) refl known
-    where
-      by : (o : Option Registration) → get table object ≡ o → is_some (option_or o (get other object)) ≡ true → len (insert table object r) + len (remove other object) ≤ room
-      by None at is = let more = len_grown table object r in let less = len_gone other object is in omega (arith, h, more, less)
-      by (Some x) at is = let same = len_known table object r (ap is_some at) in let less = len_less other object in omega (arith, h, same, less)
-
-  pub neither : is_some (option_or (get table object) (get other object)) ≡ false → get table object ≡ None
-  neither none = by (get table object) none
-    where
-      by : (o : Option Registration) → is_some (option_or o (get other object)) ≡ false → o ≡ None
-      by None is = refl
-      by (Some x) is = absurd (true≢false is)
 
 -- a move leaves as many links
 pub len_moved_to : (links : Map ℕ) (old new : ℕ) → len (moved_to links old new (get links old)) ≡ len links

@@ -1,7 +1,7 @@
 pub mod Counting
+pub mod Flags
 pub mod Fitting
 pub mod Following
-pub mod Joined
 pub mod Filled
 pub mod Queueing
 pub mod OneQueued

@@ -1,13 +1,12 @@
 -- What every sequence of calls keeps.
-use Rattle.std.proofs.Common.{◌≡◌, ◌≢◌, ◌<◌, ◌⊎◌, inl, inr, ◌↔◌, ℕ, zero, suc, ◌+◌, Bool, true, false, true≢false, cond, List, [], ◌∷◌, ◌++◌, drop, take, filter, not, length, is_some, Option, Some, slice_get, get_or, All, AllPairs, Contains, nat_cmp, refl, sym, ap, subst, ◌∙◌, ⊎_elim, append_assoc, add-zero, arith}
+use Rattle.std.proofs.Common.{◌≡◌, ◌≢◌, ◌<◌, ◌⊎◌, inl, inr, ◌↔◌, ℕ, zero, suc, ◌+◌, Bool, true, false, true≢false, cond, List, [], ◌∷◌, ◌++◌, drop, take, filter, not, length, Some, slice_get, get_or, All, AllPairs, Contains, nat_cmp, refl, sym, ap, subst, ◌∙◌, ⊎_elim, append_assoc, arith}
 use Rattle.std.proofs.lemmas.Bool.{cases_eq}
 use Rattle.std.proofs.lemmas.List.{length-append, take-append-le, drop-append-le, take_more, take-append-drop, length-take-le}
 use Rattle.std.proofs.lemmas.List.Kept.{AllPairs-filter}
 use Rattle.std.proofs.lemmas.List.Elements.{All-append, Contains-append_left, Contains-append_right, Contains-append_cases, Contains-push, Contains-push_cases}
 use Rattle.std.proofs.lemmas.Option.{same_Some, none-some, slice_get-get_or, slice_get_within, get_or_from_slice_get}
 use Rattle.std.specs.List.{list_any}
-use Rattle.std.specs.Option.{option_or}
-use Rattle.std.specs.FinMap.{get, insert, remove, empty, get-empty}
+use Rattle.std.specs.FinMap.{get, insert, remove, get-empty}
 use Rattle.fz_model.specs.declared.answers.Entry.{Entry}
 use Rattle.fz_model.specs.declared.answers.Pick.{Pick}
 use Rattle.fz_model.specs.declared.answers.Registration.{Registration}
@@ -20,14 +19,13 @@ use Rattle.fz_model.proofs.Events.{one_entry, same_itself}
 use Rattle.fz_model.specs.Steps.{registration_of}
 use Rattle.fz_model.proofs.Lists.{slice_get-left, slice_get-cases, place_of, contains_at, any_at, filter_at, AllPairs-append}
 use Rattle.fz_model.proofs.Maps.{get-insert_same, get-insert_other, get-remove_same, get-remove_other}
-use Rattle.fz_model.proofs.Sound.{entry_at, length-entries_of}
-use Rattle.fz_pass.specs.Late.{AreApart}
+use Rattle.fz_model.proofs.Sound.{entry_at}
 use Rattle.fz_finalizers.specs.declared.kinds.Finalizer.{Finalizer}
 use Rattle.fz_finalizers.specs.Kinds.{is_late, table_finalizer}
-use Rattle.fz_finalizers.specs.States.{State, opening, registered, unfinished, with_links}
-use Rattle.fz_finalizers.specs.Follows.{Event, Follows, Queues, with_registration, Register, Unregister, Link, Unlink, Move, Pass, Begin, Queue, QueueAll, Take, TakeFinished, Finish}
+use Rattle.fz_finalizers.specs.States.{State, opening, unfinished, with_links}
+use Rattle.fz_finalizers.specs.Follows.{Event, Follows, Queues, with_registration, without_registration, Register, Unregister, Link, Unlink, Move, Pass, Begin, Queue, QueueAll, Take, TakeFinished, Finish}
 use Rattle.fz_finalizers.specs.Promises.{Past, with_event, IsReached, Opened, Then, Promises}
-use Rattle.fz_finalizers.proofs.Fitting.{apart_removed, apart_entered, apart_entered_late}
+use Rattle.fz_finalizers.proofs.Flags.{flags_entered, flags_removed, late_is_normal, no_flags}
 use Rattle.fz_finalizers.proofs.Queueing as queueing
 use Rattle.fz_finalizers.proofs.OneQueued.{queued_queues}
 use Rattle.fz_finalizers.proofs.Taking.{next_waits}
@@ -43,7 +41,7 @@ opened = record {
   takes = refl;
   within = omega arith;
   numbered = λ k e at. absurd (none-some e at);
-  apart = λ a here _. true≢false (sym here ∙ ap is_some (get-empty nat_cmp a));
+  flags = no_flags;
   one = λ a b r q here. absurd (nothing a r here);
   once = λ i j d lt within. absurd (omega (arith, within));
   gone = λ a r here. absurd (nothing a r here);
@@ -55,8 +53,8 @@ opened = record {
   kept = λ e here _. absurd (none_among e here);
 }
   where
-    nothing : (a : ℕ) (r : Registration) → registered opening a ≡ Some r → ⊥
-    nothing a r here = none-some r (sym (ap (λ (o : Option Registration). option_or o (get (empty {K = ℕ} {X = Registration} {R = nat_cmp}) a)) (get-empty nat_cmp a) ∙ get-empty nat_cmp a) ∙ here)
+    nothing : (a : ℕ) (r : Registration) → get opening.registrations a ≡ Some r → ⊥
+    nothing a r here = none-some r (sym (get-empty nat_cmp a) ∙ here)
 
 -- ---- links come and go, and a pass begins: of these no promise speaks
 
@@ -65,7 +63,7 @@ beside s past short long passes p = record {
   takes = p.takes;
   within = p.within;
   numbered = p.numbered;
-  apart = p.apart;
+  flags = p.flags;
   one = p.one;
   once = p.once;
   gone = p.gone;
@@ -86,12 +84,12 @@ begun s past = beside s past s.short s.long
 
 -- ---- a registration goes
 
-unregistered : (s : State) (past : Past) (object : ℕ) → Promises s past → Promises (record s { registrations = remove s.registrations object; late = remove s.late object }) past
+unregistered : (s : State) (past : Past) (object : ℕ) → Promises s past → Promises (without_registration s object) past
 unregistered s past object p = record {
   takes = p.takes;
   within = p.within;
   numbered = p.numbered;
-  apart = apart_removed s.registrations s.late object p.apart;
+  flags = flags_removed s.registrations s.late p.flags object;
   one = λ a b r q here there. p.one a b r q (was a r here) (was b q there);
   once = p.once;
   gone = λ a r here. p.gone a r (was a r here);
@@ -103,66 +101,58 @@ unregistered s past object p = record {
   kept = p.kept;
 }
   where
-    was : (a : ℕ) (r : Registration) → option_or (get (remove s.registrations object) a) (get (remove s.late object) a) ≡ Some r → registered s a ≡ Some r
+    was : (a : ℕ) (r : Registration) → get (remove s.registrations object) a ≡ Some r → get s.registrations a ≡ Some r
     was a r here =
-        ⊎_elim
-        (λ (is : a ≡ object).
-        absurd (none-some r (sym (ap (λ o. option_or o (get (remove s.late object) a)) (ap (get (remove s.registrations object)) is ∙ get-remove_same s.registrations object) ∙ ap (get (remove s.late object)) is ∙ get-remove_same s.late object) ∙ here)))
-        (λ (ne : a ≢ object).
-        sym (ap (λ o. option_or o (get (remove s.late object) a)) (get-remove_other s.registrations object a ne) ∙ ap (option_or (get s.registrations a)) (get-remove_other s.late object a ne)) ∙ here)
+        ⊎_elim (λ (is : a ≡ object). absurd (none-some r (sym (ap (get (remove s.registrations object)) is ∙ get-remove_same s.registrations object) ∙ here))) (λ (ne : a ≢ object). sym (get-remove_other s.registrations object a ne) ∙ here)
         (cases_eq a object)
 
 -- ---- a registration comes
 
--- in these tables the object has it, and others have what they had
-record Gains (s : State) (table late : Map Registration) (object : ℕ) (r : Registration) : Type 0 where
-  here : option_or (get table object) (get late object) ≡ Some r
-  others : (a : ℕ) → a ≢ object → option_or (get table a) (get late a) ≡ registered s a
-  apart : AreApart table late
+module _ (s : State) (past : Past) (object : ℕ) (f : Finalizer) (p : Promises s past) where
+  abbrev r : Registration
+  r = registration_of s.next_number (table_finalizer f)
 
-module _ (s : State) (past : Past) (table late : Map Registration) (object : ℕ) (r : Registration) (p : Promises s past) (number : r.number ≡ s.next_number) (gains : Gains s table late object r) where
-  abbrev new : State
-  new = record s { registrations = table; late = late; next_number = s.next_number + 1 }
+  abbrev table : Map Registration
+  table = insert s.registrations object r
 
-  -- it is the object's, or it was there
-  cases_of : (a : ℕ) (q : Registration) → option_or (get table a) (get late a) ≡ Some q → ((a ≡ object) × (q.number ≡ s.next_number)) ⊎ ((a ≢ object) × (registered s a ≡ Some q))
+  cases_of : (a : ℕ) (q : Registration) → get table a ≡ Some q → ((a ≡ object) × (q.number ≡ s.next_number)) ⊎ ((a ≢ object) × (get s.registrations a ≡ Some q))
   cases_of a q at =
       ⊎_elim
       (λ (is : a ≡ object).
-      let same = same_Some q r (sym at ∙ ap (λ k. option_or (get table k) (get late k)) is ∙ gains.here) in
-      inl (is, ap (λ (t : Registration). t.number) same ∙ number))
-      (λ (ne : a ≢ object). inr (ne, sym (gains.others a ne) ∙ at))
+      let same = same_Some q r (sym at ∙ ap (get table) is ∙ get-insert_same s.registrations object r) in
+      inl (is, ap (λ (t : Registration). t.number) same))
+      (λ (ne : a ≢ object). inr (ne, sym (get-insert_other s.registrations object r a ne) ∙ at))
       (cases_eq a object)
 
-  one : (a b : ℕ) (q t : Registration) → option_or (get table a) (get late a) ≡ Some q → option_or (get table b) (get late b) ≡ Some t → q.number ≡ t.number → a ≡ b
+  one : (a b : ℕ) (q t : Registration) → get table a ≡ Some q → get table b ≡ Some t → q.number ≡ t.number → a ≡ b
   one a b q t here there same =
       ⊎_elim
       (λ (x : (a ≡ object) × (q.number ≡ s.next_number)).
-      ⊎_elim (λ (y : (b ≡ object) × (t.number ≡ s.next_number)). x.0 ∙ sym y.0) (λ (y : (b ≢ object) × (registered s b ≡ Some t)). absurd (let lt = p.below b t y.1 in let n = x.1 in omega (arith, lt, n, same))) (cases_of b t there))
-      (λ (x : (a ≢ object) × (registered s a ≡ Some q)).
-      ⊎_elim (λ (y : (b ≡ object) × (t.number ≡ s.next_number)). absurd (let lt = p.below a q x.1 in let n = y.1 in omega (arith, lt, n, same))) (λ (y : (b ≢ object) × (registered s b ≡ Some t)). p.one a b q t x.1 y.1 same) (cases_of b t there))
+      ⊎_elim (λ (y : (b ≡ object) × (t.number ≡ s.next_number)). x.0 ∙ sym y.0) (λ (y : (b ≢ object) × (get s.registrations b ≡ Some t)). absurd (let lt = p.below b t y.1 in let n = x.1 in omega (arith, lt, n, same))) (cases_of b t there))
+      (λ (x : (a ≢ object) × (get s.registrations a ≡ Some q)).
+      ⊎_elim (λ (y : (b ≡ object) × (t.number ≡ s.next_number)). absurd (let lt = p.below a q x.1 in let n = y.1 in omega (arith, lt, n, same))) (λ (y : (b ≢ object) × (get s.registrations b ≡ Some t)). p.one a b q t x.1 y.1 same) (cases_of b t there))
       (cases_of a q here)
 
-  gone : (a : ℕ) (q : Registration) → option_or (get table a) (get late a) ≡ Some q → All (λ (e : Entry). e.reg ≢ q.number) s.queue
+  gone : (a : ℕ) (q : Registration) → get table a ≡ Some q → All (λ (e : Entry). e.reg ≢ q.number) s.queue
   gone a q here k d within same =
       ⊎_elim
       (λ (x : (a ≡ object) × (q.number ≡ s.next_number)). absurd (let lt = p.queued_below k d within in let n = x.1 in omega (arith, lt, n, same)))
-      (λ (x : (a ≢ object) × (registered s a ≡ Some q)). p.gone a q x.1 k d within same)
+      (λ (x : (a ≢ object) × (get s.registrations a ≡ Some q)). p.gone a q x.1 k d within same)
       (cases_of a q here)
 
-  below : (a : ℕ) (q : Registration) → option_or (get table a) (get late a) ≡ Some q → q.number < s.next_number + 1
+  below : (a : ℕ) (q : Registration) → get table a ≡ Some q → q.number < s.next_number + 1
   below a q here =
       ⊎_elim
       (λ (x : (a ≡ object) × (q.number ≡ s.next_number)). let n = x.1 in omega (arith, n))
-      (λ (x : (a ≢ object) × (registered s a ≡ Some q)). let lt = p.below a q x.1 in omega (arith, lt))
+      (λ (x : (a ≢ object) × (get s.registrations a ≡ Some q)). let lt = p.below a q x.1 in omega (arith, lt))
       (cases_of a q here)
 
-  gained : Promises new past
-  gained = record {
+  entered : Promises (with_registration s object f) past
+  entered = record {
     takes = p.takes;
     within = p.within;
     numbered = p.numbered;
-    apart = gains.apart;
+    flags = flags_entered s.registrations s.late p.flags object r (is_late f.kind) (late_is_normal f.kind);
     one = one;
     once = p.once;
     gone = gone;
@@ -174,35 +164,11 @@ module _ (s : State) (past : Past) (table late : Map Registration) (object : ℕ
     kept = p.kept;
   }
 
-entered : (s : State) (past : Past) (object : ℕ) (finalizer : Finalizer) → Promises s past → Promises (with_registration s object finalizer) past
-entered s past object finalizer p = by (is_late finalizer.kind)
-  where
-    r : Registration
-    r = registration_of s.next_number (table_finalizer finalizer)
-
-    first : Gains s (insert s.registrations object r) (remove s.late object) object r
-    first = record {
-      here = ap (λ o. option_or o (get (remove s.late object) object)) (get-insert_same s.registrations object r);
-      others = λ a ne. ap (λ o. option_or o (get (remove s.late object) a)) (get-insert_other s.registrations object r a ne) ∙ ap (option_or (get s.registrations a)) (get-remove_other s.late object a ne);
-      apart = apart_entered s.registrations s.late object p.apart r;
-    }
-
-    second : Gains s (remove s.registrations object) (insert s.late object r) object r
-    second = record {
-      here = ap (λ o. option_or o (get (insert s.late object r) object)) (get-remove_same s.registrations object) ∙ get-insert_same s.late object r;
-      others = λ a ne. ap (λ o. option_or o (get (insert s.late object r) a)) (get-remove_other s.registrations object a ne) ∙ ap (option_or (get s.registrations a)) (get-insert_other s.late object r a ne);
-      apart = apart_entered_late s.registrations s.late object p.apart r;
-    }
-
-    by : (late : Bool) → Promises (cond late (new s past (remove s.registrations object) (insert s.late object r) object r p refl second) (new s past (insert s.registrations object r) (remove s.late object) object r p refl first)) past
-    by true = gained s past (remove s.registrations object) (insert s.late object r) object r p refl second
-    by false = gained s past (insert s.registrations object r) (remove s.late object) object r p refl first
-
 -- ---- entries come
 
 module _ (pass : ℕ) (s t : State) (past : Past) (p : Promises s past) (queues : Queues pass s t) where
   abbrev picks : List Pick
-  picks = queues.picks ++ queues.late
+  picks = queues.picks
 
   abbrev entries : List Entry
   entries = entries_of pass (length s.queue) picks
@@ -211,10 +177,10 @@ module _ (pass : ℕ) (s t : State) (past : Past) (p : Promises s past) (queues 
   entry_is k e at = let is = entry_at pass (length s.queue) picks k e at in (is.0, is.1, is.2, is.3)
 
   -- an entry has the number of a registration that an object had
-  reg_of : (k : ℕ) (d : Entry) → k < length entries → (q : Pick) × (r : Registration) × (slice_get picks k ≡ Some q) × (registered s q.obj ≡ Some r) × ((get_or entries k d).reg ≡ r.number)
+  reg_of : (k : ℕ) (d : Entry) → k < length entries → (q : Pick) × (r : Registration) × (slice_get picks k ≡ Some q) × (get s.registrations q.obj ≡ Some r) × ((get_or entries k d).reg ≡ r.number)
   reg_of k d within =
       let is = entry_is k (get_or entries k d) (slice_get-get_or entries k d within) in
-      let of = queueing.registered_at pass s t p.apart queues k is.0 is.1 in
+      let of = queueing.registered_at pass s t queues k is.0 is.1 in
       (is.0, of.0, is.1, of.1, is.3 ∙ of.2)
 
   came_below : All (λ (e : Entry). e.reg < t.next_number) entries
@@ -225,17 +191,17 @@ module _ (pass : ℕ) (s t : State) (past : Past) (p : Promises s past) (queues 
       let same = queues.next_number in
       omega (arith, lt, n, same)
 
-  came_gone : (a : ℕ) (r : Registration) → registered t a ≡ Some r → All (λ (e : Entry). e.reg ≢ r.number) entries
+  came_gone : (a : ℕ) (r : Registration) → get t.registrations a ≡ Some r → All (λ (e : Entry). e.reg ≢ r.number) entries
   came_gone a r here k d within same =
       let of = reg_of k d within in
-      let was = queueing.still_registered pass s t p.apart queues a r here in
+      let was = queueing.still_registered pass s t queues a r here in
       was.1 k of.0 of.2 (p.one a of.0.obj r of.1 was.0 of.3 (sym (sym of.4 ∙ same)))
 
   came_once : AllPairs (λ (d e : Entry). d.reg ≢ e.reg) entries
   came_once i j d lt within same =
       let x = reg_of i d (omega (arith, lt, within)) in
       let y = reg_of j d within in
-      queueing.differ pass s t p.apart queues i j x.0 y.0 lt x.2 y.2 (p.one x.0.obj y.0.obj x.1 y.1 x.3 y.3 (sym x.4 ∙ same ∙ y.4))
+      queueing.differ pass s t queues i j x.0 y.0 lt x.2 y.2 (p.one x.0.obj y.0.obj x.1 y.1 x.3 y.3 (sym x.4 ∙ same ∙ y.4))
 
   across : (i j : ℕ) (d : Entry) → i < length s.queue → j < length entries → (get_or s.queue i d).reg ≢ (get_or entries j d).reg
   across i j d within there same = let y = reg_of j d there in p.gone y.0.obj y.1 y.3 i d within (same ∙ y.4)
@@ -257,11 +223,11 @@ module _ (pass : ℕ) (s t : State) (past : Past) (p : Promises s past) (queues 
         ⊎_elim (p.numbered k e)
         (λ (x : (i : ℕ) × (k ≡ length s.queue + i) × (slice_get entries i ≡ Some e)). let is = entry_is x.0 e x.2 in let n = is.2 in let k_is = x.1 in omega (arith, n, k_is))
         (slice_get-cases s.queue entries k e (ap (λ es. slice_get es k) (sym queues.queue) ∙ at));
-    apart = queueing.still_apart pass s t p.apart queues;
-    one = λ a b r q here there. p.one a b r q (queueing.still_registered pass s t p.apart queues a r here).0 (queueing.still_registered pass s t p.apart queues b q there).0;
+    flags = queueing.still_flags pass s t queues p.flags;
+    one = λ a b r q here there. p.one a b r q (queueing.still_registered pass s t queues a r here).0 (queueing.still_registered pass s t queues b q there).0;
     once = subst (AllPairs (λ (d e : Entry). d.reg ≢ e.reg)) (sym queues.queue) (AllPairs-append (λ (d e : Entry). d.reg ≢ e.reg) s.queue entries p.once came_once across);
-    gone = λ a r here. subst (All (λ (e : Entry). e.reg ≢ r.number)) (sym queues.queue) (All-append (λ (e : Entry). e.reg ≢ r.number) s.queue entries (p.gone a r (queueing.still_registered pass s t p.apart queues a r here).0) (came_gone a r here));
-    below = λ a r here. let lt = p.below a r (queueing.still_registered pass s t p.apart queues a r here).0 in let same = queues.next_number in omega (arith, lt, same);
+    gone = λ a r here. subst (All (λ (e : Entry). e.reg ≢ r.number)) (sym queues.queue) (All-append (λ (e : Entry). e.reg ≢ r.number) s.queue entries (p.gone a r (queueing.still_registered pass s t queues a r here).0) (came_gone a r here));
+    below = λ a r here. let lt = p.below a r (queueing.still_registered pass s t queues a r here).0 in let same = queues.next_number in omega (arith, lt, same);
     queued_below = subst (All (λ (e : Entry). e.reg < t.next_number)) (sym queues.queue) (All-append (λ (e : Entry). e.reg < t.next_number) s.queue entries (λ k d within. let lt = p.queued_below k d within in let same = queues.next_number in omega (arith, lt, same)) came_below);
     held = λ e. (λ here. (p.held e).0 (subst (λ es. Contains es e) queues.held here), λ was. subst (λ es. Contains es e) (sym queues.held) ((p.held e).1 was));
     in_order = subst (AllPairs (λ (d e : Entry). d.seq < e.seq)) (sym queues.held) p.in_order;
@@ -314,7 +280,7 @@ module _ (s : State) (past : Past) (e : Entry) (p : Promises s past) (at : slice
     takes = takes_on;
     within = let lt = inside in omega (arith, lt);
     numbered = p.numbered;
-    apart = p.apart;
+    flags = p.flags;
     one = p.one;
     once = p.once;
     gone = p.gone;
@@ -344,7 +310,7 @@ module _ (s : State) (past : Past) (e : Entry) (p : Promises s past) (at : slice
     takes = takes_on;
     within = let lt = inside in omega (arith, lt);
     numbered = p.numbered;
-    apart = p.apart;
+    flags = p.flags;
     one = p.one;
     once = p.once;
     gone = p.gone;
@@ -423,7 +389,7 @@ module _ (s : State) (past : Past) (e : Entry) (p : Promises s past) (here : lis
     takes = p.takes;
     within = p.within;
     numbered = p.numbered;
-    apart = p.apart;
+    flags = p.flags;
     one = p.one;
     once = p.once;
     gone = p.gone;
@@ -449,7 +415,7 @@ step old now past (Unlink kind word) p does = subst (λ s. Promises s past) (sym
 step old now past (Move kind word to) p does = subst (λ s. Promises s past) (sym does) (linked old past kind _ p)
 step old now past Pass p does = come _ old now past p does.0
 step old now past Begin p does = subst (λ s. Promises s past) (sym does) (begun old past _ p)
-step old now past (Queue object) p does = come _ old now past p (queued_queues old now object p.apart does)
+step old now past (Queue object) p does = come _ old now past p (queued_queues old now object does)
 step old now past QueueAll p does = come _ old now past p does.0
 step old now past (Take entry) p does = subst (λ s. Promises s (record past { taken = past.taken ++ entry ∷ [] })) (sym does.1) (taken old past entry p does.0)
 step old now past (TakeFinished entry) p does =

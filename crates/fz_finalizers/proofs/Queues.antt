@@ -15,10 +15,10 @@ use Rattle.fz_model.specs.declared.answers.Entry.{Entry}
 use Rattle.fz_model.specs.declared.answers.Pick.{Pick}
 use Rattle.fz_model.specs.Pass.{entries_of}
 use Rattle.fz_model.specs.Events.{same_entry}
-use Rattle.fz_bits.specs.Flags.{Set}
+use Rattle.fz_bits.specs.Flags.{Set, IsNext}
 use Rattle.fz_model.proofs.Sets.{has_removed}
-use Rattle.fz_finalizers.proofs.Gathered.{placed_same, placed_all, placed-append, placed_at, place_in}
-use Rattle.fz_finalizers.specs.Queue.{placed_in, AreNumbered, AreStored, IsReady, IsPlaceOf, is_between}
+use Rattle.fz_finalizers.proofs.Gathered.{placed_same, placed_all, placed-append, placed_at, place_in, stands_in, is_in}
+use Rattle.fz_finalizers.specs.Queue.{placed_in, AreNumbered, AreStored, IsReady, IsPlaceOf, IsNextHeld, is_between}
 
 -- ---- numbers
 
@@ -310,6 +310,34 @@ module _ (past entries : List Entry) (kept first : ℕ) (held : Set) (outstandin
 
       pub others_held : (shown : List Entry) → shown ≡ now → placed_in (remove held place) 0 entries ≡ filter (λ d. not (same_entry entry d)) shown
       others_held shown same_held = held_less entry place in_place (here_as true is) ∙ ap (filter (λ d. not (same_entry entry d))) (sym same_held)
+
+  -- ---- the next one that is held
+
+  module _ (from place : ℕ) (at_place : IsPlaceOf entries from place) where
+    pub none_left : ((n : ℕ) → place ≤ n → IsFalse (contains held n)) → (d : Entry) → Contains now d → d.seq < from
+    none_left none d c =
+        let there = stands_in held entries d c in
+        ⊎_elim (λ lt. at_place.before there.0 d there.1 lt) (λ ge. absurd (true≢false (sym there.2 ∙ none there.0 ge))) (cases_lt there.0 place)
+
+    pub next_is : (next : ℕ) (e : Entry) → IsNext held place next → slice_get entries next ≡ Some e → IsNextHeld now from e
+    next_is next e is at = record {
+      member = is_in held entries next e at is.member;
+      after = at_place.after next e at is.after;
+      others = λ d c.
+          let there = stands_in held entries d c in
+          ⊎_elim
+          (λ (lt : there.0 < place). inl (at_place.before there.0 d there.1 lt))
+          (λ (ge : place ≤ there.0).
+          ⊎_elim
+          (λ (low : there.0 < next). absurd (true≢false (sym there.2 ∙ is.before there.0 ge low)))
+          (λ (high : next ≤ there.0).
+          ⊎_elim
+          (λ (same : there.0 ≡ next). inr (inl (same_Some d e (sym there.1 ∙ ap (slice_get entries) same ∙ at))))
+          (λ ne. inr (inr (rises entries kept first h.stored next there.0 e d at there.1 (omega (arith, high, ne)))))
+          (cases_eq there.0 next))
+          (cases_lt there.0 next))
+          (cases_lt there.0 place);
+    }
 
   -- each entry in memory has the number of one that was queued
   pub number_within : (k : ℕ) (e : Entry) → slice_get entries k ≡ Some e → e.seq < first + length (drop kept entries)

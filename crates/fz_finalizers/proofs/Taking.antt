@@ -1,5 +1,5 @@
 -- What waits and what is held of a queue: one is taken, and one is finished.
-use Rattle.std.proofs.Common.{◌≡◌, ℕ, ◌+◌, ◌-◌, ◌<◌, ◌≤◌, Bool, true, false, cond, not, ◌&&◌, ◌||◌, ◌==◌, List, [], ◌∷◌, ◌++◌, All, map, length, drop, take, refl, sym, ap, ◌∙◌, subst, arith, suc, zero, filter, Some, slice_get, length-append, append_assoc, append-nil, true≢false, IsTrue, ◌⊎◌, ⊎_elim}
+use Rattle.std.proofs.Common.{◌≡◌, ℕ, ◌+◌, ◌-◌, ◌<◌, ◌≤◌, Bool, true, false, cond, not, ◌&&◌, ◌||◌, ◌==◌, List, [], ◌∷◌, ◌++◌, All, length, drop, take, refl, sym, ap, ◌∙◌, subst, arith, suc, zero, filter, Some, slice_get, length-append, append_assoc, append-nil, true≢false, ◌⊎◌, ⊎_elim}
 use Rattle.std.proofs.lemmas.Option.{slice_get_within, get_or_from_slice_get}
 use Rattle.std.proofs.lemmas.List.{length-drop, drop_all}
 use Rattle.std.proofs.lemmas.List.Elements.{filter-append, All-append, All-filter}
@@ -196,6 +196,33 @@ count_open q taken h =
     let rest = length-drop taken q.queue in
     let within = h.within in
     omega (arith, all, rest, within)
+
+-- ---- all that waits is taken
+
+numbered_below : (first : ℕ) (es : List Entry) → AreNumbered first es → All (λ (e : Entry). e.seq < first + length es) es
+numbered_below first [] are i d lt = absurd (omega (arith, lt))
+numbered_below first (e ∷ es) are zero d lt = let is = are.0 in omega (arith, is)
+numbered_below first (e ∷ es) are (suc i) d lt = let less = numbered_below (first + 1) es are.1 i d (omega (arith, lt)) in omega (arith, less)
+
+pub takes_all : (q : Queue) (taken : ℕ) → IsTaken q taken → IsTaken q (length q.queue)
+takes_all q taken h =
+    let none : drop (length q.queue) q.queue ≡ [] = drop_all (length q.queue) q.queue (omega arith) in
+    let within = h.within in
+    record {
+      window = let w = h.window in omega (arith, w, within);
+      within = omega arith;
+      early = q.held;
+      open_is = sym (append-nil q.held) ∙ ap (λ es. q.held ++ es) (sym none);
+      before = subst (λ es. All (λ (e : Entry). e.seq < length q.queue) es) (sym h.open_is)
+          (All-append (λ (e : Entry). e.seq < length q.queue) h.early (drop taken q.queue)
+          (λ i d lt. let less = h.before i d lt in omega (arith, less, within))
+          (λ i d lt. let less = numbered_below taken (drop taken q.queue) h.numbered i d lt in let long = length-drop taken q.queue in omega (arith, less, long, within)));
+      numbered = subst (AreNumbered (length q.queue)) (sym none) tt;
+    }
+
+pub held_all : (q : Queue) (taken : ℕ) (h : IsTaken q taken) → held_of q (length q.queue) ≡ held_of q taken ++ drop taken q.queue
+unfolding takes_all
+held_all q taken h = held_is q (length q.queue) (takes_all q taken h) ∙ all_open q taken h
 
 -- finished ones are forgotten
 pub forgets : (q new : Queue) (taken : ℕ) → IsTaken q taken → new.queue ≡ q.queue → new.held ≡ q.held → (new.forgotten ≡ q.forgotten) ⊎ (new.forgotten ≡ taken) → IsTaken new taken

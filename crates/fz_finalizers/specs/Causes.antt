@@ -29,7 +29,7 @@ abbrev pub IsJudgedOrLacks : {A : Type 0} → Causes → Result A Refused → Ty
 IsJudgedOrLacks causes (Ok x) = first_cause causes ≡ None
 IsJudgedOrLacks causes (Err r) = (first_cause causes ≡ Some r) ⊎ ((first_cause causes ≡ None) × (r ≡ NoMemory))
 
--- the causes of registering an object in its table
+-- the causes of registering an object
 abbrev pub register_causes : Map Registration → ℕ → ℕ → Causes
 register_causes table next_number object =
     (object == 0, Zero) ∷ (nat_le COUNT_LIMIT next_number, Exhausted) ∷ (lacks_place table object, Full) ∷ []

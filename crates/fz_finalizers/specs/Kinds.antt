@@ -1,4 +1,4 @@
--- How the tables represent kinds: registrations of kind `Unreachable` are normal ones in a table of their own, which is judged after the other.
+-- How the table represents kinds: a registration of kind `Unreachable` is a normal one with a flag.
 -- code: fz_finalizers/src/kinds.rt
 use Rattle.std.specs.Prelude.{Bool, true, false, Some}
 use Rattle.fz_model.specs.declared.kinds.RegKind.{RegKind}
@@ -20,11 +20,12 @@ table_kind IgnoreSelf = table.IgnoreSelf
 table_kind NoOrder = table.NoOrder
 table_kind Unreachable = table.Normal
 
--- the kind of a registration in the table of the other kinds
-abbrev pub of_table : RegKind → Kind
-of_table table.Normal = Normal
-of_table table.IgnoreSelf = IgnoreSelf
-of_table table.NoOrder = NoOrder
+-- the kind of a registration with this flag
+abbrev pub of_table : Bool → RegKind → Kind
+of_table true kind = Unreachable
+of_table false table.Normal = Normal
+of_table false table.IgnoreSelf = IgnoreSelf
+of_table false table.NoOrder = NoOrder
 
 abbrev pub table_finalizer : Finalizer → model.Finalizer
 table_finalizer f = record { kind = table_kind f.kind; procedure = f.procedure; client_data = f.client_data; rank = Some f.rank }

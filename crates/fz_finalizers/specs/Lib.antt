@@ -2,7 +2,6 @@ pub mod Kinds
 pub mod Queue
 pub mod Ready
 pub mod Causes
-pub mod Registering
 pub mod States
 pub mod Fits
 pub mod Follows

@@ -1,11 +1,11 @@
 -- What holds after every sequence of calls from an opening, whatever the host does.
 -- code: fz_finalizers/src/law.rt
 use Rattle.std.specs.Prelude.{◌≡◌, ◌≢◌, ◌↔◌, ℕ, ◌<◌, ◌≤◌, List, [], ◌∷◌, ◌++◌, take, length, slice_get, Some, Contains, All, AllPairs}
+use Rattle.std.specs.FinMap.{get}
 use Rattle.fz_model.specs.declared.answers.Entry.{Entry}
 use Rattle.fz_model.specs.declared.answers.Registration.{Registration}
-use Rattle.fz_pass.specs.Late.{AreApart}
 use Rattle.fz_finalizers.specs.declared.roots.Root.TheVariants.{HeldObject, HeldData}
-use Rattle.fz_finalizers.specs.States.{State, opening, registered, unfinished}
+use Rattle.fz_finalizers.specs.States.{State, AreFlags, opening, unfinished}
 use Rattle.fz_finalizers.specs.Follows.{Event, Follows, Register, Unregister, Link, Unlink, Move, Pass, Begin, Queue, QueueAll, Take, TakeFinished, Finish}
 use Rattle.fz_finalizers.specs.Walks.{YieldsRoots}
 
@@ -40,11 +40,11 @@ pub record Promises (s : State) (past : Past) : Type 0 where
   pub within : s.taken ≤ length s.queue
   pub numbered : (k : ℕ) (e : Entry) → slice_get s.queue k ≡ Some e → e.seq ≡ k
   -- a number belongs to one registration: of one object, or of one entry that waits, is held or is finished
-  pub apart : AreApart s.registrations s.late
-  pub one : (a b : ℕ) (r q : Registration) → registered s a ≡ Some r → registered s b ≡ Some q → r.number ≡ q.number → a ≡ b
+  pub flags : AreFlags s.registrations s.late
+  pub one : (a b : ℕ) (r q : Registration) → get s.registrations a ≡ Some r → get s.registrations b ≡ Some q → r.number ≡ q.number → a ≡ b
   pub once : AllPairs (λ (d e : Entry). d.reg ≢ e.reg) s.queue
-  pub gone : (a : ℕ) (r : Registration) → registered s a ≡ Some r → All (λ (e : Entry). e.reg ≢ r.number) s.queue
-  pub below : (a : ℕ) (r : Registration) → registered s a ≡ Some r → r.number < s.next_number
+  pub gone : (a : ℕ) (r : Registration) → get s.registrations a ≡ Some r → All (λ (e : Entry). e.reg ≢ r.number) s.queue
+  pub below : (a : ℕ) (r : Registration) → get s.registrations a ≡ Some r → r.number < s.next_number
   pub queued_below : All (λ (e : Entry). e.reg < s.next_number) s.queue
   -- exactly the entries that were taken and aren't finished are held, in queue order, each once
   pub held : (e : Entry) → Contains s.held e ↔ (Contains past.taken e × (Contains past.finished e → ⊥))

@@ -43,6 +43,12 @@ Gains pass old new = (picks : List Pick) × GainsPicks pass picks old new
 abbrev pub AreOpenFrom : ℕ → List Entry → List Entry → Type 0
 AreOpenFrom taken queue held = (early : List Entry) × (held ≡ early ++ drop taken queue)
 
+-- the first of these entries with a number of at least `from`
+pub record IsNextHeld (held : List Entry) (from : ℕ) (e : Entry) : Type 0 where
+  pub member : Contains held e
+  pub after : from ≤ e.seq
+  pub others : (d : Entry) → Contains held d → (d.seq < from) ⊎ ((d ≡ e) ⊎ (e.seq < d.seq))
+
 -- The rest is for proofs alone: which entries are in memory, and at which index.
 
 -- the entries at the indices in the set; the first entry has the index `first`

@@ -4,28 +4,30 @@
 use Rattle.std.specs.Prelude.{◌≡◌, ℕ, ◌+◌, ◌-◌, ◌≤◌, ◌<◌, ◌++◌, List, [], ◌∷◌, length, drop, take, slice_get, Option, Some, None, refl, Bool, All}
 use Rattle.std.specs.Coded.{Coded, code_by, coded×, coded_ℕ, coded_list, coded_option}
 use Rattle.fz_model.specs.declared.answers.Entry.{Entry}
-use Rattle.fz_model.specs.declared.answers.Registration.{Registration}
 use Rattle.fz_model.specs.Codes.{entry_code}
-use Rattle.fz_model.specs.State.{Map}
+use Rattle.std.specs.FinSet.{contains}
+use Rattle.fz_table.specs.Tabled.{Content, Set}
 use Rattle.fz_pass.specs.All.{QueuesAll}
-use Rattle.fz_pass.specs.Late.{Parts, DecidesLate}
+use Rattle.fz_pass.specs.Decides.{Parts}
+use Rattle.fz_pass.specs.Flagged.{DecidesFlagged}
+use Rattle.fz_pass.specs.Picking.{without_flags}
 use Rattle.fz_finalizers.specs.Queue.{Queue, AreNumbered}
+use Rattle.fz_finalizers.specs.States.{Memory, memory_code}
 
 pub record Ready : Type 0 where
   pub queue : List Entry
   pub taken : ℕ
   pub held : List Entry
   pub room : ℕ
-  pub forgotten : ℕ
-  pub remembered : ℕ
+  pub memory : Memory
   pub places : List (Option Entry)
 
 abbrev pub ready_code : Coded Ready
 ready_code =
-    code_by (List Entry × (ℕ × (List Entry × (ℕ × (ℕ × (ℕ × List (Option Entry)))))))
-    (coded× (coded_list entry_code) (coded× coded_ℕ (coded× (coded_list entry_code) (coded× coded_ℕ (coded× coded_ℕ (coded× coded_ℕ (coded_list (coded_option entry_code))))))))
-    (λ r. (r.queue, (r.taken, (r.held, (r.room, (r.forgotten, (r.remembered, r.places)))))))
-    (λ p. record { queue = p.0; taken = p.1.0; held = p.1.1.0; room = p.1.1.1.0; forgotten = p.1.1.1.1.0; remembered = p.1.1.1.1.1.0; places = p.1.1.1.1.1.1 }) (λ _. refl)
+    code_by (List Entry × (ℕ × (List Entry × (ℕ × (Memory × List (Option Entry))))))
+    (coded× (coded_list entry_code) (coded× coded_ℕ (coded× (coded_list entry_code) (coded× coded_ℕ (coded× memory_code (coded_list (coded_option entry_code)))))))
+    (λ r. (r.queue, (r.taken, (r.held, (r.room, (r.memory, r.places)))))) (λ p. record { queue = p.0; taken = p.1.0; held = p.1.1.0; room = p.1.1.1.0; memory = p.1.1.1.1.0; places = p.1.1.1.1.1 })
+    (λ _. refl)
 
 -- the taken entries that aren't finished: the unfinished ones except those that wait
 abbrev pub held_of : Queue → ℕ → List Entry
@@ -54,10 +56,10 @@ TakesFinished None old new = (length old.queue ≤ old.taken) × HasSameEntries 
 TakesFinished (Some e) old new = (slice_get old.queue old.taken ≡ Some e) × (new.queue ≡ old.queue) × (new.taken ≡ old.taken + 1) × (new.held ≡ old.held)
 
 -- every registration is appended to the queue, those of kind `Unreachable` after the others
-abbrev pub QueuesTables : ℕ → Map Registration → Map Registration → List Entry → List Entry → Type 0
-QueuesTables first registrations late queue new_queue =
-    (between : List Entry) × QueuesAll first registrations queue between × QueuesAll (first + (length between - length queue)) late between new_queue
+abbrev pub QueuesTable : Content → Set → List Entry → List Entry → Type 0
+QueuesTable old new_late queue new_queue = (q : QueuesAll (length queue) old.registrations (contains old.late) queue new_queue) × (new_late ≡ without_flags old.late q.picks)
 
 -- the entries that a pass decides on are appended to the queue
-abbrev pub Decides : Type 0 → ℕ → Parts → (ℕ → Bool) → Parts → List Entry → List Entry → Type 0
-Decides Exact pass parts found new_parts old new = DecidesLate Exact pass (length old) parts found new_parts old new
+abbrev pub Decides : Type 0 → ℕ → Set → Set → Parts → (ℕ → Bool) → Parts → List Entry → List Entry → Type 0
+Decides Exact pass late new_late parts found new_parts old new =
+    (d : DecidesFlagged Exact (contains late) pass (length old) parts found new_parts old new) × (new_late ≡ without_flags late d.picks)

@@ -1,13 +1,15 @@
 -- The model of finalizers: registrations, links, entries, the room that is reserved, and the order of iterators.
 -- code: fz_finalizers/src/finalizers.rt
-use Rattle.std.specs.Prelude.{◌≡◌, ℕ, ◌≤◌, min, if◌then◌else◌, Bool, List, [], ◌++◌, drop, Option, option_map, refl}
-use Rattle.std.specs.Coded.{Coded, code_by, coded×, coded_ℕ, coded_list, coded_option}
-use Rattle.std.specs.Option.{option_or}
+use Rattle.std.specs.Prelude.{◌≡◌, ℕ, ◌≤◌, min, Bool, List, [], ◌++◌, drop, Option, option_map, refl, Some, IsTrue}
+use Rattle.std.specs.Coded.{Coded, code_by, coded×, coded_ℕ, coded_list, coded_option, coded_bool}
 use Rattle.std.specs.List.{list_any}
 use Rattle.std.specs.FinMap as map
 use Rattle.std.specs.FinMap.{get, empty}
+use Rattle.std.specs.FinSet as sets
+use Rattle.std.specs.FinSet.{contains}
 use Rattle.fz_model.specs.declared.answers.Entry.{Entry}
 use Rattle.fz_model.specs.declared.answers.Registration.{Registration}
+use Rattle.fz_model.specs.declared.kinds.RegKind.TheVariants.{Normal}
 use Rattle.fz_model.specs.declared.kinds.LinkKind.{LinkKind}
 use Rattle.fz_model.specs.declared.kinds.LinkKind.TheVariants.{Short, Long}
 use Rattle.fz_model.specs.Codes.{entry_code, registration_code}
@@ -15,12 +17,13 @@ use Rattle.fz_model.specs.Events.{same_entry}
 use Rattle.fz_model.specs.State.{Map}
 use Rattle.fz_finalizers.specs.declared.kinds.Kind.{Kind}
 use Rattle.fz_table.specs.declared.limits.TheConstants.{MOST_ENTRIES}
-use Rattle.fz_finalizers.specs.declared.kinds.Kind.TheVariants.{Unreachable}
-use Rattle.fz_finalizers.specs.Kinds.{is_late, of_table}
+use Rattle.fz_table.specs.declared.stored.Stored.{Stored}
+use Rattle.fz_table.specs.Tabled.{Set, stored_code}
+use Rattle.fz_finalizers.specs.Kinds.{of_table}
 
 pub record State : Type 0 where
   pub registrations : Map Registration  -- by object
-  pub late : Map Registration  -- those of kind `Unreachable`; no object is in both
+  pub late : Set  -- the objects whose registrations are of kind `Unreachable`
   pub next_number : ℕ  -- the next registration number
   pub short : Map ℕ  -- the short links: from the word of a link to its target
   pub long : Map ℕ  -- the long links
@@ -32,17 +35,25 @@ pub record State : Type 0 where
 -- how many more fit without allocating
 pub record Rooms : Type 0 where
   pub registrations : ℕ
-  pub late : ℕ
   pub short : ℕ
   pub long : ℕ
 
 -- the order of iterators over what is unordered
 pub record Order : Type 0 where
-  pub registrations : List (ℕ × Registration)
-  pub late : List (ℕ × Registration)
+  pub registrations : List (ℕ × Stored)
   pub short : List (ℕ × ℕ)
   pub long : List (ℕ × ℕ)
   pub entries : List (Option Entry)  -- the unfinished entries in order, with none for each finished one in memory
+
+-- which entries are in memory: those from the number `forgotten` on, and of earlier ones those that aren't finished
+pub record Memory : Type 0 where
+  pub whole : Bool  -- only `forget` forgets finished entries; otherwise a registration and a pass may, too
+  pub forgotten : ℕ
+  pub remembered : ℕ  -- how many are in memory
+
+-- nothing is forgotten; a pass adds entries
+abbrev pub KeepsWindow : Memory → Memory → Type 0
+KeepsWindow old new = new ≡ record old { remembered = new.remembered }
 
 -- iterators over registrations and over links are unchanged
 abbrev pub KeepsTables : Order → Order → Type 0
@@ -53,11 +64,12 @@ pub record View : Type 0 where
   pub open state use *
   pub rooms : Rooms
   pub order : Order
+  pub memory : Memory
 
 abbrev state_code : Coded State
 state_code =
-    code_by ((Map Registration × (Map Registration × ℕ)) × ((Map ℕ × Map ℕ) × (List Entry × (ℕ × (List Entry × ℕ)))))
-    (coded× (coded× (map.code coded_ℕ registration_code) (coded× (map.code coded_ℕ registration_code) coded_ℕ)) (coded× (coded× (map.code coded_ℕ coded_ℕ) (map.code coded_ℕ coded_ℕ)) (coded× (coded_list entry_code) (coded× coded_ℕ (coded× (coded_list entry_code) coded_ℕ)))))
+    code_by ((Map Registration × (Set × ℕ)) × ((Map ℕ × Map ℕ) × (List Entry × (ℕ × (List Entry × ℕ)))))
+    (coded× (coded× (map.code coded_ℕ registration_code) (coded× (sets.code coded_ℕ) coded_ℕ)) (coded× (coded× (map.code coded_ℕ coded_ℕ) (map.code coded_ℕ coded_ℕ)) (coded× (coded_list entry_code) (coded× coded_ℕ (coded× (coded_list entry_code) coded_ℕ)))))
     (λ s. ((s.registrations, (s.late, s.next_number)), ((s.short, s.long), (s.queue, (s.taken, (s.held, s.passes))))))
     (λ p. record {
       registrations = p.0.0;
@@ -74,23 +86,28 @@ state_code =
 
 abbrev rooms_code : Coded Rooms
 rooms_code =
-    code_by (ℕ × (ℕ × (ℕ × ℕ))) (coded× coded_ℕ (coded× coded_ℕ (coded× coded_ℕ coded_ℕ))) (λ r. (r.registrations, (r.late, (r.short, r.long))))
-    (λ p. record { registrations = p.0; late = p.1.0; short = p.1.1.0; long = p.1.1.1 }) (λ _. refl)
+    code_by (ℕ × (ℕ × ℕ)) (coded× coded_ℕ (coded× coded_ℕ coded_ℕ)) (λ r. (r.registrations, (r.short, r.long)))
+    (λ p. record { registrations = p.0; short = p.1.0; long = p.1.1 }) (λ _. refl)
 
 abbrev order_code : Coded Order
 order_code =
-    code_by ((List (ℕ × Registration) × List (ℕ × Registration)) × ((List (ℕ × ℕ) × List (ℕ × ℕ)) × List (Option Entry)))
-    (coded× (coded× (coded_list (coded× coded_ℕ registration_code)) (coded_list (coded× coded_ℕ registration_code))) (coded× (coded× (coded_list (coded× coded_ℕ coded_ℕ)) (coded_list (coded× coded_ℕ coded_ℕ))) (coded_list (coded_option entry_code))))
-    (λ o. ((o.registrations, o.late), ((o.short, o.long), o.entries))) (λ p. record { registrations = p.0.0; late = p.0.1; short = p.1.0.0; long = p.1.0.1; entries = p.1.1 }) (λ _. refl)
+    code_by (List (ℕ × Stored) × ((List (ℕ × ℕ) × List (ℕ × ℕ)) × List (Option Entry)))
+    (coded× (coded_list (coded× coded_ℕ stored_code)) (coded× (coded× (coded_list (coded× coded_ℕ coded_ℕ)) (coded_list (coded× coded_ℕ coded_ℕ))) (coded_list (coded_option entry_code))))
+    (λ o. (o.registrations, ((o.short, o.long), o.entries))) (λ p. record { registrations = p.0; short = p.1.0.0; long = p.1.0.1; entries = p.1.1 }) (λ _. refl)
+
+abbrev pub memory_code : Coded Memory
+memory_code =
+    code_by (Bool × (ℕ × ℕ)) (coded× coded_bool (coded× coded_ℕ coded_ℕ)) (λ m. (m.whole, (m.forgotten, m.remembered))) (λ p. record { whole = p.0; forgotten = p.1.0; remembered = p.1.1 })
+    (λ _. refl)
 
 abbrev pub view_code : Coded View
 view_code =
-    code_by (State × (Rooms × Order)) (coded× state_code (coded× rooms_code order_code)) (λ v. (v.state, (v.rooms, v.order))) (λ p. record { state = p.0; rooms = p.1.0; order = p.1.1 })
-    (λ _. refl)
+    code_by (State × (Rooms × (Order × Memory))) (coded× state_code (coded× rooms_code (coded× order_code memory_code))) (λ v. (v.state, (v.rooms, (v.order, v.memory))))
+    (λ p. record { state = p.0; rooms = p.1.0; order = p.1.1.0; memory = p.1.1.1 }) (λ _. refl)
 
 -- nothing is registered or queued
 abbrev pub opening : State
-opening = record { registrations = empty; late = empty; next_number = 0; short = empty; long = empty; queue = []; taken = 0; held = []; passes = 0 }
+opening = record { registrations = empty; late = sets.empty; next_number = 0; short = empty; long = empty; queue = []; taken = 0; held = []; passes = 0 }
 
 -- the entries that wait to be taken
 abbrev pub waiting : State → List Entry
@@ -104,13 +121,13 @@ unfinished s = s.held ++ waiting s
 abbrev pub is_held : List Entry → Entry → Bool
 is_held held entry = list_any (same_entry entry) held
 
--- an object's registration, of any kind
-abbrev pub registered : State → ℕ → Option Registration
-registered s object = option_or (get s.registrations object) (get s.late object)
-
 -- the kind of an object's registration
 abbrev pub kind_at : State → ℕ → Option Kind
-kind_at s object = option_or (option_map (λ (r : Registration). of_table r.kind) (get s.registrations object)) (option_map (λ _. Unreachable) (get s.late object))
+kind_at s object = option_map (λ (r : Registration). of_table (contains s.late object) r.kind) (get s.registrations object)
+
+-- the objects of kind `Unreachable` are registered, as normal ones
+abbrev pub AreFlags : Map Registration → Set → Type 0
+AreFlags registrations late = (a : ℕ) → IsTrue (contains late a) → (r : Registration) × (get registrations a ≡ Some r) × (r.kind ≡ Normal)
 
 -- the links of a kind
 abbrev pub links_of : State → LinkKind → Map ℕ
@@ -124,13 +141,6 @@ with_links s Long links = record s { long = links }
 abbrev pub room_of : Rooms → LinkKind → ℕ
 room_of rooms Short = rooms.short
 room_of rooms Long = rooms.long
-
--- the table of a kind, and its room
-abbrev pub table_of : State → Kind → Map Registration
-table_of s kind = if is_late kind then s.late else s.registrations
-
-abbrev pub registration_room : Rooms → Kind → ℕ
-registration_room rooms kind = if is_late kind then rooms.late else rooms.registrations
 
 -- at most as many as a table can have
 abbrev pub limited : ℕ → ℕ

@@ -1,17 +1,17 @@
 -- What iterators yield.
 -- code: fz_finalizers/src/walks.rt, roots.rt
-use Rattle.std.specs.Prelude.{◌≡◌, ℕ, ◌-◌, nat_eq, List, [], ◌∷◌, ◌++◌, drop, length, map, Option, None, Some, option_map}
-use Rattle.std.specs.Ordering.{nat_cmp}
-use Rattle.std.specs.FinMap.{get, from_entries}
+use Rattle.std.specs.Prelude.{◌≡◌, ℕ, ◌-◌, nat_eq, List, [], ◌∷◌, drop, length, map, Option, None, Some, option_map}
+use Rattle.std.specs.FinMap.{from_entries}
 use Rattle.std.specs.List.{IsDistinct}
 use Rattle.std.specs.Map.{keys_of}
 use Rattle.fz_model.specs.declared.answers.Entry.{Entry}
 use Rattle.fz_model.specs.declared.answers.Registration.{Registration}
 use Rattle.fz_model.specs.declared.kinds.LinkKind.{LinkKind}
 use Rattle.fz_model.specs.declared.kinds.LinkKind.TheVariants.{Short, Long}
+use Rattle.fz_table.specs.Tabled.{plain}
 use Rattle.fz_finalizers.specs.declared.roots.Root.{Root}
 use Rattle.fz_finalizers.specs.declared.roots.Root.TheVariants.{HeldObject, HeldData, RegisteredData}
-use Rattle.fz_finalizers.specs.States.{State, View, links_of, registered, unfinished}
+use Rattle.fz_finalizers.specs.States.{State, View, links_of, unfinished}
 
 -- the values of the places that have one
 abbrev pub somes : {X : Type 0} → List (Option X) → List X
@@ -42,7 +42,7 @@ words_of RegisteredData entries registrations = map (λ (e : ℕ × Registration
 
 -- these are the registrations, each once
 abbrev pub AreRegistrations : State → List (ℕ × Registration) → Type 0
-AreRegistrations s registrations = ((object : ℕ) → get (from_entries {R = nat_cmp} registrations) object ≡ registered s object) × IsDistinct nat_eq (keys_of registrations)
+AreRegistrations s registrations = (from_entries registrations ≡ s.registrations) × IsDistinct nat_eq (keys_of registrations)
 
 -- these are the links of one kind, each once
 abbrev pub AreLinks : State → LinkKind → List (ℕ × ℕ) → Type 0
@@ -54,7 +54,7 @@ YieldsRoots root s words = (registrations : List (ℕ × Registration)) × AreRe
 
 -- the order of iterators over registrations, over the links of one kind, and over the roots of one kind: it stays the same until something changes
 abbrev pub registrations_in_order : View → List (ℕ × Registration)
-registrations_in_order v = v.order.registrations ++ v.order.late
+registrations_in_order v = map plain v.order.registrations
 
 abbrev pub links_in_order : View → LinkKind → List (ℕ × ℕ)
 links_in_order v Short = v.order.short

@@ -22,6 +22,7 @@ impl Finalizers {
         ensures judged { IsJudgedBy (finish_causes self.old.held entry.now) result }
         ensures refused { OnErr result (self.new.state ≡ self.old.state) }
         ensures follows { OnOk result (Follows self.old.state (Finish entry.now) self.new.state) }
+        ensures memory { self.new.memory ≡ self.old.memory }
     {
         if !self.ready.finish(entry) {
             return Err(Refused::NotHeld);

@@ -1,6 +1,6 @@
 //! The finalizers of a host, and their parts.
 
-ghost use Rattle.std.specs.Prelude.{◌≡◌, ◌≤◌, ◌<◌, ◌+◌, IfOk, IfErr, OnOk, OnErr};
+ghost use Rattle.std.specs.Prelude.{◌≡◌, ◌≤◌, ◌<◌, ◌+◌, false, IfOk, IfErr, OnOk, OnErr};
 ghost use Rattle.fz_finalizers.specs.States.{opening};
 
 use crate::ready::Ready;
@@ -16,13 +16,11 @@ use std::marker::Model;
 /// Objects, words, procedures and client data are numbers that are only compared and passed back, never dereferenced. Zero is neither an object nor a word.
 ///
 /// Its model is a state, the room that is reserved, and the order of iterators. If several refusals of a call apply, it returns the first in the documented
-/// order. A refused call leaves the state unchanged. Only `reserve`, a new registration and a new link allocate. Each registration has room reserved for its
-/// entry, so a pass, a take and a move of a link can't run out of memory. A registration without reserved room and the begin of a pass first reuse the memory
-/// of finished entries.
+/// order. A refused call leaves the state unchanged. Only `new`, `reserve`, `shrink`, a new registration and a new link allocate, and `shrink` can't fail.
+/// Each registration has room reserved for its entry, and each link for its moves, so a pass, a take and a move of a link can't run out of memory. A
+/// registration without reserved room first reuses the memory of finished entries, and so does a pass, except in finalizers that `whole` made.
 pub struct Finalizers {
     pub(crate) table: Table,
-    /// The registrations of kind `Unreachable`, which this table has as normal ones.
-    pub(crate) late: Table,
     pub(crate) short: Links,
     pub(crate) long: Links,
     /// Empty, except while a link is moved: a move may put all links here temporarily.
@@ -36,7 +34,6 @@ impl Drop for Finalizers {
     fn drop(self) {
         let Finalizers {
             table: _,
-            late: _,
             short: _,
             long: _,
             moves: _,
@@ -56,12 +53,13 @@ impl Model for Finalizers {
     ghost coded = { view_code };
 
     ghost view = { λ f. record {
-      state = state_of f.table f.late f.short f.long f.ready f.passes;
-      rooms = rooms_of f.table f.late f.short f.long f.ready (vec_capacity f.moves);
-      order = order_of f.table f.late f.short f.long f.ready;
+      state = state_of f.table.content f.short f.long f.ready f.passes;
+      rooms = rooms_of f.table f.short f.long f.ready (vec_capacity f.moves);
+      order = order_of f.table f.short f.long f.ready;
+      memory = f.ready.memory;
     } };
 
-    ghost invariant = { λ f. Fits f.table.registered f.late.registered f.ready × HasMoves f.short f.long f.moves.items (vec_capacity f.moves) };
+    ghost invariant = { λ f. Fits f.table.content f.ready × HasMoves f.short f.long f.moves.items (vec_capacity f.moves) };
 }
 
 impl Finalizers {
@@ -69,11 +67,11 @@ impl Finalizers {
     pub fn new(alloc: Global) -> Result<Finalizers, Refused>
         ensures refused { IfErr result (λ r. r ≡ Refused.NoMemory) }
         ensures opened { IfOk result (λ f. f.state ≡ opening) }
+        ensures memory { IfOk result (λ f. f.memory ≡ record { whole = false; forgotten = 0; remembered = 0 }) }
     {
         let ready = Ready::new(alloc)?;
         Ok(Finalizers {
             table: Table::new(alloc),
-            late: Table::new(alloc),
             short: Links::new(alloc),
             long: Links::new(alloc),
             moves: Vec::new(alloc),

@@ -5,17 +5,19 @@ ghost use Rattle.fz_finalizers.specs.Kinds.{table_kind, table_finalizer, is_late
 
 use fz_model::RegKind;
 
-/// When the finalizer of an unreachable object is ready (gc.h).
+/// When the finalizer of an unreachable object is ready (gc.h): if no path leads to it from an unreachable registered object, not even from the object itself.
+/// The kind of the object where a path begins decides by which of its pointers the path may begin. All further pointers count.
 #[derive(Clone, Copy, Debug, PartialEq, Eq)]
 pub enum Kind {
-    /// If no other unreachable registered object reaches it, and it doesn't reach itself (`GC_register_finalizer`).
+    /// A path may begin by any of its pointers (`GC_register_finalizer`).
     Normal,
-    /// The same, but a pointer from the object to itself is ignored (`GC_register_finalizer_ignore_self`).
+    /// A path may begin by any of its pointers but those to itself (`GC_register_finalizer_ignore_self`).
     IgnoreSelf,
-    /// The object's pointers are ignored, so it delays no other. It still waits for others that reach it (`GC_register_finalizer_no_order`).
+    /// No path begins at it, except one to an object of kind `Unreachable`. It still waits for others from which a path leads to it
+    /// (`GC_register_finalizer_no_order`).
     NoOrder,
-    /// If no other unreachable registered object reaches it, whatever its kind (`GC_register_finalizer_unreachable`). It is queued after the other kinds of
-    /// its pass.
+    /// As `Normal`, but a path to it may begin at a `NoOrder` object too (`GC_register_finalizer_unreachable`). It is queued after the other kinds of its
+    /// pass.
     Unreachable,
 }
 
@@ -33,7 +35,7 @@ pub struct Finalizer {
 }
 
 impl Kind {
-    /// Whether this is the kind that is judged after the others, and has a table of its own.
+    /// Whether this is the kind that is judged after the others.
     pub(crate) fn is_late(self) -> bool
         ensures { result ≡ is_late self }
     {
@@ -43,10 +45,13 @@ impl Kind {
         }
     }
 
-    /// The kind of a registration in the table of the other kinds.
-    pub fn of_table(kind: RegKind) -> Kind
-        ensures { result ≡ of_table kind }
+    /// The kind of a registration, which its table has as one of the three kinds of the model and a flag.
+    pub fn of_table(unreachable: bool, kind: RegKind) -> Kind
+        ensures { result ≡ of_table unreachable kind }
     {
+        if unreachable {
+            return Kind::Unreachable;
+        }
         match kind {
             RegKind::Normal => Kind::Normal,
             RegKind::IgnoreSelf => Kind::IgnoreSelf,
@@ -54,7 +59,7 @@ impl Kind {
         }
     }
 
-    /// The kind as its table has it.
+    /// The kind as its table has it, without the flag.
     fn in_table(self) -> RegKind
         ensures { result ≡ table_kind self }
     {
@@ -67,7 +72,7 @@ impl Kind {
 }
 
 impl Finalizer {
-    /// The finalizer as its table has it.
+    /// The finalizer as its table has it, without the flag.
     pub(crate) fn in_table(self) -> fz_model::Finalizer
         ensures { result ≡ table_finalizer self }
     {

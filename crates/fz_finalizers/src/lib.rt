@@ -20,13 +20,14 @@ mod stepwise;
 mod stored;
 mod unfinished;
 mod walks;
+mod whole;
 
 pub use finalizers::Finalizers;
 pub use fz_model::{Addr, Entry, LinkAnswer, LinkKind, MoveAnswer, Old};
+pub use fz_table::{Registrations, Stored};
 pub use kinds::{Finalizer, Kind};
 pub use law::every_sequence;
 pub use passes::Passed;
 pub use refused::Refused;
 pub use roots::{Root, Roots};
 pub use unfinished::Entries;
-pub use walks::Registrations;

@@ -25,6 +25,7 @@ impl Finalizers {
         ensures refused { OnErr result (self.new.state ≡ self.old.state) }
         ensures answer { IfOk result (λ answer. answer ≡ (if contains_key (links_of self.old.state kind) word then LinkAnswer.Duplicate else LinkAnswer.Success)) }
         ensures follows { OnOk result (Follows self.old.state (Link kind word target) self.new.state) }
+        ensures memory { self.new.memory ≡ self.old.memory }
     {
         match kind {
             LinkKind::Short => linking::link(&mut self.short, &mut self.moves, word, target),
@@ -46,6 +47,7 @@ impl Finalizers {
     pub fn unlink(&mut self, kind: LinkKind, word: Addr) -> bool
         ensures answer { result ≡ contains_key (links_of self.old.state kind) word }
         ensures follows { Follows self.old.state (Unlink kind word) self.new.state }
+        ensures memory { self.new.memory ≡ self.old.memory }
     {
         match kind {
             LinkKind::Short => self.short.unregister(word),
@@ -61,6 +63,7 @@ impl Finalizers {
         ensures refused { OnErr result (self.new.state ≡ self.old.state) }
         ensures answer { IfOk result (λ answer. answer ≡ move_answer (links_of self.old.state kind) word to) }
         ensures follows { OnOk result (Follows self.old.state (Move kind word to) self.new.state) }
+        ensures memory { self.new.memory ≡ self.old.memory }
         ensures room { IsRoomier self.old.rooms self.new.rooms }
     {
         match kind {

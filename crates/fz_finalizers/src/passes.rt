@@ -2,11 +2,12 @@
 
 ghost use Rattle.std.specs.Prelude.{◌≡◌, ◌≤◌, ◌+◌, ℕ, None, length, IfErr, OnOk, OnErr, IsTrue};
 ghost use Rattle.fz_model.specs.Memory.{points};
+ghost use Rattle.std.specs.FinSet.{contains};
+ghost use Rattle.fz_pass.specs.All.{QueuesAll};
 ghost use Rattle.fz_pass.specs.Marks.{IsClosed, AreRegistered, AreTargets};
 ghost use Rattle.fz_finalizers.specs.Follows.{Follows, Pass, QueueAll, next_pass};
 ghost use Rattle.fz_finalizers.specs.Passed.{DecidesFor};
-ghost use Rattle.fz_finalizers.specs.Ready.{QueuesTables};
-ghost use Rattle.fz_finalizers.specs.States.{HasRooms, IsRoomier, limited};
+ghost use Rattle.fz_finalizers.specs.States.{HasRooms, IsRoomier, KeepsWindow, limited};
 
 use crate::finalizers::Finalizers;
 use crate::refused::Refused;
@@ -30,8 +31,8 @@ fn limited(entries: usize) -> usize
 }
 
 impl Finalizers {
-    /// Reserves room for further registrations of kinds other than `Unreachable`, and for further links of both kinds: for at most 2^32 of each. Takes time
-    /// proportional to the room.
+    /// Reserves room for further registrations, and for further links of both kinds: for at most 2^32 of each. `shrink` frees what is left of it.
+    /// Takes time proportional to the room.
     ///
     /// Fails with `NoMemory` if an allocation fails.
     pub fn reserve(
@@ -43,13 +44,13 @@ impl Finalizers {
         ensures refused { IfErr result (λ r. r ≡ Refused.NoMemory) }
         ensures wanting { OnErr result (HasRooms self.old.rooms registrations shorts longs → ⊥) }
         ensures same { self.new.state ≡ self.old.state }
+        ensures memory { IsTrue self.old.memory.whole → self.new.memory ≡ self.old.memory }
         ensures kept { IsRoomier self.old.rooms self.new.rooms }
         ensures room { OnOk result (HasRooms self.new.rooms registrations shorts longs) }
     {
         let more = limited(registrations);
         self.table.reserve(more).map_err(|_| Refused::NoMemory)?;
-        self.ready
-            .reserve(self.table.len() + self.late.len() + more)?;
+        self.ready.reserve(self.table.len() + more)?;
         let (more_short, more_long) = (limited(shorts), limited(longs));
         self.short
             .reserve(more_short)
@@ -60,14 +61,17 @@ impl Finalizers {
         Ok(())
     }
 
-    /// Carries out a pass over the host's heap. Requires that its marking is complete. Links to unmarked objects are cleared. Finalizers of unmarked objects
-    /// are queued if no other such object reaches them, and everything that they need is marked. The host may reclaim what is unmarked afterwards. Takes time
+    /// Carries out a pass over the host's heap. Requires that its marking is complete. The host may reclaim what is unmarked afterwards. Takes time
     /// proportional to the registrations and the links, and the time that the host takes.
+    ///
+    /// First the words of short links to unmarked objects are cleared. Then an unmarked registered object is queued if no path leads to it from an unmarked
+    /// registered object, not even from the object itself; `Kind` says which paths count. If the host marks more than it is asked to mark, only some of these
+    /// are queued. All that unmarked registered objects reach is marked, and they are too. Then the words of long links to objects that are still unmarked are
+    /// cleared. Links that were cleared, and links whose words don't lie in a marked object, are removed.
     ///
     /// The host has to ensure that registered objects and the targets of links are its objects.
     pub fn pass<H: Host>(&mut self, host: &mut H) -> Passed
         requires registered { AreRegistered (H.objects host.old) self.old.registrations }
-        requires late { AreRegistered (H.objects host.old) self.old.late }
         requires short { AreTargets (H.objects host.old) self.old.short }
         requires long { AreTargets (H.objects host.old) self.old.long }
         // A cleared word points to nothing.
@@ -77,23 +81,17 @@ impl Finalizers {
         ensures follows { Follows self.old.state Pass self.new.state }
         ensures pass { result.pass ≡ next_pass self.old.passes }
         ensures picked { length self.new.queue ≡ length self.old.queue + result.picked }
+        ensures memory { IsTrue self.old.memory.whole → KeepsWindow self.old.memory self.new.memory }
         // Marked objects stay marked, and everything that they reach is marked.
         ensures marks { (a : ℕ) → IsTrue (H.marked host.old a) → IsTrue (H.marked host.new a) }
         ensures closed { IsClosed (H.objects host.new) (H.marked host.new) }
         // Everything else in the host is unchanged.
         ensures same { H.is_same host.old host.new }
     {
-        self.ready.forget();
+        self.ready.reuse();
         let before = self.ready.queued();
         let pass = self.passes.saturating_add(1);
-        self.ready.pass(
-            pass,
-            host,
-            &mut self.table,
-            &mut self.late,
-            &mut self.short,
-            &mut self.long,
-        );
+        self.ready.pass(pass, host, &mut self.table, &mut self.short, &mut self.long);
         self.passes = pass;
         Passed {
             pass,
@@ -105,12 +103,12 @@ impl Finalizers {
     /// kind `Unreachable` after the others. The entries' pass is 0, and so are their births. Links are unchanged. Takes time proportional to the
     /// registrations.
     pub fn queue_all(&mut self) -> u64
-        ensures queued { QueuesTables (length self.old.queue) self.old.registrations self.old.late self.old.queue self.new.queue }
+        ensures queued { QueuesAll (length self.old.queue) self.old.registrations (contains self.old.late) self.old.queue self.new.queue }
         ensures follows { Follows self.old.state QueueAll self.new.state }
         ensures count { length self.new.queue ≡ length self.old.queue + result }
     {
         let before = self.ready.queued();
-        self.ready.queue_all(&mut self.table, &mut self.late);
+        self.ready.queue_all(&mut self.table);
         self.ready.queued() - before
     }
 }

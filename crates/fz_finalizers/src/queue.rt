@@ -10,9 +10,10 @@ ghost use Rattle.fz_model.specs.Memory.{points};
 ghost use Rattle.fz_pass.specs.All.{unknown};
 ghost use Rattle.fz_pass.specs.Picking.{pick_of};
 ghost use Rattle.fz_pass.specs.Marks.{IsClosed, AreRegistered, AreTargets};
-ghost use Rattle.fz_pass.specs.Late.{AreApart, AreNormal, parts_of, parts_left};
-ghost use Rattle.fz_finalizers.specs.Ready.{Decides, QueuesTables};
-ghost use Rattle.fz_finalizers.specs.Queue.{Gains, GainsPicks, AreOpenFrom};
+ghost use Rattle.fz_pass.specs.Decides.{parts_of, parts_left};
+ghost use Rattle.fz_pass.specs.Flagged.{AreNormal};
+ghost use Rattle.fz_finalizers.specs.Ready.{Decides, QueuesTable};
+ghost use Rattle.fz_finalizers.specs.Queue.{Gains, GainsPicks, AreOpenFrom, IsNextHeld};
 ghost use Rattle.fz_finalizers.specs.Walks.{somes};
 
 use crate::past::Past;
@@ -22,7 +23,7 @@ use crate::unfinished::Entries;
 use fz_bits::SparseFlags;
 use fz_links::Links;
 use fz_model::{Addr, Entry, Registration};
-use fz_pass::{Host, ReadyList, decide_with_late, queue_all};
+use fz_pass::{Host, ReadyList, Terms, decide, queue_all};
 use fz_table::Table;
 use std::alloc::Global;
 use std::marker::{Model, PhantomData};
@@ -118,6 +119,54 @@ impl Queue {
         self.entries[self.kept..].get(place as usize).copied()
     }
 
+    /// The entries of the window: those from number `forgotten` on.
+    pub(crate) fn window(&self) -> &[Entry]
+        ensures { result.now ≡ drop self.now.forgotten self.now.queue }
+    {
+        &self.entries[self.kept..]
+    }
+
+    /// The number of the window's first entry.
+    pub(crate) fn forgotten(&self) -> u64
+        ensures { result ≡ self.now.forgotten }
+    {
+        self.first
+    }
+
+    /// How many entries are in memory.
+    pub(crate) fn remembered(&self) -> u64
+        ensures { result ≡ self.now.remembered }
+    {
+        self.entries.len() as u64
+    }
+
+    /// The first held entry whose number is at least `from`.
+    #[inline(always)]
+    pub(crate) fn next_held(&self, from: u64) -> Option<Entry>
+        ensures next { MatchOption result ((e : Entry) → Contains self.now.held e → e.seq < from) (IsNextHeld self.now.held from) }
+        ensures within { IfSome result (λ e. e.seq < length self.now.queue) }
+    {
+        let place = place_of(&self.entries, self.kept, self.first, from);
+        let place = self.held.next(place as u64)?;
+        Some(self.entries[place as usize])
+    }
+
+    /// The entry with a number, if it was queued and isn't both finished and forgotten.
+    pub(crate) fn find(&self, number: u64) -> Option<Entry>
+        ensures shown { self.now.forgotten ≤ number → result ≡ slice_get self.now.queue number }
+        ensures kept { number < self.now.forgotten → MatchOption result ((e : Entry) → Contains self.now.held e → e.seq ≢ number) (λ e. Contains self.now.held e × (e.seq ≡ number)) }
+    {
+        if number >= self.first {
+            return self.entry(number);
+        }
+        let entry = self.next_held(number)?;
+        if entry.seq == number {
+            Some(entry)
+        } else {
+            None
+        }
+    }
+
     /// The unfinished entries, with their indices.
     pub(crate) fn unfinished(&self) -> Entries<'_>
         ensures places { result ≡ self.now.places }
@@ -149,71 +198,67 @@ impl Queue {
             .map_err(|_| Refused::NoMemory)
     }
 
-    /// Carries out the pass of this number over a host and the tables. Requires room for an entry of each registration.
+    /// Carries out the pass of this number over a host and the table. Requires room for an entry of each registration.
     pub(crate) fn pass<H: Host>(
         &mut self,
         number: u64,
         host: &mut H,
         table: &mut Table,
-        late: &mut Table,
         short: &mut Links,
         long: &mut Links,
         list: &mut ReadyList,
     )
         requires registered { AreRegistered (H.objects host.old) table.old.registrations }
-        requires late { AreRegistered (H.objects host.old) late.old.registrations }
-        requires apart { AreApart table.old.registrations late.old.registrations }
-        requires normal { AreNormal late.old.registrations }
+        requires normal { AreNormal table.old.registrations (contains table.old.late) }
         requires short { AreTargets (H.objects host.old) short.old.links }
         requires long { AreTargets (H.objects host.old) long.old.links }
         requires zero { points (H.objects host.old) 0 ≡ None }
         requires closed { IsClosed (H.objects host.old) (H.marked host.old) }
-        requires list { len table.old.registrations + len late.old.registrations ≤ list.old.room }
-        requires room { len table.old.registrations + len late.old.registrations ≤ self.old.room }
-        requires numbers { length self.old.queue + (len table.old.registrations + len late.old.registrations) < 2 ^ 64 }
-        ensures decided { Decides H.is_exact number
-            (parts_of (H.objects host.old) table.old late.old short.old long.old) (H.marked host.old)
-            (parts_left (H.objects host.new) (H.marked host.new) table.new late.new short.new long.new)
+        requires list { len table.old.registrations ≤ list.old.room }
+        requires room { len table.old.registrations ≤ self.old.room }
+        requires numbers { length self.old.queue + len table.old.registrations < 2 ^ 64 }
+        ensures decided { Decides H.is_exact number table.old.late table.new.late
+            (parts_of (H.objects host.old) table.old short.old long.old) (H.marked host.old)
+            (parts_left (H.objects host.new) (H.marked host.new) table.new short.new long.new)
             self.old.queue self.new.queue }
         ensures gained { Gains number self.old self.new }
-        ensures count { length self.new.queue + (len table.new.registrations + len late.new.registrations) ≡ length self.old.queue + (len table.old.registrations + len late.old.registrations) }
+        ensures count { length self.new.queue + len table.new.registrations ≡ length self.old.queue + len table.old.registrations }
         ensures list { list.old.room ≤ list.new.room }
-        ensures room { len table.new.registrations + len late.new.registrations ≤ self.new.room }
+        ensures room { len table.new.registrations ≤ self.new.room }
         ensures marks { (a : ℕ) → IsTrue (H.marked host.old a) → IsTrue (H.marked host.new a) }
         ensures closed { IsClosed (H.objects host.new) (H.marked host.new) }
         ensures same { H.is_same host.old host.new }
         ensures table { table.new.registered ≡ record table.old.registered { registrations = table.new.registrations } }
-        ensures late { late.new.registered ≡ record late.old.registered { registrations = late.new.registrations } }
     {
-        let next = self.queued();
+        let terms = Terms {
+            pass: number,
+            first: self.queued(),
+            tiers: true,
+        };
         let first = self.entries.len() as u64;
-        let entries = &mut self.entries;
-        decide_with_late(host, table, late, short, long, list, entries, number, next);
+        decide(host, table, short, long, list, &mut self.entries, terms);
         let end = self.entries.len() as u64;
         hold(&mut self.held, first, end);
         self.outstanding += end - first;
     }
 
-    /// Queues every registration of the tables. Requires room for them.
-    pub(crate) fn queue_all(&mut self, table: &mut Table, late: &mut Table, list: &mut ReadyList)
-        requires list { len table.old.registrations + len late.old.registrations ≤ list.old.room }
-        requires room { len table.old.registrations + len late.old.registrations ≤ self.old.room }
-        requires numbers { length self.old.queue + (len table.old.registrations + len late.old.registrations) < 2 ^ 64 }
-        ensures queued { QueuesTables (length self.old.queue) table.old.registrations late.old.registrations self.old.queue self.new.queue }
+    /// Queues every registration of the table. Requires room for them.
+    pub(crate) fn queue_all(&mut self, table: &mut Table, list: &mut ReadyList)
+        requires list { len table.old.registrations ≤ list.old.room }
+        requires room { len table.old.registrations ≤ self.old.room }
+        requires numbers { length self.old.queue + len table.old.registrations < 2 ^ 64 }
+        ensures queued { QueuesTable table.old.content table.new.late self.old.queue self.new.queue }
         ensures gained { Gains 0 self.old self.new }
-        ensures count { length self.new.queue ≡ length self.old.queue + (len table.old.registrations + len late.old.registrations) }
+        ensures count { length self.new.queue ≡ length self.old.queue + len table.old.registrations }
         ensures list { list.old.room ≤ list.new.room }
         ensures table { table.new.registered ≡ record table.old.registered { registrations = empty } }
-        ensures late { late.new.registered ≡ record late.old.registered { registrations = empty } }
     {
         let next = self.queued();
-        let first = self.entries.len();
+        let first = self.entries.len() as u64;
         queue_all(table, list, &mut self.entries, next);
-        let between = next + (self.entries.len() - first) as u64;
-        queue_all(late, list, &mut self.entries, between);
         let end = self.entries.len() as u64;
-        hold(&mut self.held, first as u64, end);
-        self.outstanding += end - first as u64;
+        hold(&mut self.held, first, end);
+        self.outstanding += end - first;
     }
 
     /// Appends the entry of an object's registration, with this pass. Requires room for it.

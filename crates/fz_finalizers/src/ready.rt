@@ -1,16 +1,20 @@
 //! The entries, and the room reserved for further ones.
 
-ghost use Rattle.std.specs.Prelude.{◌≡◌, ◌≤◌, ◌<◌, ◌+◌, ◌*◌, ◌^◌, ◌⊎◌, [], ◌∷◌, ◌++◌, ℕ, None, length, drop, filter, min, not, IfOk, IfErr, OnOk, OnErr, IsTrue};
+ghost use Rattle.std.specs.Prelude.{◌≡◌, ◌≤◌, ◌≢◌, ◌<◌, ◌+◌, ◌*◌, ◌^◌, ◌⊎◌, [], ◌∷◌, ◌++◌, ℕ, None, true, false, length, drop, filter, slice_get, min, not, Contains, IfOk, IfErr, IfSome, MatchOption, OnOk, OnErr, IsTrue};
 ghost use Rattle.std.specs.FinMap.{len, empty};
+ghost use Rattle.std.specs.FinSet.{contains};
 ghost use Rattle.fz_model.specs.Events.{same_entry};
 ghost use Rattle.fz_model.specs.Memory.{points};
 ghost use Rattle.fz_model.specs.Pass.{entry_of};
 ghost use Rattle.fz_pass.specs.All.{unknown};
 ghost use Rattle.fz_pass.specs.Picking.{pick_of};
 ghost use Rattle.fz_pass.specs.Marks.{IsClosed, AreRegistered, AreTargets};
-ghost use Rattle.fz_pass.specs.Late.{AreApart, AreNormal, parts_of, parts_left};
-ghost use Rattle.fz_finalizers.specs.Ready.{Decides, HasSameEntries, QueuesTables, Takes, TakesFinished};
-ghost use Rattle.fz_finalizers.specs.States.{is_held};
+ghost use Rattle.fz_pass.specs.Decides.{parts_of, parts_left};
+ghost use Rattle.fz_pass.specs.Flagged.{AreNormal};
+ghost use Rattle.fz_finalizers.specs.Ready.{Decides, HasSameEntries, QueuesTable, Takes, TakesFinished};
+ghost use Rattle.fz_finalizers.specs.Queue.{IsNextHeld};
+ghost use Rattle.fz_finalizers.specs.States.{KeepsWindow, is_held};
+ghost use Rattle.fz_model.specs.declared.answers.Entry.{Entry};
 ghost use Rattle.fz_finalizers.specs.Walks.{somes};
 
 use crate::queue::Queue;
@@ -30,6 +34,8 @@ pub(crate) struct Ready {
     queue: Queue,
     /// How many entries were taken, which is the number of the next one to be taken.
     taken: u64,
+    /// Whether only `forget` and `forget_to` forget finished entries.
+    whole: bool,
 }
 
 impl Model for Ready {
@@ -45,8 +51,7 @@ impl Model for Ready {
       taken = r.taken;
       held = held_of r.queue r.taken;
       room = min r.list.room r.queue.room;
-      forgotten = r.queue.forgotten;
-      remembered = r.queue.remembered;
+      memory = record { whole = r.whole; forgotten = r.queue.forgotten; remembered = r.queue.remembered };
       places = r.queue.places;
     } };
 
@@ -59,12 +64,14 @@ impl Ready {
         ensures refused { IfErr result (λ r. r ≡ Refused.NoMemory) }
         ensures queue { IfOk result (λ ready. ready.queue ≡ []) }
         ensures taken { IfOk result (λ ready. (ready.taken ≡ 0) × (ready.held ≡ [])) }
+        ensures memory { IfOk result (λ ready. ready.memory ≡ record { whole = false; forgotten = 0; remembered = 0 }) }
     {
         let queue = Queue::new(alloc)?;
         Ok(Ready {
             list: ReadyList::new(alloc),
             queue,
             taken: 0,
+            whole: false,
         })
     }
 
@@ -103,6 +110,7 @@ impl Ready {
         ensures refused { IfErr result (λ r. r ≡ Refused.NoMemory) }
         ensures wanting { OnErr result (self.old.room < most) }
         ensures same { HasSameEntries self.old self.new }
+        ensures memory { IsTrue self.old.memory.whole → self.new.memory ≡ self.old.memory }
         ensures kept { self.old.room ≤ self.new.room }
         ensures room { OnOk result (most ≤ self.new.room) }
     {
@@ -117,22 +125,59 @@ impl Ready {
     /// Reuses the memory of finished entries, if there is no room for `most` further ones.
     fn forget_for(&mut self, most: usize)
         ensures same { HasSameEntries self.old self.new }
+        ensures memory { IsTrue self.old.memory.whole → self.new.memory ≡ self.old.memory }
         ensures room { self.old.room ≤ self.new.room }
     {
         if self.queue.spare() < most {
+            self.reuse();
+        }
+    }
+
+    /// Reuses the memory of finished entries, unless only `forget` may.
+    pub(crate) fn reuse(&mut self)
+        ensures same { HasSameEntries self.old self.new }
+        ensures memory { IsTrue self.old.memory.whole → self.new.memory ≡ self.old.memory }
+        ensures room { self.old.room ≤ self.new.room }
+    {
+        if !self.whole {
             self.forget();
         }
+    }
+
+    /// From now on only `forget` forgets finished entries.
+    pub(crate) fn keep_all(&mut self)
+        ensures { self.new ≡ record self.old { memory = record self.old.memory { whole = true } } }
+    {
+        self.whole = true;
     }
 
     /// Reuses the memory of finished entries, if there are more than 1 for each 16 unfinished ones. Returns how many were forgotten.
     pub(crate) fn forget(&mut self) -> u64
         ensures same { HasSameEntries self.old self.new }
-        ensures forgotten { (self.new.forgotten ≡ self.old.forgotten) ⊎ (self.new.forgotten ≡ self.old.taken) }
-        ensures few { 16 * self.new.remembered ≤ 17 * (length self.new.held + length (drop self.new.taken self.new.queue)) }
-        ensures freed { result + self.new.remembered ≡ self.old.remembered }
+        ensures whole { self.new.memory.whole ≡ self.old.memory.whole }
+        ensures forgotten { (self.new.memory.forgotten ≡ self.old.memory.forgotten) ⊎ (self.new.memory.forgotten ≡ self.old.taken) }
+        ensures few { 16 * self.new.memory.remembered ≤ 17 * (length self.new.held + length (drop self.new.taken self.new.queue)) }
+        ensures freed { result + self.new.memory.remembered ≡ self.old.memory.remembered }
         ensures room { self.old.room ≤ self.new.room }
     {
         self.queue.forget(self.taken)
+    }
+
+    /// Forgets finished entries as `forget` does. If there were any, also frees memory beyond the room for `room` further entries, if that is more than a
+    /// sixteenth.
+    pub(crate) fn forget_to(&mut self, room: usize) -> u64
+        ensures same { HasSameEntries self.old self.new }
+        ensures whole { self.new.memory.whole ≡ self.old.memory.whole }
+        ensures forgotten { (self.new.memory.forgotten ≡ self.old.memory.forgotten) ⊎ (self.new.memory.forgotten ≡ self.old.taken) }
+        ensures few { 16 * self.new.memory.remembered ≤ 17 * (length self.new.held + length (drop self.new.taken self.new.queue)) }
+        ensures freed { result + self.new.memory.remembered ≡ self.old.memory.remembered }
+        ensures room { min room self.old.room ≤ self.new.room }
+    {
+        let forgotten = self.forget();
+        if forgotten > 0 && self.queue.spare() > room.saturating_add(room / 16) {
+            self.queue.shrink(room);
+        }
+        forgotten
     }
 
     /// Frees memory, except the room for `most` further entries.
@@ -141,62 +186,57 @@ impl Ready {
         ensures same { HasSameEntries self.old self.new }
         ensures room { most ≤ self.new.room }
     {
-        self.forget();
+        self.reuse();
         self.list.shrink(most);
         self.queue.shrink(most);
     }
 
-    /// Carries out the pass of this number over a host and the tables.
+    /// Carries out the pass of this number over a host and the table.
     pub(crate) fn pass<H: Host>(
         &mut self,
         number: u64,
         host: &mut H,
         table: &mut Table,
-        late: &mut Table,
         short: &mut Links,
         long: &mut Links,
     )
         requires registered { AreRegistered (H.objects host.old) table.old.registrations }
-        requires late { AreRegistered (H.objects host.old) late.old.registrations }
-        requires apart { AreApart table.old.registrations late.old.registrations }
-        requires normal { AreNormal late.old.registrations }
+        requires normal { AreNormal table.old.registrations (contains table.old.late) }
         requires short { AreTargets (H.objects host.old) short.old.links }
         requires long { AreTargets (H.objects host.old) long.old.links }
         requires zero { points (H.objects host.old) 0 ≡ None }
         requires closed { IsClosed (H.objects host.old) (H.marked host.old) }
-        requires room { len table.old.registrations + len late.old.registrations ≤ self.old.room }
-        requires numbers { length self.old.queue + (len table.old.registrations + len late.old.registrations) < 2 ^ 64 }
-        ensures decided { Decides H.is_exact number
-            (parts_of (H.objects host.old) table.old late.old short.old long.old) (H.marked host.old)
-            (parts_left (H.objects host.new) (H.marked host.new) table.new late.new short.new long.new)
+        requires room { len table.old.registrations ≤ self.old.room }
+        requires numbers { length self.old.queue + len table.old.registrations < 2 ^ 64 }
+        ensures decided { Decides H.is_exact number table.old.late table.new.late
+            (parts_of (H.objects host.old) table.old short.old long.old) (H.marked host.old)
+            (parts_left (H.objects host.new) (H.marked host.new) table.new short.new long.new)
             self.old.queue self.new.queue }
         ensures taken { self.new.taken ≡ self.old.taken }
         ensures held { self.new.held ≡ self.old.held }
-        ensures count { length self.new.queue + (len table.new.registrations + len late.new.registrations) ≡ length self.old.queue + (len table.old.registrations + len late.old.registrations) }
-        ensures room { len table.new.registrations + len late.new.registrations ≤ self.new.room }
+        ensures memory { KeepsWindow self.old.memory self.new.memory }
+        ensures count { length self.new.queue + len table.new.registrations ≡ length self.old.queue + len table.old.registrations }
+        ensures room { len table.new.registrations ≤ self.new.room }
         ensures marks { (a : ℕ) → IsTrue (H.marked host.old a) → IsTrue (H.marked host.new a) }
         ensures closed { IsClosed (H.objects host.new) (H.marked host.new) }
         ensures same { H.is_same host.old host.new }
         ensures table { table.new.registered ≡ record table.old.registered { registrations = table.new.registrations } }
-        ensures late { late.new.registered ≡ record late.old.registered { registrations = late.new.registrations } }
     {
         let list = &mut self.list;
-        self.queue
-            .pass(number, host, table, late, short, long, list);
+        self.queue.pass(number, host, table, short, long, list);
     }
 
-    /// Queues every registration of the tables.
-    pub(crate) fn queue_all(&mut self, table: &mut Table, late: &mut Table)
-        requires room { len table.old.registrations + len late.old.registrations ≤ self.old.room }
-        requires numbers { length self.old.queue + (len table.old.registrations + len late.old.registrations) < 2 ^ 64 }
-        ensures queued { QueuesTables (length self.old.queue) table.old.registrations late.old.registrations self.old.queue self.new.queue }
+    /// Queues every registration of the table.
+    pub(crate) fn queue_all(&mut self, table: &mut Table)
+        requires room { len table.old.registrations ≤ self.old.room }
+        requires numbers { length self.old.queue + len table.old.registrations < 2 ^ 64 }
+        ensures queued { QueuesTable table.old.content table.new.late self.old.queue self.new.queue }
         ensures taken { self.new.taken ≡ self.old.taken }
         ensures held { self.new.held ≡ self.old.held }
-        ensures count { length self.new.queue ≡ length self.old.queue + (len table.old.registrations + len late.old.registrations) }
+        ensures count { length self.new.queue ≡ length self.old.queue + len table.old.registrations }
         ensures table { table.new.registered ≡ record table.old.registered { registrations = empty } }
-        ensures late { late.new.registered ≡ record late.old.registered { registrations = empty } }
     {
-        self.queue.queue_all(table, late, &mut self.list);
+        self.queue.queue_all(table, &mut self.list);
     }
 
     /// Appends the entry of an object's registration to the queue, with this pass.
@@ -240,6 +280,57 @@ impl Ready {
         Some(entry)
     }
 
+    /// Takes all entries that wait, and holds them. Returns their number.
+    pub(crate) fn take_all(&mut self) -> u64
+        ensures taken { (self.new.queue ≡ self.old.queue) × (self.new.taken ≡ length self.old.queue) }
+        ensures held { self.new.held ≡ self.old.held ++ drop self.old.taken self.old.queue }
+        ensures count { result ≡ length (drop self.old.taken self.old.queue) }
+        ensures memory { self.new.memory ≡ self.old.memory }
+        ensures room { self.old.room ≤ self.new.room }
+    {
+        let waiting = self.waiting();
+        self.taken = self.queue.queued();
+        waiting
+    }
+
+    /// The entries from number `forgotten` on.
+    pub(crate) fn window(&self) -> &[Entry]
+        ensures { result.now ≡ drop self.now.memory.forgotten self.now.queue }
+    {
+        self.queue.window()
+    }
+
+    /// The entry with a number, if it was queued and isn't both finished and forgotten.
+    pub(crate) fn find(&self, number: u64) -> Option<Entry>
+        ensures shown { self.now.memory.forgotten ≤ number → result ≡ slice_get self.now.queue number }
+        ensures kept { number < self.now.memory.forgotten → MatchOption result ((e : Entry) → Contains (self.now.held ++ drop self.now.taken self.now.queue) e → e.seq ≢ number) (λ e. Contains (self.now.held ++ drop self.now.taken self.now.queue) e × (e.seq ≡ number)) }
+    {
+        self.queue.find(number)
+    }
+
+    /// The first unfinished entry whose number is at least `from`.
+    #[inline(always)]
+    pub(crate) fn next_unfinished(&self, from: u64) -> Option<Entry>
+        ensures next { MatchOption result ((e : Entry) → Contains (self.now.held ++ drop self.now.taken self.now.queue) e → e.seq < from) (IsNextHeld (self.now.held ++ drop self.now.taken self.now.queue) from) }
+        ensures within { IfSome result (λ e. e.seq < length self.now.queue) }
+    {
+        self.queue.next_held(from)
+    }
+
+    /// The number of the window's first entry.
+    pub(crate) fn forgotten(&self) -> u64
+        ensures { result ≡ self.now.memory.forgotten }
+    {
+        self.queue.forgotten()
+    }
+
+    /// How many entries are in memory.
+    pub(crate) fn remembered(&self) -> u64
+        ensures { result ≡ self.now.memory.remembered }
+    {
+        self.queue.remembered()
+    }
+
     /// Whether a held entry equals this one in all fields.
     pub(crate) fn is_held(&self, entry: &Entry) -> bool
         ensures { result ≡ is_held self.now.held entry.now }
@@ -252,6 +343,7 @@ impl Ready {
         ensures answer { result ≡ is_held self.old.held entry.now }
         ensures queue { (self.new.queue ≡ self.old.queue) × (self.new.taken ≡ self.old.taken) }
         ensures held { self.new.held ≡ filter (λ h. not (same_entry entry.now h)) self.old.held }
+        ensures memory { self.new.memory ≡ self.old.memory }
         ensures room { self.old.room ≤ self.new.room }
     {
         if entry.seq >= self.taken {

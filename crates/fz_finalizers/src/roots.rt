@@ -9,7 +9,7 @@ ghost use Rattle.fz_finalizers.specs.Walks.{IsRest, Steps, YieldsRoots, roots_of
 
 use crate::finalizers::Finalizers;
 use crate::unfinished::Entries;
-use crate::walks::Registrations;
+use fz_table::Registrations;
 use std::marker::Model;
 
 /// A kind of roots.
@@ -64,13 +64,13 @@ impl<'a> Roots<'a> {
         }
     }
 
-    /// How many places remain. The number of places passed is the difference to the number at the begin.
+    /// How many places remain. Their number at the beginning less this one is how many were passed.
     pub fn places(&self) -> usize
         ensures { result ≡ length self.now }
     {
         match self.root {
             Root::HeldObject | Root::HeldData => self.entries.places(),
-            Root::RegisteredData => self.registrations.places(),
+            Root::RegisteredData => self.registrations.len(),
         }
     }
 
@@ -109,7 +109,8 @@ impl<'a> Roots<'a> {
 
 impl Finalizers {
     /// An iterator over the roots of one kind. A host marks from the held objects and their data before each pass, so the arguments of a finalizer are
-    /// retained until it is finished. The iterator stays the same until something changes, so an iteration can continue later from an index.
+    /// retained until it is finished. The iterator stays the same until the next call that takes `&mut self`, even one that fails. So an iteration can
+    /// continue later from an index.
     pub fn roots(&self, root: Root) -> Roots<'_>
         ensures sort { YieldsRoots root self.now.state (somes result) }
         ensures order { result ≡ roots_of root self.now }

@@ -13,11 +13,10 @@ impl Finalizers {
         ensures order { KeepsTables self.old.order self.new.order }
     {
         self.table.shrink();
-        self.late.shrink();
         self.short.shrink();
         self.long.shrink();
         let links = self.short.len().max(self.long.len());
         self.moves.shrink_to(links);
-        self.ready.shrink(self.table.len() + self.late.len());
+        self.ready.shrink(self.table.len());
     }
 }

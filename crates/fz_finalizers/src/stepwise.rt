@@ -1,12 +1,10 @@
 //! Passes that are carried out by individual calls.
 
 ghost use Rattle.std.specs.Prelude.{◌≡◌, ◌≤◌, ◌<◌, ◌+◌, is_some};
-ghost use Rattle.std.specs.FinMap.{from_entries};
+ghost use Rattle.std.specs.FinMap.{get};
 ghost use Rattle.fz_finalizers.specs.Follows.{Follows, Begin, Queue, next_pass};
-ghost use Rattle.fz_finalizers.specs.States.{registered};
 
 use crate::finalizers::Finalizers;
-use crate::registering::take_late;
 use fz_model::Addr;
 
 impl Finalizers {
@@ -15,7 +13,7 @@ impl Finalizers {
         ensures number { result ≡ next_pass self.old.passes }
         ensures follows { Follows self.old.state Begin self.new.state }
     {
-        self.ready.forget();
+        self.ready.reuse();
         self.passes = self.passes.saturating_add(1);
         self.passes
     }
@@ -23,12 +21,10 @@ impl Finalizers {
     /// Appends an object's registration to the queue, as an entry of the last pass begun, with birth 0, and returns whether the object was registered. Takes
     /// no memory.
     pub fn queue(&mut self, object: Addr) -> bool
-        ensures answer { result ≡ is_some (registered self.old.state object) }
+        ensures answer { result ≡ is_some (get self.old.registrations object) }
         ensures follows { Follows self.old.state (Queue object) self.new.state }
     {
-        let first = self.table.take(object);
-        let late = take_late(&mut self.late, object);
-        let Some(registration) = first.or(late) else {
+        let Some(registration) = self.table.take(object) else {
             return false;
         };
         self.ready.push(self.passes, object, registration);

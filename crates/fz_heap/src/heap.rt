@@ -3,7 +3,7 @@
 ghost use Rattle.std.specs.Prelude.{◌^◌, ◌∷◌, [], ◌≡◌, ◌≤◌, ◌<◌, ◌+◌, ◌*◌, ℕ, not, ◌&&◌, ◌||◌, All, IsTrue, IsSome, IfSome, IfOk, OnOk, OnErr, option_map, length, replicate};
 ghost use Rattle.std.specs.FinMap.{get, insert, remove, retain_keys, contains_key, keys, len, empty};
 ghost use Rattle.std.specs.FinSet as sets;
-ghost use Rattle.fz_model.specs.declared.limits.TheConstants.{BLOCK_WORDS, MAX_BLOCKS};
+ghost use Rattle.fz_model.specs.declared.limits.TheConstants.{BLOCK_WORDS, HEAP_START, MAX_BLOCKS};
 ghost use Rattle.fz_model.specs.Extents.{IsInHeap, extents, AreApart};
 ghost use Rattle.fz_model.specs.Memory.{points, word_at, written};
 ghost use Rattle.fz_model.specs.Allocation.{place_for, block_start};
@@ -153,6 +153,7 @@ impl Heap {
     pub fn place(&self, word: Word, offset: u64) -> Result<Addr, Refusal>
         ensures judged { IsJudgedBy (place_causes self.now.objects word offset) result }
         ensures place { IfOk result (λ place. place ≡ word + offset) }
+        ensures high { IfOk result (λ place. HEAP_START ≤ place) }
     {
         let place = place_of(&self.map, word, offset)?;
         Ok(HEAP_START + place as u64)

@@ -45,7 +45,7 @@ pub fn line(alloc: Global, workers: u64, room: usize) -> Result<(Owner, Vec<Seat
     Ok((owner, seats))
 }
 
-/// One more seat of a line that has `index` seats, unless its end of the line can't be allocated.
+/// The seat with this index, for a line that has `index` seats so far. `None` if its end of the line can't be allocated.
 fn new_seat(worker: &mut LineWorker, index: usize) -> Option<Seat>
     requires end { IsOwnerEnd index worker.old × (index < MAX_WORKERS) }
     ensures same { worker_deque worker.new ≡ worker_deque worker.old }

@@ -114,3 +114,12 @@ module _ {X Y : Type 0} (f : X → Y) (P : Y → Type 0) where
   one_mapped [] h = absurd h
   one_mapped (x ∷ xs) (inl p) = inl p
   one_mapped (x ∷ xs) (inr h) = inr (one_mapped xs h)
+
+  pub each_unmapped : (xs : List X) → Each P (map f xs) → Each (λ x. P (f x)) xs
+  each_unmapped [] h = tt
+  each_unmapped (x ∷ xs) h = (h.0, each_unmapped xs h.1)
+
+  pub one_unmapped : (xs : List X) → OneOf P (map f xs) → OneOf (λ x. P (f x)) xs
+  one_unmapped [] h = absurd h
+  one_unmapped (x ∷ xs) (inl p) = inl p
+  one_unmapped (x ∷ xs) (inr h) = inr (one_unmapped xs h)

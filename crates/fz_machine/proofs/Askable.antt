@@ -1,11 +1,12 @@
 -- A host that answers for a graph is asked only what it may be asked.
-use Rattle.std.proofs.Common.{◌≡◌, ◌⊎◌, ◌∷◌, [], ℕ, List, refl, sym, ap, subst, inl, inr, is_some, not, IsTrue}
+use Rattle.std.proofs.Common.{◌≡◌, ◌⊎◌, ◌∷◌, ◌∙◌, [], ℕ, false, List, Some, refl, sym, ap, subst, inl, inr, not, IsTrue}
+use Rattle.std.specs.FinMap.{get}
+use Rattle.fz_model.specs.declared.answers.Registration.{Registration}
 use Rattle.fz_model.specs.declared.kinds.RegKind.{RegKind}
 use Rattle.fz_model.specs.declared.kinds.RegKind.TheVariants as table
 use Rattle.fz_model.specs.State.{Map, Object}
 use Rattle.fz_pass.specs.Leading.{IsLeading}
 use Rattle.fz_pass.specs.Marks.{IsLastToMark}
-use Rattle.fz_pass.proofs.Both.{in_first, in_second}
 use Rattle.fz_pass.proofs.Marking.{last_to_mark}
 use Rattle.fz_finalizers.specs.declared.kinds.Kind.{Kind}
 use Rattle.fz_finalizers.specs.declared.kinds.Kind.TheVariants.{Normal, IgnoreSelf, NoOrder, Unreachable}
@@ -18,7 +19,7 @@ use Rattle.fz_machine.specs.declared.question.Ask.TheVariants.{MarkAlone}
 use Rattle.fz_machine.specs.Graph.{Graph, CanMark, MayAsk, MayBeAsked}
 use Rattle.fz_machine.specs.Phases.{asks, child_ask, pick_ask, subject, after, keeps}
 use Rattle.fz_machine.specs.Runs.{AreAskable, AsksRightly}
-use Rattle.fz_machine.proofs.Begun.{HasBegun, late_led, late_registered, others_led, registered}
+use Rattle.fz_machine.proofs.Begun.{HasBegun, late_led, late_there, normal, others_led, registered}
 use Rattle.fz_machine.proofs.Entered.{IsOfEither}
 use Rattle.fz_machine.proofs.Keeping.{keep}
 use Rattle.fz_machine.proofs.Led.{can_mark}
@@ -40,7 +41,7 @@ module _ (E : Type 0) (b : State) (before : Graph) (begin : HasBegun b before) w
   alone_may : (o : ℕ) (h : Graph) (kind : RegKind) → (kind ≡ table.Normal) ⊎ (kind ≡ table.IgnoreSelf) → h.objects ≡ clearly → CanMark h o → ((a : ℕ) → IsLeading clearly o kind a → IsTrue (h.marked a)) → MayAsk MarkAlone o h
   alone_may o h kind is objects can led = (can, subst (λ (m : Map Object). IsLastToMark m h.marked o) (sym objects) (last_to_mark E clearly h.marked o kind is led))
 
-  pick_may : (o : ℕ) (h : Graph) (kind : RegKind) → h.objects ≡ clearly → CanMark h o → ((a : ℕ) → IsLeading clearly o kind a → IsTrue (h.marked a)) → MayBeAsked (pick_ask (of_table kind)) o h
+  pick_may : (o : ℕ) (h : Graph) (kind : RegKind) → h.objects ≡ clearly → CanMark h o → ((a : ℕ) → IsLeading clearly o kind a → IsTrue (h.marked a)) → MayBeAsked (pick_ask (of_table false kind)) o h
   pick_may o h table.Normal objects can led = alone_may o h table.Normal (inl refl) objects can led
   pick_may o h table.IgnoreSelf objects can led = alone_may o h table.IgnoreSelf (inr refl) objects can led
   pick_may o h table.NoOrder objects can led = can
@@ -48,33 +49,32 @@ module _ (E : Type 0) (b : State) (before : Graph) (begin : HasBegun b before) w
   children_may : (s : State) (kept left : List Item) (item : Item) (h : Graph) → LeadsOn E b before s kept (item ∷ left) h → MayBeAsked (child_ask item.kind) item.object h
   children_may s kept left item h p = by p.left_are.0.0
     where
+      may_mark : (r : Registration) → get b.registrations item.object ≡ Some r → MayBeAsked (child_ask item.kind) item.object h
+      may_mark r here = child_may item.kind item.object h (can_mark E clearly b.registrations b.late before.marked (registered E b before begin) (normal E b before begin) item left h h p.are p.left_are.0.1 r here)
+
       by : IsOfEither b.registrations b.late item → MayBeAsked (child_ask item.kind) item.object h
-      by (inl (r, here, is)) =
-          child_may item.kind item.object h
-          (can_mark E clearly b.registrations b.late before.marked (registered E b before begin) (late_registered E b before begin) begin.apart begin.normal item left h h p.are p.left_are.0.1 r (in_first b.registrations b.late item.object r here))
-      by (inr (r, here, is)) =
-          child_may item.kind item.object h
-          (can_mark E clearly b.registrations b.late before.marked (registered E b before begin) (late_registered E b before begin) begin.apart begin.normal item left h h p.are p.left_are.0.1 r
-          (in_second b.registrations b.late item.object r (λ on. begin.apart item.object on (ap is_some here)) here))
+      by (inl other) = may_mark other.0 other.1
+      by (inr late) = may_mark late.0 late.1
 
   picks_may : (s : State) (kept left : List Item) (item : Item) (h : Graph) → PicksOn E b before s kept (item ∷ left) h → MayBeAsked (pick_ask item.kind) item.object h
   picks_may s kept left item h p = by p.left_are.0.0
     where
       by : IsOfEither b.registrations b.late item → MayBeAsked (pick_ask item.kind) item.object h
-      by (inl (r, here, is)) =
+      by (inl (r, here, off, is)) =
           subst (λ (k : Kind). MayBeAsked (pick_ask k) item.object h) (sym (ap (λ (i : Item). i.kind) is))
           (pick_may item.object h r.kind p.are.objects
           (choosing.can_mark E clearly item.object h h p.are.objects p.are.closed (registered E b before begin item.object r here))
           (λ a leads. p.are.least a (others_led E b before begin p.leading item.object r here (ap not p.left_are.0.1) a leads)))
-      by (inr late) = subst (λ (k : Kind). MayBeAsked (pick_ask k) item.object h) (sym (ap (λ (i : Item). i.kind) late.2)) tt
+      by (inr late) = subst (λ (k : Kind). MayBeAsked (pick_ask k) item.object h) (sym (ap (λ (i : Item). i.kind) late.3)) tt
 
   late_may : (s : State) (left : List Item) (item : Item) (h : Graph) → PicksLate E b before s (item ∷ left) h → MayAsk MarkAlone item.object h
   late_may s left item h p =
       let r = p.left_are.0.0.0 in
       let here = p.left_are.0.0.1 in
-      alone_may item.object h r.kind (inl (begin.normal item.object r here)) p.are.objects
-      (choosing.can_mark E clearly item.object h h p.are.objects p.are.closed (late_registered E b before begin item.object r here))
-      (λ a leads. p.are.least a (late_led E b before begin p.first item.object r here (ap not p.left_are.0.1) a leads))
+      let on = p.left_are.0.0.2 in
+      alone_may item.object h r.kind (inl (normal E b before begin item.object r here on)) p.are.objects
+      (choosing.can_mark E clearly item.object h h p.are.objects p.are.closed (registered E b before begin item.object r here))
+      (λ a leads. p.are.least a (late_led E b before begin p.first item.object r (late_there E b before begin p.first item.object on ∙ here) (ap not p.left_are.0.1) a leads))
 
   may : (phase : Phase) (s : State) (kept left : List Item) (item : Item) (h : Graph) → IsIn E b before phase s kept (item ∷ left) h → MayBeAsked (asks phase item) (subject phase item) h
   may ShortTargets s kept left item h p = tt

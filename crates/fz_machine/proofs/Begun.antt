@@ -1,34 +1,40 @@
 -- What a host sees to before a pass, with the words of dead short links cleared.
-use Rattle.std.proofs.Common.{◌≡◌, ◌<◌, ◌^◌, ◌∙◌, ℕ, Bool, true, false, Option, Some, None, refl, ap, inl, is_some, IsTrue}
+use Rattle.std.proofs.Common.{◌≡◌, ◌≢◌, ◌<◌, ◌^◌, ◌∙◌, [], ℕ, Bool, true, false, Some, refl, ap, inl, IsTrue}
 use Rattle.std.proofs.lemmas.Bool.{both_ways}
 use Rattle.std.specs.FinMap.{get}
+use Rattle.std.specs.FinSet.{contains}
+use Rattle.fz_model.specs.declared.answers.Pick.{Pick}
 use Rattle.fz_model.specs.declared.answers.Registration.{Registration}
 use Rattle.fz_model.specs.State.{Object}
 use Rattle.fz_model.specs.Pass.{is_dead}
 use Rattle.fz_model.proofs.Maps.{filled_back}
-use Rattle.fz_pass.specs.Late.{AreApart, AreNormal}
+use Rattle.fz_table.specs.Tabled.{Content}
+use Rattle.fz_pass.specs.Flagged.{AreNormal}
 use Rattle.fz_pass.specs.Leading.{LedAreMarked}
 use Rattle.fz_pass.specs.Marks.{IsClosed, AreRegistered, AreTargets}
-use Rattle.fz_pass.proofs.Both.{in_first, in_second, led_are_marked, led_still}
+use Rattle.fz_pass.specs.Picking.{IsReady}
+use Rattle.fz_pass.specs.Queued.{is_ready}
+use Rattle.fz_pass.proofs.Led.{led_are_marked, led_still}
 use Rattle.fz_pass.proofs.Passed.{registered_still, targets_still, closed_still}
-use Rattle.fz_pass.proofs.Picked.{was_registered}
-use Rattle.fz_finalizers.specs.States.{State}
+use Rattle.fz_pass.proofs.Picked.{all_map, was_registered, without_other}
+use Rattle.fz_pass.proofs.Tiers.{ready_flag}
+use Rattle.fz_finalizers.specs.States.{State, AreFlags}
+use Rattle.fz_finalizers.proofs.Flags.{normal_of}
 use Rattle.fz_machine.specs.Graph.{Graph, MayBegin}
-use Rattle.fz_machine.proofs.Chosen.{tabled}
-use Rattle.fz_machine.proofs.Phased.{clear, all, Leading, Picked}
+use Rattle.fz_machine.proofs.Phased.{clear, Leading, Picked}
+use Rattle.fz_machine.proofs.Stated.{tabled}
 
 pub record HasBegun (b : State) (before : Graph) : Type 0 where
   pub may : MayBegin b before
   pub open may use *
-  pub apart : AreApart b.registrations b.late
-  pub normal : AreNormal b.late
+  pub flags : AreFlags b.registrations b.late
 
 module _ (E : Type 0) (b : State) (before : Graph) (begin : HasBegun b before) where
   pub registered : AreRegistered (clear E b before) b.registrations
   registered = registered_still before.objects b.short before.marked b.registrations begin.registered
 
-  pub late_registered : AreRegistered (clear E b before) b.late
-  late_registered = registered_still before.objects b.short before.marked b.late begin.late
+  pub normal : AreNormal b.registrations (contains b.late)
+  normal = normal_of b.registrations b.late begin.flags
 
   pub long_targets : AreTargets (clear E b before) b.long
   long_targets = targets_still before.objects b.short before.marked b.long begin.long
@@ -42,36 +48,26 @@ module _ (E : Type 0) (b : State) (before : Graph) (begin : HasBegun b before) w
   pub starts : (a : ℕ) (r : Registration) → get b.registrations a ≡ Some r → a < 2 ^ 64
   starts a r here = begin.starts a (begin.registered a r here)
 
-  pub late_starts : (a : ℕ) (r : Registration) → get b.late a ≡ Some r → a < 2 ^ 64
-  late_starts a r here = begin.starts a (begin.late a r here)
+  -- what the first round leaves
+  pub was_there : (c : Picked E b before) (a : ℕ) (r : Registration) → get c.table.registrations a ≡ Some r → get b.registrations a ≡ Some r
+  was_there c a r here = was_registered (clear E b before) _ a (tabled b) c.table [] c.picks c.are r here
 
-  -- no object is in both tables
-  pub not_late : (a : ℕ) (r : Registration) → get b.registrations a ≡ Some r → get b.late a ≡ None
-  not_late a r here = at (get b.late a) refl
-    where
-      at : (o : Option Registration) → get b.late a ≡ o → o ≡ None
-      at None is = refl
-      at (Some q) is = absurd (begin.apart a (ap is_some here) (ap is_some is))
+  pub late_starts : (c : Picked E b before) (a : ℕ) (r : Registration) → get c.table.registrations a ≡ Some r → a < 2 ^ 64
+  late_starts c a r here = starts a r (was_there c a r here)
 
-  pub not_other : (a : ℕ) (r : Registration) → get b.late a ≡ Some r → (q : Registration) → get b.registrations a ≡ Some q → ⊥
-  not_other a r here q is = begin.apart a (ap is_some is) (ap is_some here)
-
-  pub left_none : (c : Picked E b before) (a : ℕ) (r : Registration) → get b.late a ≡ Some r → get c.table a ≡ None
-  left_none c a r here = at (get c.table a) refl
-    where
-      at : (o : Option Registration) → get c.table a ≡ o → o ≡ None
-      at None is = refl
-      at (Some q) is = absurd (not_other a r here q (was_registered (clear E b before) _ a (tabled b.registrations) (tabled c.table) _ _ c.are q is))
+  pub late_there : (c : Picked E b before) (a : ℕ) → contains b.late a ≡ true → get c.table.registrations a ≡ get b.registrations a
+  late_there c a on =
+      ap (λ (t : Content). get t.registrations a) c.are.table_is
+      ∙ without_other b.registrations c.are.picks a
+      (all_map (IsReady (clear E b before) b.registrations (is_ready false (contains b.late) b.registrations c.leading.led)) (λ (p : Pick). p.obj ≢ a)
+      (λ p is same. both_ways (contains b.late p.obj) (ready_flag false (contains b.late) c.leading.led p.obj b.registrations is.ready) (ap (contains b.late) same ∙ on)) c.are.picks c.are.picked.each)
 
   -- what unmarked objects lead to is marked
   pub others_led : (l : Leading E b before) → LedAreMarked (clear E b before) b.registrations l.led
-  others_led l = led_are_marked E (clear E b before) before.marked l.led b.registrations (all E b before) registered (in_first b.registrations b.late) l.marks
+  others_led l = led_are_marked E (clear E b before) before.marked l.led b.registrations registered l.marks
 
-  pub late_led : (c : Picked E b before) → LedAreMarked (clear E b before) b.late c.mid
-  late_led c =
-      led_still E (clear E b before) c.leading.led c.mid b.late (λ a on. c.marks.least a (inl on))
-      (led_are_marked E (clear E b before) before.marked c.leading.led b.late (all E b before) late_registered
-      (λ a r here. in_second b.registrations b.late a r (λ on. begin.apart a on (ap is_some here)) here) c.leading.marks)
+  pub late_led : (c : Picked E b before) → LedAreMarked (clear E b before) c.table.registrations c.mid
+  late_led c = led_still E (clear E b before) c.leading.led c.mid b.registrations c.table.registrations (λ a on. c.marks.least a (inl on)) (was_there c) (others_led c.leading)
 
   -- what is unmarked later was unmarked before
   pub not_before : (old new : ℕ → Bool) → ((a : ℕ) → IsTrue (old a) → IsTrue (new a)) → (a : ℕ) → new a ≡ false → old a ≡ false

@@ -1,14 +1,17 @@
 -- What the lists of phases have of links and registrations.
-use Rattle.std.proofs.Common.{◌≡◌, ◌⊎◌, ◌++◌, ◌∙◌, ℕ, List, Some, Contains, map, refl, sym, ap, subst, inl, inr, ⊎_elim, not, IsTrue}
+use Rattle.std.proofs.Common.{◌≡◌, ◌⊎◌, ◌∷◌, [], ◌∙◌, ℕ, Bool, true, false, cond, List, Some, Contains, map, refl, sym, ap, subst, inl, inr, ⊎_elim, not, IsTrue}
 use Rattle.std.proofs.lemmas.List.Elements.{All-contains_itself, All-weaker}
 use Rattle.std.specs.FinMap.{get, contains_key}
+use Rattle.std.specs.FinSet.{contains}
+use Rattle.fz_table.specs.declared.stored.Stored.{Stored}
+use Rattle.fz_table.specs.Tabled.{Set, plain, shown}
 use Rattle.fz_model.specs.declared.answers.Registration.{Registration}
 use Rattle.fz_model.specs.State.{Map}
 use Rattle.fz_model.proofs.KeyedEntries.{got, listed}
 use Rattle.fz_model.proofs.Sound.{is_some_of}
 use Rattle.fz_machine.specs.declared.item.Item.{Item}
-use Rattle.fz_machine.specs.Items.{AreEntriesOf, AreLinks, AreObjects, of_link, of_late, of_other}
-use Rattle.fz_machine.proofs.Among.{Each, OneOf, each_as, each_from, each_append, each_mapped, one_from, one_left, one_right, one_mapped}
+use Rattle.fz_machine.specs.Items.{AreEntriesOf, AreLinks, AreObjects, of_link, of_late, of_other, of_stored}
+use Rattle.fz_machine.proofs.Among.{Each, OneOf, each_from, each_mapped, each_unmapped, one_as, one_from, one_mapped, one_unmapped}
 use Rattle.fz_machine.proofs.Sifting.{IsAt}
 
 module _ {X : Type 0} (m : Map X) (es : List (ℕ × X)) (are : AreEntriesOf m es) where
@@ -31,41 +34,59 @@ module _ (links : Map ℕ) (items : List Item) (are : AreLinks links items) wher
   pub links_all : (object word : ℕ) → get links word ≡ Some object → OneOf (IsAt object word) items
   links_all object word here = subst (OneOf (IsAt object word)) (sym are.2) (one_mapped of_link (IsAt object word) are.0 (entered links are.0 are.1 (λ e. IsAt object word (of_link e)) word object here (refl, refl)))
 
-module _ (registrations late : Map Registration) where
+module _ (registrations : Map Registration) (late : Set) where
   abbrev pub IsOther : Item → Type 0
-  IsOther i = (r : Registration) × (get registrations i.object ≡ Some r) × (i ≡ of_other (i.object, r))
+  IsOther i = (r : Registration) × (get registrations i.object ≡ Some r) × (contains late i.object ≡ false) × (i ≡ of_other (i.object, r))
 
   abbrev pub IsLate : Item → Type 0
-  IsLate i = (r : Registration) × (get late i.object ≡ Some r) × (i ≡ of_late (i.object, r))
+  IsLate i = (r : Registration) × (get registrations i.object ≡ Some r) × (contains late i.object ≡ true) × (i ≡ of_late (i.object, r))
 
   abbrev pub IsOfEither : Item → Type 0
   IsOfEither i = IsOther i ⊎ IsLate i
 
   abbrev pub IsOtherAt : ℕ → ℕ → Type 0
-  IsOtherAt object word = IsTrue (contains_key registrations object) × (word ≡ 0)
+  IsOtherAt object word = IsTrue (contains_key registrations object) × (contains late object ≡ false) × (word ≡ 0)
 
   abbrev pub IsLateAt : ℕ → ℕ → Type 0
-  IsLateAt object word = IsTrue (contains_key late object) × (word ≡ 0)
+  IsLateAt object word = IsTrue (contains_key registrations object) × (contains late object ≡ true) × (word ≡ 0)
 
   abbrev pub IsEitherAt : ℕ → ℕ → Type 0
   IsEitherAt object word = IsOtherAt object word ⊎ IsLateAt object word
 
+  pub either_at : (object : ℕ) → IsTrue (contains_key registrations object) → IsEitherAt object 0
+  either_at object here = by (contains late object) refl
+    where
+      by : (b : Bool) → contains late object ≡ b → IsEitherAt object 0
+      by false off = inl (here, off, refl)
+      by true on = inr (here, on, refl)
+
+  one_stored : (e : ℕ × Stored) → get registrations e.0 ≡ Some (shown e.1) → e.1.unreachable ≡ contains late e.0 → IsOfEither (of_stored e)
+  one_stored e here flag = by e.1.unreachable flag
+    where
+      by : (b : Bool) → b ≡ contains late e.0 → IsOfEither (cond b (of_late (plain e)) (of_other (plain e)))
+      by true on = inr (shown e.1, here, sym on, refl)
+      by false off = inl (shown e.1, here, sym off, refl)
+
+  each_stored : (es : List (ℕ × Stored)) → Each (λ e. get registrations e.0 ≡ Some (shown e.1)) es → Each (λ e. e.1.unreachable ≡ contains late e.0) es → Each (λ e. IsOfEither (of_stored e)) es
+  each_stored [] h k = tt
+  each_stored (e ∷ es) h k = (one_stored e h.0 k.0, each_stored es h.1 k.1)
+
   module _ (items : List Item) (are : AreObjects registrations late items) where
     pub objects_each : Each IsOfEither items
-    objects_each = subst (Each IsOfEither) (sym are.4)
-        (each_append IsOfEither (map of_other are.0) (map of_late are.1)
-        (each_mapped of_other IsOfEither are.0 (each_as (λ e. get registrations e.0 ≡ Some e.1) (λ e. IsOfEither (of_other e)) (λ e here. inl (e.1, here, refl)) are.0 (stands registrations are.0 are.2)))
-        (each_mapped of_late IsOfEither are.1 (each_as (λ e. get late e.0 ≡ Some e.1) (λ e. IsOfEither (of_late e)) (λ e here. inr (e.1, here, refl)) are.1 (stands late are.1 are.3))))
+    objects_each = subst (Each IsOfEither) (sym are.3)
+        (each_mapped of_stored IsOfEither are.0
+        (each_stored are.0 (each_unmapped plain (λ e. get registrations e.0 ≡ Some e.1) are.0 (stands registrations (map plain are.0) are.1)) (each_from (λ (e : ℕ × Stored). e.1.unreachable ≡ contains late e.0) are.0 are.2)))
 
     pub objects_all : (object word : ℕ) → IsEitherAt object word → OneOf (IsAt object word) items
-    objects_all object word either = subst (OneOf (IsAt object word)) (sym are.4) (⊎_elim other of_second either)
+    objects_all object word either = ⊎_elim (λ x. at x.0 x.2) (λ x. at x.0 x.2) either
       where
-        other : IsOtherAt object word → OneOf (IsAt object word) (map of_other are.0 ++ map of_late are.1)
-        other at =
-            let r = is_some_of (get registrations object) (ap not at.0) in
-            one_left (IsAt object word) (map of_other are.0) (map of_late are.1) (one_mapped of_other (IsAt object word) are.0 (entered registrations are.0 are.2 (λ e. IsAt object word (of_other e)) object r.0 r.1 (refl, sym at.1)))
+        here_at : (e : ℕ × Stored) → e.0 ≡ object → word ≡ 0 → (b : Bool) → IsAt object word (cond b (of_late (plain e)) (of_other (plain e)))
+        here_at e is zero true = (is, sym zero)
+        here_at e is zero false = (is, sym zero)
 
-        of_second : IsLateAt object word → OneOf (IsAt object word) (map of_other are.0 ++ map of_late are.1)
-        of_second at =
-            let r = is_some_of (get late object) (ap not at.0) in
-            one_right (IsAt object word) (map of_other are.0) (map of_late are.1) (one_mapped of_late (IsAt object word) are.1 (entered late are.1 are.3 (λ e. IsAt object word (of_late e)) object r.0 r.1 (refl, sym at.1)))
+        at : IsTrue (contains_key registrations object) → word ≡ 0 → OneOf (IsAt object word) items
+        at here zero =
+            let r = is_some_of (get registrations object) (ap not here) in
+            let one = one_unmapped plain (λ (e : ℕ × Registration). e.0 ≡ object) are.0 (entered registrations (map plain are.0) are.1 (λ e. e.0 ≡ object) object r.0 r.1 refl) in
+            subst (OneOf (IsAt object word)) (sym are.3)
+            (one_mapped of_stored (IsAt object word) are.0 (one_as (λ (e : ℕ × Stored). e.0 ≡ object) (λ (e : ℕ × Stored). IsAt object word (of_stored e)) (λ e is. here_at e is zero e.1.unreachable) are.0 one))

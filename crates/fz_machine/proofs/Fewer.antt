@@ -7,6 +7,7 @@ use Rattle.std.specs.FinMap.{len}
 use Rattle.fz_model.specs.declared.answers.Registration.{Registration}
 use Rattle.fz_model.specs.State.{Map}
 use Rattle.fz_model.proofs.KeyedEntries.{len_made}
+use Rattle.fz_table.specs.Tabled.{Set, plain}
 use Rattle.fz_finalizers.specs.States.{State}
 use Rattle.fz_machine.specs.declared.item.Item.{Item}
 use Rattle.fz_machine.specs.declared.pass.Next.{Next}
@@ -15,7 +16,7 @@ use Rattle.fz_machine.specs.declared.phase.Phase.{Phase}
 use Rattle.fz_machine.specs.declared.phase.Phase.TheVariants.{ShortTargets, ShortWords, Objects, Children, Again, Picks, LateAgain, LatePicks, LongTargets, LongWords, ShortHolders, LongHolders}
 use Rattle.fz_machine.specs.Going.{going}
 use Rattle.fz_machine.specs.Heard.{Begun, Goes, Hears, PassesEnd}
-use Rattle.fz_machine.specs.Items.{AreEntriesOf, AreLinks, AreObjects, of_link, of_late, of_other}
+use Rattle.fz_machine.specs.Items.{AreEntriesOf, AreLinks, AreObjects, of_link, of_stored}
 use Rattle.fz_machine.specs.Machines.{Machine, Tells}
 use Rattle.fz_machine.specs.Phases.{Lists, after, asks, keeps, next_phase}
 use Rattle.fz_machine.specs.Steps.{Asks, Ends, Going, GoesOn, Turns, skip, skipped, steps}
@@ -99,12 +100,8 @@ module _ (r s g : ℕ) where
   links_few : (links : Map ℕ) (items : List Item) → AreLinks links items → length items ≡ len links
   links_few links items are = ap length are.2 ∙ length-map are.0 of_link ∙ entries links are.0 are.1
 
-  objects_few : (registrations late : Map Registration) (items : List Item) → AreObjects registrations late items → length items ≡ len registrations + len late
-  objects_few registrations late items are =
-      let long = ap length are.4 ∙ length-append (map of_other are.0) (map of_late are.1) in
-      let others = length-map are.0 of_other ∙ entries registrations are.0 are.2 in
-      let lates = length-map are.1 of_late ∙ entries late are.1 are.3 in
-      omega (arith, long, others, lates)
+  objects_few : (registrations : Map Registration) (late : Set) (items : List Item) → AreObjects registrations late items → length items ≡ len registrations
+  objects_few registrations late items are = ap length are.3 ∙ length-map are.0 of_stored ∙ sym (length-map are.0 plain) ∙ entries registrations (map plain are.0) are.1
 
   module _ (t : State) (h : IsWithin r s g t) (kept : List Item) where
     abbrev IsFewer : Phase → Option Phase → Type 0
@@ -164,7 +161,7 @@ module _ (r s g : ℕ) where
 pub passes_end : PassesEnd
 passes_end old begun m n is hears =
     let t = old.finalizers.state in
-    let r = len t.registrations + len t.late in
+    let r = len t.registrations in
     let same = is.finalizers in
     let many : length begun.walk.left ≡ len t.short = links_few r (len t.short) (len t.long) t.short begun.walk.left (subst (λ (u : State). AreLinks u.short begun.walk.left) same is.begins.lists) in
     let kept = ap length is.begins.none in

@@ -1,6 +1,8 @@
 -- Each answer keeps what holds in its phase.
-use Rattle.std.proofs.Common.{◌≡◌, ◌+◌, ◌*◌, ◌^◌, ◌⊎◌, ◌++◌, ◌∷◌, ◌∙◌, [], ℕ, Bool, true, false, not, cond, List, Some, refl, sym, ap, subst, inl, inr, ⊎_elim, is_some, append_assoc, arith}
-use Rattle.std.specs.FinMap.{get, contains_key, remove}
+use Rattle.std.proofs.Common.{◌≡◌, ◌+◌, ◌*◌, ◌^◌, ◌⊎◌, ◌++◌, ◌∷◌, ◌∙◌, [], ℕ, Bool, true, false, not, cond, List, Some, refl, sym, ap, subst, inl, inr, ⊎_elim, append_assoc, arith}
+use Rattle.std.specs.FinMap.{get, remove}
+use Rattle.std.specs.FinSet.{contains}
+use Rattle.std.proofs.lemmas.Bool.{both_ways}
 use Rattle.fz_model.specs.declared.answers.Registration.{Registration}
 use Rattle.fz_model.specs.declared.kinds.RegKind.{RegKind}
 use Rattle.fz_model.specs.declared.kinds.RegKind.TheVariants as table
@@ -9,7 +11,9 @@ use Rattle.fz_model.proofs.Sound.{is_some_of}
 use Rattle.fz_model.specs.Reachability.{Leads}
 use Rattle.fz_pass.specs.All.{unknown}
 use Rattle.fz_pass.specs.Marks.{Marks}
-use Rattle.fz_pass.specs.Picking.{pick_of}
+use Rattle.fz_pass.specs.Picking.{left_by, pick_of}
+use Rattle.fz_pass.specs.Tiers.{skips}
+use Rattle.fz_pass.proofs.Tiers.{skips_flagged, unskips}
 use Rattle.fz_finalizers.specs.declared.kinds.Kind.{Kind}
 use Rattle.fz_finalizers.specs.Follows.{queued_object}
 use Rattle.fz_finalizers.specs.Kinds.{is_late, of_table}
@@ -22,7 +26,7 @@ use Rattle.fz_machine.specs.Graph.{Graph, IsHonest}
 use Rattle.fz_machine.specs.Items.{of_other, place_of}
 use Rattle.fz_machine.specs.Phases.{after, asks, child_ask, keeps, pick_ask, subject}
 use Rattle.fz_machine.proofs.Among.{AreInOrder, OneOf, each_push, one_last, one_left, order_after, order_without}
-use Rattle.fz_machine.proofs.Begun.{HasBegun, births, late_led, late_registered, late_starts, left_none, not_late, not_other, others_led, registered, starts}
+use Rattle.fz_machine.proofs.Begun.{HasBegun, births, late_led, late_starts, late_there, normal, others_led, registered, starts}
 use Rattle.fz_machine.proofs.Choosing.{marked_alone, marked_by_kind}
 use Rattle.fz_machine.proofs.Chosen.{chosen_again, chosen_more, chosen_on, no_more, place_in, still}
 use Rattle.fz_machine.proofs.Entered.{IsLate, IsLateAt, IsOfEither}
@@ -30,9 +34,9 @@ use Rattle.fz_machine.proofs.Led.{lead_more}
 use Rattle.fz_machine.proofs.Phased.{IsIn, IsUnfound, LeadsOn, PicksLate, PicksOn, clear, short_left}
 use Rattle.fz_machine.proofs.Phasing.{clears_on, holds_on, kept_on, sifts_on}
 use Rattle.fz_machine.proofs.Sifting.{IsAt}
-use Rattle.fz_machine.proofs.Stated.{queued_first, queued_late, queued_none, state_with}
+use Rattle.fz_machine.proofs.Stated.{queued_none, queued_on, state_with, tabled}
 
-not_late_kind : (kind : RegKind) → is_late (of_table kind) ≡ false
+not_late_kind : (kind : RegKind) → is_late (of_table false kind) ≡ false
 not_late_kind table.Normal = refl
 not_late_kind table.IgnoreSelf = refl
 not_late_kind table.NoOrder = refl
@@ -53,7 +57,7 @@ module _ (E : Type 0) (b : State) (before : Graph) (begin : HasBegun b before) w
       → LeadsOn E b before s (kept ++ item ∷ []) left new
   leads_on s kept left item h new p answer honest = record {
     state = p.state;
-    are = lead_more E clearly b.registrations b.late before.marked (registered E b before begin) (late_registered E b before begin) begin.apart begin.normal item left h new p.are p.left_are.0.1 p.left_are.0.0 answer honest;
+    are = lead_more E clearly b.registrations b.late before.marked (registered E b before begin) (normal E b before begin) item left h new p.are p.left_are.0.1 p.left_are.0.0 answer honest;
     kept_are = each_push (IsUnfound E b before) kept item p.kept_are p.left_are.0;
     left_are = p.left_are.1;
     rest = λ object word at off. ⊎_elim (λ k. inl (one_left (IsAt object word) kept (item ∷ []) k)) (by object word) (p.rest object word at off);
@@ -73,7 +77,7 @@ module _ (E : Type 0) (b : State) (before : Graph) (begin : HasBegun b before) w
       now = p.now;
       picks = p.picks;
       state = p.state;
-      are = chosen_on E clearly b.registrations p.leading.led 0 p.now p.picks left item h (not_other E b before begin item.object late.0 late.1) p.are;
+      are = chosen_on E clearly (tabled b) p.leading.led false (contains b.late) 0 p.now p.picks left item h (skips_flagged (contains b.late) p.leading.led item.object late.2) p.are;
       kept_are = each_push (λ i. Late i × (p.leading.led i.object ≡ false)) kept item p.kept_are (late, p.left_are.0.1);
       left_are = p.left_are.1;
       rest = λ object word at off. ⊎_elim (λ k. inl (one_left (IsAt object word) kept (item ∷ []) k)) (by object word) (p.rest object word at off);
@@ -85,15 +89,18 @@ module _ (E : Type 0) (b : State) (before : Graph) (begin : HasBegun b before) w
         by object word (inr k) = inr k
 
     -- another is picked
-    module _ (r : Registration) (here : get b.registrations item.object ≡ Some r) (is : item ≡ of_other (item.object, r)) (same : new.objects ≡ h.objects) (m : Marks E clearly h.marked new.marked (Leads clearly item.object)) where
+    module _ (r : Registration) (here : get b.registrations item.object ≡ Some r) (off : contains b.late item.object ≡ false) (is : item ≡ of_other (item.object, r)) (same : new.objects ≡ h.objects) (m : Marks E clearly h.marked new.marked (Leads clearly item.object)) where
+      unskipped : skips false (contains b.late) p.leading.led item.object ≡ false
+      unskipped = unskips false (contains b.late) p.leading.led item.object off p.left_are.0.1
+
       place : place_of item ≡ place_in 0 item.object r
       place = ap place_of is ∙ (let added : r.rank * 2 ^ 64 + item.object ≡ (0 + r.rank) * 2 ^ 64 + item.object = omega arith in added)
 
       others : (object word : ℕ) → IsLateAt b.registrations b.late object word → p.leading.led object ≡ false → OneOf (IsAt object word) kept ⊎ OneOf (IsAt object word) left
-      others object word at off = ⊎_elim inl by (p.rest object word at off)
+      others object word at free = ⊎_elim inl by (p.rest object word at free)
         where
           by : OneOf (IsAt object word) (item ∷ left) → OneOf (IsAt object word) kept ⊎ OneOf (IsAt object word) left
-          by (inl here_at) = absurd (begin.apart object (ap (λ a. contains_key b.registrations a) (sym here_at.0) ∙ ap is_some here) at.0)
+          by (inl here_at) = absurd (both_ways (contains b.late item.object) off (ap (contains b.late) here_at.0 ∙ at.1))
           by (inr k) = inr k
 
       again : p.are.gone item.object ≡ true → PicksOn E b before (queued_object s item.object) kept left new
@@ -102,9 +109,9 @@ module _ (E : Type 0) (b : State) (before : Graph) (begin : HasBegun b before) w
         now = p.now;
         picks = p.picks;
         state = ap (λ t. queued_object t item.object) p.state
-            ∙ queued_none b (short_left E b before) b.long p.now b.late p.picks item.object
-            (no_more E clearly b.registrations p.leading.led 0 p.now p.picks item left h new p.are r here p.left_are.0.1 place on) (not_late E b before begin item.object r here);
-        are = chosen_again E clearly b.registrations p.leading.led 0 p.now p.picks item left h new p.are r here p.left_are.0.1 place same m on;
+            ∙ queued_none b (short_left E b before) b.long p.now.registrations p.now.late p.picks item.object
+            (no_more E clearly (tabled b) p.leading.led false (contains b.late) 0 p.now p.picks item left h new p.are r here unskipped place on);
+        are = chosen_again E clearly (tabled b) p.leading.led false (contains b.late) 0 p.now p.picks item left h new p.are r here unskipped place same m on;
         kept_are = p.kept_are;
         left_are = p.left_are.1;
         rest = others;
@@ -116,12 +123,12 @@ module _ (E : Type 0) (b : State) (before : Graph) (begin : HasBegun b before) w
           let object = is_some_of (get clearly item.object) (ap not (registered E b before begin item.object r here)) in
           record {
             leading = p.leading;
-            now = remove p.now item.object;
+            now = left_by p.now item.object;
             picks = p.picks ++ pick_of r item.object unknown ∷ [];
             state = ap (λ t. queued_object t item.object) p.state
-                ∙ queued_first b (short_left E b before) b.long p.now b.late p.picks item.object r
-                (still E clearly b.registrations p.leading.led 0 p.now p.picks item left h new p.are r here p.left_are.0.1 place none) (not_late E b before begin item.object r here);
-            are = chosen_more E clearly b.registrations p.leading.led 0 p.now p.picks item left h new p.are r here p.left_are.0.1 place same m (starts E b before begin)
+                ∙ queued_on b (short_left E b before) b.long p.now.registrations p.now.late p.picks item.object r
+                (still E clearly (tabled b) p.leading.led false (contains b.late) 0 p.now p.picks item left h new p.are r here unskipped place none);
+            are = chosen_more E clearly (tabled b) p.leading.led false (contains b.late) 0 p.now p.picks item left h new p.are r here unskipped place same m (starts E b before begin)
                 (order_after place_of kept item left p.ordered) object.0 object.1 (births E b before begin item.object object.0 object.1) none;
             kept_are = p.kept_are;
             left_are = p.left_are.1;
@@ -138,14 +145,14 @@ module _ (E : Type 0) (b : State) (before : Graph) (begin : HasBegun b before) w
     picks_on answer honest = by p.left_are.0.0
       where
         by : Either item → PicksOn E b before (cond (is_late item.kind) s (queued_object s item.object)) (kept_on (is_late item.kind) kept item) left new
-        by (inl (r, here, is)) =
+        by (inl (r, here, off, is)) =
             let kind = ap (λ (i : Item). i.kind) is in
             let m = marked_by_kind E clearly item.object h new p.are.objects p.are.closed (registered E b before begin item.object r here) r.kind
             (λ a leads. p.are.least a (others_led E b before begin p.leading item.object r here (ap not p.left_are.0.1) a leads)) answer
             (subst (λ (k : Kind). IsHonest E (pick_ask k) item.object h answer new) kind honest) in
-            subst (λ late. PicksOn E b before (cond late s (queued_object s item.object)) (kept_on late kept item) left new) (sym (ap is_late kind ∙ not_late_kind r.kind)) (picked r here is m.0 m.1 (p.are.gone item.object) refl)
+            subst (λ late. PicksOn E b before (cond late s (queued_object s item.object)) (kept_on late kept item) left new) (sym (ap is_late kind ∙ not_late_kind r.kind)) (picked r here off is m.0 m.1 (p.are.gone item.object) refl)
         by (inr late) =
-            let kind = ap (λ (i : Item). i.kind) late.2 in
+            let kind = ap (λ (i : Item). i.kind) late.3 in
             subst (λ (k : Kind). PicksOn E b before (cond (is_late k) s (queued_object s item.object)) (kept_on (is_late k) kept item) left new) (sym kind)
             (waits late (subst (λ (k : Kind). IsHonest E (pick_ask k) item.object h answer new) kind honest))
 
@@ -155,11 +162,20 @@ module _ (E : Type 0) (b : State) (before : Graph) (begin : HasBegun b before) w
     abbrev r : Registration
     r = p.left_are.0.0.0
 
-    here : get b.late item.object ≡ Some r
-    here = p.left_are.0.0.1
+    on_it : contains b.late item.object ≡ true
+    on_it = p.left_are.0.0.2
+
+    was : get b.registrations item.object ≡ Some r
+    was = p.left_are.0.0.1
+
+    here : get p.first.table.registrations item.object ≡ Some r
+    here = late_there E b before begin p.first item.object on_it ∙ was
+
+    late_unskipped : skips true (contains b.late) p.first.mid item.object ≡ false
+    late_unskipped = unskips true (contains b.late) p.first.mid item.object on_it p.left_are.0.1
 
     late_place : place_of item ≡ place_in 256 item.object r
-    late_place = ap place_of p.left_are.0.0.2
+    late_place = ap place_of p.left_are.0.0.3
 
     module _ (same : new.objects ≡ h.objects) (m : Marks E clearly h.marked new.marked (Leads clearly item.object)) where
       again_late : p.are.gone item.object ≡ true → PicksLate E b before (queued_object s item.object) left new
@@ -168,26 +184,26 @@ module _ (E : Type 0) (b : State) (before : Graph) (begin : HasBegun b before) w
         now = p.now;
         late_picks = p.late_picks;
         state = ap (λ t. queued_object t item.object) p.state
-            ∙ queued_none b (short_left E b before) b.long p.first.table p.now (p.first.picks ++ p.late_picks) item.object
-            (left_none E b before begin p.first item.object r here) (no_more E clearly b.late p.first.mid 256 p.now p.late_picks item left h new p.are r here p.left_are.0.1 late_place on);
-        are = chosen_again E clearly b.late p.first.mid 256 p.now p.late_picks item left h new p.are r here p.left_are.0.1 late_place same m on;
+            ∙ queued_none b (short_left E b before) b.long p.now.registrations p.now.late (p.first.picks ++ p.late_picks) item.object
+            (no_more E clearly p.first.table p.first.mid true (contains b.late) 256 p.now p.late_picks item left h new p.are r here late_unskipped late_place on);
+        are = chosen_again E clearly p.first.table p.first.mid true (contains b.late) 256 p.now p.late_picks item left h new p.are r here late_unskipped late_place same m on;
         left_are = p.left_are.1;
         ordered = p.ordered.1;
       }
 
       late_picked : p.are.gone item.object ≡ false → PicksLate E b before (queued_object s item.object) left new
       late_picked none =
-          let object = is_some_of (get clearly item.object) (ap not (late_registered E b before begin item.object r here)) in
+          let object = is_some_of (get clearly item.object) (ap not (registered E b before begin item.object r was)) in
           let pick = pick_of r item.object unknown in
           record {
             first = p.first;
-            now = remove p.now item.object;
+            now = left_by p.now item.object;
             late_picks = p.late_picks ++ pick ∷ [];
             state = ap (λ t. queued_object t item.object) p.state
-                ∙ queued_late b (short_left E b before) b.long p.first.table p.now (p.first.picks ++ p.late_picks) item.object r
-                (left_none E b before begin p.first item.object r here) (still E clearly b.late p.first.mid 256 p.now p.late_picks item left h new p.are r here p.left_are.0.1 late_place none)
-                ∙ ap (λ ps. state_with b (short_left E b before) b.long p.first.table (remove p.now item.object) ps) (append_assoc p.first.picks p.late_picks (pick ∷ []));
-            are = chosen_more E clearly b.late p.first.mid 256 p.now p.late_picks item left h new p.are r here p.left_are.0.1 late_place same m (late_starts E b before begin)
+                ∙ queued_on b (short_left E b before) b.long p.now.registrations p.now.late (p.first.picks ++ p.late_picks) item.object r
+                (still E clearly p.first.table p.first.mid true (contains b.late) 256 p.now p.late_picks item left h new p.are r here late_unskipped late_place none)
+                ∙ ap (λ ps. state_with b (short_left E b before) b.long (left_by p.now item.object).registrations (left_by p.now item.object).late ps) (append_assoc p.first.picks p.late_picks (pick ∷ []));
+            are = chosen_more E clearly p.first.table p.first.mid true (contains b.late) 256 p.now p.late_picks item left h new p.are r here late_unskipped late_place same m (late_starts E b before begin p.first)
                 p.ordered.0 object.0 object.1 (births E b before begin item.object object.0 object.1) none;
             left_are = p.left_are.1;
             ordered = p.ordered.1;
@@ -199,7 +215,7 @@ module _ (E : Type 0) (b : State) (before : Graph) (begin : HasBegun b before) w
 
     picks_late_on : (answer : Bool) → IsHonest E (Some MarkAlone) item.object h answer new → PicksLate E b before (queued_object s item.object) left new
     picks_late_on answer honest =
-        let m = marked_alone E clearly item.object h new p.are.objects p.are.closed (late_registered E b before begin item.object r here) r.kind (inl (begin.normal item.object r here))
+        let m = marked_alone E clearly item.object h new p.are.objects p.are.closed (registered E b before begin item.object r was) r.kind (inl (normal E b before begin item.object r was on_it))
         (λ a leads. p.are.least a (late_led E b before begin p.first item.object r here (ap not p.left_are.0.1) a leads)) answer honest in
         picked_late m.0 m.1 (p.are.gone item.object) refl
 

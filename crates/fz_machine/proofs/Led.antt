@@ -3,16 +3,17 @@ use Rattle.std.proofs.Common.{◌≡◌, ◌⊎◌, ◌∷◌, ◌∙◌, [], �
 use Rattle.std.proofs.lemmas.Bool.{and_parts, and_from, not-true}
 use Rattle.std.proofs.lemmas.Option.{same_Some}
 use Rattle.std.specs.FinMap.{get, contains_key}
+use Rattle.std.specs.FinSet.{contains}
 use Rattle.fz_model.specs.declared.answers.Registration.{Registration}
 use Rattle.fz_model.specs.declared.kinds.RegKind.{RegKind}
 use Rattle.fz_model.specs.declared.kinds.RegKind.TheVariants as table
 use Rattle.fz_model.specs.State.{Map, Object}
 use Rattle.fz_model.specs.Pass.{is_outside}
-use Rattle.fz_pass.specs.Late.{AreApart, AreNormal, both}
+use Rattle.fz_table.specs.Tabled.{Set}
+use Rattle.fz_pass.specs.Flagged.{AreNormal}
 use Rattle.fz_pass.specs.Leading.{IsLeading, AreLeading, is_unreachable}
 use Rattle.fz_pass.specs.Marks.{IsClosed, Marks, IsLeadingBut, AreRegistered}
 use Rattle.fz_pass.specs.Queued.{MarksLed}
-use Rattle.fz_pass.proofs.Both.{in_first, in_second, in_either}
 use Rattle.fz_pass.proofs.Marking.{marks_as, marks_none, by_normal, by_ignoring, by_none}
 use Rattle.fz_finalizers.specs.declared.kinds.Kind.{Kind}
 use Rattle.fz_finalizers.specs.Kinds.{of_table}
@@ -22,10 +23,7 @@ use Rattle.fz_machine.specs.Phases.{child_ask}
 use Rattle.fz_machine.proofs.Among.{OneOf}
 use Rattle.fz_machine.proofs.Entered.{IsOfEither}
 
-module _ (E : Type 0) (clear : Map Object) (registrations late : Map Registration) (found : ℕ → Bool) where
-  abbrev all : Map Registration
-  all = both registrations late
-
+module _ (E : Type 0) (clear : Map Object) (all : Map Registration) (late : Set) (found : ℕ → Bool) where
   abbrev IsLed : ℕ → Type 0
   IsLed a = AreLeading clear all (is_unreachable clear all found) a
 
@@ -38,18 +36,18 @@ module _ (E : Type 0) (clear : Map Object) (registrations late : Map Registratio
     pub led : (o : ℕ) (r : Registration) → get all o ≡ Some r → found o ≡ false → OneOf (λ (i : Item). i.object ≡ o) left ⊎ ((a : ℕ) → IsLeading clear o r.kind a → IsTrue (h.marked a))
 
   pub leading_begins : (items : List Item) (h : Graph) → h.objects ≡ clear → h.marked ≡ found → IsClosed clear found
-      → ((o : ℕ) → IsTrue (contains_key registrations o) ⊎ IsTrue (contains_key late o) → found o ≡ false → OneOf (λ (i : Item). i.object ≡ o) items) → AreLed items h
+      → ((o : ℕ) → IsTrue (contains_key all o) → found o ≡ false → OneOf (λ (i : Item). i.object ≡ o) items) → AreLed items h
   leading_begins items h objects marked closed listed = record {
     objects = objects;
     closed = subst (IsClosed clear) (sym marked) closed;
     least = λ a on. subst (λ (m : ℕ → Bool). IsTrue (m a)) (sym marked) on;
     most = λ exact a on. inl (subst (λ (m : ℕ → Bool). IsTrue (m a)) marked on);
-    led = λ o r here off. inl (listed o (⊎_elim (λ is. inl (ap is_some is)) (λ is. inr (ap is_some is)) (in_either registrations late o r here)) off);
+    led = λ o r here off. inl (listed o (ap is_some here) off);
   }
 
-  module _ (registered : AreRegistered clear registrations) (late_registered : AreRegistered clear late) (apart : AreApart registrations late) (normal : AreNormal late) where
+  module _ (registered : AreRegistered clear all) (normal : AreNormal all (contains late)) where
     is_there : (o : ℕ) (r : Registration) → get all o ≡ Some r → IsTrue (contains_key clear o)
-    is_there o r here = ⊎_elim (registered o r) (late_registered o r) (in_either registrations late o r here)
+    is_there o r here = registered o r here
 
     -- all that are led to are marked, once none is left
     pub led_all : (h : Graph) → AreLed [] h → MarksLed E clear found h.marked all
@@ -87,7 +85,7 @@ module _ (E : Type 0) (clear : Map Object) (registrations late : Map Registratio
       gains P g = subst (λ (m : Map Object). Marks E m h.marked new.marked (P m)) l.objects g.1
 
       -- by its kind
-      by_kind : (r : Registration) → get all item.object ≡ Some r → (kind : RegKind) → r.kind ≡ kind → (answer : Bool) → IsHonest E (child_ask (of_table kind)) item.object h answer new → AreLed left new
+      by_kind : (r : Registration) → get all item.object ≡ Some r → (kind : RegKind) → r.kind ≡ kind → (answer : Bool) → IsHonest E (child_ask (of_table false kind)) item.object h answer new → AreLed left new
       by_kind r here table.Normal is answer honest =
           let g = honest (can_mark r here) in
           leads_on r here g.0 (subst (λ k. Marks E clear h.marked new.marked (IsLeading clear item.object k)) (sym is)
@@ -100,9 +98,7 @@ module _ (E : Type 0) (clear : Map Object) (registrations late : Map Registratio
           leads_on r here (ap (λ (x : Graph). x.objects) same) (subst (λ (x : Graph). Marks E clear h.marked x.marked (IsLeading clear item.object r.kind)) (sym same)
           (marks_none E clear h.marked (IsLeading clear item.object r.kind) l.closed (λ a leads. absurd (by_none E clear item.object a (subst (λ k. IsLeading clear item.object k a) is leads)))))
 
-      pub lead_more : IsOfEither registrations late item → (answer : Bool) → IsHonest E (child_ask item.kind) item.object h answer new → AreLed left new
-      lead_more (inl (r, here, is)) answer honest =
-          by_kind r (in_first registrations late item.object r here) r.kind refl answer (subst (λ (k : Kind). IsHonest E (child_ask k) item.object h answer new) (ap (λ (i : Item). i.kind) is) honest)
-      lead_more (inr (r, here, is)) answer honest =
-          by_kind r (in_second registrations late item.object r (λ on. apart item.object on (ap is_some here)) here) table.Normal (normal item.object r here) answer
-          (subst (λ (k : Kind). IsHonest E (child_ask k) item.object h answer new) (ap (λ (i : Item). i.kind) is) honest)
+      pub lead_more : IsOfEither all late item → (answer : Bool) → IsHonest E (child_ask item.kind) item.object h answer new → AreLed left new
+      lead_more (inl (r, here, off, is)) answer honest = by_kind r here r.kind refl answer (subst (λ (k : Kind). IsHonest E (child_ask k) item.object h answer new) (ap (λ (i : Item). i.kind) is) honest)
+      lead_more (inr (r, here, on, is)) answer honest =
+          by_kind r here table.Normal (normal item.object r here on) answer (subst (λ (k : Kind). IsHonest E (child_ask k) item.object h answer new) (ap (λ (i : Item). i.kind) is) honest)

@@ -1,14 +1,14 @@
 -- What holds in each phase of a pass over a graph.
-use Rattle.std.proofs.Common.{◌≡◌, ◌⊎◌, ◌&&◌, ◌++◌, [], ℕ, Bool, false, not, List, Option, Some, None}
-use Rattle.std.specs.FinMap.{contains_key}
+use Rattle.std.proofs.Common.{◌≡◌, ◌⊎◌, ◌++◌, [], ℕ, Bool, true, false, List, Option, Some, None}
+use Rattle.std.specs.FinSet.{contains}
+use Rattle.fz_table.specs.Tabled.{Content}
 use Rattle.fz_model.specs.declared.answers.Pick.{Pick}
-use Rattle.fz_model.specs.declared.answers.Registration.{Registration}
 use Rattle.fz_model.specs.State.{Map, Object}
 use Rattle.fz_model.specs.Pass.{cleared}
-use Rattle.fz_pass.specs.Late.{both}
 use Rattle.fz_pass.specs.Marks.{Marks, AreReached, with_targets, with_containers}
 use Rattle.fz_pass.specs.Picking.{Picks}
-use Rattle.fz_pass.specs.Queued.{MarksLed}
+use Rattle.fz_pass.specs.Queued.{MarksLed, is_ready}
+use Rattle.fz_pass.specs.Tiers.{skips}
 use Rattle.fz_finalizers.specs.States.{State}
 use Rattle.fz_machine.specs.declared.item.Item.{Item}
 use Rattle.fz_machine.specs.declared.phase.Phase.{Phase}
@@ -18,13 +18,13 @@ use Rattle.fz_machine.specs.Graph.{Graph}
 use Rattle.fz_machine.specs.Items.{place_of}
 use Rattle.fz_machine.specs.Phases.{Lists}
 use Rattle.fz_machine.proofs.Among.{Each, OneOf, AreInOrder}
-use Rattle.fz_machine.proofs.Chosen.{AreChosen, tabled}
+use Rattle.fz_machine.proofs.Chosen.{AreChosen}
 use Rattle.fz_machine.proofs.DeadWords.{IsLink, IsLinkAt}
 use Rattle.fz_machine.proofs.Entered.{IsLate, IsOfEither, IsLateAt, IsEitherAt}
 use Rattle.fz_machine.proofs.Led.{AreLed}
 use Rattle.fz_machine.proofs.Phasing.{Sifts, Clears, Holds}
 use Rattle.fz_machine.proofs.Sifting.{IsAt}
-use Rattle.fz_machine.proofs.Stated.{state_with}
+use Rattle.fz_machine.proofs.Stated.{state_with, tabled}
 
 module _ (E : Type 0) (b : State) (before : Graph) where
   abbrev pub found : ℕ → Bool
@@ -36,34 +36,34 @@ module _ (E : Type 0) (b : State) (before : Graph) where
   abbrev pub short_left : Map ℕ
   short_left = with_targets b.short found
 
-  abbrev pub all : Map Registration
-  all = both b.registrations b.late
+  abbrev pub flags : ℕ → Bool
+  flags = contains b.late
 
   -- ---- what the phases that mark have made
 
   pub record Leading : Type 0 where
     pub led : ℕ → Bool
-    pub marks : MarksLed E clear found led all
+    pub marks : MarksLed E clear found led b.registrations
 
   pub record Picked : Type 0 where
     pub leading : Leading
-    pub table : Map Registration
+    pub table : Content
     pub picks : List Pick
     pub mid : ℕ → Bool
-    pub are : Picks clear (λ a. contains_key b.registrations a && not (leading.led a)) (tabled b.registrations) (tabled table) [] picks
-    pub marks : Marks E clear leading.led mid (AreReached clear b.registrations leading.led)
+    pub are : Picks clear (is_ready false flags b.registrations leading.led) (tabled b) table [] picks
+    pub marks : Marks E clear leading.led mid (AreReached clear b.registrations (skips false flags leading.led))
 
   pub record PickedBoth : Type 0 where
     pub first : Picked
-    pub late : Map Registration
+    pub table : Content
     pub late_picks : List Pick
     pub kept : ℕ → Bool
-    pub are : Picks clear (λ a. contains_key b.late a && not (first.mid a)) (tabled b.late) (tabled late) [] late_picks
-    pub marks : Marks E clear first.mid kept (AreReached clear b.late first.mid)
+    pub are : Picks clear (is_ready true flags first.table.registrations first.mid) first.table table [] late_picks
+    pub marks : Marks E clear first.mid kept (AreReached clear first.table.registrations (skips true flags first.mid))
 
   -- the finalizers after both, with these links
   abbrev pub after_picks : PickedBoth → Map ℕ → Map ℕ → State
-  after_picks c short long = state_with b short long c.first.table c.late (c.first.picks ++ c.late_picks)
+  after_picks c short long = state_with b short long c.table.registrations c.table.late (c.first.picks ++ c.late_picks)
 
   abbrev pub last : PickedBoth → Map Object
   last c = cleared b.long c.kept clear
@@ -91,10 +91,10 @@ module _ (E : Type 0) (b : State) (before : Graph) where
 
   pub record PicksOn (s : State) (kept left : List Item) (h : Graph) : Type 0 where
     pub leading : Leading
-    pub now : Map Registration
+    pub now : Content
     pub picks : List Pick
-    pub state : s ≡ state_with b short_left b.long now b.late picks
-    pub are : AreChosen E clear b.registrations leading.led 0 now picks left h
+    pub state : s ≡ state_with b short_left b.long now.registrations now.late picks
+    pub are : AreChosen E clear (tabled b) leading.led false flags 0 now picks left h
     pub kept_are : Each (λ i. IsLate b.registrations b.late i × (leading.led i.object ≡ false)) kept
     pub left_are : Each (λ i. IsOfEither b.registrations b.late i × (leading.led i.object ≡ false)) left
     pub rest : (object word : ℕ) → IsLateAt b.registrations b.late object word → leading.led object ≡ false → OneOf (IsAt object word) kept ⊎ OneOf (IsAt object word) left
@@ -102,10 +102,10 @@ module _ (E : Type 0) (b : State) (before : Graph) where
 
   pub record PicksLate (s : State) (left : List Item) (h : Graph) : Type 0 where
     pub first : Picked
-    pub now : Map Registration
+    pub now : Content
     pub late_picks : List Pick
-    pub state : s ≡ state_with b short_left b.long first.table now (first.picks ++ late_picks)
-    pub are : AreChosen E clear b.late first.mid 256 now late_picks left h
+    pub state : s ≡ state_with b short_left b.long now.registrations now.late (first.picks ++ late_picks)
+    pub are : AreChosen E clear first.table first.mid true flags 256 now late_picks left h
     pub left_are : Each (λ i. IsLate b.registrations b.late i × (first.mid i.object ≡ false)) left
     pub ordered : AreInOrder place_of left
 
@@ -122,7 +122,7 @@ module _ (E : Type 0) (b : State) (before : Graph) where
       (l : Leading) × Sifts E (state_with b short_left b.long b.registrations b.late []) clear l.led (IsOfEither b.registrations b.late) (IsEitherAt b.registrations b.late) s kept left h
   IsIn phase.Picks s kept left h = PicksOn s kept left h
   IsIn LateAgain s kept left h =
-      (c : Picked) × Sifts E (state_with b short_left b.long c.table b.late c.picks) clear c.mid (IsLate b.registrations b.late) (IsLateAt b.registrations b.late) s kept left h × AreInOrder place_of (kept ++ left)
+      (c : Picked) × Sifts E (state_with b short_left b.long c.table.registrations c.table.late c.picks) clear c.mid (IsLate b.registrations b.late) (IsLateAt b.registrations b.late) s kept left h × AreInOrder place_of (kept ++ left)
   IsIn LatePicks s kept left h = PicksLate s left h
   IsIn LongTargets s kept left h = (c : PickedBoth) × Sifts E (after_picks c short_left b.long) clear c.kept (IsLink clear b.long c.kept) (IsLinkAt clear b.long c.kept) s kept left h
   IsIn LongWords s kept left h = (c : PickedBoth) × Clears E (after_picks c short_left) clear b.long c.kept s left h

@@ -1,8 +1,6 @@
 -- A run keeps what holds in its phases, and ends with the model's pass.
-use Rattle.std.proofs.Common.{◌≡◌, ◌+◌, ◌++◌, ◌∷◌, ◌∙◌, [], Bool, false, cond, List, length, Option, Some, None, refl, sym, ap, subst, is_some, length-append, arith}
+use Rattle.std.proofs.Common.{◌≡◌, ◌∷◌, ◌∙◌, [], Bool, false, cond, List, Option, Some, None, refl, sym, ap, subst, is_some}
 use Rattle.std.specs.FinMap.{retain_keys}
-use Rattle.fz_model.specs.Pass.{entries_of}
-use Rattle.fz_model.proofs.Sound.{length-entries_of}
 use Rattle.fz_finalizers.specs.Follows.{Follows, Pass, next_pass}
 use Rattle.fz_finalizers.proofs.Following.{decided_queues}
 use Rattle.fz_finalizers.proofs.Promised.{promised}
@@ -20,7 +18,6 @@ use Rattle.fz_machine.specs.Phases.{after, asks, keeps, next_phase, subject}
 use Rattle.fz_machine.specs.Runs.{AreHonest, Begun, Goes, MakesPass, Runs, RunsPass}
 use Rattle.fz_machine.specs.Steps.{Asks, Begins, Ends, Going, GoesOn, Turns, skip, skipped, steps}
 use Rattle.fz_machine.proofs.Begun.{HasBegun}
-use Rattle.fz_machine.proofs.Called.{reached_normal}
 use Rattle.fz_machine.proofs.DeadWords.{IsLink, IsLinkAt}
 use Rattle.fz_machine.proofs.Entered.{links_all, links_each}
 use Rattle.fz_machine.proofs.Keeping.{keep}
@@ -88,9 +85,8 @@ module _ (E : Type 0) (old begun new : Machine) (past : Past) (before after_it :
 
   has_begun : HasBegun b before
   has_begun = record {
-    may = record { registered = may.registered; late = may.late; short = may.short; long = may.long; zero = may.zero; closed = may.closed; births = may.births; starts = may.starts };
-    apart = (promised old.finalizers.state past reached).apart;
-    normal = reached_normal old.finalizers.state past reached;
+    may = record { registered = may.registered; short = may.short; long = may.long; zero = may.zero; closed = may.closed; births = may.births; starts = may.starts };
+    flags = (promised old.finalizers.state past reached).flags;
   }
 
   starts : IsIn E b before ShortTargets begun.finalizers.state begun.walk.kept begun.walk.left before
@@ -120,14 +116,14 @@ module _ (E : Type 0) (old begun new : Machine) (past : Past) (before after_it :
   -- what comes and goes in the finalizers
   as_pass : Follows old.finalizers.state Pass new.finalizers.state
   as_pass = (
-    decided_queues E c.passes before.objects (retain_keys after_it.objects after_it.marked) before.marked old.finalizers.state new.finalizers.state begins_so.apart
+    decided_queues E c.passes before.objects (retain_keys after_it.objects after_it.marked) before.marked old.finalizers.state new.finalizers.state
         (decides E c before begins_so new.finalizers.state after_it at_end) (ap (λ (s : State). s.taken) at_end.state) (ap (λ (s : State). s.held) at_end.state) (ap (λ (s : State). s.next_number) at_end.state),
     ap (λ (s : State). s.passes) at_end.state,
   )
 
   pub makes_pass : MakesPass E old.finalizers.state before new.finalizers.state after_it
   makes_pass = record {
-    decided = decides E c before begins_so new.finalizers.state after_it at_end;
+    decided = (decides E c before begins_so new.finalizers.state after_it at_end).0;
     follows = as_pass;
     marks = still_marked E c before begins_so new.finalizers.state after_it at_end;
     closed = closed_after E c before begins_so new.finalizers.state after_it at_end;

@@ -6,6 +6,7 @@ use Rattle.fz_model.specs.declared.kinds.LinkKind.{LinkKind}
 use Rattle.fz_model.specs.declared.kinds.LinkKind.TheVariants.{Short, Long}
 use Rattle.fz_model.specs.Steps.{moved_to}
 use Rattle.fz_finalizers.specs.declared.refused.Refused.{Refused}
+use Rattle.fz_finalizers.specs.Follows.{without_registration}
 use Rattle.fz_finalizers.specs.States.{State, opening, links_of, with_links}
 use Rattle.fz_finalizers.proofs.Counting.{len_less, len_moved_to}
 use Rattle.fz_machine.specs.declared.item.Item.{Item}
@@ -27,27 +28,25 @@ roomier s room more le h =
     record { registrations = omega (arith, a, le); short = omega (arith, b, le); long = omega (arith, c, le) }
 
 module _ (s : State) (room : ℕ) (h : HasRoom s room) where
-  pub emptied : (new : State) → new.registrations ≡ empty → new.late ≡ empty → new.short ≡ s.short → new.long ≡ s.long → HasRoom new room
-  emptied new none none_late short long =
+  pub emptied : (new : State) → new.registrations ≡ empty → new.short ≡ s.short → new.long ≡ s.long → HasRoom new room
+  emptied new none short long =
       let zero_long = len-empty nat_cmp Registration in
       let a = ap len none in
-      let b = ap len none_late in
       let c = ap len short in
       let d = ap len long in
       let few_short = h.short in
       let few_long = h.long in
-      record { registrations = omega (arith, zero_long, a, b); short = omega (arith, c, few_short); long = omega (arith, d, few_long) }
+      record { registrations = omega (arith, zero_long, a); short = omega (arith, c, few_short); long = omega (arith, d, few_long) }
 
   pub moved : (kind : LinkKind) (word to : ℕ) → HasRoom (with_links s kind (moved_to (links_of s kind) word to (get (links_of s kind) word))) room
   moved Short word to = let same = len_moved_to s.short word to in let a = h.short in record { registrations = h.registrations; short = omega (arith, same, a); long = h.long }
   moved Long word to = let same = len_moved_to s.long word to in let a = h.long in record { registrations = h.registrations; short = h.short; long = omega (arith, same, a) }
 
-  pub removed : (object : ℕ) → HasRoom (record s { registrations = remove s.registrations object; late = remove s.late object }) room
+  pub removed : (object : ℕ) → HasRoom (without_registration s object) room
   removed object =
       let less = len_less s.registrations object in
-      let less_late = len_less s.late object in
       let a = h.registrations in
-      record { registrations = omega (arith, less, less_late, a); short = h.short; long = h.long }
+      record { registrations = omega (arith, less, a); short = h.short; long = h.long }
 
   pub unlinked : (kind : LinkKind) (word : ℕ) → HasRoom (with_links s kind (remove (links_of s kind) word)) room
   unlinked Short word = let less = len_less s.short word in let a = h.short in record { registrations = h.registrations; short = omega (arith, less, a); long = h.long }

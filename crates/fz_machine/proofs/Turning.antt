@@ -1,14 +1,18 @@
 -- From phase to phase, and to the end.
-use Rattle.std.proofs.Common.{◌≡◌, ◌++◌, ◌∙◌, [], ℕ, Bool, false, List, length, refl, sym, ap, subst, inl, inr, ⊎_elim, is_some, append-nil, IsTrue}
+use Rattle.std.proofs.Common.{◌≡◌, ◌++◌, ◌∙◌, [], ℕ, Bool, true, false, not, List, length, refl, sym, ap, subst, inl, inr, ⊎_elim, is_some, append-nil, IsTrue}
 use Rattle.std.specs.FinMap.{retain_keys}
+use Rattle.std.specs.FinSet.{contains}
 use Rattle.fz_model.specs.State.{Map, Object}
 use Rattle.fz_model.specs.Memory.{points}
 use Rattle.fz_model.specs.Pass.{is_dead, links_within}
 use Rattle.fz_model.proofs.SeenKept.{points-filled}
-use Rattle.fz_pass.specs.Late.{Parts, DecidesLate}
+use Rattle.fz_pass.specs.Queued.{QueuesTiers}
 use Rattle.fz_pass.specs.Marks.{IsClosed}
-use Rattle.fz_pass.proofs.Passed.{closed_still, decided, dropped_twice, pointed}
-use Rattle.fz_finalizers.specs.Passed.{DecidesFor, parts_in}
+use Rattle.fz_pass.proofs.Flags.{decided}
+use Rattle.fz_pass.proofs.Passed.{closed_still, dropped_twice, pointed}
+use Rattle.fz_pass.proofs.Tiers.{flag_of_round, unskipped_off}
+use Rattle.fz_finalizers.specs.Passed.{parts_in, parts_left_in}
+use Rattle.fz_finalizers.specs.Ready.{Decides}
 use Rattle.fz_finalizers.specs.States.{State}
 use Rattle.fz_machine.specs.declared.item.Item.{Item}
 use Rattle.fz_machine.specs.declared.phase.Phase.{Phase}
@@ -17,15 +21,15 @@ use Rattle.fz_machine.specs.Graph.{Graph}
 use Rattle.fz_machine.specs.Items.{AreInTurn, AreLinks, AreObjects, place_of}
 use Rattle.fz_machine.specs.Phases.{next_phase}
 use Rattle.fz_machine.proofs.Among.{AreInOrder, Each, OneOf, each_as, each_permuted, one_as, one_permuted, order_from}
-use Rattle.fz_machine.proofs.Begun.{HasBegun, closed, late_registered, long_targets, not_before, registered}
-use Rattle.fz_machine.proofs.Chosen.{choosing_begins, chosen_all, tabled}
+use Rattle.fz_machine.proofs.Begun.{HasBegun, closed, long_targets, normal, not_before, registered, was_there}
+use Rattle.fz_machine.proofs.Chosen.{choosing_begins, chosen_all}
 use Rattle.fz_machine.proofs.DeadWords.{IsLink, IsLinkAt}
-use Rattle.fz_machine.proofs.Entered.{IsEitherAt, IsLate, IsLateAt, IsOfEither, links_all, links_each, objects_all, objects_each}
+use Rattle.fz_machine.proofs.Entered.{IsEitherAt, either_at, IsLate, IsLateAt, IsOfEither, links_all, links_each, objects_all, objects_each}
 use Rattle.fz_machine.proofs.Led.{leading_begins, led_all}
 use Rattle.fz_machine.proofs.Phased.{IsAfter, IsAtEnd, IsIn, IsUnfound, Leading, LeadsOn, Picked, PickedBoth, PicksLate, PicksOn, after_picks, clear, last, long_held, long_left, short_held, short_left}
 use Rattle.fz_machine.proofs.Phasing.{Sifts, Clears, clears_all, clears_begin, holds_all, holds_begin, sifts_begin}
 use Rattle.fz_machine.proofs.Sifting.{IsAt, sifted}
-use Rattle.fz_machine.proofs.Stated.{state_with}
+use Rattle.fz_machine.proofs.Stated.{state_with, tabled}
 
 module _ (E : Type 0) (b : State) (before : Graph) (begin : HasBegun b before) where
   abbrev Either : Item → Type 0
@@ -60,7 +64,7 @@ module _ (E : Type 0) (b : State) (before : Graph) (begin : HasBegun b before) w
       record {
         state = p.state;
         are = leading_begins E clearly b.registrations b.late before.marked items h p.objects_are p.marks_are (closed E b before begin)
-            (λ object either off. one_as (IsAt object 0) (λ (i : Item). i.object ≡ object) (λ i at. at.0) items (all object 0 (⊎_elim (λ on. inl (on, refl)) (λ on. inr (on, refl)) either) off));
+            (λ object here off. one_as (IsAt object 0) (λ (i : Item). i.object ≡ object) (λ i at. at.0) items (all object 0 (either_at b.registrations b.late object here) off));
         kept_are = tt;
         left_are = subst (Each (IsUnfound E b before)) (sym is) p.sifted.kept_are;
         rest = λ object word at off. inr (all object word at off);
@@ -68,7 +72,7 @@ module _ (E : Type 0) (b : State) (before : Graph) (begin : HasBegun b before) w
 
   to_again : (s : State) (kept : List Item) (h : Graph) → LeadsOn E b before s kept [] h → (items : List Item) → items ≡ kept → IsIn E b before Again s [] items h
   to_again s kept h p items is =
-      let leading : Leading E b before = record { led = h.marked; marks = led_all E clearly b.registrations b.late before.marked (registered E b before begin) (late_registered E b before begin) begin.apart begin.normal h p.are } in (
+      let leading : Leading E b before = record { led = h.marked; marks = led_all E clearly b.registrations b.late before.marked (registered E b before begin) (normal E b before begin) h p.are } in (
         leading,
         sifts_begin E _ clearly h.marked Either EitherAt s items h p.state p.are.objects refl
             (subst (Each Either) (sym is) (each_as (IsUnfound E b before) Either (λ i x. x.0) kept p.kept_are))
@@ -81,11 +85,11 @@ module _ (E : Type 0) (b : State) (before : Graph) (begin : HasBegun b before) w
       let all = λ (object word : ℕ) (at : EitherAt object word) (off : l.led object ≡ false). one_permuted (IsAt object word) kept items turned.0 (sifted l.led Either EitherAt kept p.sifted object word at off) in
       record {
         leading = l;
-        now = b.registrations;
+        now = tabled b;
         picks = [];
         state = p.state;
-        are = choosing_begins E clearly b.registrations l.led 0 items h p.objects_are p.marks_are l.marks.closed
-            (λ a r here off. one_as (IsAt a 0) (λ (i : Item). i.object ≡ a) (λ i at. at.0) items (all a 0 (inl (ap is_some here, refl)) off));
+        are = choosing_begins E clearly (tabled b) l.led false (contains b.late) 0 items h p.objects_are p.marks_are l.marks.closed
+            (λ a r here off. one_as (IsAt a 0) (λ (i : Item). i.object ≡ a) (λ i at. at.0) items (all a 0 (either_at b.registrations b.late a (ap is_some here)) (unskipped_off false (contains b.late) l.led a (ap not off))));
         kept_are = tt;
         left_are = each_permuted (λ i. Either i × (l.led i.object ≡ false)) kept items turned.0 p.sifted.kept_are;
         rest = λ object word at off. inr (all object word (inr at) off);
@@ -94,7 +98,7 @@ module _ (E : Type 0) (b : State) (before : Graph) (begin : HasBegun b before) w
 
   to_late_again : (s : State) (kept : List Item) (h : Graph) → PicksOn E b before s kept [] h → (items : List Item) → items ≡ kept → IsIn E b before LateAgain s [] items h
   to_late_again s kept h p items is =
-      let all = chosen_all E clearly b.registrations p.leading.led 0 p.now p.picks h p.are in
+      let all = chosen_all E clearly (tabled b) p.leading.led false (contains b.late) 0 p.now p.picks h p.are in
       let c : Picked E b before = record { leading = p.leading; table = p.now; picks = p.picks; mid = h.marked; are = all.0; marks = all.1 } in (
         c,
         sifts_begin E _ clearly h.marked Late LateAt s items h p.state p.are.objects refl
@@ -103,23 +107,25 @@ module _ (E : Type 0) (b : State) (before : Graph) (begin : HasBegun b before) w
         subst (AreInOrder place_of) (append-nil kept ∙ sym is) p.ordered,
       )
 
-  to_late_picks : (s : State) (kept : List Item) (h : Graph) (c : Picked E b before) → Sifts E (state_with b shorts b.long c.table b.late c.picks) clearly c.mid Late LateAt s kept [] h → AreInOrder place_of (kept ++ [])
+  to_late_picks : (s : State) (kept : List Item) (h : Graph) (c : Picked E b before) → Sifts E (state_with b shorts b.long c.table.registrations c.table.late c.picks) clearly c.mid Late LateAt s kept [] h → AreInOrder place_of (kept ++ [])
       → (items : List Item) → items ≡ kept → PicksLate E b before s items h
   to_late_picks s kept h c p ordered items is = record {
     first = c;
-    now = b.late;
+    now = c.table;
     late_picks = [];
-    state = p.state ∙ ap (λ ps. state_with b shorts b.long c.table b.late ps) (sym (append-nil c.picks));
-    are = choosing_begins E clearly b.late c.mid 256 items h p.objects_are p.marks_are c.marks.closed
-        (λ a r here off. one_as (IsAt a 0) (λ (i : Item). i.object ≡ a) (λ i at. at.0) items (subst (OneOf (IsAt a 0)) (sym is) (sifted c.mid Late LateAt kept p.sifted a 0 (ap is_some here, refl) off)));
+    state = p.state ∙ ap (λ ps. state_with b shorts b.long c.table.registrations c.table.late ps) (sym (append-nil c.picks));
+    are = choosing_begins E clearly c.table c.mid true (contains b.late) 256 items h p.objects_are p.marks_are c.marks.closed
+        (λ a r here off. one_as (IsAt a 0) (λ (i : Item). i.object ≡ a) (λ i at. at.0) items
+        (subst (OneOf (IsAt a 0)) (sym is)
+        (sifted c.mid Late LateAt kept p.sifted a 0 (ap is_some (was_there E b before begin c a r here), flag_of_round true (contains b.late) c.mid a (ap not off), refl) (unskipped_off true (contains b.late) c.mid a (ap not off)))));
     left_are = subst (Each (λ i. Late i × (c.mid i.object ≡ false))) (sym is) p.sifted.kept_are;
     ordered = subst (AreInOrder place_of) (append-nil kept ∙ sym is) ordered;
   }
 
   to_long_targets : (s : State) (h : Graph) → PicksLate E b before s [] h → (items : List Item) → AreLinks s.long items → IsIn E b before LongTargets s [] items h
   to_long_targets s h p items are =
-      let all = chosen_all E clearly b.late p.first.mid 256 p.now p.late_picks h p.are in
-      let c : PickedBoth E b before = record { first = p.first; late = p.now; late_picks = p.late_picks; kept = h.marked; are = all.0; marks = all.1 } in
+      let all = chosen_all E clearly p.first.table p.first.mid true (contains b.late) 256 p.now p.late_picks h p.are in
+      let c : PickedBoth E b before = record { first = p.first; table = p.now; late_picks = p.late_picks; kept = h.marked; are = all.0; marks = all.1 } in
       let listed : AreLinks b.long items = subst (λ (t : State). AreLinks t.long items) p.state are in (
         c,
         sifts_begin E _ clearly h.marked (IsLink clearly b.long h.marked) (IsLinkAt clearly b.long h.marked) s items h p.state p.are.objects refl (links_each b.long items listed)
@@ -153,7 +159,7 @@ module _ (E : Type 0) (b : State) (before : Graph) (begin : HasBegun b before) w
     c = p.chosen
 
     lies : (w : ℕ) → points (last E b before c) w ≡ points before.objects w
-    lies w = pointed before.objects b.short before.marked E (tabled b.registrations) (tabled c.first.table) (tabled b.late) (tabled c.late) b.long c.first.leading.led c.first.mid c.kept c.first.picks c.late_picks w
+    lies w = pointed before.objects b.short before.marked b.long c.kept w
 
     short_is : short_held E b before c ≡ links_within before.objects b.short before.marked c.kept
     short_is = dropped_twice (last E b before c) before.objects b.short before.marked c.kept lies
@@ -164,14 +170,28 @@ module _ (E : Type 0) (b : State) (before : Graph) (begin : HasBegun b before) w
     abbrev end : State
     end = after_picks E b before c (short_held E b before c) (long_held E b before c)
 
-    pub decides : DecidesFor E b.passes b before.objects before.marked s h.objects h.marked
+    both : QueuesTiers E (contains b.late) b.passes (length b.queue) clearly c.first.leading.led c.kept (tabled b) c.table b.queue end.queue
+    both = record {
+      picks = c.first.picks;
+      late_picks = c.late_picks;
+      between = c.first.mid;
+      mid = c.first.table;
+      queued = refl;
+      picked = c.first.are;
+      reached = c.first.marks;
+      picked_late = c.are;
+      reached_late = c.marks;
+    }
+
+    abbrev DecidesHere : State → Type 0
+    DecidesHere t = Decides E b.passes b.late t.late (parts_in before.objects b) before.marked (parts_left_in h.objects h.marked t) b.queue t.queue
+
+    pub decides : DecidesHere s
     decides =
-        let objects_are : retain_keys (last E b before c) c.kept ≡ retain_keys h.objects h.marked = λ i. retain_keys (sym p.objects_are i) (sym p.marks_are i) in
-        subst (λ (t : State). DecidesFor E b.passes b before.objects before.marked t h.objects h.marked) (sym p.state)
-        (subst (λ (new : Parts). DecidesLate E b.passes (length b.queue) (parts_in before.objects b) before.marked new b.queue end.queue)
-        (λ i. record { objects = objects_are i; registrations = c.first.table; late = c.late; short = sym short_is i; long = sym long_is i })
-        (decided before.objects b.short before.marked E (tabled b.registrations) (tabled c.first.table) (tabled b.late) (tabled c.late) b.long c.first.leading.led c.first.mid c.kept c.first.picks c.late_picks
-        (registered E b before begin) (late_registered E b before begin) begin.apart begin.normal c.first.leading.marks c.first.marks c.marks c.first.are c.are b.passes (length b.queue) b.queue end.queue refl))
+        let objects_are : retain_keys h.objects h.marked ≡ retain_keys (last E b before c) c.kept = λ i. retain_keys (p.objects_are i) (p.marks_are i) in
+        subst DecidesHere (sym p.state)
+        (decided E (contains b.late) before.objects b.short b.long before.marked c.first.leading.led c.kept (tabled b) c.table b.passes (length b.queue) b.queue end.queue (normal E b before begin) (registered E b before begin) c.first.leading.marks both
+        (parts_left_in h.objects h.marked end) (λ i. record { objects = objects_are i; registrations = c.table.registrations; short = short_is i; long = long_is i }))
 
     pub still_marked : (a : ℕ) → IsTrue (before.marked a) → IsTrue (h.marked a)
     still_marked a on = subst (λ (m : ℕ → Bool). IsTrue (m a)) (sym p.marks_are) (c.marks.least a (inl (c.first.marks.least a (inl (c.first.leading.marks.least a (inl on))))))

@@ -1,11 +1,11 @@
 -- Tables and links that don't grow in a pass.
-use Rattle.std.proofs.Common.{◌≤◌, ◌+◌, ℕ, Bool, true, false, cond, Option, Some, None, arith}
-use Rattle.std.specs.FinMap.{len, remove}
+use Rattle.std.proofs.Common.{◌≤◌, ℕ, Bool, true, false, cond, Option, Some, None, arith}
+use Rattle.std.specs.FinMap.{get, len, remove}
 use Rattle.std.specs.Option.{option_map_or}
 use Rattle.fz_model.specs.declared.answers.Registration.{Registration}
 use Rattle.fz_finalizers.specs.Follows.{queued_object, queued_one}
 use Rattle.fz_finalizers.specs.Kinds.{is_late}
-use Rattle.fz_finalizers.specs.States.{State, registered}
+use Rattle.fz_finalizers.specs.States.{State}
 use Rattle.fz_finalizers.proofs.Counting.{len_less}
 use Rattle.fz_machine.specs.declared.item.Item.{Item}
 use Rattle.fz_machine.specs.declared.phase.Phase.{Phase}
@@ -14,7 +14,7 @@ use Rattle.fz_machine.specs.Phases.{after}
 
 -- no more registrations and links than these
 pub record IsWithin (r s g : ℕ) (t : State) : Type 0 where
-  pub registered : len t.registrations + len t.late ≤ r
+  pub registered : len t.registrations ≤ r
   pub short : len t.short ≤ s
   pub long : len t.long ≤ g
 
@@ -26,11 +26,11 @@ module _ (r s g : ℕ) (t : State) (h : IsWithin r s g t) where
   without_long word = let less = len_less t.long word in let few = h.long in record { registered = h.registered; short = h.short; long = omega (arith, less, few) }
 
   queued : (object : ℕ) → IsWithin r s g (queued_object t object)
-  queued object = by (registered t object)
+  queued object = by (get t.registrations object)
     where
       by : (o : Option Registration) → IsWithin r s g (option_map_or (queued_one t object) o t)
       by None = h
-      by (Some q) = let less = len_less t.registrations object in let less_late = len_less t.late object in let few = h.registered in record { registered = omega (arith, less, less_late, few); short = h.short; long = h.long }
+      by (Some q) = let less = len_less t.registrations object in let few = h.registered in record { registered = omega (arith, less, few); short = h.short; long = h.long }
 
   cases : (b : Bool) (u v : State) → IsWithin r s g u → IsWithin r s g v → IsWithin r s g (cond b u v)
   cases true u v x y = x

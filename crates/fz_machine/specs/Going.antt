@@ -3,7 +3,7 @@
 use Rattle.std.specs.Prelude.{◌≡◌, ℕ, ◌+◌, ◌≤◌, None}
 use Rattle.std.specs.FinMap.{get, len}
 use Rattle.fz_model.specs.declared.kinds.LinkKind.{LinkKind}
-use Rattle.fz_finalizers.specs.States.{State, View, limited, links_of, registered}
+use Rattle.fz_finalizers.specs.States.{State, View, limited, links_of}
 use Rattle.fz_machine.specs.Steps.{Going}
 use Rattle.fz_machine.specs.Walks.{Walk}
 
@@ -12,19 +12,19 @@ going finalizers walk = record { finalizers = finalizers.state; kept = walk.kept
 
 -- a list with this room can contain all registrations, and all links of each kind
 pub record HasRoom (s : State) (room : ℕ) : Type 0 where
-  pub registrations : len s.registrations + len s.late ≤ room
+  pub registrations : len s.registrations ≤ room
   pub short : len s.short ≤ room
   pub long : len s.long ≤ room
 
 -- the same with further registrations and links
 pub record HasRoomForMore (s : State) (registrations shorts longs room : ℕ) : Type 0 where
-  pub registered : (len s.registrations + len s.late) + limited registrations ≤ room
+  pub registered : len s.registrations + limited registrations ≤ room
   pub short : len s.short + limited shorts ≤ room
   pub long : len s.long + limited longs ≤ room
 
 -- a new registration has no room in the list
 abbrev pub LacksToRegister : State → ℕ → ℕ → Type 0
-LacksToRegister s object room = (registered s object ≡ None) × (room ≤ len s.registrations + len s.late)
+LacksToRegister s object room = (get s.registrations object ≡ None) × (room ≤ len s.registrations)
 
 -- a new link has no room in the list
 abbrev pub LacksToLink : State → LinkKind → ℕ → ℕ → Type 0

@@ -59,7 +59,6 @@ IsHonest Exact None subject old answer new = new ≡ old
 -- when a pass may begin: marking is complete, and registered objects and targets of links are objects of the graph
 pub record MayBegin (s : State) (g : Graph) : Type 0 where
   pub registered : AreRegistered g.objects s.registrations
-  pub late : AreRegistered g.objects s.late
   pub short : AreTargets g.objects s.short
   pub long : AreTargets g.objects s.long
   pub zero : points g.objects 0 ≡ None  -- a cleared word points to nothing

@@ -14,7 +14,7 @@ pub data Hears (begun : Machine) : Machine → ℕ → Type 0 where
 
 -- six phases process registrations, and three phases process the links of each kind
 abbrev pub most_answers : State → ℕ
-most_answers s = 6 * (len s.registrations + len s.late) + 3 * (len s.short + len s.long)
+most_answers s = 6 * len s.registrations + 3 * (len s.short + len s.long)
 
 abbrev pub PassesEnd : Type 0
 PassesEnd = (old begun m : Machine) (n : ℕ) → IsBegun old begun → Hears begun m n → n ≤ most_answers old.finalizers.state

@@ -1,12 +1,15 @@
 -- The items that phases process: links and registrations.
 -- code: fz_machine/src/item.rt, listing.rt
-use Rattle.std.specs.Prelude.{◌≡◌, ℕ, ◌+◌, ◌*◌, ◌^◌, List, ◌++◌, map, nat_eq}
+use Rattle.std.specs.Prelude.{◌≡◌, ℕ, ◌+◌, ◌*◌, ◌^◌, false, if◌then◌else◌, List, map, nat_eq, All}
 use Rattle.std.specs.List.{IsDistinct}
 use Rattle.std.specs.List.Sorted.{IsPermutation, IsNonDecreasingBy}
 use Rattle.std.specs.Map.{keys_of}
 use Rattle.std.specs.FinMap.{from_entries}
+use Rattle.std.specs.FinSet.{contains}
 use Rattle.fz_model.specs.declared.answers.Registration.{Registration}
 use Rattle.fz_model.specs.State.{Map}
+use Rattle.fz_table.specs.declared.stored.Stored.{Stored}
+use Rattle.fz_table.specs.Tabled.{Set, plain}
 use Rattle.fz_finalizers.specs.declared.kinds.Kind.TheVariants.{Normal, Unreachable}
 use Rattle.fz_finalizers.specs.Kinds.{of_table}
 use Rattle.fz_machine.specs.declared.item.Item.{Item}
@@ -17,10 +20,14 @@ of_link e = record { object = e.1; word = e.0; kind = Normal; turn = 0 }
 
 -- a registration of another kind than `Unreachable`, and one of kind `Unreachable`
 abbrev pub of_other : ℕ × Registration → Item
-of_other e = record { object = e.0; word = 0; kind = of_table e.1.kind; turn = e.1.rank }
+of_other e = record { object = e.0; word = 0; kind = of_table false e.1.kind; turn = e.1.rank }
 
 abbrev pub of_late : ℕ × Registration → Item
 of_late e = record { object = e.0; word = 0; kind = Unreachable; turn = 256 + e.1.rank }
+
+-- a registration with its flag
+abbrev pub of_stored : ℕ × Stored → Item
+of_stored e = if e.1.unreachable then of_late (plain e) else of_other (plain e)
 
 -- these are the entries of a map, each once
 abbrev pub AreEntriesOf : {X : Type 0} → Map X → List (ℕ × X) → Type 0
@@ -30,10 +37,10 @@ AreEntriesOf m es = (from_entries es ≡ m) × IsDistinct nat_eq (keys_of es)
 abbrev pub AreLinks : Map ℕ → List Item → Type 0
 AreLinks links items = (es : List (ℕ × ℕ)) × AreEntriesOf links es × (items ≡ map of_link es)
 
--- the items are the registrations, those of kind `Unreachable` after the others
-abbrev pub AreObjects : Map Registration → Map Registration → List Item → Type 0
+-- the items are the registrations, each with its flag
+abbrev pub AreObjects : Map Registration → Set → List Item → Type 0
 AreObjects registrations late items =
-    (es : List (ℕ × Registration)) × (ls : List (ℕ × Registration)) × AreEntriesOf registrations es × AreEntriesOf late ls × (items ≡ map of_other es ++ map of_late ls)
+    (es : List (ℕ × Stored)) × AreEntriesOf registrations (map plain es) × All (λ (e : ℕ × Stored). e.1.unreachable ≡ contains late e.0) es × (items ≡ map of_stored es)
 
 -- an item's sort key: position in queue order, then address
 abbrev pub place_of : Item → ℕ

@@ -2,12 +2,12 @@
 
 ghost use Rattle.std.specs.Prelude.{◌≡◌, ◌≤◌, ◌+◌, ◌⊎◌, [], None, length, if◌then◌else◌, IfOk, IfErr, OnOk, OnErr};
 ghost use Rattle.std.specs.FinMap.{get, len, contains_key};
-ghost use Rattle.fz_model.specs.Steps.{move_answer};
+ghost use Rattle.std.specs.FinSet.{contains};
+ghost use Rattle.fz_model.specs.Steps.{move_answer, old_of};
+ghost use Rattle.fz_pass.specs.All.{QueuesAll};
 ghost use Rattle.fz_finalizers.specs.Causes.{finish_causes, link_causes, move_causes, register_causes};
 ghost use Rattle.fz_finalizers.specs.Follows.{Follows, Register, Unregister, Link, Unlink, Move, QueueAll, Take, TakeFinished, Finish};
-ghost use Rattle.fz_finalizers.specs.Ready.{QueuesTables};
-ghost use Rattle.fz_finalizers.specs.Registering.{old_in_either};
-ghost use Rattle.fz_finalizers.specs.States.{HasRooms, IsRoomier, KeepsTables, links_of, room_of, registration_room, table_of};
+ghost use Rattle.fz_finalizers.specs.States.{HasRooms, IsRoomier, KeepsTables, links_of, room_of};
 ghost use Rattle.fz_machine.specs.Causes.{IsJudgedBy, IsJudgedOrLacks};
 ghost use Rattle.fz_machine.specs.Going.{HasRoomForMore};
 ghost use Rattle.fz_machine.specs.Machines.{IsIdle, Takes};
@@ -29,8 +29,8 @@ impl Machine {
         Ok(())
     }
 
-    /// Reserves room for further registrations of kinds other than `Unreachable`, and for further links of both kinds: for at most 2^32 of each. Until these
-    /// are used up no call allocates. Takes time proportional to the room.
+    /// Reserves room for further registrations, and for further links of both kinds: for at most 2^32 of each. Registering and linking take no memory
+    /// until this room is used up, and `shrink` frees what is left of it. Takes time proportional to the room.
     ///
     /// Fails with, in this order: `PassOpen`, `NoMemory` if an allocation fails.
     pub fn reserve(
@@ -78,13 +78,13 @@ impl Machine {
         object: Addr,
         finalizer: Finalizer,
     ) -> Result<(u64, Option<Old>), Refused>
-        ensures judged { IsJudgedOrLacks self.old.phase (register_causes (table_of self.old.finalizers.state finalizer.kind) self.old.finalizers.next_number object) result }
-        // Only an object that isn't in the table of the kind can run out of memory, and only if no room is reserved.
-        ensures fresh { IfErr result (λ r. r ≡ Refused.Finalizers NoMemory → get (table_of self.old.finalizers.state finalizer.kind) object ≡ None) }
-        ensures wanting { IfErr result (λ r. r ≡ Refused.Finalizers NoMemory → (registration_room self.old.finalizers.rooms finalizer.kind ≡ 0) ⊎ (self.old.walk.room ≤ len self.old.finalizers.registrations + len self.old.finalizers.late)) }
+        ensures judged { IsJudgedOrLacks self.old.phase (register_causes self.old.finalizers.registrations self.old.finalizers.next_number object) result }
+        // Only an object that isn't registered can run out of memory, and only if no room is reserved.
+        ensures fresh { IfErr result (λ r. r ≡ Refused.Finalizers NoMemory → get self.old.finalizers.registrations object ≡ None) }
+        ensures wanting { IfErr result (λ r. r ≡ Refused.Finalizers NoMemory → (self.old.finalizers.rooms.registrations ≡ 0) ⊎ (self.old.walk.room ≤ len self.old.finalizers.registrations)) }
         ensures refused { OnErr result ((self.new.phase ≡ self.old.phase) × (self.new.finalizers.state ≡ self.old.finalizers.state)) }
         ensures number { IfOk result (λ answer. answer.0 ≡ self.old.finalizers.next_number) }
-        ensures replaced { IfOk result (λ answer. answer.1 ≡ old_in_either self.old.finalizers.registrations self.old.finalizers.late object) }
+        ensures replaced { IfOk result (λ answer. answer.1 ≡ old_of self.old.finalizers.registrations object) }
         ensures follows { OnOk result (IsIdle self.new × Follows self.old.finalizers.state (Register object finalizer) self.new.finalizers.state) }
     {
         self.check()?;
@@ -117,7 +117,7 @@ impl Machine {
     pub fn unregister(&mut self, object: Addr) -> Result<Option<Old>, Refused>
         ensures judged { IsJudgedBy self.old.phase [] result }
         ensures refused { OnErr result (self.new ≡ self.old) }
-        ensures answer { IfOk result (λ old. old ≡ old_in_either self.old.finalizers.registrations self.old.finalizers.late object) }
+        ensures answer { IfOk result (λ old. old ≡ old_of self.old.finalizers.registrations object) }
         ensures follows { OnOk result (IsIdle self.new × Follows self.old.finalizers.state (Unregister object) self.new.finalizers.state) }
     {
         self.check()?;
@@ -156,7 +156,7 @@ impl Machine {
     pub fn queue_all(&mut self) -> Result<u64, Refused>
         ensures judged { IsJudgedBy self.old.phase [] result }
         ensures refused { OnErr result (self.new ≡ self.old) }
-        ensures queued { OnOk result (QueuesTables (length self.old.finalizers.queue) self.old.finalizers.registrations self.old.finalizers.late self.old.finalizers.queue self.new.finalizers.queue) }
+        ensures queued { OnOk result (QueuesAll (length self.old.finalizers.queue) self.old.finalizers.registrations (contains self.old.finalizers.late) self.old.finalizers.queue self.new.finalizers.queue) }
         ensures follows { OnOk result (IsIdle self.new × Follows self.old.finalizers.state QueueAll self.new.finalizers.state) }
         ensures count { IfOk result (λ count. length self.new.finalizers.queue ≡ length self.old.finalizers.queue + count) }
     {

@@ -1,10 +1,10 @@
 //! The items that the phases of a pass process.
 
 ghost use Rattle.std.specs.Prelude.{◌≡◌};
-ghost use Rattle.fz_machine.specs.Items.{of_link, of_other, of_late};
+ghost use Rattle.fz_machine.specs.Items.{of_link, of_stored};
 
-use fz_finalizers::Kind;
-use fz_model::{Addr, Registration};
+use fz_finalizers::{Kind, Stored};
+use fz_model::Addr;
 
 /// A link or a registration, as a phase processes it.
 #[derive(Clone, Copy, Debug, PartialEq, Eq)]
@@ -32,27 +32,16 @@ impl Item {
         }
     }
 
-    /// An object's registration, of a kind other than `Unreachable`.
-    pub(crate) fn of_other(object: Addr, registration: &Registration) -> Item
-        ensures { result ≡ of_other (object, registration.now) }
+    /// An object's registration.
+    pub(crate) fn of_stored(object: Addr, stored: &Stored) -> Item
+        ensures { result ≡ of_stored (object, stored.now) }
     {
+        let rank = u16::from(stored.rank);
         Item {
             object,
             word: 0,
-            kind: Kind::of_table(registration.kind),
-            turn: u16::from(registration.rank),
-        }
-    }
-
-    /// An object's registration, of kind `Unreachable`.
-    pub(crate) fn of_late(object: Addr, registration: &Registration) -> Item
-        ensures { result ≡ of_late (object, registration.now) }
-    {
-        Item {
-            object,
-            word: 0,
-            kind: Kind::Unreachable,
-            turn: 256 + u16::from(registration.rank),
+            kind: Kind::of_table(stored.unreachable, stored.kind),
+            turn: if stored.unreachable { 256 + rank } else { rank },
         }
     }
 }

@@ -26,7 +26,7 @@ pub fn passes_are_calls()
 {}
 
 /// A host that answers for a graph is asked only what it may be asked: to mark only objects of the graph, and only while everything that marked objects reach
-/// is marked. This holds for each item of a question, after true answers about the items before it.
+/// is marked. This holds for each item of a question, if the answers about the items before it are those of the graph.
 pub fn questions_may_be_asked()
     ensures asked { AsksRightly (Unit {0}) }
     ensures asked_of_more { AsksRightly ⊥ }

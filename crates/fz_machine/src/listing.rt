@@ -1,10 +1,9 @@
 //! The lists that phases process.
 
-ghost use Rattle.std.specs.Prelude.{◌≡◌, ◌≤◌, ◌<◌, ◌+◌, ◌++◌, ◌∷◌, [], ℕ, List, map, length, vec_len, vec_capacity};
+ghost use Rattle.std.specs.Prelude.{◌≡◌, ◌≤◌, ◌<◌, ◌++◌, ◌∷◌, [], vec_len, vec_capacity};
 ghost use Rattle.std.specs.FinMap.{len};
-ghost use Rattle.fz_model.specs.declared.answers.Registration.{Registration};
 ghost use Rattle.fz_finalizers.specs.States.{links_of};
-ghost use Rattle.fz_machine.specs.Items.{AreEntriesOf, AreLinks, AreObjects, of_late, of_other};
+ghost use Rattle.fz_machine.specs.Items.{AreLinks, AreObjects};
 ghost use Rattle.fz_machine.specs.Going.{going, HasRoom};
 ghost use Rattle.fz_machine.specs.Steps.{Begins};
 
@@ -35,27 +34,15 @@ fn list_links(finalizers: &Finalizers, kind: LinkKind, items: &mut Vec<Item>)
     }
 }
 
-/// Appends all registrations of kinds other than `Unreachable` to the list, which has room for them.
-fn list_others(finalizers: &Finalizers, items: &mut Vec<Item>)
+/// Appends all registrations to the list, which has room for them.
+fn list_objects(finalizers: &Finalizers, items: &mut Vec<Item>)
     requires empty { items.old.items ≡ [] }
     requires room { len finalizers.now.registrations ≤ vec_capacity items.old }
-    ensures listed { (es : List (ℕ × Registration)) × AreEntriesOf finalizers.now.registrations es × (items.new.items ≡ map of_other es) }
-    ensures count { vec_len items.new ≡ len finalizers.now.registrations }
+    ensures listed { AreObjects finalizers.now.registrations finalizers.now.late items.new.items }
     ensures room { vec_capacity items.old ≤ vec_capacity items.new }
 {
-    for (object, registration) in finalizers.iter_others() {
-        put(items, Item::of_other(object, &registration));
-    }
-}
-
-/// Appends all registrations of kind `Unreachable` to the list, which has room for them.
-fn list_late(finalizers: &Finalizers, items: &mut Vec<Item>)
-    requires room { vec_len items.old + len finalizers.now.late ≤ vec_capacity items.old }
-    ensures listed { (es : List (ℕ × Registration)) × AreEntriesOf finalizers.now.late es × (items.new.items ≡ items.old.items ++ map of_late es) }
-    ensures room { vec_capacity items.old ≤ vec_capacity items.new }
-{
-    for (object, registration) in finalizers.iter_late() {
-        put(items, Item::of_late(object, &registration));
+    for (object, stored) in finalizers.iter_stored() {
+        put(items, Item::of_stored(object, &stored));
     }
 }
 
@@ -79,8 +66,7 @@ fn walk_objects(finalizers: &Finalizers, walk: &mut Walk)
     ensures room { walk.old.room ≤ walk.new.room }
 {
     let mut items = walk.take_room();
-    list_others(finalizers, &mut items);
-    list_late(finalizers, &mut items);
+    list_objects(finalizers, &mut items);
     *walk = Walk::of(items);
 }
 

@@ -45,9 +45,9 @@ impl Machine {
         Ok(number)
     }
 
-    /// Processes the answers to the last question, and returns what comes next: another question or the end. `IsMarked` and `IsHolderMarked` need a true
-    /// answer for each item; commands need an answer too, whose value is ignored. Items left unanswered are asked again. Takes time proportional to the
-    /// question and its answers.
+    /// Processes the answers to the last question, and returns what comes next: another question or the end. For `IsMarked` and `IsHolderMarked` the answers
+    /// have to be what the host's marks say; commands need an answer too, whose value is ignored. Items left unanswered are asked again. Takes time
+    /// proportional to the question and its answers.
     ///
     /// Takes no memory. Fails with `NoPass` if no pass is open.
     pub fn next(&mut self, answers: &[bool]) -> Result<Next, Refused>

@@ -8,7 +8,7 @@ use crate::question::Ask;
 use fz_finalizers::Kind;
 use fz_model::Addr;
 
-/// A phase of a pass. It processes a list, with one question for each item.
+/// A phase of a pass. It processes a list, and asks the same about each item of it.
 #[derive(Clone, Copy, Debug, PartialEq, Eq)]
 pub enum Phase {
     /// Asks which targets of short links are marked.

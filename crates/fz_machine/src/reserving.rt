@@ -2,29 +2,25 @@
 
 ghost use Rattle.std.specs.Prelude.{◌≡◌, ◌≤◌, ◌<◌, ◌+◌, ◌^◌, ◌⊎◌, None, if◌then◌else◌, IfOk, IfErr, OnOk, OnErr};
 ghost use Rattle.std.specs.FinMap.{get, insert, len, contains_key};
+ghost use Rattle.fz_model.specs.declared.answers.Registration.{Registration};
+ghost use Rattle.fz_model.specs.Steps.{old_of};
 ghost use Rattle.fz_finalizers.specs.Causes.{IsJudgedOrLacks, link_causes, register_causes};
 ghost use Rattle.fz_finalizers.specs.Follows.{Follows, Register, Link};
-ghost use Rattle.fz_finalizers.specs.Registering.{HasRoomFor, old_in_either};
-ghost use Rattle.fz_finalizers.specs.States.{HasRooms, KeepsTables, limited, links_of, room_of, registration_room, table_of};
+ghost use Rattle.fz_finalizers.specs.States.{HasRooms, KeepsTables, limited, links_of, room_of};
 ghost use Rattle.fz_machine.specs.Causes.{RefusesOrLacks};
 ghost use Rattle.fz_machine.specs.Going.{HasRoom, HasRoomForMore, LacksToLink, LacksToRegister};
 
 use crate::walk::Walk;
-use fz_finalizers::{Addr, Finalizer, Finalizers, Kind, LinkAnswer, LinkKind, Old, Refused};
+use fz_finalizers::{Addr, Finalizer, Finalizers, LinkAnswer, LinkKind, Old, Refused};
 use fz_table::MOST_ENTRIES;
 
 /// Reserves room in the list for one more registration, unless the object has one.
-fn room_to_register(
-    finalizers: &Finalizers,
-    walk: &mut Walk,
-    object: Addr,
-    kind: Kind,
-) -> Result<(), Refused>
+#[tactic(auto, using(fz_finalizers::proofs::Counting::len_grown, fz_finalizers::proofs::Counting::len_known))]
+fn room_to_register(finalizers: &Finalizers, walk: &mut Walk, object: Addr) -> Result<(), Refused>
     requires { HasRoom finalizers.now.state walk.old.room }
-    ensures refused { IfErr result (λ r. RefusesOrLacks (register_causes (table_of finalizers.now.state kind) finalizers.now.next_number object) (LacksToRegister finalizers.now.state object walk.old.room) r) }
+    ensures refused { IfErr result (λ r. RefusesOrLacks (register_causes finalizers.now.registrations finalizers.now.next_number object) (LacksToRegister finalizers.now.state object walk.old.room) r) }
     ensures kept { walk.old.room ≤ walk.new.room }
-    ensures room { OnOk result (HasRoomFor finalizers.now.registrations finalizers.now.late object walk.new.room) }
-    ensures late { OnOk result (HasRoomFor finalizers.now.late finalizers.now.registrations object walk.new.room) }
+    ensures room { OnOk result ((r : Registration) → len (insert finalizers.now.registrations object r) ≤ walk.new.room) }
 {
     let room = walk.room();
     let count = finalizers.registrations() as usize;
@@ -37,7 +33,7 @@ fn room_to_register(
     if finalizers.registration(object).is_some() {
         return Ok(());
     }
-    finalizers.check(object, kind)?;
+    finalizers.check(object)?;
     Err(Refused::NoMemory)
 }
 
@@ -49,17 +45,17 @@ pub(crate) fn register(
     finalizer: Finalizer,
 ) -> Result<(u64, Option<Old>), Refused>
     requires { HasRoom finalizers.old.state walk.old.room }
-    ensures judged { IsJudgedOrLacks (register_causes (table_of finalizers.old.state finalizer.kind) finalizers.old.next_number object) result }
-    ensures fresh { IfErr result (λ r. r ≡ Refused.NoMemory → get (table_of finalizers.old.state finalizer.kind) object ≡ None) }
-    ensures wanting { IfErr result (λ r. r ≡ Refused.NoMemory → (registration_room finalizers.old.rooms finalizer.kind ≡ 0) ⊎ (walk.old.room ≤ len finalizers.old.registrations + len finalizers.old.late)) }
+    ensures judged { IsJudgedOrLacks (register_causes finalizers.old.registrations finalizers.old.next_number object) result }
+    ensures fresh { IfErr result (λ r. r ≡ Refused.NoMemory → get finalizers.old.registrations object ≡ None) }
+    ensures wanting { IfErr result (λ r. r ≡ Refused.NoMemory → (finalizers.old.rooms.registrations ≡ 0) ⊎ (walk.old.room ≤ len finalizers.old.registrations)) }
     ensures refused { OnErr result (finalizers.new.state ≡ finalizers.old.state) }
     ensures number { IfOk result (λ answer. answer.0 ≡ finalizers.old.next_number) }
-    ensures replaced { IfOk result (λ answer. answer.1 ≡ old_in_either finalizers.old.registrations finalizers.old.late object) }
+    ensures replaced { IfOk result (λ answer. answer.1 ≡ old_of finalizers.old.registrations object) }
     ensures follows { OnOk result (Follows finalizers.old.state (Register object finalizer) finalizers.new.state) }
     ensures kept { walk.old.room ≤ walk.new.room }
     ensures room { HasRoom finalizers.new.state walk.new.room }
 {
-    room_to_register(finalizers, walk, object, finalizer.kind)?;
+    room_to_register(finalizers, walk, object)?;
     finalizers.register(object, finalizer)
 }
 

@@ -1,11 +1,16 @@
 //! The heap with its marks, as a host.
 
-ghost use Rattle.std.specs.Prelude.{◌≡◌, ◌*◌};
+ghost use Rattle.std.specs.Prelude.{◌≡◌, ◌+◌, ◌*◌, ◌||◌, ℕ, None};
 ghost use Rattle.std.specs.FinSet.{contains};
+ghost use Rattle.std.specs.FinSet as sets;
+ghost use Rattle.std.specs.FinMap.{len, retain_keys};
 ghost use Rattle.fz_model.specs.declared.limits.TheConstants.{BLOCK_WORDS};
+ghost use Rattle.fz_model.specs.Memory.{points};
+ghost use Rattle.fz_model.specs.Pass.{is_outside};
 ghost use Rattle.fz_marked.specs.Same.{IsSame, same_itself, same_then};
 
 use crate::children::trace_children;
+use crate::reclaiming::condemn_outside;
 use fz_heap::Heap;
 use fz_marker::Marker;
 use fz_model::Addr;
@@ -71,4 +76,34 @@ impl Host for Marked {
     ghost reflexive = { λ m. same_itself m.heap m.marker };
 
     ghost transitive = { λ old mid new first then. same_then old.heap mid.heap new.heap old.marker mid.marker new.marker first then };
+}
+
+impl Marked {
+    /// Begins a pass: what the cycle marked is marked for the pass, too.
+    pub fn trace_found(&mut self)
+        ensures heap { self.new.heap ≡ self.old.heap }
+        ensures marker { self.new.marker ≡ record self.old.marker { traced = self.old.marker.marked } }
+        // A cleared word points to nothing.
+        ensures zero { points self.new.heap.objects 0 ≡ None }
+    {
+        // Only its contract is needed: the objects lie in the heap, so none lies at zero.
+        let _ = self.heap.condemned();
+        self.marker.trace_found();
+    }
+
+    /// Ends a pass: reclaims the objects that it didn't mark, and returns their number. Their cells become dead and wait to be swept. Takes time proportional
+    /// to the heap.
+    pub fn reclaim(&mut self) -> u64
+        ensures objects { self.new.heap.objects ≡ retain_keys self.old.heap.objects (contains self.old.marker.traced) }
+        ensures condemned { (a : ℕ) → contains self.new.heap.condemned a ≡ (is_outside self.old.heap.objects (contains self.old.marker.traced) a || contains self.old.heap.condemned a) }
+        ensures count { sets.len self.new.heap.condemned ≡ sets.len self.old.heap.condemned + result }
+        ensures reclaimed { len self.new.heap.objects + result ≡ len self.old.heap.objects }
+        // Everything else is unchanged.
+        ensures heap { self.new.heap ≡ record self.old.heap { objects = self.new.heap.objects; condemned = self.new.heap.condemned } }
+        ensures marker { self.new.marker ≡ self.old.marker }
+    {
+        let before = self.heap.condemned();
+        condemn_outside(&mut self.heap, self.marker.kept());
+        self.heap.condemned() - before
+    }
 }

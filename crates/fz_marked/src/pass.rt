@@ -10,15 +10,15 @@ ghost use Rattle.fz_pass.specs.Marks.{AreRegistered, AreTargets};
 ghost use Rattle.fz_marked.specs.Decides.{DecidesInto};
 
 use crate::marked::Marked;
-use crate::reclaiming::condemn_outside;
 use fz_links::Links;
 use fz_model::Entry;
-use fz_pass::ReadyList;
+use fz_pass::{ReadyList, Terms};
 use fz_table::Table;
 
 /// Carries out a pass whose found set is the marked objects. Returns the number of objects that it reclaims.
 ///
-/// It does the same as `fz_pass::decide`; entries have successive numbers from `first` on. The cells of the objects that aren't retained become dead and wait
+/// It is `Marked::trace_found`, then `fz_pass::decide` without tiers, since the model has no kind unreachable, then `Marked::reclaim`. Entries have successive
+/// numbers from `first` on. The cells of the objects that aren't retained become dead and wait
 /// to be swept.
 pub fn decide(
     marked: &mut Marked,
@@ -50,9 +50,12 @@ pub fn decide(
     ensures marker { marked.new.marker ≡ record marked.old.marker { traced = marked.new.marker.traced } }
     ensures table { table.new.registered ≡ record table.old.registered { registrations = table.new.registrations } }
 {
-    let before = marked.heap.condemned();
-    marked.marker.trace_found();
-    fz_pass::decide(marked, table, short, long, ready, queue, pass, first);
-    condemn_outside(&mut marked.heap, marked.marker.kept());
-    marked.heap.condemned() - before
+    marked.trace_found();
+    let terms = Terms {
+        pass,
+        first,
+        tiers: false,
+    };
+    fz_pass::decide(marked, table, short, long, ready, queue, terms);
+    marked.reclaim()
 }

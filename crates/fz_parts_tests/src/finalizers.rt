@@ -39,7 +39,7 @@ fn registers_replaces_and_removes(rt: HostRuntime) {
     must_be(&rt, zero, Err(Refused::Zero), "zero is no object");
     let second = finalizers.register(32, finalizer(Kind::NoOrder, 32, 1));
     must_be(&rt, second, Ok((1, None)), "the second object");
-    // The other table takes it over.
+    // A change of kind is a replacement, in the same place.
     let again = finalizers.register(16, finalizer(Kind::Unreachable, 16, 0));
     let old = Some(Old { proc: 17, cd: 18 });
     must_be(&rt, again, Ok((2, old)), "the first object again");
@@ -49,9 +49,9 @@ fn registers_replaces_and_removes(rt: HostRuntime) {
     let kind = finalizers.kind(16);
     must_be(&rt, kind, Some(Kind::Unreachable), "its new kind");
     let walked = finalizers.iter().next().map(|found| found.0);
-    must_be(&rt, walked, Some(32), "a walk over both");
+    must_be(&rt, walked, Some(16), "a walk over both");
     let next = finalizers.iter().from_place(1).next().map(|found| found.0);
-    must_be(&rt, next, Some(16), "the walk from a place on");
+    must_be(&rt, next, Some(32), "the walk from a place on");
     let last = finalizers.iter().from_place(2).next().is_none();
     must_be(&rt, last, true, "none after it");
     must_be(&rt, finalizers.unregister(16), old, "removed");
@@ -220,9 +220,9 @@ fn walks_from_places(rt: HostRuntime) {
         .next()
         .map(|entry| entry.obj);
     must_be(&rt, last, Some(8), "what came last comes last");
-    let late = finalizers.iter().from_place(13).next().map(|late| late.0);
-    must_be(&rt, late, Some(1), "the late ones come after the others");
-    let none = finalizers.iter().from_place(20).next().map(|late| late.0);
+    let next = finalizers.iter().from_place(13).next().map(|next| next.0);
+    must_be(&rt, next, Some(14), "whatever its kind, each in its turn");
+    let none = finalizers.iter().from_place(20).next().map(|next| next.0);
     must_be(&rt, none, None, "all were passed");
 }
 

@@ -193,8 +193,8 @@ fn move_by(
     must_be(rt, moved, MoveAnswer::Success, "one of all moves");
 }
 
-/// Registers so many links, eight words apart, and moves each once, the last one first. Returns how often their table was built anew: that turns their order,
-/// and nothing else changes the first.
+/// Registers this many links, eight words apart, and moves each once, the last one first. Returns how often their table was rebuilt: a rebuild reverses their
+/// order, and nothing else changes which link comes first.
 fn builds_of_moves(rt: &impl Abort, alloc: Global, count: u64) -> Result<u64, AllocError> {
     let mut links = Links::new(alloc);
     let mut list = Vec::with_capacity(alloc, count as usize)?;

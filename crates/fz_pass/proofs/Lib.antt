@@ -10,9 +10,11 @@ pub mod Ranking
 pub mod Spreading
 pub mod Listed
 pub mod Decided
-pub mod Both
 pub mod Passed
-pub mod Alone
+pub mod Tiers
+pub mod Led
+pub mod Flags
+pub mod Unflagged
 pub mod Nothing
 pub mod Emptied
 pub mod Safe

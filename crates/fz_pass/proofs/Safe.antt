@@ -1,5 +1,5 @@
 -- What a pass leaves alone.
-use Rattle.std.proofs.Common.{◌≡◌, ℕ, ◌+◌, ◌<◌, ◌≤◌, ◌&&◌, not, Bool, true, false, cond, List, length, Option, Some, None, option_map, is_some, refl, sym, ap, ◌∙◌, ⊎_elim, IsTrue}
+use Rattle.std.proofs.Common.{◌≡◌, ℕ, ◌+◌, ◌<◌, ◌≤◌, ◌&&◌, not, Bool, true, false, cond, List, length, Option, Some, None, option_map, is_some, refl, sym, ap, ◌∙◌, IsTrue}
 use Rattle.std.proofs.lemmas.Bool.{and_parts, and_from, not-true, true≢false, cond-true}
 use Rattle.std.proofs.lemmas.List.Elements.{All-contains}
 use Rattle.std.specs.Option.{option_map_or}
@@ -10,7 +10,8 @@ use Rattle.fz_model.specs.Memory.{points, filled}
 use Rattle.fz_model.specs.State.{Map, Object}
 use Rattle.fz_model.specs.Pass.{IsPicked, FoundItself, cleared, is_dead, is_outside}
 use Rattle.fz_model.proofs.Maps.{get-retain, get-mapped, filling}
-use Rattle.fz_pass.specs.Late.{Parts, all, IsLast, DecidesLate}
+use Rattle.fz_pass.specs.Decides.{Parts}
+use Rattle.fz_pass.specs.Flagged.{IsLast, DecidesFlagged}
 use Rattle.fz_pass.specs.Safe.{LeadsTo, IsSafe, PassesAreSafe}
 use Rattle.fz_pass.proofs.Filling.{fill_never, has_filled}
 
@@ -38,7 +39,7 @@ retained m test a here = at (test a) (get m a) (sym (ap is_some (get-retain m te
     at true o on = refl
     at false o on = absurd (true≢false (sym on))
 
-module _ (old : Parts) (found : ℕ → Bool) (new : Parts) (queue new_queue : List Entry) (pass first : ℕ) (d : DecidesLate ⊥ pass first old found new queue new_queue) where
+module _ (old : Parts) (late found : ℕ → Bool) (new : Parts) (queue new_queue : List Entry) (pass first : ℕ) (d : DecidesFlagged ⊥ late pass first old found new queue new_queue) where
   abbrev clear : Map Object
   clear = cleared old.short found old.objects
 
@@ -48,14 +49,12 @@ module _ (old : Parts) (found : ℕ → Bool) (new : Parts) (queue new_queue : L
   kept_of : (a : ℕ) → IsTrue (contains_key new.objects a) → IsTrue (d.kept a)
   kept_of a here = retained (cleared old.long d.kept clear) d.kept a (sym (ap (λ (m : Map Object). contains_key m a) objects_are) ∙ here)
 
-  outside : (p : Pick) → IsPicked old.objects (all old found) old.short found p → found p.obj ≡ false
+  outside : (p : Pick) → IsPicked old.objects old.registrations old.short found p → found p.obj ≡ false
   outside p is = not-true (found p.obj) (and_parts (contains_key old.objects p.obj) (not (found p.obj)) is.unreachable.outside).1
 
-  pub is_safe : IsSafe old found d.picks d.late new
+  pub is_safe : IsSafe old found d.picks new
   is_safe = record {
-    unfound = λ p. ⊎_elim
-        (λ is_in. outside p (All-contains (λ (p : Pick). IsPicked old.objects (all old found) old.short found p × IsTrue (contains_key old.registrations p.obj) × Unit {0}) d.picks p d.picked.each is_in).0)
-        (λ is_in. outside p (All-contains (λ (p : Pick). IsPicked old.objects (all old found) old.short found p × IsTrue (contains_key old.late p.obj) × IsLast old found p.obj) d.late p d.came_late.each is_in).0);
+    unfound = λ p is_in. outside p (All-contains (λ (p : Pick). IsPicked old.objects old.registrations old.short found p × (IsTrue (late p.obj) → IsLast old found p.obj)) d.picks p d.picked.each is_in).0;
     stays = λ a on here.
         let kept = d.keeps a (FoundItself on) in
         ap (λ (m : Map Object). contains_key m a) objects_are ∙ ap is_some (get-retain (cleared old.long d.kept clear) d.kept a ∙ cond-true (d.kept a) _ None kept)
@@ -73,4 +72,4 @@ module _ (old : Parts) (found : ℕ → Bool) (new : Parts) (queue new_queue : L
   }
 
 pub safe : (old : Parts) → PassesAreSafe old
-safe old found new queue new_queue pass first d = is_safe old found new queue new_queue pass first d
+safe old late found new queue new_queue pass first d = is_safe old late found new queue new_queue pass first d

@@ -1,20 +1,21 @@
 -- What a pass leaves unchanged, even if marking marks more than it is asked to.
 -- code: fz_pass/src/law.rt
-use Rattle.std.specs.Prelude.{◌≡◌, ℕ, ◌+◌, ◌<◌, ◌≤◌, ◌⊎◌, Bool, List, length, Some, Contains, IsTrue, IsFalse}
+use Rattle.std.specs.Prelude.{◌≡◌, ℕ, ◌+◌, ◌<◌, ◌≤◌, Bool, List, length, Some, Contains, IsTrue, IsFalse}
 use Rattle.std.specs.FinMap.{get, contains_key}
 use Rattle.fz_model.specs.declared.answers.Entry.{Entry}
 use Rattle.fz_model.specs.declared.answers.Pick.{Pick}
 use Rattle.fz_model.specs.Memory.{points}
 use Rattle.fz_model.specs.State.{Map, Object}
-use Rattle.fz_pass.specs.Late.{Parts, DecidesLate}
+use Rattle.fz_pass.specs.Decides.{Parts}
+use Rattle.fz_pass.specs.Flagged.{DecidesFlagged}
 
 -- if a link has its word at this address, its target passes the test
 abbrev pub LeadsTo : Map ℕ → ℕ → (ℕ → Bool) → Type 0
 LeadsTo links word test = (target : ℕ) → get links word ≡ Some target → IsTrue (test target)
 
-pub record IsSafe (old : Parts) (found : ℕ → Bool) (picks late : List Pick) (new : Parts) : Type 0 where
+pub record IsSafe (old : Parts) (found : ℕ → Bool) (picks : List Pick) (new : Parts) : Type 0 where
   -- nothing in the found set is queued
-  pub unfound : (p : Pick) → Contains picks p ⊎ Contains late p → IsFalse (found p.obj)
+  pub unfound : (p : Pick) → Contains picks p → IsFalse (found p.obj)
   -- every object in the found set is retained
   pub stays : (a : ℕ) → IsTrue (found a) → IsTrue (contains_key old.objects a) → IsTrue (contains_key new.objects a)
   -- a short link to an object in the found set remains, if the object that contains its word is retained
@@ -25,4 +26,4 @@ pub record IsSafe (old : Parts) (found : ℕ → Bool) (picks late : List Pick) 
 
 -- a pass is safe in this sense, whatever it marks
 abbrev pub PassesAreSafe : Parts → Type 0
-PassesAreSafe old = (found : ℕ → Bool) (new : Parts) (queue new_queue : List Entry) (pass first : ℕ) (d : DecidesLate ⊥ pass first old found new queue new_queue) → IsSafe old found d.picks d.late new
+PassesAreSafe old = (late found : ℕ → Bool) (new : Parts) (queue new_queue : List Entry) (pass first : ℕ) (d : DecidesFlagged ⊥ late pass first old found new queue new_queue) → IsSafe old found d.picks new

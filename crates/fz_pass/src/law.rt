@@ -1,9 +1,9 @@
 //! How a pass's decision changes a core, and what it leaves unchanged.
 
+ghost use Rattle.std.specs.Prelude.{ℕ, Bool};
 ghost use Rattle.fz_model.specs.State.{Core};
-ghost use Rattle.fz_pass.specs.Alone.{LateAloneDecides, LateAlonePasses};
-ghost use Rattle.fz_pass.specs.Decides.{DecisionsPass};
-ghost use Rattle.fz_pass.specs.Late.{Parts};
+ghost use Rattle.fz_pass.specs.Decides.{Parts, DecisionsPass};
+ghost use Rattle.fz_pass.specs.Flagged.{LateDecisionsDecide, LateDecisionsPass};
 ghost use Rattle.fz_pass.specs.Safe.{PassesAreSafe};
 
 /// Carrying out a decision, so that its picks are queued and held, is a pass of the model.
@@ -11,13 +11,15 @@ pub fn decisions_pass()
     ensures { (c : Core) → DecisionsPass c }
 {}
 
-/// A pass over two tables of which the second is empty is a pass over the first. If marking is exact, it is a pass of the model.
-pub fn late_alone_decides()
-    ensures decides { LateAloneDecides (Unit {0}) }
-    ensures passes { (c : Core) → LateAlonePasses c }
+/// A pass over a table without flags makes the decision of the model. If marking is exact, it is a pass of the model.
+pub fn late_decisions_decide()
+    ensures decides { (late : ℕ → Bool) → LateDecisionsDecide (Unit {0}) late }
+    ensures passes { (late : ℕ → Bool) (c : Core) → LateDecisionsPass late c }
 {}
 
-/// Nothing in the found set is queued or reclaimed, and no link to it is removed, even if a host marks more than it is asked to.
+/// What a pass leaves unchanged, even if a host marks more than it is asked to mark. No object of the found set is queued or reclaimed. A short link to one
+/// stays if the object that contains its word is retained. A retained object is unchanged if its words have no short link to an object outside of the found
+/// set, and no long link to an object that isn't retained.
 pub fn passes_are_safe()
     ensures { (old : Parts) → PassesAreSafe old }
 {}

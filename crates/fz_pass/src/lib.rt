@@ -13,9 +13,11 @@ mod listing;
 mod pass;
 mod picking;
 mod ready_list;
+mod terms;
 
 pub use all::queue_all;
 pub use host::Host;
-pub use law::{decisions_pass, late_alone_decides, passes_are_safe};
-pub use pass::{decide, decide_with_late};
+pub use law::{decisions_pass, late_decisions_decide, passes_are_safe};
+pub use pass::decide;
 pub use ready_list::ReadyList;
+pub use terms::Terms;

@@ -93,7 +93,7 @@ fn read_job(line: &[u8]) -> Option<Job>
     }
 }
 
-/// The job of a line that is no step of a script.
+/// The job that a line spells, for a line that isn't a step of a script.
 #[tactic(auto, unfolding(crate::specs::JobReading::own_in))]
 fn read_own(line: &[u8]) -> Option<Job>
     ensures { own_in (words_of line.now) ≡ result }

@@ -35,6 +35,10 @@ opened origin world shortages stands none =
       finished = omega (arith, queue, held);
     }
 
+-- another shortage
+pub recounted : (origin : Origin) (world : WorldView) (sent : List Entry) (published finished old new : ℕ) → IsInOrder origin (locked_state world sent published finished old) → IsInOrder origin (locked_state world sent published finished new)
+recounted origin world sent published finished old new h = record { reached = h.reached; sent = h.sent; within = h.within; forgotten = h.forgotten; finished = h.finished }
+
 module _ (origin : Origin) (old new : WorldView) (sent : List Entry) (published finished shortages : ℕ) where
   grown : (s t : State) → new.forgotten ≡ old.forgotten → StandsFor old s → StandsFor new t → IsLonger s.core t.core → StepsTo any_call (opening origin.blocks origin.frames) t → IsInOrder origin (locked_state old sent published finished shortages) → IsInOrder origin (locked_state new sent published finished shortages)
   grown s t kept was stands longer steps h =

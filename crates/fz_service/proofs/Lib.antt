@@ -6,5 +6,7 @@ pub mod Ends
 pub mod Running
 pub mod Serving
 pub mod Served
+pub mod Notes
+pub mod Waiting
 pub mod Slots
 pub mod Retried

@@ -1,19 +1,16 @@
 -- How a seat grows while a worker serves.
-use Rattle.std.proofs.Common.{◌≡◌, ◌+◌, ◌≤◌, List, [], ◌∷◌, ◌++◌, Bool, true, false, refl, sym, ap, ◌∙◌, append-nil, append_assoc, length, length-append, arith}
+use Rattle.std.proofs.Common.{◌≡◌, ◌+◌, ◌≤◌, List, [], ◌∷◌, ◌++◌, Bool, true, false, refl, sym, ap, ◌∙◌, append-nil, append_assoc, length, length-append, subst, arith}
 use mir.Val.{bool_byte}
 use Rattle.fz_model.specs.declared.answers.Entry.{Entry}
 use Rattle.fz_line.specs.States.{SeatState, DutyState}
 use Rattle.fz_line.specs.Takes.{GainsEntry}
 use Rattle.fz_service.specs.Workers.{Extends, Serves}
-use Rattle.fz_service.specs.declared.seat.Take.{Take}
-use Rattle.fz_service.specs.declared.seat.Take.TheVariants as take
-use Rattle.fz_service.specs.declared.turn.CameTo.{CameTo}
-use Rattle.fz_service.specs.declared.turn.CameTo.TheVariants.{Served, Empty, Busy}
-use Rattle.fz_service.specs.Takes.{MatchTake}
-use Rattle.fz_service.specs.Turns.{IsAnswered, Turns}
 
 pub same_seat : (s : SeatState) → Extends s s
 same_seat s = record { line = refl; index = refl; since = []; took = sym (append-nil s.took) }
+
+pub extends_same : (old mid new : SeatState) → Extends old mid → new ≡ mid → Extends old new
+extends_same old mid new before same = subst (λ (s : SeatState). Extends old s) (sym same) before
 
 -- one entry more
 pub served : (old mid new : SeatState) (duty : DutyState) (done : Bool) → Extends old mid → GainsEntry mid duty → Serves duty new done → Extends old new
@@ -39,15 +36,3 @@ one_more mid new duty true gains is =
     ap (λ (s : SeatState). length s.took) is ∙ ap (λ (s : SeatState). length s.took) gains.0 ∙ length-append mid.took (duty.entry ∷ [])
 one_more mid new duty false gains is =
     ap (λ (s : SeatState). length s.took) is ∙ ap (λ (s : SeatState). length s.took) gains.0 ∙ length-append mid.took (duty.entry ∷ [])
-
--- what was taken was answered
-pub turned : {O : Type 0} (taken : Take O) (turn : CameTo) (old new : SeatState) → MatchTake taken (GainsEntry old) (λ seat. seat ≡ old) → IsAnswered taken turn new → Turns old turn new
-turned (take.Taken duty) (Served finished) old new gains serves = (duty, gains, serves)
-turned (take.Taken duty) (Empty found) old new gains serves = absurd serves
-turned (take.Taken duty) Busy old new gains serves = absurd serves
-turned (take.Empty seat) (Served finished) old new same is = absurd is
-turned (take.Empty seat) (Empty found) old new same is = is ∙ same
-turned (take.Empty seat) Busy old new same is = absurd is
-turned (take.Busy seat) (Served finished) old new same is = absurd is
-turned (take.Busy seat) (Empty found) old new same is = absurd is
-turned (take.Busy seat) Busy old new same is = is ∙ same

@@ -36,7 +36,7 @@ pub record LockedState : Type 0 where
   pub sent : List Entry  -- the entries that the line was sent, as its owner knows
   pub published : ℕ  -- the number of entries that were sent, which is kept beside the world
   pub finished : ℕ  -- the number of finished duties, by the ledger
-  pub shortages : ℕ  -- how often a push ran out of memory, modulo 2^64
+  pub shortages : ℕ  -- how often a push or an end ran out of memory, modulo 2^64
 
 abbrev pub locked_state : WorldView → List Entry → ℕ → ℕ → ℕ → LockedState
 locked_state world sent published finished shortages = record { world = world; sent = sent; published = published; finished = finished; shortages = shortages }

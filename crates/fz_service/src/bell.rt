@@ -1,21 +1,77 @@
 //! The eventcount that wakes sleeping workers.
 
-use std::sync::Wait;
-use std::sync::atomic::{AtomicU64, Ordering};
-use std::time::Duration;
+ghost use Rattle.std.specs.Prelude.{◌≡◌, ◌≤◌, [], ◌∷◌, ◌++◌, length};
+ghost use Rattle.fz_service.specs.declared.event.Event.TheVariants.{Listened};
+ghost use Rattle.fz_service.specs.Waits.{HasLooked};
 
-/// The longest sleep of a worker, in milliseconds. It bounds the delay if a caller sets `stop` without waking the workers.
-const MILLISECONDS_OF_SLEEP: u64 = 50;
+use crate::diary::Diary;
+use crate::workers::Gate;
+use fz_line::Owner;
+use std::alloc::Global;
+use std::sync::atomic::{AtomicBool, AtomicU64, Ordering};
+use std::sync::{Arc, Wait};
 
 /// A service's eventcount.
 ///
 /// No wake-up is lost. A worker that is about to sleep counts itself as a sleeper, reads the number of rings, checks `stop` and the line once more, and
 /// sleeps only if the number hasn't changed since. A waker sends its entries or sets `stop` before it checks for sleepers. All these steps are sequentially
 /// consistent, so either the sleeper sees what was sent, or the waker sees the sleeper.
+///
+/// That a worker looks after it has listened, and that entries are sent before the bell is rung for them, is required by `sleep` and by `Rung::ring`.
 #[derive(Drop)]
 pub(crate) struct Bell {
     sleepers: AtomicU64,
     rings: AtomicU64,
+}
+
+/// The number of entries that were sent and for which the bell was rung.
+#[derive(Drop)]
+pub(crate) struct Rung {
+    bell: Arc<Bell, Global>,
+    pub(crate) entries: usize,
+}
+
+impl Rung {
+    pub(crate) fn new(bell: Arc<Bell, Global>) -> Rung
+        ensures { result.entries ≡ 0 }
+    {
+        Rung { bell, entries: 0 }
+    }
+
+    /// Wakes one sleeper for each entry that was sent since the last ring, as far as there are sleepers. `sent` is how many its owner has sent.
+    pub(crate) fn ring(&mut self, _owner: &Owner, sent: usize)
+        requires sent { sent ≡ length _owner.now.sent }
+        requires more { self.old.entries ≤ sent }
+        ensures { self.new.entries ≡ sent }
+    {
+        self.bell.ring_for(sent - self.entries);
+        self.entries = sent;
+    }
+}
+
+/// The flag that tells workers to stop. Setting it wakes all that sleep.
+#[derive(Drop)]
+pub(crate) struct Stop<'a> {
+    bell: &'a Bell,
+    flag: AtomicBool,
+}
+
+impl<'a> Stop<'a> {
+    pub(crate) fn new(bell: &'a Bell) -> Stop<'a> {
+        Stop {
+            bell,
+            flag: AtomicBool::new(false),
+        }
+    }
+
+    pub(crate) fn flag(&self) -> &AtomicBool {
+        &self.flag
+    }
+
+    pub(crate) fn set(&self) {
+        self.flag.store(true, Ordering::SeqCst);
+        self.bell.ring();
+    }
 }
 
 /// The number of rings that a worker has read, as far as a sleep compares it. Only `Bell::listen` makes one.
@@ -31,7 +87,7 @@ impl Bell {
     }
 
     /// Wakes one sleeper for each of these entries, as far as there are sleepers.
-    pub(crate) fn ring_for(&self, entries: usize) {
+    fn ring_for(&self, entries: usize) {
         if entries == 0 {
             return;
         }
@@ -54,8 +110,10 @@ impl Bell {
     }
 
     /// Reads how often the bell was rung while a worker slept.
-    pub(crate) fn listen(&self) -> Heard {
-        Heard((self.rings.load(Ordering::SeqCst) % (1 << 32)) as u32)
+    pub(crate) fn listen(&self, diary: &mut Diary) -> Heard
+        ensures { diary.new.events ≡ diary.old.events ++ Listened ∷ [] }
+    {
+        Heard(diary.listen(&self.rings))
     }
 
     /// Counts the caller as a sleeper, until it gets up.
@@ -67,9 +125,10 @@ impl Bell {
         self.sleepers.fetch_sub(1, Ordering::SeqCst);
     }
 
-    /// Sleeps until the bell is rung, unless it was rung since this number was read.
-    pub(crate) fn sleep<R: Wait>(&self, heard: Heard, rt: &R) {
-        let most = Duration::from_millis(MILLISECONDS_OF_SLEEP);
-        self.rings.park_timeout(rt, heard.0, most);
+    /// Sleeps until the bell is rung, unless it was rung since this number was read. Requires that the worker has since looked at `stop` and at the line.
+    pub(crate) fn sleep<G: Gate, R: Wait>(&self, heard: Heard, _diary: &Diary, gate: &G, rt: &R)
+        requires { HasLooked _diary.now.events }
+    {
+        gate.park(&self.rings, heard.0, rt);
     }
 }

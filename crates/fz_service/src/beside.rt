@@ -7,6 +7,7 @@ ghost use Rattle.fz_world.specs.Does.{open_causes};
 ghost use Rattle.fz_service.specs.Ends.{IsEndOfSize};
 ghost use Rattle.fz_service.specs.Workers.{ExtendEach};
 
+use crate::bell::Stop;
 use crate::ending::Final;
 use crate::opening::Opening;
 use crate::prepared::Prepared;
@@ -18,7 +19,6 @@ use fz_world::Config;
 use std::alloc::Global;
 use std::marker::Brand;
 use std::sync::Wait;
-use std::sync::atomic::{AtomicBool, Ordering};
 use std::thread::Threads;
 use std::{mem, thread};
 
@@ -39,7 +39,7 @@ impl<O: Opening> Service<O> {
         ensures seats { ExtendEach seats.items result.0.items }
         ensures main { F.post main result.1 }
     {
-        let stop = AtomicBool::new(false);
+        let stop = Stop::new(&self.bell);
         let alloc = *seats.allocator();
         let mut given = seats;
         let slot = &mut given;
@@ -49,11 +49,18 @@ impl<O: Opening> Service<O> {
             rt,
             || -> Vec<Seat<O>>
                 ensures { ExtendEach slot.entry.now.items result.items }
-            { self.run_workers(mem::replace(slot, Vec::new(alloc)), procs, gate, &stop, rt) },
+            {
+                self.run_workers(
+                    mem::replace(slot, Vec::new(alloc)),
+                    procs,
+                    gate,
+                    stop.flag(),
+                    rt,
+                )
+            },
             || {
                 let answer = main();
-                stop.store(true, Ordering::SeqCst);
-                self.wake();
+                stop.set();
                 answer
             },
         );

@@ -1,6 +1,6 @@
 //! The calls of a world, under the lock.
 
-ghost use Rattle.std.specs.Prelude.{◌≡◌, ◌<◌, ◌≤◌, ◌⊎◌, ◌+◌, ◌*◌, ◌↔◌, ℕ, IsTrue, IsFalse, IfOk, IfErr, IsSome, OnOk, OnErr, drop, length};
+ghost use Rattle.std.specs.Prelude.{◌≡◌, ◌<◌, ◌≤◌, ◌⊎◌, ◌+◌, ◌*◌, ◌↔◌, ℕ, IsTrue, IsFalse, IfOk, IfErr, OnOk, OnErr, drop, length};
 ghost use Rattle.std.specs.Option.{IsNone};
 ghost use Rattle.std.specs.FinMap.{len};
 ghost use Rattle.std.specs.FinSet.{contains};
@@ -250,9 +250,9 @@ impl<O: Opening> Locked<O> {
         self.world.unlink(which, frame, slot, offset)
     }
 
-    /// Moves a link from one place to another; its target stays the same, and no word changes.
+    /// Moves a link from one place to another; its target stays the same, and no word changes. Takes no memory. Takes time as `World::move_link` does.
     ///
-    /// Fails with, in this order: `BadSlot` for either slot, `NotPointer` and `OutsideObject` for the old place, the same for the new one, `NoMemory`.
+    /// Fails with, in this order: `BadSlot` for either slot, `NotPointer` and `OutsideObject` for the old place, the same for the new one.
     pub fn move_link(
         &mut self,
         which: LinkKind,
@@ -265,9 +265,8 @@ impl<O: Opening> Locked<O> {
     ) -> Result<MoveAnswer, Refusal>
         ensures step { Does self.old.world (Make (Move which (place_at frame slot offset) (place_at to_frame to_slot to_offset))) result self.new.world }
         ensures line { KeepsLine self.old self.new }
-        ensures caused { IsJudgedOrLacks (causes self.old.world.core (Make (Move which (place_at frame slot offset) (place_at to_frame to_slot to_offset)))) result }
+        ensures caused { IsJudgedBy (causes self.old.world.core (Make (Move which (place_at frame slot offset) (place_at to_frame to_slot to_offset)))) result }
         ensures refused { OnErr result (self.new ≡ self.old) }
-        ensures growth { IfErr result (λ r. r ≡ Refusal.NoMemory → IsSome (link_at self.old.world.core which (place_at frame slot offset)) × IsNone (link_at self.old.world.core which (place_at to_frame to_slot to_offset))) }
         ensures marks { KeepsMarks self.old.world self.new.world }
     {
         self.world
@@ -406,7 +405,7 @@ impl<O: Opening> Locked<O> {
         ensures waiting { self.old.published < length self.old.world.queue → (result ≡ 0) × (self.new ≡ self.old) }
         ensures freed { result + self.new.world.remembered ≡ self.old.world.remembered }
     {
-        if (self.published as u64) < self.world.queued() {
+        if (self.rung.entries as u64) < self.world.queued() {
             return 0;
         }
         self.world.forget()

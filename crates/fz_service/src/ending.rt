@@ -1,17 +1,17 @@
 //! Ending a service.
 
 ghost use Rattle.fz_line.specs.States.{taken_by};
-ghost use Rattle.std.specs.Prelude.{◌≡◌, ◌+◌, ◌-◌, ◌≤◌, ◌⊎◌, ◌↔◌, [], ◌++◌, IsTrue, IfOk, IfErr, length, sum_by, All, vec_capacity};
+ghost use Rattle.std.specs.Prelude.{◌≡◌, ◌≢◌, ◌+◌, ◌-◌, ◌≤◌, ◌⊎◌, ◌↔◌, [], ◌++◌, IsTrue, IfOk, IfErr, length, sum_by, All, vec_capacity};
 ghost use Rattle.std.specs.FinMap.{len};
 ghost use Rattle.fz_service.specs.States.{IsInOrder};
 ghost use Rattle.fz_service.specs.Ends.{IsEnd, IsEachOnce, IsOfLine, IsRefusedEnd, has_index};
 
 use crate::locked::{Locked, queue_from};
 use crate::opening::{Finishes, Opening};
+use crate::room::reserve;
 use crate::seat::Seat;
 use fz_line::retire_all;
 use fz_model::{Entry, Refusal};
-use std::alloc::{AllocError, Global};
 use std::sync::ledger::Share;
 
 /// The totals of an ended service.
@@ -36,13 +36,15 @@ pub struct Final {
 impl<O: Opening> Locked<O> {
     /// Ends the service, which requires all its seats. No pass is carried out. Takes time proportional to the heap and to the entries that are left.
     ///
-    /// Fails with, in this order: `SeatsMissing` if the seats' indices aren't each index exactly once, `NoMemory` if an allocation fails. Then it returns
-    /// everything that it was given.
+    /// Fails with, in this order: `SeatsMissing` if the seats' indices aren't each index exactly once, `NoMemory` if an allocation fails, which counts as a
+    /// shortage. Then it returns everything that it was given.
     pub fn end(self, seats: Vec<Seat<O>>) -> Result<Final, (Refusal, Locked<O>, Vec<Seat<O>>)>
         ensures ended { IfOk result (λ end. IsEnd self seats.items end × IsEachOnce O.origin.workers seats.items) }
         ensures order { IsInOrder O.origin self }
         ensures refused { IfErr result (λ refused. IsRefusedEnd O.origin.workers seats.items refused.0) }
-        ensures same { IfErr result (λ refused. (refused.1 ≡ self) × (refused.2.items ≡ seats.items)) }
+        ensures same { IfErr result (λ refused. (refused.1 ≡ record self { shortages = refused.1.shortages }) × (refused.2.items ≡ seats.items)) }
+        ensures missing { IfErr result (λ refused. refused.0 ≡ Refusal.SeatsMissing → refused.1 ≡ self) }
+        ensures short { IfErr result (λ refused. refused.0 ≡ Refusal.NoMemory → refused.1.shortages ≢ self.shortages) }
     {
         if !is_each_once(seats.as_slice(), self.owner.seats()) {
             return Err((Refusal::SeatsMissing, self, seats));
@@ -51,9 +53,13 @@ impl<O: Opening> Locked<O> {
             .world
             .queued()
             .saturating_sub(count_taken(seats.as_slice()));
-        match room(self.alloc, entries as usize, seats.len()) {
+        match reserve(self.alloc, entries as usize, seats.len()) {
             Ok((left, plain)) => Ok(self.settle(seats, plain, left)),
-            Err(_) => Err((Refusal::NoMemory, self, seats)),
+            Err(no_room) => {
+                let mut locked = self;
+                locked.shortages.note_room(no_room);
+                Err((Refusal::NoMemory, locked, seats))
+            }
         }
     }
 
@@ -72,19 +78,18 @@ impl<O: Opening> Locked<O> {
             alloc: _,
             world,
             mut owner,
-            published,
+            rung,
             shortages: _,
             mut book,
             rest,
             holds: _,
-            bell: _,
         } = self;
         let (mut plain, mut all) = without_shares(seats, plain, rest);
         book.audit(&mut all);
         owner.drain(plain.as_mut_slice(), &mut left);
         retire_all(plain);
-        let taken = (published - left.len()) as u64;
-        append(&mut left, queue_from(&world, published));
+        let taken = (rung.entries - left.len()) as u64;
+        append(&mut left, queue_from(&world, rung.entries));
         drop(world);
         let finished = enqueued - outstanding;
         Final {
@@ -107,20 +112,6 @@ fn count_taken<O: Opening>(seats: &[Seat<O>]) -> u64
         [] => 0,
         [first, rest @ ..] => first.taken().saturating_add(count_taken(rest)),
     }
-}
-
-/// Room for this number of entries and this number of seats.
-fn room(
-    alloc: Global,
-    entries: usize,
-    seats: usize,
-) -> Result<(Vec<Entry>, Vec<fz_line::Seat>), AllocError>
-    ensures entries { IfOk result (λ room. (room.0.items ≡ []) × (entries ≤ vec_capacity room.0)) }
-    ensures seats { IfOk result (λ room. (room.1.items ≡ []) × (seats ≤ vec_capacity room.1)) }
-{
-    let left = Vec::with_capacity(alloc, entries)?;
-    let plain = Vec::with_capacity(alloc, seats)?;
-    Ok((left, plain))
 }
 
 /// The seats without their shares, and the sum of the shares. The caller provides room for the seats.

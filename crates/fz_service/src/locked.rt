@@ -11,7 +11,7 @@ ghost use Rattle.fz_service.specs.States.{locked_state, line_room, LetsGo, RunsC
 ghost use Rattle.std.specs.Fn.{FnOnceReturnsAtMut};
 ghost use Rattle.fz_service.specs.Takes.{reply_of};
 
-use crate::bell::Bell;
+use crate::bell::{Bell, Rung};
 use crate::opening::{Finishes, Opening};
 use crate::seat::{Duty, Seat};
 use crate::shortages::Shortages;
@@ -31,14 +31,13 @@ pub struct Locked<O: Opening> {
     pub(crate) alloc: Global,
     pub(crate) world: World,
     pub(crate) owner: Owner,
-    pub(crate) published: usize,
+    /// How many entries the line was sent, for each of which a sleeper was woken.
+    pub(crate) rung: Rung,
     pub(crate) shortages: Shortages,
     pub(crate) book: Book<Finishes<O>>,
     /// The rest of the ledger's shares, after each seat got its own: no part.
     pub(crate) rest: Share<Finishes<O>>,
     pub(crate) holds: u64,
-    /// Wakes workers when entries are sent.
-    pub(crate) bell: Arc<Bell, Global>,
 }
 
 impl<O: Opening> Model for Locked<O> {
@@ -48,9 +47,9 @@ impl<O: Opening> Model for Locked<O> {
 
     ghost coded = { locked_code };
 
-    ghost view = { λ s. locked_state s.world s.owner.sent s.published s.book.total s.shortages.count };
+    ghost view = { λ s. locked_state s.world s.owner.sent s.rung.entries s.book.total s.shortages.count };
 
-    ghost invariant = { λ s. IsInOrder O.origin (locked_state s.world s.owner.sent s.published s.book.total s.shortages.count) × IsReady O.origin s.owner s.rest.parts s.rest.amount };
+    ghost invariant = { λ s. IsInOrder O.origin (locked_state s.world s.owner.sent s.rung.entries s.book.total s.shortages.count) × IsReady O.origin s.owner s.rest.parts s.rest.amount };
 }
 
 /// The entries of a queue from a number on. Requires that none of them is forgotten.
@@ -81,12 +80,11 @@ impl<O: Opening> Locked<O> {
             alloc,
             world,
             owner,
-            published: 0,
+            rung: Rung::new(bell),
             shortages: Shortages::none(),
             book,
             rest,
             holds: 0,
-            bell,
         }
     }
 
@@ -100,10 +98,10 @@ impl<O: Opening> Locked<O> {
     pub fn outbox(&self) -> &[Entry]
         ensures { result.now ≡ drop self.now.published self.now.world.queue }
     {
-        queue_from(&self.world, self.published)
+        queue_from(&self.world, self.rung.entries)
     }
 
-    /// How often a push ran out of memory, so that entries stayed in the overflow queue; modulo 2^64.
+    /// How often a push ran out of memory, so that entries stayed in the overflow queue, or an end; modulo 2^64.
     pub fn shortages(&self) -> u64
         ensures { result ≡ self.now.shortages }
     {
@@ -122,11 +120,11 @@ impl<O: Opening> Locked<O> {
         ensures short { self.new.published < length self.old.world.queue → self.new.shortages ≢ self.old.shortages }
         ensures room { self.new.published < length self.old.world.queue → line_room O.origin.blocks ≤ self.new.published }
     {
-        let outbox = queue_from(&self.world, self.published);
+        let outbox = queue_from(&self.world, self.rung.entries);
         let (count, shortage) = self.owner.publish(outbox);
         self.shortages.note(shortage);
-        self.published += count;
-        self.bell.ring_for(count);
+        let sent = self.rung.entries + count;
+        self.rung.ring(&self.owner, sent);
         count
     }
 

@@ -116,8 +116,8 @@ impl<O: Opening> Service<O> {
         Ok(prepared.into_service(room, bell, rung))
     }
 
-    /// Takes the lock. Under the lock the world is always in a state reachable in the model, the entries sent are a prefix of its queue, and entries that are
-    /// no longer held were finished by duties. May block.
+    /// Takes the lock. Under the lock the world is always in a state reachable in the model, the entries sent are a prefix of its queue, and as many of its
+    /// entries are no longer held as duties have finished. May block.
     pub fn enter<'a, R: Wait>(&'a self, rt: &R) -> Guard<'a, O>
         ensures { IsInOrder O.origin (mutex_guard_value result) }
     {

@@ -1,11 +1,12 @@
-//! How often a push ran out of memory.
+//! How often memory ran out.
 
 ghost use Rattle.std.specs.Prelude.{◌≡◌, ◌≢◌, IsSome};
 ghost use Rattle.std.specs.Option.{IsNone};
 
+use crate::room::NoRoom;
 use fz_line::Shortage;
 
-/// A counter of shortages, which only a shortage increments.
+/// A counter of shortages, which only a push or a reservation that ran out of memory increments.
 #[derive(Drop)]
 pub(crate) struct Shortages {
     count: u64,
@@ -25,17 +26,30 @@ impl Shortages {
         self.count
     }
 
-    /// Counts the shortage, if there is one.
+    fn one_more(&mut self)
+        ensures { self.new.count ≢ self.old.count }
+    {
+        self.count = if self.count == u64::MAX {
+            0
+        } else {
+            self.count + 1
+        };
+    }
+
+    /// Counts the shortage of a push, if there is one.
     pub(crate) fn note(&mut self, shortage: Option<Shortage>)
         ensures counted { IsSome shortage → self.new.count ≢ self.old.count }
         ensures same { IsNone shortage → self.new.count ≡ self.old.count }
     {
         if let Some(_counted) = shortage {
-            self.count = if self.count == u64::MAX {
-                0
-            } else {
-                self.count + 1
-            };
+            self.one_more();
         }
+    }
+
+    /// Counts a reservation that failed.
+    pub(crate) fn note_room(&mut self, _no_room: NoRoom)
+        ensures { self.new.count ≢ self.old.count }
+    {
+        self.one_more();
     }
 }

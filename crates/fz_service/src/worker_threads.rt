@@ -1,15 +1,18 @@
 //! Worker threads.
 
-ghost use Rattle.std.specs.Prelude.{◌≡◌, ◌≢◌, ℕ, ◌<◌, ◌≤◌, [], Some, length, map, slice_get, slice_index_or, vec_capacity};
+ghost use Rattle.std.specs.Prelude.{◌≡◌, ◌≢◌, ℕ, ◌<◌, ◌≤◌, [], ◌∷◌, ◌++◌, None, Some, IsSome, IsTrue, length, map, slice_get, slice_index_or, vec_capacity};
+ghost use Rattle.fz_service.specs.declared.event.Event.TheVariants.{Told, Listened, FoundEmpty};
 ghost use Rattle.fz_service.specs.Workers.{Extends, ExtendEach, SlotExtends, slots_of, in_slots};
+ghost use Rattle.fz_service.specs.Diary.{Gains, RunsEach, EndsWith, EndsWork};
+ghost use Rattle.fz_service.specs.Waits.{HasListened, HasLooked, RunsNone};
 
 use crate::bell::{Bell, Heard};
+use crate::diary::{Diary, Served};
 use crate::opening::Opening;
 use crate::seat::Seat;
 use crate::service::Service;
-use crate::told::Told;
-use crate::turn::{CameTo, FoundEmpty, Turn};
-use crate::workers::{Gate, Proc, lock_for_next_turn};
+use crate::turn::{CameTo, Turn};
+use crate::workers::{Gate, Proc};
 use std::alloc::Global;
 use std::sync::Wait;
 use std::sync::atomic::AtomicBool;
@@ -36,7 +39,9 @@ struct Pause<'a> {
 }
 
 impl<'a> Pause<'a> {
-    fn new(bell: &'a Bell) -> Pause<'a> {
+    fn new(bell: &'a Bell) -> Pause<'a>
+        ensures { result.heard ≡ None }
+    {
         Pause {
             bell,
             spins: 0,
@@ -46,7 +51,9 @@ impl<'a> Pause<'a> {
     }
 
     /// Called when the line had an entry, or the worker has to stop: the next pause starts from the beginning.
-    fn end(&mut self) {
+    fn end(&mut self)
+        ensures { self.new.heard ≡ None }
+    {
         if self.heard.is_some() {
             self.bell.get_up();
         }
@@ -55,7 +62,11 @@ impl<'a> Pause<'a> {
         self.yields = 0;
     }
 
-    fn once<R: Wait>(&mut self, rt: &R) {
+    fn once<G: Gate, R: Wait>(&mut self, diary: &mut Diary, gate: &G, rt: &R)
+        requires { IsSome self.old.heard → HasLooked diary.old.events }
+        ensures listened { IsSome self.new.heard → HasListened diary.new.events }
+        ensures none { Gains diary.old.events diary.new.events RunsNone }
+    {
         if self.spins < SPINS_IN_A_ROW {
             self.spins += 1;
             spin();
@@ -63,17 +74,20 @@ impl<'a> Pause<'a> {
             self.yields += 1;
             thread::yield_now();
         } else {
-            self.sleep(rt);
+            self.sleep(diary, gate, rt);
         }
     }
 
     /// The first call only counts the worker as a sleeper, so that it checks once more.
-    fn sleep<R: Wait>(&mut self, rt: &R) {
+    fn sleep<G: Gate, R: Wait>(&mut self, diary: &mut Diary, gate: &G, rt: &R)
+        requires { IsSome self.old.heard → HasLooked diary.old.events }
+        ensures { diary.new.events ≡ diary.old.events ++ Listened ∷ [] }
+    {
         match self.heard {
-            Some(heard) => self.bell.sleep(heard, rt),
+            Some(heard) => self.bell.sleep(heard, diary, gate, rt),
             None => self.bell.lie_down(),
         }
-        self.heard = Some(self.bell.listen());
+        self.heard = Some(self.bell.listen(diary));
     }
 }
 
@@ -86,10 +100,11 @@ fn spin() {
 /// The procedures of one worker.
 type List = Vec<Box<dyn Proc + Send>>;
 
-/// A seat that is sent to a thread and back, with its list of procedures.
+/// A seat that is sent to a thread and back, with its list of procedures, and whether the thread has served it to the end.
 struct Worker<O: Opening, L> {
     slot: Option<Seat<O>>,
     procs: L,
+    served: Served,
 }
 
 impl<O: Opening> Worker<O, List> {
@@ -101,11 +116,14 @@ impl<O: Opening> Worker<O, List> {
         stop: &AtomicBool,
         rt: &R,
     )
-        ensures { SlotExtends self.old.slot self.new.slot }
+        ensures slot { SlotExtends self.old.slot self.new.slot }
+        ensures served { IsSome self.old.slot → IsTrue self.new.served.is_over }
     {
         if let Some(seat) = mem::replace(&mut self.slot, None) {
+            let mut diary = Diary::new();
             let procs = self.procs.as_mut_slice();
-            let (seat, _, _) = service.serve_until(seat, procs, gate, stop, rt);
+            let seat = service.serve_until(seat, procs, &mut diary, gate, stop, rt);
+            self.served = diary.served();
             if let Some(other) = mem::replace(&mut self.slot, Some(seat)) {
                 other.retire();
             }
@@ -152,6 +170,7 @@ fn with_lists<O: Opening>(
         workers.push_reserved(Worker {
             slot: Some(seat),
             procs: list,
+            served: Served::not_yet(),
         });
     }
     workers
@@ -168,7 +187,11 @@ fn without_lists<O: Opening>(
 {
     let mut number = 0;
     while workers.len() > 0 {
-        let Worker { slot, procs: list } = workers.remove(0);
+        let Worker {
+            slot,
+            procs: list,
+            served: _,
+        } = workers.remove(0);
         put_list_back(procs, number, list);
         number += 1;
         if let Some(seat) = slot {
@@ -185,65 +208,64 @@ impl<O: Opening> Service<O> {
         &self,
         seat: Seat<O>,
         procs: &mut [Box<dyn Proc + Send>],
+        diary: &mut Diary,
         gate: &G,
         stop: &AtomicBool,
         rt: &R,
-    ) -> (Seat<O>, Told)
-        ensures { Extends seat result.0 }
+    ) -> Seat<O>
+        ensures seat { Extends seat result }
+        ensures told { Gains diary.old.events diary.new.events (λ events. RunsEach (length procs.old) seat result events × EndsWith Told events) }
     {
         let mut seat = seat;
         let mut pause = Pause::new(&self.bell);
         let mut held = None;
-        let mut turns = 0u64;
         for _turn in rt.forever() {
-            if let Some(told) = Told::read(stop) {
+            if diary.is_told(stop) {
                 pause.end();
-                return (seat, told);
+                return seat;
             }
             let Turn {
                 seat: same,
                 came_to,
                 held: locked,
-            } = self.take_turn(seat, procs, gate, rt, held);
+            } = self.take_turn(seat, procs, diary, gate, rt, held);
             seat = same;
-            held = lock_for_next_turn(locked, turns);
-            turns = turns.wrapping_add(1);
+            held = locked;
             match came_to {
                 CameTo::Served(_) => pause.end(),
                 CameTo::Busy => hint::spin_loop(),
-                CameTo::Empty(_) => pause.once(rt),
+                CameTo::Empty => pause.once(diary, gate, rt),
             }
         }
         unreachable!()
     }
 
-    /// Takes turns until one finds the line empty. Requires that the worker was told to stop.
+    /// Takes turns until one finds the line empty.
     fn serve_rest<G: Gate, R: Wait>(
         &self,
-        _told: &Told,
         seat: Seat<O>,
         procs: &mut [Box<dyn Proc + Send>],
+        diary: &mut Diary,
         gate: &G,
         rt: &R,
-    ) -> (Seat<O>, FoundEmpty)
-        ensures { Extends seat result.0 }
+    ) -> Seat<O>
+        ensures seat { Extends seat result }
+        ensures empty { Gains diary.old.events diary.new.events (λ events. RunsEach (length procs.old) seat result events × EndsWith FoundEmpty events) }
     {
         let mut seat = seat;
         let mut held = None;
-        let mut turns = 0u64;
         for _turn in rt.forever() {
             let Turn {
                 seat: same,
                 came_to,
                 held: locked,
-            } = self.take_turn(seat, procs, gate, rt, held);
+            } = self.take_turn(seat, procs, diary, gate, rt, held);
             seat = same;
-            held = lock_for_next_turn(locked, turns);
-            turns = turns.wrapping_add(1);
+            held = locked;
             match came_to {
                 CameTo::Served(_) => (),
                 CameTo::Busy => hint::spin_loop(),
-                CameTo::Empty(found) => return (seat, found),
+                CameTo::Empty => return seat,
             }
         }
         unreachable!()
@@ -254,15 +276,16 @@ impl<O: Opening> Service<O> {
         &self,
         seat: Seat<O>,
         procs: &mut [Box<dyn Proc + Send>],
+        diary: &mut Diary,
         gate: &G,
         stop: &AtomicBool,
         rt: &R,
-    ) -> (Seat<O>, Told, FoundEmpty)
-        ensures { Extends seat result.0 }
+    ) -> Seat<O>
+        ensures seat { Extends seat result }
+        ensures ended { Gains diary.old.events diary.new.events (λ events. RunsEach (length procs.old) seat result events × EndsWork events) }
     {
-        let (seat, told) = self.serve_until_told(seat, procs, gate, stop, rt);
-        let (seat, found) = self.serve_rest(&told, seat, procs, gate, rt);
-        (seat, told, found)
+        let seat = self.serve_until_told(seat, procs, diary, gate, stop, rt);
+        self.serve_rest(seat, procs, diary, gate, rt)
     }
 
     /// Serves with each of these seats, on a thread of its own if one can be started.
@@ -277,13 +300,15 @@ impl<O: Opening> Service<O> {
         O: Send + Sync,
         ensures len { length workers.new.items ≡ length workers.old.items }
         ensures each { (i : ℕ) (d : _) → i < length workers.old.items → SlotExtends (slice_index_or workers.old.items i d).slot (slice_index_or workers.new.items i d).slot }
+        ensures served { (i : ℕ) (d : _) → i < length workers.old.items → IsSome (slice_index_or workers.old.items i d).slot → IsTrue (slice_index_or workers.new.items i d).served.is_over }
     {
         let threads = workers.len();
         if threads == 0 {
             return;
         }
         let serve = |_: usize, worker: &mut Worker<O, List>|
-            ensures { SlotExtends worker.old.slot worker.new.slot }
+            ensures slot { SlotExtends worker.old.slot worker.new.slot }
+            ensures served { IsSome worker.old.slot → IsTrue worker.new.served.is_over }
         { worker.serve_from_slot(self, gate, stop, rt) };
         thread::for_each_mut(rt, workers.as_mut_slice(), threads, &serve);
     }

@@ -1,11 +1,12 @@
 //! Workers, which take entries and run their procedures.
 
-ghost use Rattle.std.specs.Prelude.{◌≡◌, ◌==◌, ◌+◌, ◌-◌, ◌%◌, ◌≤◌, None, if◌then◌else◌, length};
-ghost use Rattle.fz_service.specs.declared.workers.TheConstants.{TURNS_IN_A_HOLD};
+ghost use Rattle.std.specs.Prelude.{◌≡◌, ◌+◌, ◌≤◌, length};
 ghost use Rattle.fz_service.specs.States.{RunsCalls};
 ghost use Rattle.fz_service.specs.Workers.{Extends};
+ghost use Rattle.fz_service.specs.Diary.{Gains, RunsEach};
 ghost use Rattle.fz_service.specs.Turns.{UsesUp};
 
+use crate::diary::Diary;
 use crate::opening::Opening;
 use crate::seat::Seat;
 use crate::service::Service;
@@ -13,6 +14,8 @@ use crate::turn::{CameTo, Turn};
 use fz_model::Entry;
 use fz_world::World;
 use std::sync::Wait;
+use std::sync::atomic::AtomicU64;
+use std::time::Duration;
 
 /// A finalizer's procedure. Each part has an empty default.
 pub trait Proc: Drop {
@@ -49,7 +52,10 @@ macro_rules! procedures {
     }};
 }
 
-/// A hook that is called for each entry before its procedure.
+/// The longest sleep of a worker, in milliseconds.
+const MILLISECONDS_OF_SLEEP: u64 = 50;
+
+/// A hook that is called for each entry before its procedure, and where a worker sleeps.
 pub trait Gate {
     /// The entry with this sequence number was taken. Called without the lock.
     fn entered(&self, seq: u64);
@@ -57,6 +63,15 @@ pub trait Gate {
     /// Whether it lets all entries through, so that it need not be called.
     fn lets_all_through(&self) -> bool {
         false
+    }
+
+    /// Puts a worker to sleep that has found nothing to do, until the low 32 bits of `rings` differ from `heard`. It may return earlier, for no reason. Called
+    /// without the lock.
+    ///
+    /// A sleep ends after 50 milliseconds at the latest, which bounds the delay if a caller sets `stop` without waking the workers. A test substitutes sleeps
+    /// that don't end by themselves, so that no wake-up may be lost.
+    fn park<R: Wait>(&self, rings: &AtomicU64, heard: u32, rt: &R) {
+        rings.park_timeout(rt, heard, Duration::from_millis(MILLISECONDS_OF_SLEEP));
     }
 }
 
@@ -71,20 +86,6 @@ impl Gate for OpenGate {
     }
 }
 
-/// The largest number of turns in a row for which a worker keeps the lock.
-const TURNS_IN_A_HOLD: u64 = 32;
-
-/// The lock for the next turn, given how many turns came before this one. Every 32nd time it is released, so that other threads can take it.
-pub(crate) fn lock_for_next_turn<T: Drop>(held: Option<T>, turns_before: u64) -> Option<T>
-    ensures { result ≡ (if turns_before % TURNS_IN_A_HOLD == TURNS_IN_A_HOLD - 1 then None else held) }
-{
-    if turns_before % TURNS_IN_A_HOLD == TURNS_IN_A_HOLD - 1 {
-        None
-    } else {
-        held
-    }
-}
-
 impl<O: Opening> Service<O> {
     /// Takes turns until it took `limit` entries or a turn took none. Returns the seat, how many entries it finished, and how its last turn ended, if that
     /// took no entry.
@@ -92,11 +93,13 @@ impl<O: Opening> Service<O> {
         &self,
         seat: Seat<O>,
         procs: &mut [Box<dyn Proc + Send>],
+        diary: &mut Diary,
         limit: u64,
         gate: &G,
         rt: &R,
     ) -> (Seat<O>, u64, Option<CameTo>)
         ensures seat { Extends seat result.0 }
+        ensures ran { Gains diary.old.events diary.new.events (RunsEach (length procs.old) seat result.0) }
         ensures count { result.0.finished ≡ seat.finished + result.1 }
         ensures limit { result.1 ≤ limit }
         ensures used { UsesUp limit seat result.2 result.0 }
@@ -104,17 +107,17 @@ impl<O: Opening> Service<O> {
         let mut seat = seat;
         let mut finished = 0;
         let mut held = None;
-        for number in 0..limit {
+        for _turn in 0..limit {
             let Turn {
                 seat: same,
                 came_to,
                 held: locked,
-            } = self.take_turn(seat, procs, gate, rt, held);
+            } = self.take_turn(seat, procs, diary, gate, rt, held);
             seat = same;
-            held = lock_for_next_turn(locked, number);
+            held = locked;
             match came_to {
                 CameTo::Served(is_finished) => finished += is_finished as u64,
-                CameTo::Empty(_) | CameTo::Busy => return (seat, finished, Some(came_to)),
+                CameTo::Empty | CameTo::Busy => return (seat, finished, Some(came_to)),
             }
         }
         (seat, finished, None)
@@ -141,7 +144,8 @@ impl<O: Opening> Service<O> {
         ensures limit { result.1 ≤ limit }
         ensures taken { length result.0.took ≤ length seat.took + limit }
     {
-        let (seat, finished, _) = self.serve_up_to(seat, procs, limit, gate, rt);
+        let diary = &mut Diary::new();
+        let (seat, finished, _) = self.serve_up_to(seat, procs, diary, limit, gate, rt);
         (seat, finished)
     }
 }

@@ -7,6 +7,7 @@ mod eight;
 mod limits;
 mod lists;
 mod lock;
+mod openings;
 mod programs;
 mod refused;
 mod rows;

@@ -11,11 +11,11 @@ mod wanted;
 ghost use Rattle.std.specs.Prelude.{◌≡◌};
 
 use arrayvec::ArrayVec;
-use fz_devices::{Limits, MemorySink, MemorySource, WHOLE};
 use fz_model::{MAX_WORKERS, Refusal};
+use fz_runs::{
+    DriveFault, Failures, Keep, Limits, MemorySink, MemorySource, Nothing, WHOLE, drive_threads,
+};
 use fz_service::{Proc, procedures};
-use fz_text::{DriveFault, Failures};
-use fz_threads::{Keep, Nothing, drive_threads};
 use std::alloc::{AllocError, Global};
 use std::marker::Brand;
 use std::sync::Wait;

@@ -1,20 +1,26 @@
 //! The table of registrations.
 
-ghost use Rattle.std.specs.Prelude.{◌≡◌, ◌+◌, ◌≤◌, ◌<◌, ◌↔◌, cond, nat_eq, length, IsTrue, IsFalse, IfSome, IfErr, OnOk, OnErr};
+ghost use Rattle.std.specs.Prelude.{◌≡◌, ◌+◌, ◌≤◌, ◌<◌, ◌↔◌, cond, nat_eq, nat_lt, length, map, option_map, false, All, IsTrue, IsFalse, IfSome, IfErr, OnOk, OnErr};
 ghost use Rattle.std.specs.FinMap.{get, remove, len, empty, from_entries};
+ghost use Rattle.std.specs.FinSet as sets;
+ghost use Rattle.std.specs.FinSet.{contains};
 ghost use Rattle.std.specs.List.{IsDistinct};
 ghost use Rattle.std.specs.Map.{keys_of};
+ghost use Rattle.std.specs.Option.{option_map_or};
 ghost use Rattle.fz_model.specs.declared.limits.TheConstants.{TABLE_LIMIT, COUNT_LIMIT};
 ghost use Rattle.fz_model.specs.declared.refusal.Refusal.TheVariants.{NoMemory};
 ghost use Rattle.fz_model.specs.Causes.{IsJudgedBy, full, register_causes};
-ghost use Rattle.fz_model.specs.Steps.{old_of, registration_of};
+ghost use Rattle.fz_model.specs.Steps.{old_of};
 ghost use Rattle.fz_table.specs.declared.limits.TheConstants.{MOST_ENTRIES};
 ghost use Rattle.fz_table.specs.Places.{lacks_place};
 ghost use Rattle.fz_table.specs.Registers.{Registers, RegistersOrLacks};
+ghost use Rattle.fz_table.specs.Tabled.{plain, shown, with_flag};
 
 use crate::hasher::AddressHasher;
 use crate::limits::MOST_ENTRIES;
 use crate::pairs::Pairs;
+use crate::registrations::Registrations;
+use crate::stored::{Stored, counted};
 use fz_model::{Addr, COUNT_LIMIT, Finalizer, Old, Refusal, Registration, TABLE_LIMIT};
 use indexmap::IndexMap;
 use std::alloc::Global;
@@ -22,8 +28,10 @@ use std::marker::Model;
 
 /// The registrations by the addresses of their objects, at most 2^32 at one time. Each gets a number, counted from 0.
 pub struct Table {
-    entries: IndexMap<Addr, Registration, AddressHasher>,
+    entries: IndexMap<Addr, Stored, AddressHasher>,
     next_number: u64,
+    /// How many of the registrations are of the kind unreachable.
+    flags: u64,
 }
 
 // Written by hand, so that the owner drops it by one proved call, not field by field at each exit of a function.
@@ -32,35 +40,34 @@ impl Drop for Table {
         let Table {
             entries: _,
             next_number: _,
+            flags: _,
         } = self;
     }
 }
 
 impl Model for Table {
-    ghost use Rattle.std.specs.Prelude.{◌≤◌, ◌≡◌};
-    ghost use Rattle.std.specs.Ordering.{nat_cmp};
-    ghost use Rattle.std.specs.FinMap.{len, from_entries};
     ghost use Rattle.indexmap.specs.IndexMap.{spare};
-    ghost use Rattle.fz_table.specs.declared.limits.TheConstants.{MOST_ENTRIES};
-    ghost use Rattle.fz_table.specs.Tabled.{Tabled, tabled_code};
+    ghost use Rattle.fz_table.specs.Tabled.{Tabled, IsTable, content_of, tabled_code};
 
     ghost Value = { Tabled };
 
     ghost coded = { tabled_code };
 
-    ghost view = { λ t. record { registered = record { registrations = from_entries t.entries.entries; next_number = t.next_number }; room = spare t.entries; order = t.entries.entries } };
+    ghost view = { λ t. record { content = content_of t.entries.entries t.next_number; room = spare t.entries; order = t.entries.entries } };
 
-    ghost invariant = { λ t. len (from_entries {R = nat_cmp} t.entries.entries) ≤ MOST_ENTRIES };
+    ghost invariant = { λ t. IsTable t.entries.entries t.next_number t.flags };
 }
 
 impl Table {
     /// An empty table.
     pub fn new(alloc: Global) -> Table
-        ensures { result.registered ≡ record { registrations = empty; next_number = 0 } }
+        ensures registered { result.registered ≡ record { registrations = empty; next_number = 0 } }
+        ensures late { result.late ≡ sets.empty }
     {
         Table {
             entries: IndexMap::with_hasher(alloc, AddressHasher::new()),
             next_number: 0,
+            flags: 0,
         }
     }
 
@@ -69,6 +76,7 @@ impl Table {
         ensures refused { IfErr result (λ r. r ≡ NoMemory) }
         ensures wanting { OnErr result (self.old.room < more) }
         ensures same { self.new.registered ≡ self.old.registered }
+        ensures late { self.new.late ≡ self.old.late }
         ensures kept { self.old.room ≤ self.new.room }
         ensures room { OnOk result (more ≤ self.new.room) }
     {
@@ -79,6 +87,7 @@ impl Table {
     /// Frees memory that the registrations don't need. If a smaller table can't be allocated, the old one stays.
     pub fn shrink(&mut self)
         ensures same { self.new.registered ≡ self.old.registered }
+        ensures late { self.new.late ≡ self.old.late }
         ensures order { self.new.order ≡ self.old.order }
     {
         self.entries.shrink_to_fit();
@@ -113,26 +122,31 @@ impl Table {
         finalizer: Finalizer,
     ) -> Result<(u64, Option<Old>), Refusal>
         ensures registers { Registers self.old.registered object finalizer result self.new.registered }
+        ensures late { OnOk result (self.new.late ≡ with_flag self.old.late object false) }
+        ensures same { OnErr result (self.new.late ≡ self.old.late) }
         // Only a call without reserved room can run out of memory.
         ensures wanting { IfErr result (λ r. r ≡ NoMemory → self.old.room ≡ 0) }
         ensures room { self.old.room ≤ self.new.room + 1 }
         ensures kept { OnErr result (self.old.room ≤ self.new.room) }
     {
         self.check(object)?;
-        self.register_checked(object, finalizer)
+        self.register_checked(object, finalizer, false)
     }
 
-    /// Registers the object's finalizer, as `register` does, but up to 2^32 objects.
+    /// Registers the object's finalizer, as `register` does, but up to 2^32 objects, and with the flag of the kind unreachable or without it.
     ///
     /// Fails with `NoMemory` if a new object needs room that can't be allocated.
     pub fn register_checked(
         &mut self,
         object: Addr,
         finalizer: Finalizer,
+        unreachable: bool,
     ) -> Result<(u64, Option<Old>), Refusal>
         requires few { self.old.next_number < COUNT_LIMIT }
         requires place { IsFalse (lacks_place self.old.registrations object) }
         ensures registers { RegistersOrLacks self.old.registered object finalizer result self.new.registered }
+        ensures late { OnOk result (self.new.late ≡ with_flag self.old.late object unreachable) }
+        ensures same { OnErr result (self.new.late ≡ self.old.late) }
         // If fewer than 65,536 other objects are registered, this is what `register` does.
         ensures within { IsFalse (full self.old.registrations object).0 → Registers self.old.registered object finalizer result self.new.registered }
         // Only a call without reserved room can run out of memory.
@@ -141,23 +155,26 @@ impl Table {
         ensures kept { OnErr result (self.old.room ≤ self.new.room) }
     {
         let number = self.next_number;
-        let registration = registration_of(number, finalizer);
+        let stored = Stored::of(number, finalizer, unreachable);
         // A failed insertion leaves the entries unchanged.
-        let replaced = self.entries.insert(object, registration)?;
+        let replaced = self.entries.insert(object, stored)?;
+        self.flags = counted(self.flags, is_flagged(replaced), unreachable);
         self.next_number = number + 1;
-        Ok((number, replaced.map(pair_of)))
+        Ok((number, registration_in(replaced).map(pair_of)))
     }
 
     /// Removes the object's registration and returns it.
     #[inline(always)]
-    #[tactic(auto, using(fz_model::proofs::Tables::get_made, fz_model::proofs::Tables::made_removed))]
     pub fn take(&mut self, object: Addr) -> Option<Registration>
         ensures answer { result ≡ get self.old.registrations object }
         ensures removed { self.new.registered ≡ record self.old.registered { registrations = remove self.old.registrations object } }
+        ensures late { self.new.late ≡ sets.remove self.old.late object }
         ensures room { self.old.room ≤ self.new.room }
         ensures count { IfSome result (λ _. len self.new.registrations + 1 ≡ len self.old.registrations) }
     {
-        self.entries.swap_remove(&object)
+        let removed = self.entries.swap_remove(&object);
+        self.flags = counted(self.flags, is_flagged(removed), false);
+        registration_in(removed)
     }
 
     /// Removes the object's registration. Returns its procedure and client data, if it was registered.
@@ -165,6 +182,7 @@ impl Table {
     pub fn remove(&mut self, object: Addr) -> Option<Old>
         ensures answer { result ≡ old_of self.old.registrations object }
         ensures removed { self.new.registered ≡ record self.old.registered { registrations = remove self.old.registrations object } }
+        ensures late { self.new.late ≡ sets.remove self.old.late object }
         ensures room { self.old.room ≤ self.new.room }
     {
         self.take(object).map(pair_of)
@@ -186,8 +204,20 @@ impl Table {
     }
 
     /// All registrations with their objects, each once. The order stays the same until the table changes.
-    pub fn iter(&self) -> Pairs<'_, Addr, Registration>
+    pub fn iter(&self) -> Registrations<'_>
         ensures all { from_entries result ≡ self.now.registrations }
+        ensures once { IsDistinct nat_eq (keys_of result) }
+        ensures count { length result ≡ len self.now.registrations }
+        ensures limit { length result ≤ MOST_ENTRIES }
+        ensures order { result ≡ map plain self.now.order }
+    {
+        Registrations::of(self.iter_stored())
+    }
+
+    /// All registrations as `iter` yields them, each with the flag of the kind unreachable.
+    pub fn iter_stored(&self) -> Pairs<'_, Addr, Stored>
+        ensures all { from_entries (map plain result) ≡ self.now.registrations }
+        ensures flags { All (λ e. e.1.unreachable ≡ contains self.now.late e.0) result }
         ensures once { IsDistinct nat_eq (keys_of result) }
         ensures count { length result ≡ len self.now.registrations }
         ensures limit { length result ≤ MOST_ENTRIES }
@@ -200,16 +230,24 @@ impl Table {
     pub fn get(&self, object: Addr) -> Option<Registration>
         ensures { result ≡ get self.now.registrations object }
     {
-        self.entries.get(&object).copied()
+        registration_in(self.entries.get(&object).copied())
     }
 
-    /// Continues with a later number, which the next registration gets.
-    pub fn skip_to(&mut self, number: u64)
-        requires { self.old.next_number ≤ number }
-        ensures skipped { self.new.registered ≡ record self.old.registered { next_number = number } }
-        ensures room { self.new.room ≡ self.old.room }
+    /// Whether the object is registered with the kind unreachable.
+    pub fn is_unreachable(&self, object: Addr) -> bool
+        ensures { result ≡ contains self.now.late object }
     {
-        self.next_number = number;
+        if self.flags == 0 {
+            return false;
+        }
+        is_flagged(self.entries.get(&object).copied())
+    }
+
+    /// Whether any object is registered with the kind unreachable.
+    pub fn has_unreachable(&self) -> bool
+        ensures { result ≡ nat_lt 0 (sets.len self.now.late) }
+    {
+        self.flags > 0
     }
 
     /// The number that the next registration gets.
@@ -234,16 +272,20 @@ impl Table {
     }
 }
 
-/// The registration of a finalizer under this number. A finalizer without a rank has rank 0.
-fn registration_of(number: u64, finalizer: Finalizer) -> Registration
-    ensures { result ≡ registration_of number finalizer }
+/// The registration that is stored, if one is.
+fn registration_in(stored: Option<Stored>) -> Option<Registration>
+    ensures { result ≡ option_map shown stored }
 {
-    Registration {
-        number,
-        proc: finalizer.procedure,
-        cd: finalizer.client_data,
-        kind: finalizer.kind,
-        rank: finalizer.rank.unwrap_or(0),
+    Some(stored?.registration())
+}
+
+/// Whether a registration is stored, and has the flag.
+fn is_flagged(stored: Option<Stored>) -> bool
+    ensures { result ≡ option_map_or (λ s. s.unreachable) stored false }
+{
+    match stored {
+        Some(stored) => stored.unreachable,
+        None => false,
     }
 }
 

@@ -7,7 +7,7 @@ use Rattle.fz_world.specs.World.{core_of}
 use Rattle.fz_world.specs.declared.world.World.TheInside.{Inside}
 
 abbrev pub core_inside : Inside → Core
-core_inside w = core_of w.marked.heap w.frames w.table.registered w.short w.long w.ready w.passes w.closed w.cycle
+core_inside w = core_of w.marked.heap w.frames w.finalizers.state w.closed w.cycle
 
 pub same_inside : (w : Inside) (size : w.marked.marker.size ≡ BLOCK_WORDS * w.marked.heap.blocks) → record w { marked = record w.marked { size = size } } ≡ w
 same_inside w size = λ i. record w { marked = record w.marked { size = ℕ_set _ _ size w.marked.size i } }

@@ -1,5 +1,3 @@
-pub mod Placed
-pub mod Queues
 pub mod Marking
 pub mod Rooted
 pub mod Does
@@ -10,6 +8,8 @@ pub mod Targets
 pub mod Scans
 pub mod Passing
 pub mod Replying
-pub mod Room
 pub mod Telling
 pub mod Stretches
+pub mod Plain
+pub mod Linking
+pub mod Leaving

@@ -9,7 +9,7 @@ use Rattle.fz_model.specs.Parts.{AreSound}
 use Rattle.fz_model.specs.State.{Core}
 use Rattle.fz_model.proofs.Events.{one_entry}
 use Rattle.fz_model.proofs.Lists.{any_at, contains_at}
-use Rattle.fz_world.specs.Ready.{IsNextHeld}
+use Rattle.fz_world.specs.Shown.{IsNextHeld}
 
 module _ (c : Core) (sound : AreSound c.objects c.registrations c.next_number c.queue c.held) (number : ℕ) where
   abbrev IsTold : Option Entry → Type 0

@@ -1,6 +1,6 @@
 -- A call of a world as a value, with everything that the contract of the method of its name states.
 -- code: fz_world/src/calls.rt
-use Rattle.std.specs.Prelude.{◌≡◌, Result, OnErr, IfOk, IfErr, IsSome, IsFalse, length}
+use Rattle.std.specs.Prelude.{◌≡◌, Result, OnErr, IfOk, IfErr, IsFalse, length}
 use Rattle.std.specs.Option.{IsNone}
 use Rattle.std.specs.FinMap.{get}
 use Rattle.fz_model.specs.declared.call.Call.{Call}
@@ -17,16 +17,13 @@ use Rattle.fz_world.specs.Cycles.{IsBegun, ScansSome, EndsScans, ScansAll}
 use Rattle.fz_world.specs.Does.{Does}
 use Rattle.fz_world.specs.Links.{link_at}
 
--- refused for the first cause that applies; only an object's first registration, a new link, and a move to a place without a link can run out of memory
+-- refused for the first cause that applies; only an object's first registration and a new link can run out of memory
 abbrev pub IsCaused : WorldView → (c : Call) → Result (CallAnswer c) Refusal → Type 0
 IsCaused old (calls.Register slot finalizer) answer =
     IsJudgedOrLacks (causes old.core (Make (calls.Register slot finalizer))) answer
     × IfErr answer (λ r. r ≡ NoMemory → IsFalse (is_off_heap old.blocks (slot_word old.frames slot)) × IsNone (get old.registrations (slot_word old.frames slot)))
 IsCaused old (calls.Link which place target) answer =
     IsJudgedOrLacks (causes old.core (Make (calls.Link which place target))) answer × IfErr answer (λ r. r ≡ NoMemory → IsNone (link_at old.core which place))
-IsCaused old (calls.Move which place to) answer =
-    IsJudgedOrLacks (causes old.core (Make (calls.Move which place to))) answer
-    × IfErr answer (λ r. r ≡ NoMemory → IsSome (link_at old.core which place) × IsNone (link_at old.core which to))
 IsCaused old c answer = IsJudgedBy (causes old.core (Make c)) answer
 
 -- how an accepted call changes marks, scans and dirty pages

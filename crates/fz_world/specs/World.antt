@@ -5,20 +5,17 @@ use Rattle.std.specs.Prelude.{◌≡◌, ℕ, ◌+◌, ◌<◌, ◌≤◌, Bool,
 use Rattle.std.specs.Coded.{Coded, code_by, coded×, coded_ℕ}
 use Rattle.std.specs.FinSet as sets
 use Rattle.std.specs.FinSet.{contains, insert}
-use Rattle.std.specs.FinMap as map
 use Rattle.fz_model.specs.declared.limits.TheConstants.{COUNT_LIMIT}
 use Rattle.fz_model.specs.State.{Map, Object, Core}
 use Rattle.fz_model.specs.Allocation.{block_of}
 use Rattle.fz_model.specs.Codes.{core_code}
 use Rattle.fz_model.specs.Parts.{AreSound}
 use Rattle.fz_heap.specs.Contents.{Contents}
-use Rattle.fz_table.specs.Registered.{Registered}
-use Rattle.fz_links.specs.Linked.{Linked}
 use Rattle.fz_bits.specs.Flags.{Set}
 use Rattle.fz_dirty.specs.Pages.{Pages}
 use Rattle.fz_marker.specs.Marking.{Marking, CleanAreClosed, readable_count}
 use Rattle.fz_pass.specs.Marks.{AreTargets}
-use Rattle.fz_world.specs.Ready.{Ready}
+use Rattle.fz_finalizers.specs.States.{State, Memory}
 
 pub record WorldView : Type 0 where
   pub core : Core
@@ -36,34 +33,34 @@ world_code =
     (λ w. (w.core, (w.marked, (w.scanned, (w.noted, (w.scans, (w.forgotten, w.remembered)))))))
     (λ p. record { core = p.0; marked = p.1.0; scanned = p.1.1.0; noted = p.1.1.1.0; scans = p.1.1.1.1.0; forgotten = p.1.1.1.1.1.0; remembered = p.1.1.1.1.1.1 }) (λ _. refl)
 
-abbrev pub core_of : Contents → List (List ℕ) → Registered → Linked → Linked → Ready → ℕ → Bool → Bool → Core
-core_of heap frames table short long ready passes closed cycle =
+abbrev pub core_of : Contents → List (List ℕ) → State → Bool → Bool → Core
+core_of heap frames s closed cycle =
     record {
       blocks = heap.blocks;
       objects = heap.objects;
       frames = frames;
-      registrations = table.registrations;
-      short = short.links;
-      long = long.links;
-      held = ready.held;
-      queue = ready.queue;
+      registrations = s.registrations;
+      short = s.short;
+      long = s.long;
+      held = s.held;
+      queue = s.queue;
       next_birth = heap.next_birth;
-      next_number = table.next_number;
-      passes = passes;
+      next_number = s.next_number;
+      passes = s.passes;
       closed = closed;
       cycle = cycle;
     }
 
-abbrev pub view_of : Core → Marking → Pages → Ready → WorldView
-view_of core marker pages ready =
+abbrev pub view_of : Core → Marking → Pages → Memory → WorldView
+view_of core marker pages memory =
     record {
       core = core;
       marked = marker.marked;
       scanned = marker.scanned;
       noted = pages.noted;
       scans = marker.scans;
-      forgotten = ready.forgotten;
-      remembered = ready.remembered;
+      forgotten = memory.forgotten;
+      remembered = memory.remembered;
     }
 
 -- the call leaves marks and dirty pages unchanged, and forgets nothing; a pass adds entries in memory
@@ -83,15 +80,20 @@ MarksMade old address new =
 abbrev pub NotesWritten : WorldView → ℕ → WorldView → Type 0
 NotesWritten old address new = new ≡ record old { core = new.core; noted = with_in_cycle old.cycle old.noted (block_of address) }
 
+-- no registration is of kind `Unreachable`, which the model doesn't have
+abbrev pub HasNoUnreachable : State → Type 0
+HasNoUnreachable s = s.late ≡ sets.empty
+
+-- and all entries are taken: a world holds what a pass queues at once
+pub record IsPlain (s : State) : Type 0 where
+  pub none : HasNoUnreachable s
+  pub taken : s.taken ≡ length s.queue
+
 -- the invariant of a world's parts, with this number of pages
-pub record IsWhole (objects : Map Object) (blocks : ℕ) (table : Registered) (ready : Ready) (pages : ℕ) : Type 0 where
-  pub sound : AreSound objects table.registrations table.next_number ready.queue ready.held
+pub record IsWhole (objects : Map Object) (blocks : ℕ) (s : State) (pages : ℕ) : Type 0 where
+  pub sound : AreSound objects s.registrations s.next_number s.queue s.held
   pub pages_are : pages ≡ blocks
-  -- there is room for the entries of all registrations
-  pub room : map.len table.registrations ≤ ready.room
-  -- each entry and each registration has its own number, so there are numbers for the entries of all registrations
-  pub few : length ready.queue + map.len table.registrations ≤ table.next_number
-  pub numbers : table.next_number ≤ COUNT_LIMIT
+  pub plain : IsPlain s
 
 -- the invariant in an open cycle
 pub record IsMidCycle (heap : Contents) (marker : Marking) (noted : Set) : Type 0 where
@@ -102,9 +104,9 @@ pub record IsMidCycle (heap : Contents) (marker : Marking) (noted : Set) : Type 
   pub none_condemned : heap.condemned ≡ sets.empty
 
 -- both as one name that proofs pass on whole
-unfoldable pub IsWorld : Contents → Registered → Ready → Marking → Pages → Bool → Type 0
-IsWorld heap table ready marker pages cycle =
-    IsWhole heap.objects heap.blocks table ready pages.pages × (IsTrue cycle → IsMidCycle heap marker pages.noted)
+unfoldable pub IsWorld : Contents → State → Marking → Pages → Bool → Type 0
+IsWorld heap s marker pages cycle =
+    IsWhole heap.objects heap.blocks s pages.pages × (IsTrue cycle → IsMidCycle heap marker pages.noted)
 
 -- a cycle is open only if its pass has a number
 abbrev pub HasNumber : ℕ → Bool → Type 0

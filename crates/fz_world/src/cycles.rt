@@ -118,7 +118,7 @@ impl World {
         if self.cycle {
             return Err(Refusal::CycleOpen);
         }
-        if self.passes >= COUNT_LIMIT - 1 {
+        if self.finalizers.passes() >= COUNT_LIMIT - 1 {
             return Err(Refusal::Exhausted);
         }
         Ok(())
@@ -140,8 +140,7 @@ impl World {
             &mut self.marked.marker,
             &self.marked.heap,
             &self.frames,
-            &self.table,
-            &self.ready,
+            &self.finalizers,
             self.closed,
         );
         self.cycle = opens;
@@ -164,8 +163,7 @@ impl World {
             &mut self.marked.marker,
             &self.marked.heap,
             &self.frames,
-            &self.table,
-            &self.ready,
+            &self.finalizers,
             self.closed,
         );
         self.marked.marker.finish(&self.marked.heap, &self.dirty);
@@ -181,13 +179,13 @@ impl World {
         ensures passes { Passes self.old.core (contains self.old.marked) result self.new.core }
         ensures marks { KeepsMarks self.old self.new }
     {
-        self.passes += 1;
-        self.ready.pass(
-            self.passes,
-            &mut self.marked,
-            &mut self.table,
-            &mut self.short,
-            &mut self.long,
-        )
+        self.marked.trace_found();
+        let passed = self.finalizers.pass(&mut self.marked);
+        self.finalizers.take_all();
+        Passed {
+            pass: passed.pass,
+            picked: passed.picked,
+            reclaimed: self.marked.reclaim(),
+        }
     }
 }

@@ -18,7 +18,7 @@ use crate::registrations::most_entries;
 use crate::world::World;
 use fz_model::{Entry, Refusal, Slot};
 
-#[tactic(auto, using(fz_model::proofs::Judged::judged_more, fz_model::proofs::Judged::judged_err, crate::proofs::Whole::world_finished, crate::proofs::Does::does_refused, crate::proofs::Does::does_accepted))]
+#[tactic(auto, using(fz_model::proofs::Judged::judged_more, fz_model::proofs::Judged::judged_err, crate::proofs::Does::does_refused, crate::proofs::Does::does_accepted))]
 impl World {
     /// Stores the address of a held entry's object in the slot. If the slot stays reachable, this resurrects the object.
     ///
@@ -30,7 +30,9 @@ impl World {
         ensures marks { KeepsMarks self.old self.new }
     {
         self.frames.check(Slot { frame, slot })?;
-        self.ready.check_held(entry)?;
+        if !self.finalizers.is_held(entry) {
+            return Err(Refusal::NotHeld);
+        }
         self.frames.set(Slot { frame, slot }, entry.obj);
         Ok(())
     }
@@ -44,7 +46,7 @@ impl World {
         ensures refused { OnErr result (self.new ≡ self.old) }
         ensures marks { KeepsMarks self.old self.new }
     {
-        self.ready.finish(entry)
+        self.finalizers.finish(entry).map_err(|_| Refusal::NotHeld)
     }
 
     /// Closes the world: from now on every registered object is a root, so no pass queues anything. Objects that are unreachable but not queued yet are
@@ -69,14 +71,14 @@ impl World {
         ensures step { Does self.now (Make calls.Outstanding) (Ok result) self.now }
         ensures count { result ≡ length self.now.held }
     {
-        self.ready.outstanding()
+        self.finalizers.held()
     }
 
     /// The number of passes so far.
     pub fn passes(&self) -> u64
         ensures { result ≡ self.now.passes }
     {
-        self.passes
+        self.finalizers.passes()
     }
 
     /// The number of objects reclaimed so far.
@@ -93,14 +95,14 @@ impl World {
         ensures step { self.now.forgotten ≡ 0 → Does self.now Queue (Ok result.now) self.now }
         ensures few { length self.now.queue ≤ COUNT_LIMIT }
     {
-        self.ready.queue()
+        self.finalizers.window()
     }
 
     /// How many entries were ever queued.
     pub fn queued(&self) -> u64
         ensures { result ≡ length self.now.queue }
     {
-        self.ready.queued()
+        self.finalizers.queued()
     }
 
     /// The entry with this number, if it was queued and isn't both finished and forgotten. For a caller that took `taken` entries this is the next one.
@@ -109,14 +111,14 @@ impl World {
         ensures kept { taken < self.now.forgotten → MatchOption result ((e : Entry) → Contains self.now.held e → e.seq ≢ taken) (λ e. Contains self.now.held e × (e.seq ≡ taken)) }
         ensures queued { MatchOption result ((e : Entry) → slice_get self.now.queue taken ≡ Some e → IsFalse (list_any (same_entry e) self.now.held)) (λ e. slice_get self.now.queue taken ≡ Some e) }
     {
-        self.ready.entry(taken)
+        self.finalizers.entry(taken)
     }
 
     /// The number of the first entry that `queue` returns. Of earlier entries only the held ones are in memory.
     pub fn forgotten(&self) -> u64
         ensures { result ≡ self.now.forgotten }
     {
-        self.ready.forgotten()
+        self.finalizers.forgotten()
     }
 
     /// Frees the memory of finished entries, if there are more than 1 for each 16 unfinished ones, and returns how many were forgotten. Takes no memory.
@@ -130,14 +132,13 @@ impl World {
         ensures few { 16 * self.new.remembered ≤ 17 * length self.new.held }
         ensures freed { result + self.new.remembered ≡ self.old.remembered }
     {
-        self.ready
-            .forget(most_entries(&self.marked.heap).max(self.table.len()))
+        self.finalizers.forget(most_entries(&self.marked.heap))
     }
 
     /// How many entries are in memory.
     pub fn remembered(&self) -> u64
         ensures { result ≡ self.now.remembered }
     {
-        self.ready.remembered()
+        self.finalizers.remembered()
     }
 }

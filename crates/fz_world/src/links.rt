@@ -1,23 +1,26 @@
 //! Disappearing links.
 
-ghost use Rattle.std.specs.Prelude.{◌≡◌, ◌≤◌, IfOk, IfErr, OnErr, IsSome, IsTrue};
+ghost use Rattle.std.specs.Prelude.{◌≡◌, ◌≤◌, [], ◌∷◌, IfOk, IfErr, OnErr, IsTrue};
 ghost use Rattle.std.specs.Option.{IsNone};
-ghost use Rattle.std.specs.FinMap.{contains_key};
+ghost use Rattle.std.specs.FinMap.{get, contains_key};
+ghost use Rattle.fz_model.specs.declared.limits.TheConstants.{HEAP_START};
 ghost use Rattle.fz_model.specs.Memory.{slot_word, address_of};
-ghost use Rattle.fz_model.specs.Causes.{IsJudgedBy, IsJudgedOrLacks};
+ghost use Rattle.fz_model.specs.Causes.{IsJudgedBy, IsJudgedOrLacks, full};
 ghost use Rattle.fz_model.specs.declared.call.Call.TheVariants as calls;
 ghost use Rattle.fz_model.specs.Places.{slot_at, place_at};
 ghost use Rattle.fz_model.specs.Events.{Make, causes};
+ghost use Rattle.fz_model.specs.Steps.{move_answer, moved_to};
+ghost use Rattle.fz_finalizers.specs.States.{links_of, with_links};
 ghost use Rattle.fz_world.specs.World.{KeepsMarks};
 ghost use Rattle.fz_world.specs.Does.{Does};
-ghost use Rattle.fz_world.specs.Links.{link_at, two_place_causes, end_causes};
+ghost use Rattle.fz_world.specs.Links.{LinksTo, link_at, two_place_causes, end_causes};
 
 use crate::frames::Frames;
 use crate::registrations::{check_start, first_entries};
 use crate::world::World;
+use fz_finalizers::Finalizers;
 use fz_heap::Heap;
-use fz_links::Links;
-use fz_model::{Addr, LinkAnswer, LinkKind, MoveAnswer, Place, Refusal, Slot};
+use fz_model::{Addr, LinkAnswer, LinkKind, MoveAnswer, Place, Refusal, Slot, TABLE_LIMIT};
 
 /// The addresses of two places. Fails with, in this order: `BadSlot` for either slot, then `NotPointer` and `OutsideObject` for the first place, then the
 /// same for the second.
@@ -25,6 +28,7 @@ fn places(frames: &Frames, heap: &Heap, from: Place, to: Place) -> Result<(Addr,
     ensures judged { IsJudgedBy (two_place_causes frames.now heap.now.objects from to) result }
     ensures first { IfOk result (λ places. places.0 ≡ address_of frames.now from) }
     ensures second { IfOk result (λ places. places.1 ≡ address_of frames.now to) }
+    ensures high { IfOk result (λ places. HEAP_START ≤ places.1) }
 {
     let word = frames.get(from.slot)?;
     let to_word = frames.get(to.slot)?;
@@ -40,6 +44,7 @@ fn ends(frames: &Frames, heap: &Heap, place: Place, target: Slot) -> Result<(Add
     ensures place { IfOk result (λ ends. ends.0 ≡ address_of frames.now place) }
     ensures target { IfOk result (λ ends. ends.1 ≡ slot_word frames.now target) }
     ensures object { IfOk result (λ ends. IsTrue (contains_key heap.now.objects ends.1)) }
+    ensures high { IfOk result (λ ends. (HEAP_START ≤ ends.0) × (HEAP_START ≤ ends.1)) }
 {
     let word = frames.get(place.slot)?;
     let start = frames.get(target)?;
@@ -48,15 +53,63 @@ fn ends(frames: &Frames, heap: &Heap, place: Place, target: Slot) -> Result<(Add
     Ok((link, start))
 }
 
-/// Reserves room before the first link, so that the table seldom has to grow.
-fn make_first_room(links: &mut Links, heap: &Heap, passes: u64)
-    ensures same { links.new.links ≡ links.old.links }
-    ensures roomier { links.old.room ≤ links.new.room }
+/// Reserves room before the first link of a kind, so that the table seldom has to grow.
+fn make_first_room(finalizers: &mut Finalizers, which: LinkKind, heap: &Heap)
+    ensures state { finalizers.new.state ≡ finalizers.old.state }
+    ensures memory { IsTrue finalizers.old.memory.whole → finalizers.new.memory ≡ finalizers.old.memory }
 {
-    if links.is_empty() {
-        // If that much memory isn't available, each link reserves its own.
-        let _ = links.reserve(first_entries(heap, passes));
+    if finalizers.links(which) > 0 {
+        return;
     }
+    let most = first_entries(heap, finalizers.passes());
+    let (shorts, longs) = match which {
+        LinkKind::Short => (most, 0),
+        LinkKind::Long => (0, most),
+    };
+    // If that much memory isn't available, each link reserves its own.
+    let _ = finalizers.reserve(0, shorts, longs);
+}
+
+/// Checks a world's limit. Fails with `TableFull` for a 65,537th link of its kind.
+fn check_limit(finalizers: &Finalizers, which: LinkKind, word: Addr) -> Result<(), Refusal>
+    ensures { IsJudgedBy (full (links_of finalizers.now.state which) word ∷ []) result }
+{
+    if finalizers.links(which) >= TABLE_LIMIT && finalizers.target(which, word).is_none() {
+        return Err(Refusal::TableFull);
+    }
+    Ok(())
+}
+
+/// Links a word to a target. Fails as `check_limit` does, and then with `NoMemory`.
+fn enroll(
+    finalizers: &mut Finalizers,
+    which: LinkKind,
+    word: Addr,
+    target: Addr,
+) -> Result<LinkAnswer, Refusal>
+    requires word { HEAP_START ≤ word }
+    requires target { HEAP_START ≤ target }
+    ensures links { LinksTo (links_of finalizers.old.state which) word target result (links_of finalizers.new.state which) }
+    ensures same { finalizers.new.state ≡ with_links finalizers.old.state which (links_of finalizers.new.state which) }
+    ensures memory { finalizers.new.memory ≡ finalizers.old.memory }
+{
+    check_limit(finalizers, which, word)?;
+    finalizers
+        .link(which, word, target)
+        .map_err(|_| Refusal::NoMemory)
+}
+
+/// Moves a link to another word of the heap; its target stays the same. Takes no memory.
+fn move_within(finalizers: &mut Finalizers, which: LinkKind, word: Addr, to: Addr) -> MoveAnswer
+    requires { HEAP_START ≤ to }
+    ensures answer { result ≡ move_answer (links_of finalizers.old.state which) word to }
+    ensures moved { finalizers.new.state ≡ with_links finalizers.old.state which (moved_to (links_of finalizers.old.state which) word to (get (links_of finalizers.old.state which) word)) }
+    ensures memory { finalizers.new.memory ≡ finalizers.old.memory }
+{
+    // Only zero is refused.
+    finalizers
+        .move_link(which, word, to)
+        .unwrap_or(MoveAnswer::NotFound)
 }
 
 #[tactic(auto, using(fz_model::proofs::Judged::judged_more, fz_model::proofs::Judged::judged_err, crate::proofs::Does::link_refused, crate::proofs::Does::link_judged, crate::proofs::Does::does_refused, crate::proofs::Does::does_accepted))]
@@ -91,16 +144,8 @@ impl World {
             slot: target_slot,
         };
         let (link, target) = ends(&self.frames, &self.marked.heap, place, target)?;
-        match which {
-            LinkKind::Short => {
-                make_first_room(&mut self.short, &self.marked.heap, self.passes);
-                self.short.register(link, target)
-            }
-            LinkKind::Long => {
-                make_first_room(&mut self.long, &self.marked.heap, self.passes);
-                self.long.register(link, target)
-            }
-        }
+        make_first_room(&mut self.finalizers, which, &self.marked.heap);
+        enroll(&mut self.finalizers, which, link, target)
     }
 
     /// Removes the link at `offset` words after the slot's word, and returns whether there was one. This is `GC_unregister_disappearing_link` or
@@ -121,15 +166,15 @@ impl World {
     {
         let word = self.frames.get(Slot { frame, slot })?;
         let link = self.marked.heap.place(word, offset)?;
-        Ok(match which {
-            LinkKind::Short => self.short.unregister(link),
-            LinkKind::Long => self.long.unregister(link),
-        })
+        Ok(self.finalizers.unlink(which, link))
     }
 
     /// Moves a link from one place to another; its target stays the same, and no word changes. This is `GC_move_disappearing_link` or `GC_move_long_link`.
     ///
-    /// Fails with, in this order: `BadSlot` for either slot, `NotPointer` and `OutsideObject` for the old place, the same for the new one, `NoMemory`.
+    /// Takes no memory. Takes time proportional to the links of its kind when it rebuilds their table, which happens only a few times in as many moves as there
+    /// are links.
+    ///
+    /// Fails with, in this order: `BadSlot` for either slot, `NotPointer` and `OutsideObject` for the old place, the same for the new one.
     pub fn move_link(
         &mut self,
         which: LinkKind,
@@ -141,10 +186,8 @@ impl World {
         to_offset: u64,
     ) -> Result<MoveAnswer, Refusal>
         ensures step { Does self.old (Make (calls.Move which (place_at frame slot offset) (place_at to_frame to_slot to_offset))) result self.new }
-        ensures caused { IsJudgedOrLacks (causes self.old.core (Make (calls.Move which (place_at frame slot offset) (place_at to_frame to_slot to_offset)))) result }
+        ensures caused { IsJudgedBy (causes self.old.core (Make (calls.Move which (place_at frame slot offset) (place_at to_frame to_slot to_offset)))) result }
         ensures refused { OnErr result (self.new ≡ self.old) }
-        // Only a link that moves to a different place without a link can run out of memory.
-        ensures growth { IfErr result (λ r. r ≡ Refusal.NoMemory → IsSome (link_at self.old.core which (place_at frame slot offset)) × IsNone (link_at self.old.core which (place_at to_frame to_slot to_offset))) }
         ensures marks { KeepsMarks self.old self.new }
     {
         let place = Place {
@@ -159,9 +202,6 @@ impl World {
             offset: to_offset,
         };
         let (old, new) = places(&self.frames, &self.marked.heap, place, to)?;
-        match which {
-            LinkKind::Short => self.short.move_link(old, new),
-            LinkKind::Long => self.long.move_link(old, new),
-        }
+        Ok(move_within(&mut self.finalizers, which, old, new))
     }
 }

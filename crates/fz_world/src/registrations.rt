@@ -1,27 +1,24 @@
 //! Registrations of finalizers.
 
-ghost use Rattle.std.specs.Prelude.{◌≡◌, ◌≤◌, ◌⊎◌, IsTrue, IsFalse, IfErr, OnOk, OnErr};
-ghost use Rattle.std.specs.Option.{IsNone};
-ghost use Rattle.std.specs.FinMap.{get, contains_key, len, insert};
-ghost use Rattle.fz_model.specs.declared.answers.Registration.{Registration};
-ghost use Rattle.fz_model.specs.declared.limits.TheConstants.{COUNT_LIMIT, TABLE_LIMIT};
-ghost use Rattle.fz_model.specs.Causes.{IsJudgedBy, start_causes, is_off_heap, full};
+ghost use Rattle.std.specs.Prelude.{◌≡◌, ◌≤◌, IsTrue, OnOk, OnErr};
+ghost use Rattle.std.specs.FinMap.{contains_key};
+ghost use Rattle.fz_model.specs.declared.limits.TheConstants.{HEAP_START, TABLE_LIMIT};
+ghost use Rattle.fz_model.specs.Causes.{IsJudgedBy, register_causes, start_causes, is_off_heap};
 ghost use Rattle.fz_model.specs.declared.call.Call.TheVariants as calls;
 ghost use Rattle.fz_model.specs.Places.{slot_at, finalizer_of};
 ghost use Rattle.fz_model.specs.Events.{Make, causes};
 ghost use Rattle.fz_table.specs.Registers.{Registers};
-ghost use Rattle.fz_world.specs.World.{KeepsMarks};
+ghost use Rattle.fz_world.specs.World.{HasNoUnreachable, KeepsMarks};
 ghost use Rattle.fz_world.specs.Does.{Does};
-ghost use Rattle.fz_world.specs.Registering.{RegistersFinalizer};
+ghost use Rattle.fz_world.specs.Registering.{RegistersFinalizer, entered, registered_in, with_registered};
 
-use crate::ready::Ready;
 use crate::world::World;
+use fz_finalizers::{Finalizers, Kind};
 use fz_heap::Heap;
 use fz_model::{
-    Addr, BLOCK_WORDS, Finalizer, HEAP_START, Old, Refusal, RegAnswer, RegKind, Slot, TABLE_LIMIT,
-    Word,
+    Addr, BLOCK_WORDS, COUNT_LIMIT, Finalizer, HEAP_START, Old, Refusal, RegAnswer, RegKind, Slot,
+    TABLE_LIMIT, Word,
 };
-use fz_table::Table;
 
 /// The least room that a table reserves at once, so that small tables don't grow repeatedly.
 const LEAST_ROOM: u64 = 1024;
@@ -37,6 +34,7 @@ fn is_off_heap(heap: &Heap, word: Word) -> bool
 pub(crate) fn check_start(heap: &Heap, word: Word) -> Result<(), Refusal>
     ensures judged { IsJudgedBy (start_causes heap.now.objects word) result }
     ensures object { OnOk result (IsTrue (contains_key heap.now.objects word)) }
+    ensures high { OnOk result (HEAP_START ≤ word) }
 {
     let Some(start) = heap.resolve(word) else {
         return Err(Refusal::NotPointer);
@@ -65,68 +63,63 @@ pub(crate) fn first_entries(heap: &Heap, passes: u64) -> usize
 }
 
 /// Reserves room before the first registration, for registrations and their entries, so that table and queue seldom have to grow.
-fn make_first_room(table: &mut Table, ready: &mut Ready, heap: &Heap, passes: u64)
-    ensures registered { table.new.registered ≡ table.old.registered }
-    ensures queue { (ready.new.queue ≡ ready.old.queue) × (ready.new.held ≡ ready.old.held) }
-    ensures forgotten { (ready.new.forgotten ≡ ready.old.forgotten) × (ready.new.remembered ≡ ready.old.remembered) }
-    ensures roomier { (table.old.room ≤ table.new.room) × (ready.old.room ≤ ready.new.room) }
+fn make_first_room(finalizers: &mut Finalizers, heap: &Heap)
+    ensures state { finalizers.new.state ≡ finalizers.old.state }
+    ensures memory { IsTrue finalizers.old.memory.whole → finalizers.new.memory ≡ finalizers.old.memory }
 {
-    if table.is_empty() {
-        let most = first_entries(heap, passes);
+    if finalizers.registrations() == 0 {
         // If that much memory isn't available, each registration reserves its own.
-        let _ = table.reserve(most);
-        let _ = ready.reserve(most);
+        let _ = finalizers.reserve(first_entries(heap, finalizers.passes()), 0, 0);
     }
 }
 
-/// Reserves room in the queue for the entry of an object's registration, unless the object is registered. So no pass allocates memory. Fails with `NoMemory`
-/// if an allocation fails; only then it searches the table for the object.
-fn make_room(table: &Table, ready: &mut Ready, object: Addr) -> Result<(), Refusal>
-    requires free { IsFalse (full table.now.registrations object).0 }
-    requires room { len table.now.registrations ≤ ready.old.room }
-    ensures refused { IfErr result (λ r. r ≡ Refusal.NoMemory) }
-    ensures growth { IfErr result (λ r. IsNone (get table.now.registrations object)) }
-    ensures wanting { OnErr result (ready.old.room ≤ len table.now.registrations) }
-    ensures same { (ready.new.queue ≡ ready.old.queue) × (ready.new.held ≡ ready.old.held) }
-    ensures forgotten { (ready.new.forgotten ≡ ready.old.forgotten) × (ready.new.remembered ≡ ready.old.remembered) }
-    ensures roomier { ready.old.room ≤ ready.new.room }
-    ensures room { OnOk result ((r : Registration) → len (insert table.now.registrations object r) ≤ ready.new.room) }
+/// Checks a world's limits. Fails with, in this order: `Exhausted` after 2^48 numbers, `TableFull` for a 65,537th object.
+fn check_limits(finalizers: &Finalizers, object: Addr) -> Result<(), Refusal>
+    ensures { IsJudgedBy (register_causes finalizers.now.registrations finalizers.now.next_number object) result }
 {
-    // If the table is full, the object is registered already.
-    let count = table.len();
-    let more = (count + 1).min(count.max(TABLE_LIMIT as usize));
-    let Err(refusal) = ready.reserve(more) else {
-        return Ok(());
-    };
-    if table.get(object).is_some() {
-        return Ok(());
+    if finalizers.next_number() >= COUNT_LIMIT {
+        return Err(Refusal::Exhausted);
     }
-    Err(refusal)
+    if finalizers.registrations() >= TABLE_LIMIT && finalizers.registration(object).is_none() {
+        return Err(Refusal::TableFull);
+    }
+    Ok(())
 }
 
-/// Registers an object's finalizer after reserving room for its entry. Returns the number and what was replaced. Fails as `Table::register` does. A failed
-/// call leaves at most reserved room behind.
+/// The finalizer as a host registers it. Without a rank it has rank 0.
+fn entered(finalizer: Finalizer) -> fz_finalizers::Finalizer
+    ensures { result ≡ entered finalizer }
+{
+    fz_finalizers::Finalizer {
+        kind: Kind::of_table(false, finalizer.kind),
+        procedure: finalizer.procedure,
+        client_data: finalizer.client_data,
+        rank: finalizer.rank.unwrap_or(0),
+    }
+}
+
+/// Registers an object's finalizer, and returns the number and what was replaced. Fails as `check_limits` does, and then with `NoMemory`. A failed call
+/// leaves at most reserved room behind.
 fn enroll(
-    table: &mut Table,
-    ready: &mut Ready,
+    finalizers: &mut Finalizers,
     object: Addr,
     finalizer: Finalizer,
 ) -> Result<(u64, Option<Old>), Refusal>
-    requires room { len table.old.registrations ≤ ready.old.room }
-    ensures registers { Registers table.old.registered object finalizer result table.new.registered }
-    ensures wanting { IfErr result (λ r. r ≡ Refusal.NoMemory → (table.old.room ≡ 0) ⊎ (ready.old.room ≤ len table.old.registrations)) }
-    ensures same { (ready.new.queue ≡ ready.old.queue) × (ready.new.held ≡ ready.old.held) }
-    ensures forgotten { (ready.new.forgotten ≡ ready.old.forgotten) × (ready.new.remembered ≡ ready.old.remembered) }
-    ensures roomier { ready.old.room ≤ ready.new.room }
-    ensures room { OnOk result (len table.new.registrations ≤ ready.new.room) }
-    ensures numbers { OnOk result (table.new.next_number ≤ COUNT_LIMIT) }
+    requires object { HEAP_START ≤ object }
+    requires none { HasNoUnreachable finalizers.old.state }
+    ensures registers { Registers (registered_in finalizers.old.state) object finalizer result (registered_in finalizers.new.state) }
+    ensures same { finalizers.new.state ≡ with_registered finalizers.old.state (registered_in finalizers.new.state) }
+    ensures memory { IsTrue finalizers.old.memory.whole → finalizers.new.memory ≡ finalizers.old.memory }
 {
-    table.check(object)?;
-    make_room(table, ready, object)?;
-    table.register_checked(object, finalizer)
+    check_limits(finalizers, object)?;
+    // Within these limits only memory can be wanting.
+    let Ok(answer) = finalizers.register(object, entered(finalizer)) else {
+        return Err(Refusal::NoMemory);
+    };
+    Ok(answer)
 }
 
-#[tactic(auto, using(fz_model::proofs::Judged::judged_more, fz_model::proofs::Judged::judged_err, crate::proofs::Whole::world_room, crate::proofs::Whole::world_registered, crate::proofs::Whole::world_roomier, crate::proofs::Whole::world_removed, crate::proofs::Does::start_refused, crate::proofs::Does::does_refused, crate::proofs::Does::does_accepted))]
+#[tactic(auto, using(fz_model::proofs::Judged::judged_more, fz_model::proofs::Judged::judged_err, crate::proofs::Whole::world_registered, crate::proofs::Whole::world_removed, crate::proofs::Does::start_refused, crate::proofs::Does::does_refused, crate::proofs::Does::does_accepted))]
 impl World {
     /// Registers a finalizer for the object at the slot's word, as `GC_register_finalizer` or its `_ignore_self` or `_no_order` variant does. A pass queues
     /// ready finalizers by rank, then address. A word that is zero or outside the heap has no effect, and the result is `Outside`. Takes time proportional to
@@ -161,13 +154,8 @@ impl World {
             return Ok(RegAnswer::Outside);
         }
         check_start(&self.marked.heap, word)?;
-        make_first_room(
-            &mut self.table,
-            &mut self.ready,
-            &self.marked.heap,
-            self.passes,
-        );
-        let (number, old) = enroll(&mut self.table, &mut self.ready, word, finalizer)?;
+        make_first_room(&mut self.finalizers, &self.marked.heap);
+        let (number, old) = enroll(&mut self.finalizers, word, finalizer)?;
         Ok(RegAnswer::Number(number, old))
     }
 
@@ -186,6 +174,6 @@ impl World {
             return Ok(None);
         }
         check_start(&self.marked.heap, word)?;
-        Ok(self.table.remove(word))
+        Ok(self.finalizers.unregister(word))
     }
 }

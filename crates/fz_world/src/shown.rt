@@ -17,8 +17,7 @@ ghost use Rattle.fz_model.specs.Extents.{IsInHeap};
 ghost use Rattle.fz_model.specs.declared.limits.TheConstants.{BLOCK_WORDS};
 ghost use Rattle.fz_heap.specs.Contents.{words_of};
 ghost use Rattle.fz_world.specs.declared.shown.Object.{Object};
-ghost use Rattle.fz_world.specs.Ready.{IsNextHeld};
-ghost use Rattle.fz_world.specs.Shown.{shown_object, has_row, HasNoneFrom, IsFirstFrom};
+ghost use Rattle.fz_world.specs.Shown.{IsNextHeld, shown_object, has_row, HasNoneFrom, IsFirstFrom};
 
 use crate::world::World;
 use fz_heap::Starts;
@@ -123,24 +122,21 @@ impl World {
     pub fn registration(&self, object: Addr) -> Option<Registration>
         ensures { result ≡ get self.now.registrations object }
     {
-        self.table.get(object)
+        self.finalizers.registration(object)
     }
 
     /// The address of the target of the link of this kind at this word, if there is one.
     pub fn target(&self, which: LinkKind, place: Addr) -> Option<Addr>
         ensures { result ≡ get (links_of self.now.core which) place }
     {
-        match which {
-            LinkKind::Short => self.short.get(place),
-            LinkKind::Long => self.long.get(place),
-        }
+        self.finalizers.target(which, place)
     }
 
     /// Whether a held entry equals this one in all fields.
     pub fn is_held(&self, entry: &Entry) -> bool
         ensures { result ≡ list_any (same_entry entry.now) self.now.held }
     {
-        self.ready.check_held(entry).is_ok()
+        self.finalizers.is_held(entry)
     }
 
     /// The first held entry with a number of at least `from`. `queue` also has the finished ones.
@@ -151,7 +147,7 @@ impl World {
         ensures passed { (k : ℕ) (e : Entry) → from ≤ k → IfSome result (λ next. k < next.seq) → slice_get self.now.queue k ≡ Some e → IsFalse (list_any (same_entry e) self.now.held) }
         ensures few { length self.now.queue ≤ COUNT_LIMIT }
     {
-        self.ready.next_held(from)
+        self.finalizers.next_unfinished(from)
     }
 
     /// The first object with an address of at least `from`. Takes time proportional to the blocks that it passes.

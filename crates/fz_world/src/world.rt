@@ -1,21 +1,20 @@
 //! The world, and opening it.
 
-ghost use Rattle.std.specs.Prelude.{◌≡◌, ◌≤◌, ◌*◌, IfOk, IfErr};
+ghost use Rattle.std.specs.Prelude.{◌≡◌, ◌≤◌, ◌*◌, true, IfOk, IfErr};
 ghost use Rattle.std.specs.FinSet.{empty};
 ghost use Rattle.fz_model.specs.declared.limits.TheConstants.{MAX_BLOCKS, BLOCK_WORDS};
 ghost use Rattle.fz_model.specs.State.{opening};
 ghost use Rattle.fz_model.specs.Causes.{IsJudgedOrLacks};
+ghost use Rattle.fz_finalizers.specs.States as finalizers;
 ghost use Rattle.fz_world.specs.Does.{StandsFor, open_causes};
 
 use crate::frames::Frames;
-use crate::ready::Ready;
 use fz_dirty::Dirty;
+use fz_finalizers::Finalizers;
 use fz_heap::Heap;
-use fz_links::Links;
 use fz_marked::Marked;
 use fz_marker::Marker;
 use fz_model::{MAX_FRAMES, Refusal};
-use fz_table::Table;
 use std::alloc::Global;
 use std::marker::Model;
 
@@ -31,16 +30,12 @@ pub struct Config {
 /// A world of objects, root frames, registrations, links and a queue of finalizers, modelled on `gc.h`, with a mostly parallel marker.
 ///
 /// Its model is the state of the model without the history of an open cycle, and the marks of the last cycle. If several refusals of a call apply, it returns
-/// the first in the documented order. A refused call changes nothing in the model. Only `open`, `register`, `link` and `move_link` allocate memory.
+/// the first in the documented order. A refused call changes nothing in the model. Only `open`, `register` and `link` allocate memory.
 pub struct World {
     pub(crate) marked: Marked,
     pub(crate) frames: Frames,
-    pub(crate) table: Table,
-    pub(crate) short: Links,
-    pub(crate) long: Links,
-    pub(crate) ready: Ready,
+    pub(crate) finalizers: Finalizers,
     pub(crate) dirty: Dirty,
-    pub(crate) passes: u64,
     pub(crate) closed: bool,
     pub(crate) cycle: bool,
 }
@@ -51,12 +46,8 @@ impl Drop for World {
         let World {
             marked: _,
             frames: _,
-            table: _,
-            short: _,
-            long: _,
-            ready: _,
+            finalizers: _,
             dirty: _,
-            passes: _,
             closed: _,
             cycle: _,
         } = self;
@@ -64,15 +55,17 @@ impl Drop for World {
 }
 
 impl Model for World {
+    ghost use Rattle.std.specs.Prelude.{IsTrue};
     ghost use Rattle.fz_world.specs.World.{WorldView, world_code, core_of, view_of, IsWorld, HasNumber, HaveTargets};
 
     ghost Value = { WorldView };
 
     ghost coded = { world_code };
 
-    ghost view = { λ w. view_of (core_of w.marked.heap w.frames w.table.registered w.short w.long w.ready w.passes w.closed w.cycle) w.marked.marker w.dirty w.ready };
+    ghost view = { λ w. view_of (core_of w.marked.heap w.frames w.finalizers.state w.closed w.cycle) w.marked.marker w.dirty w.finalizers.memory };
 
-    ghost invariant = { λ w. IsWorld w.marked.heap w.table.registered w.ready w.marked.marker w.dirty w.cycle × HasNumber w.passes w.cycle × HaveTargets w.marked.heap.objects w.short.links × HaveTargets w.marked.heap.objects w.long.links };
+    ghost invariant = { λ w. IsWorld w.marked.heap w.finalizers.state w.marked.marker w.dirty w.cycle × HasNumber w.finalizers.passes w.cycle
+        × HaveTargets w.marked.heap.objects w.finalizers.short × HaveTargets w.marked.heap.objects w.finalizers.long × IsTrue w.finalizers.memory.whole };
 }
 
 /// The marker and the dirty pages of a heap.
@@ -85,6 +78,15 @@ fn marks(alloc: Global, blocks: u64) -> Result<(Marker, Dirty), Refusal>
     let marker = Marker::new(alloc, blocks)?;
     let dirty = Dirty::new(alloc, blocks)?;
     Ok((marker, dirty))
+}
+
+/// Finalizers that forget nothing by themselves.
+fn finalizers(alloc: Global) -> Result<Finalizers, Refusal>
+    ensures refused { IfErr result (λ r. r ≡ Refusal.NoMemory) }
+    ensures opened { IfOk result (λ f. f.state ≡ finalizers.opening) }
+    ensures memory { IfOk result (λ f. f.memory ≡ record { whole = true; forgotten = 0; remembered = 0 }) }
+{
+    Finalizers::whole(alloc).map_err(|_| Refusal::NoMemory)
 }
 
 #[tactic(auto, using(crate::proofs::Whole::world_opening, crate::proofs::Targets::targets_opening))]
@@ -103,17 +105,13 @@ impl World {
         }
         let heap = Heap::new(alloc, config.blocks)?;
         let frames = Frames::new(alloc, config.frames)?;
-        let ready = Ready::new(alloc)?;
+        let finalizers = finalizers(alloc)?;
         let (marker, dirty) = marks(alloc, heap.blocks())?;
         Ok(World {
             marked: Marked { heap, marker },
             frames,
-            table: Table::new(alloc),
-            short: Links::new(alloc),
-            long: Links::new(alloc),
-            ready,
+            finalizers,
             dirty,
-            passes: 0,
             closed: false,
             cycle: false,
         })

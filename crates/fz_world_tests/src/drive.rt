@@ -3,7 +3,7 @@
 mod scripts;
 mod tests;
 
-use fz_text::DriveFault;
+use fz_runs::DriveFault;
 
 /// A script, its report, and how its run ends.
 #[derive(Clone, Copy)]

@@ -1,14 +1,9 @@
 -- What an entry has that isn't finished is found.
-use Rattle.std.proofs.Common.{◌≡◌, ℕ, zero, suc, ◌∷◌, [], Bool, true, false, cond, List, map, Option, Some, None, is_some, option_map, nat_cmp, refl, sym, ap, ◌∙◌, subst, inr, arith, IsTrue, Contains}
+use Rattle.std.proofs.Common.{◌≡◌, ℕ, zero, suc, ◌∷◌, [], Bool, false, List, map, Option, Some, None, is_some, option_map, refl, sym, ap, ◌∙◌, subst, inr, arith, IsTrue, Contains}
 use Rattle.std.proofs.lemmas.Bool.{both_ways}
-use Rattle.std.proofs.lemmas.Option.{same_Some, none-some}
-use Rattle.std.proofs.lemmas.List.Elements.{Contains-append_left, Contains-append_right}
-use Rattle.std.specs.Cmp.{nat_cmp_total}
-use Rattle.std.specs.Ordering.{eq_by_cmp}
-use Rattle.std.specs.FinMap as finmap
-use Rattle.std.specs.FinMap.{get, contains_key, get-from_entries}
+use Rattle.std.specs.FinMap.{get, contains_key}
 use Rattle.fz_model.specs.declared.answers.Entry.{Entry}
-use Rattle.fz_model.specs.State.{Map, Object}
+use Rattle.fz_model.specs.State.{Object}
 use Rattle.fz_model.specs.Memory.{points}
 use Rattle.fz_model.specs.Reachability.{Itself}
 use Rattle.fz_finalizers.specs.declared.roots.Root.TheVariants.{HeldObject}

@@ -3,16 +3,17 @@ use Rattle.std.proofs.Common.{◌≡◌, ℕ, ◌+◌, ◌<◌, length, set, get
 use Rattle.std.proofs.lemmas.Bool.{both_ways, cases_eq, and_parts, and_from}
 use Rattle.std.proofs.lemmas.Option.{same_Some, none-some}
 use Rattle.std.specs.Option.{option_map_or}
-use Rattle.std.specs.FinMap.{get, insert, remove, contains_key, get-empty}
+use Rattle.std.specs.FinMap.{get, insert, contains_key, get-empty}
 use Rattle.std.specs.Ordering.{nat_cmp}
 use Rattle.fz_model.specs.declared.answers.Registration.{Registration}
 use Rattle.fz_model.specs.State.{Map, Object}
 use Rattle.fz_model.specs.Memory.{filled, points}
 use Rattle.fz_model.specs.Pass.{links_within, cleared, FoundItself, LedFrom}
 use Rattle.fz_model.specs.Reachability.{Itself}
-use Rattle.fz_model.proofs.Maps.{get-insert_same, get-insert_other, get-remove_same, get-remove_other, get-retain, retained_back}
+use Rattle.fz_model.proofs.Maps.{get-insert_same, get-insert_other, get-retain, retained_back}
 use Rattle.fz_model.proofs.Sound.{left_back}
-use Rattle.fz_pass.specs.Late.{Parts, DecidesLate}
+use Rattle.fz_pass.specs.Decides.{Parts}
+use Rattle.fz_pass.specs.Flagged.{DecidesFlagged, IsLast}
 use Rattle.fz_pass.specs.Marks.{AreRegistered, AreTargets}
 use Rattle.own_heap.specs.declared.heap.Heap.{Heap}
 use Rattle.own_heap.specs.declared.record.Record.{Record}
@@ -28,10 +29,9 @@ use Rattle.fz_model.specs.Steps.{registration_of}
 use Rattle.fz_model.specs.Pass.{is_dead}
 use Rattle.fz_model.proofs.Maps.{get-mapped, filling}
 use Rattle.fz_finalizers.specs.declared.kinds.Finalizer.{Finalizer}
-use Rattle.fz_finalizers.specs.Kinds.{is_late, table_finalizer}
+use Rattle.fz_finalizers.specs.Kinds.{table_finalizer}
 use Rattle.fz_finalizers.specs.States.{State, opening, links_of, unfinished, waiting, with_links}
 use Rattle.fz_finalizers.specs.Follows.{Follows, Register, Link, Take, Finish, with_registration}
-use Rattle.fz_pass.specs.Late.{both, IsLast, ArePicksOf}
 use Rattle.fz_model.specs.declared.answers.Pick.{Pick}
 use Rattle.fz_model.specs.Pass.{entries_of, IsPicked}
 use Rattle.std.proofs.lemmas.List.Elements.{All-contains, Contains-append_cases, Contains-append_left, Contains-append_right}
@@ -40,7 +40,6 @@ use Rattle.fz_model.proofs.Lists as lists
 use Rattle.fz_model.proofs.Lists.{filter_at, contains_at}
 use Rattle.fz_model.specs.Events.{same_entry}
 use Rattle.fz_finalizers.proofs.Taking.{next_waits}
-use Rattle.fz_pass.proofs.Both.{in_first, in_second}
 
 -- the objects that stand in one map stand in the other
 abbrev pub AreKept : Map Object → Map Object → Type 0
@@ -52,9 +51,6 @@ module _ (objects : Map Object) where
   registered_more m o r here all a x is =
       ⊎_elim (λ same. subst (λ b. IsTrue (contains_key objects b)) (sym same) here) (λ far. all a x (sym (get-insert_other m o r a far) ∙ is)) (cases_eq a o)
 
-  pub registered_less : (m : Map Registration) (o : ℕ) → AreRegistered objects m → AreRegistered objects (remove m o)
-  registered_less m o all a x is = ⊎_elim (λ same. absurd (none-some x (sym (get-remove_same m o) ∙ ap (get (remove m o)) (sym same) ∙ is))) (λ far. all a x (sym (get-remove_other m o a far) ∙ is)) (cases_eq a o)
-
   pub targets_more : (m : Map ℕ) (word target : ℕ) → IsTrue (contains_key objects target) → AreTargets objects m → AreTargets objects (insert m word target)
   targets_more m word target here all link x is =
       ⊎_elim (λ same. subst (λ b. IsTrue (contains_key objects b)) (same_Some target x (sym (get-insert_same m word target) ∙ ap (get (insert m word target)) (sym same) ∙ is)) here)
@@ -65,7 +61,6 @@ module _ (objects : Map Object) where
 pub sound_kept : (old new : Map Object) (s : State) → AreKept old new → IsSound old s → IsSound new s
 sound_kept old new s kept sound = record {
   registered = λ a r is. kept a (sound.registered a r is);
-  late = λ a r is. kept a (sound.late a r is);
   short = λ link target is. kept target (sound.short link target is);
   long = λ link target is. kept target (sound.long link target is);
   held = λ e here. kept e.obj (sound.held e here);
@@ -109,29 +104,22 @@ stands_object slots place here = at (slot slots place) refl here
 pub sound_opening : (objects : Map Object) → IsSound objects opening
 sound_opening objects = record {
   registered = λ a r is. absurd (none-some r (sym (get-empty nat_cmp a) ∙ is));
-  late = λ a r is. absurd (none-some r (sym (get-empty nat_cmp a) ∙ is));
   short = λ a r is. absurd (none-some r (sym (get-empty nat_cmp a) ∙ is));
   long = λ a r is. absurd (none-some r (sym (get-empty nat_cmp a) ∙ is));
   held = λ e within. absurd (omega (arith, within.1));
 }
 
 with_registration_sound : (objects : Map Object) (s : State) (o : ℕ) (f : Finalizer) → IsTrue (contains_key objects o) → IsSound objects s → IsSound objects (with_registration s o f)
-with_registration_sound objects s o f here sound = at (is_late f.kind)
-  where
-    r : Registration
-    r = registration_of s.next_number (table_finalizer f)
-
-    at : (late : Bool) → IsSound objects (cond late (record s { registrations = remove s.registrations o; late = insert s.late o r; next_number = s.next_number + 1 }) (record s { registrations = insert s.registrations o r; late = remove s.late o; next_number = s.next_number + 1 }))
-    at true = record { registered = registered_less objects s.registrations o sound.registered; late = registered_more objects s.late o r here sound.late; short = sound.short; long = sound.long; held = sound.held }
-    at false = record { registered = registered_more objects s.registrations o r here sound.registered; late = registered_less objects s.late o sound.late; short = sound.short; long = sound.long; held = sound.held }
+with_registration_sound objects s o f here sound =
+    record { registered = registered_more objects s.registrations o (registration_of s.next_number (table_finalizer f)) here sound.registered; short = sound.short; long = sound.long; held = sound.held }
 
 pub register_sound : {A E : Type 0} (objects : Map Object) (old new : State) (o : ℕ) (f : Finalizer) (r : Result A E) → OnErr r (new ≡ old) → OnOk r (Follows old (Register o f) new) → IsTrue (contains_key objects o) → IsSound objects old → IsSound objects new
 register_sound objects old new o f (Ok x) refused follows here sound = subst (IsSound objects) (sym follows) (with_registration_sound objects old o f here sound)
 register_sound objects old new o f (Err e) refused follows here sound = subst (IsSound objects) (sym refused) sound
 
 with_link_sound : (objects : Map Object) (s : State) (kind : LinkKind) (word target : ℕ) → IsTrue (contains_key objects target) → IsSound objects s → IsSound objects (with_links s kind (insert (links_of s kind) word target))
-with_link_sound objects s Short word target here sound = record { registered = sound.registered; late = sound.late; short = targets_more objects s.short word target here sound.short; long = sound.long; held = sound.held }
-with_link_sound objects s Long word target here sound = record { registered = sound.registered; late = sound.late; short = sound.short; long = targets_more objects s.long word target here sound.long; held = sound.held }
+with_link_sound objects s Short word target here sound = record { registered = sound.registered; short = targets_more objects s.short word target here sound.short; long = sound.long; held = sound.held }
+with_link_sound objects s Long word target here sound = record { registered = sound.registered; short = sound.short; long = targets_more objects s.long word target here sound.long; held = sound.held }
 
 pub link_sound : {A E : Type 0} (objects : Map Object) (old new : State) (kind : LinkKind) (word target : ℕ) (r : Result A E) → OnErr r (new ≡ old) → OnOk r (Follows old (Link kind word target) new) → IsTrue (contains_key objects target) → IsSound objects old → IsSound objects new
 link_sound objects old new kind word target (Ok x) refused follows here sound = subst (IsSound objects) (sym follows) (with_link_sound objects old kind word target here sound)
@@ -145,7 +133,6 @@ pub take_sound : (objects : Map Object) (old new : State) (r : Option Entry) →
 take_sound objects old new None same sound = subst (IsSound objects) (sym same.1) sound
 take_sound objects old new (Some entry) follows sound = subst (IsSound objects) (sym follows.1) (record {
   registered = sound.registered;
-  late = sound.late;
   short = sound.short;
   long = sound.long;
   held = λ e here. sound.held e (subst (λ es. Contains es e) (sym (taken_unfinished old entry follows.0)) here);
@@ -154,7 +141,6 @@ take_sound objects old new (Some entry) follows sound = subst (IsSound objects) 
 with_finished_sound : (objects : Map Object) (s : State) (entry : Entry) → IsSound objects s → IsSound objects (record s { held = filter (λ h. not (same_entry entry h)) s.held })
 with_finished_sound objects s entry sound = record {
   registered = sound.registered;
-  late = sound.late;
   short = sound.short;
   long = sound.long;
   held = λ e here.
@@ -197,7 +183,7 @@ within_back objects links targets containers link target is =
     let test = (and_parts (option_map_or targets (get links link) false) (option_map_or containers (points objects link) false) back.0).0 in
     (back.1, sym (ap (λ o. option_map_or targets o false) back.1) ∙ test)
 
-module _ (E : Type 0) (pass first : ℕ) (old : Parts) (found : ℕ → Bool) (new : Parts) (queue new_queue : List Entry) (d : DecidesLate E pass first old found new queue new_queue) where
+module _ (E : Type 0) (late : ℕ → Bool) (pass first : ℕ) (old : Parts) (found : ℕ → Bool) (new : Parts) (queue new_queue : List Entry) (d : DecidesFlagged E late pass first old found new queue new_queue) where
   -- an object that was kept stands
   kept_stands : (a : ℕ) → IsTrue (d.kept a) → IsTrue (contains_key old.objects a) → IsTrue (contains_key new.objects a)
   kept_stands a kept here =
@@ -217,31 +203,18 @@ module _ (E : Type 0) (pass first : ℕ) (old : Parts) (found : ℕ → Bool) (n
   found_kept : (a : ℕ) → IsTrue (found a) → IsTrue (d.kept a)
   found_kept a on = d.keeps a (FoundItself on)
 
-  registered_kept : (a : ℕ) (r : Registration) → get (both old.registrations old.late) a ≡ Some r → IsTrue (contains_key old.objects a) → IsTrue (d.kept a)
+  registered_kept : (a : ℕ) (r : Registration) → get old.registrations a ≡ Some r → IsTrue (contains_key old.objects a) → IsTrue (d.kept a)
   registered_kept a r is here = at (found a) refl
     where
       at : (b : Bool) → found a ≡ b → IsTrue (d.kept a)
       at true on = found_kept a on
       at false off = d.keeps a (LedFrom a r (record { registered = is; outside = and_from (contains_key old.objects a) (not (found a)) here (ap not off) }) Itself)
 
-  late_in_both : (a : ℕ) (r : Registration) → get old.late a ≡ Some r → (x : Registration) × (get (both old.registrations old.late) a ≡ Some x)
-  late_in_both a r is = at (get old.registrations a) refl
-    where
-      at : (o : Option Registration) → get old.registrations a ≡ o → (x : Registration) × (get (both old.registrations old.late) a ≡ Some x)
-      at None none = (r, in_second old.registrations old.late a r (λ h. both_ways (contains_key old.registrations a) (ap is_some none) h) is)
-      at (Some x) here = (x, in_first old.registrations old.late a x here)
-
   -- what was kept of the registrations and the links is sound
   pub passed_registered : AreRegistered old.objects old.registrations → AreRegistered new.objects new.registrations
   passed_registered all a r is =
       let was = left_back old.registrations d.picks a r (sym (ap (λ (p : Parts). get p.registrations a) d.is) ∙ is) in
-      kept_stands a (registered_kept a r (in_first old.registrations old.late a r was) (all a r was)) (all a r was)
-
-  pub passed_late : AreRegistered old.objects old.late → AreRegistered new.objects new.late
-  passed_late all a r is =
-      let was = left_back old.late d.late a r (sym (ap (λ (p : Parts). get p.late a) d.is) ∙ is) in
-      let known = late_in_both a r was in
-      kept_stands a (registered_kept a known.0 known.1 (all a r was)) (all a r was)
+      kept_stands a (registered_kept a r was (all a r was)) (all a r was)
 
   pub passed_short : AreTargets old.objects old.short → AreTargets new.objects new.short
   passed_short all link target is =
@@ -254,23 +227,20 @@ module _ (E : Type 0) (pass first : ℕ) (old : Parts) (found : ℕ → Bool) (n
       kept_stands target was.1 (all link target was.0)
 
   -- a pick's object is kept
-  picked_kept : (table : Map Registration) (May : ℕ → Type 0) (picks : List Pick) → ArePicksOf old found E table May picks → (p : Pick) → Contains picks p → IsTrue (contains_key new.objects p.obj)
-  picked_kept table May picks are p within =
-      let picked = (All-contains (λ (q : Pick). IsPicked old.objects (both old.registrations old.late) old.short found q × IsTrue (contains_key table q.obj) × May q.obj) picks p are.each within).0 in
+  picked_kept : (p : Pick) → Contains d.picks p → IsTrue (contains_key new.objects p.obj)
+  picked_kept p within =
+      let picked = (All-contains (λ (q : Pick). IsPicked old.objects old.registrations old.short found q × (IsTrue (late q.obj) → IsLast old found q.obj)) d.picks p d.picked.each within).0 in
       let here = ap is_some picked.here in
       kept_stands p.obj (registered_kept p.obj picked.registration picked.unreachable.registered here) here
 
   -- what came stands
-  came_stands : (e : Entry) → Contains (entries_of pass first (d.picks ++ d.late)) e → IsTrue (contains_key new.objects e.obj)
-  came_stands e came =
-      let from = entries_have pass first (d.picks ++ d.late) e came in
-      subst (λ a. IsTrue (contains_key new.objects a)) from.2
-      (⊎_elim (picked_kept old.registrations (λ _. Unit {0}) d.picks d.picked from.0) (picked_kept old.late (IsLast old found) d.late d.came_late from.0) (Contains-append_cases d.picks d.late from.0 from.1))
+  came_stands : (e : Entry) → Contains (entries_of pass first d.picks) e → IsTrue (contains_key new.objects e.obj)
+  came_stands e came = let from = entries_have pass first d.picks e came in subst (λ a. IsTrue (contains_key new.objects a)) from.2 (picked_kept from.0 from.1)
 
   -- what isn't finished stands then, where what wasn't before was found
   pub passed_held : (s t : State) → queue ≡ s.queue → t.queue ≡ new_queue → t.taken ≡ s.taken → t.held ≡ s.held → ((e : Entry) → Contains (unfinished s) e → IsTrue (found e.obj) × IsTrue (contains_key old.objects e.obj)) → (e : Entry) → Contains (unfinished t) e → IsTrue (contains_key new.objects e.obj)
   passed_held s t was is taken held all e here =
-      let come = entries_of pass first (d.picks ++ d.late) in
+      let come = entries_of pass first d.picks in
       let grown : unfinished t ≡ s.held ++ drop s.taken (s.queue ++ come) = (λ i. held i ++ drop (taken i) ((is ∙ d.queued ∙ ap (λ es. es ++ come) was) i)) in
       let stood = λ (old_one : Contains (unfinished s) e). let found_it = all e old_one in kept_stands e.obj (found_kept e.obj found_it.0) found_it.1 in
       ⊎_elim

@@ -3,7 +3,8 @@
 use Rattle.std.specs.Prelude.{ℕ, Bool, false, List, length, Contains}
 use Rattle.fz_model.specs.State.{Map, Object}
 use Rattle.fz_pass.specs.Marks.{Marks}
-use Rattle.fz_pass.specs.Late.{DecidesLate}
+use Rattle.std.specs.FinSet.{contains}
+use Rattle.fz_pass.specs.Flagged.{DecidesFlagged}
 use Rattle.fz_finalizers.specs.declared.roots.Root.{Root}
 use Rattle.fz_finalizers.specs.declared.roots.Root.TheVariants.{HeldObject, HeldData, RegisteredData}
 use Rattle.fz_finalizers.specs.States.{State}
@@ -33,4 +34,4 @@ pub record Collects (objects : Map Object) (roots : List RecordId) (old : State)
   pub by_objects : MarksKept objects HeldObject old rooted held
   pub by_data : MarksKept objects HeldData old held handed
   pub by_registered : MarksKept objects RegisteredData old handed found
-  pub decided : DecidesLate (Unit {0}) (next_pass old.passes) (length old.queue) (parts_in objects old) found (parts_in left new) old.queue new.queue
+  pub decided : DecidesFlagged (Unit {0}) (contains old.late) (next_pass old.passes) (length old.queue) (parts_in objects old) found (parts_in left new) old.queue new.queue

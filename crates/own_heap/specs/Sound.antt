@@ -13,7 +13,6 @@ HeldStand objects s = (e : Entry) → Contains (unfinished s) e → IsTrue (cont
 
 pub record IsSound (objects : Map Object) (s : State) : Type 0 where
   pub registered : AreRegistered objects s.registrations
-  pub late : AreRegistered objects s.late
   pub short : AreTargets objects s.short
   pub long : AreTargets objects s.long
   pub held : HeldStand objects s

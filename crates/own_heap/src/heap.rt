@@ -34,6 +34,7 @@ impl Heap {
     pub fn new(alloc: Global, size: u32) -> Result<Heap, AllocError>
         ensures records { IfOk result (λ h. h.records.slots.items ≡ replicate size None) }
         ensures roots { IfOk result (λ h. h.roots.items ≡ []) }
+        ensures fresh { IfOk result (λ h. (h.births ≡ 0) × (h.cursor ≡ 0)) }
     {
         Ok(Heap {
             records: Records {
@@ -88,7 +89,7 @@ impl Heap {
     pub fn set(&mut self, id: RecordId, field: usize, value: Field)
         requires { field < FIELDS }
         ensures set { self.new.records.slots.items ≡ slice_set self.old.records.slots.items id.place (option_map (with_field field value) (slot self.old.records.slots.items id.place)) }
-        ensures rest { (self.new.marks ≡ self.old.marks) × (self.new.roots ≡ self.old.roots) × (self.new.births ≡ self.old.births) }
+        ensures rest { (self.new.marks ≡ self.old.marks) × (self.new.roots ≡ self.old.roots) × (self.new.births ≡ self.old.births) × (self.new.cursor ≡ self.old.cursor) }
     {
         self.records.set(id.place as usize, field, value);
     }
@@ -117,9 +118,11 @@ impl Heap {
         }
     }
 
-    /// Ends a collection: frees the unmarked records.
+    /// Ends a collection: frees the unmarked records, whose indices can be used again.
     pub fn sweep(&mut self)
         ensures objects { objects_of self.new.records.slots.items ≡ retain_keys (objects_of self.old.records.slots.items) (is_marked self.old.marks) }
+        ensures size { length self.new.records.slots.items ≡ length self.old.records.slots.items }
+        ensures cursor { self.new.cursor ≡ 0 }
         ensures rest { (self.new.roots ≡ self.old.roots) × (self.new.births ≡ self.old.births) }
     {
         for place in 0..self.records.slots.len() {

@@ -1,9 +1,12 @@
 //! A heap with finalizers.
 
-ghost use Rattle.std.specs.Prelude.{◌≡◌, ◌+◌, ◌++◌, ◌∷◌, [], ◌<◌, is_some, option_map, replicate, slice_set, IfOk, IfSome, IsTrue, MatchOption, None};
-ghost use Rattle.fz_finalizers.specs.States.{opening};
-ghost use Rattle.fz_finalizers.specs.Follows.{Follows, Register, Link, Take, Finish};
-ghost use Rattle.own_heap.specs.Records.{address_of, objects_of, slot, with_field, IsMade};
+ghost use Rattle.std.specs.Prelude.{◌≡◌, ◌+◌, ◌++◌, ◌∷◌, ◌⊎◌, ◌^◌, [], ◌<◌, if◌then◌else◌, is_some, length, option_map, replicate, slice_set, IfErr, IfOk, IfSome, IsTrue, MatchOption, OnErr, OnOk, None};
+ghost use Rattle.std.specs.FinMap.{contains_key, get};
+ghost use Rattle.fz_model.specs.Steps.{old_of};
+ghost use Rattle.fz_finalizers.specs.Causes.{IsJudgedBy, IsJudgedOrLacks, finish_causes, link_causes, register_causes};
+ghost use Rattle.fz_finalizers.specs.States.{HasRooms, links_of, opening, room_of, waiting};
+ghost use Rattle.fz_finalizers.specs.Follows.{Follows, Register, Link, Take, Finish, next_pass};
+ghost use Rattle.own_heap.specs.Records.{address_of, objects_of, slot, with_field, IsFull, IsMade};
 ghost use Rattle.fz_pass.specs.Marks.{IsClosed};
 ghost use Rattle.own_heap.specs.Sound.{HeldStand, IsSound};
 ghost use Rattle.own_heap.specs.Marking.{is_marked};
@@ -40,6 +43,7 @@ impl Runtime {
     pub fn new(alloc: Global, size: u32) -> Result<Runtime, AllocError>
         ensures records { IfOk result (λ r. r.heap.records.slots.items ≡ replicate size None) }
         ensures roots { IfOk result (λ r. r.heap.roots.items ≡ []) }
+        ensures fresh { IfOk result (λ r. (r.heap.births ≡ 0) × (r.heap.cursor ≡ 0)) }
         ensures finalizers { IfOk result (λ r. r.finalizers.state ≡ opening) }
     {
         let heap = Heap::new(alloc, size)?;
@@ -75,7 +79,10 @@ impl Runtime {
 
     /// Makes a record, as `Heap::make` does.
     pub fn make(&mut self, fields: [Field; FIELDS]) -> Option<RecordId>
-        ensures { MatchOption result (self.new ≡ self.old) (λ id. IsMade self.old.heap.records.slots.items self.new.heap.records.slots.items id (record { fields = fields; birth = self.old.heap.births })) }
+        ensures full { result ≡ None → IsFull self.old.heap.records.slots.items self.old.heap.cursor ⊎ (self.old.heap.births + 1 ≡ 2 ^ 64) }
+        ensures rest { (self.new.finalizers ≡ self.old.finalizers) × (self.new.heap.roots ≡ self.old.heap.roots) }
+        ensures births { IfSome result (λ _. self.new.heap.births ≡ self.old.heap.births + 1) }
+        ensures made { MatchOption result (self.new ≡ self.old) (λ id. IsMade self.old.heap.records.slots.items self.new.heap.records.slots.items id (record { fields = fields; birth = self.old.heap.births })) }
     {
         self.heap.make(fields)
     }
@@ -83,7 +90,8 @@ impl Runtime {
     /// Writes a field of a record, as `Heap::set` does.
     pub fn set(&mut self, id: RecordId, field: usize, value: Field)
         requires { field < FIELDS }
-        ensures { self.new.heap.records.slots.items ≡ slice_set self.old.heap.records.slots.items id.place (option_map (with_field field value) (slot self.old.heap.records.slots.items id.place)) }
+        ensures rest { (self.new.finalizers ≡ self.old.finalizers) × (self.new.heap.roots ≡ self.old.heap.roots) × (self.new.heap.births ≡ self.old.heap.births) }
+        ensures set { self.new.heap.records.slots.items ≡ slice_set self.old.heap.records.slots.items id.place (option_map (with_field field value) (slot self.old.heap.records.slots.items id.place)) }
     {
         self.heap.set(id, field, value);
     }
@@ -97,6 +105,9 @@ impl Runtime {
     ) -> Result<(), Refused>
         ensures heap { self.new.heap ≡ self.old.heap }
         ensures state { self.new.finalizers.state ≡ self.old.finalizers.state }
+        ensures refused { IfErr result (λ r. r ≡ Refused.NoMemory) }
+        ensures wanting { OnErr result (HasRooms self.old.finalizers.rooms registrations shorts longs → ⊥) }
+        ensures room { OnOk result (HasRooms self.new.finalizers.rooms registrations shorts longs) }
     {
         self.finalizers.reserve(registrations, shorts, longs)
     }
@@ -108,7 +119,14 @@ impl Runtime {
         finalizer: Finalizer,
     ) -> Result<(u64, Option<Old>), Refused>
         requires { IsTrue (is_some (slot self.old.heap.records.slots.items id.place)) }
-        ensures { IfOk result (λ _. Follows self.old.finalizers.state (Register (address_of id.place) finalizer) self.new.finalizers.state) }
+        ensures heap { self.new.heap ≡ self.old.heap }
+        ensures judged { IsJudgedOrLacks (register_causes self.old.finalizers.registrations self.old.finalizers.next_number (address_of id.place)) result }
+        ensures fresh { IfErr result (λ r. r ≡ Refused.NoMemory → get self.old.finalizers.registrations (address_of id.place) ≡ None) }
+        ensures wanting { IfErr result (λ r. r ≡ Refused.NoMemory → self.old.finalizers.rooms.registrations ≡ 0) }
+        ensures refused { OnErr result (self.new.finalizers.state ≡ self.old.finalizers.state) }
+        ensures number { IfOk result (λ answer. answer.0 ≡ self.old.finalizers.next_number) }
+        ensures replaced { IfOk result (λ answer. answer.1 ≡ old_of self.old.finalizers.registrations (address_of id.place)) }
+        ensures follows { OnOk result (Follows self.old.finalizers.state (Register (address_of id.place) finalizer) self.new.finalizers.state) }
     {
         self.finalizers.register(id.address(), finalizer)
     }
@@ -123,21 +141,31 @@ impl Runtime {
     ) -> Result<LinkAnswer, Refused>
         requires field { field < FIELDS }
         requires target { IsTrue (is_some (slot self.old.heap.records.slots.items target.place)) }
-        ensures { IfOk result (λ _. Follows self.old.finalizers.state (Link kind (address_of id.place + field) (address_of target.place)) self.new.finalizers.state) }
+        ensures heap { self.new.heap ≡ self.old.heap }
+        ensures judged { IsJudgedOrLacks (link_causes (links_of self.old.finalizers.state kind) (address_of id.place + field) (address_of target.place)) result }
+        ensures fresh { IfErr result (λ r. r ≡ Refused.NoMemory → get (links_of self.old.finalizers.state kind) (address_of id.place + field) ≡ None) }
+        ensures answer { IfOk result (λ answer. answer ≡ (if contains_key (links_of self.old.finalizers.state kind) (address_of id.place + field) then LinkAnswer.Duplicate else LinkAnswer.Success)) }
+        ensures wanting { IfErr result (λ r. r ≡ Refused.NoMemory → room_of self.old.finalizers.rooms kind ≡ 0) }
+        ensures refused { OnErr result (self.new.finalizers.state ≡ self.old.finalizers.state) }
+        ensures follows { OnOk result (Follows self.old.finalizers.state (Link kind (address_of id.place + field) (address_of target.place)) self.new.finalizers.state) }
     {
         self.finalizers.link(kind, id.word(field), target.address())
     }
 
     /// Takes the first waiting entry. Its record is retained until the entry is finished.
     pub fn take(&mut self) -> Option<Entry>
-        ensures { IfSome result (λ entry. Follows self.old.finalizers.state (Take entry) self.new.finalizers.state) }
+        ensures heap { self.new.heap ≡ self.old.heap }
+        ensures taken { MatchOption result ((waiting self.old.finalizers.state ≡ []) × (self.new.finalizers.state ≡ self.old.finalizers.state)) (λ entry. Follows self.old.finalizers.state (Take entry) self.new.finalizers.state) }
     {
         self.finalizers.take()
     }
 
     /// Finishes an entry, which then no longer retains its record.
     pub fn finish(&mut self, entry: &Entry) -> Result<(), Refused>
-        ensures { IfOk result (λ _. Follows self.old.finalizers.state (Finish entry.now) self.new.finalizers.state) }
+        ensures heap { self.new.heap ≡ self.old.heap }
+        ensures judged { IsJudgedBy (finish_causes self.old.finalizers.held entry.now) result }
+        ensures refused { OnErr result (self.new.finalizers.state ≡ self.old.finalizers.state) }
+        ensures follows { OnOk result (Follows self.old.finalizers.state (Finish entry.now) self.new.finalizers.state) }
     {
         self.finalizers.finish(entry)
     }
@@ -145,6 +173,9 @@ impl Runtime {
     /// A collection: marks what the roots, the unfinished entries and the client data reach, runs the finalizers' pass, and frees all other records.
     pub fn collect(&mut self) -> Passed
         ensures collected { Collects (objects_of self.old.heap.records.slots.items) self.old.heap.roots.items self.old.finalizers.state (objects_of self.new.heap.records.slots.items) self.new.finalizers.state }
+        ensures pass { result.pass ≡ next_pass self.old.finalizers.passes }
+        ensures picked { length self.new.finalizers.queue ≡ length self.old.finalizers.queue + result.picked }
+        ensures cursor { self.new.heap.cursor ≡ 0 }
         ensures held { HeldStand (objects_of self.new.heap.records.slots.items) self.new.finalizers.state }
         ensures rest { (self.new.heap.roots ≡ self.old.heap.roots) × (self.new.heap.births ≡ self.old.heap.births) }
     {

@@ -4,7 +4,7 @@ ghost use Rattle.std.specs.Prelude.{◌≡◌};
 
 use crate::stream::Stream;
 use arrayvec::ArrayVec;
-use fz_text::{Failures, Sink, Source};
+use fz_runs::{Failures, Sink, Source};
 use std::marker::Brand;
 use std::process::Abort;
 use std::sync::ledger::{Blank, Ledger};

@@ -76,42 +76,71 @@ fn finished_in_each_round<O: Opening>(rt: &impl Abort, seats: &[Seat<O>]) {
     }
 }
 
+/// How workers are run.
+#[derive(Clone, Copy, PartialEq, Eq)]
+enum Way {
+    /// After all entries are sent, and the workers are told to stop.
+    Alone,
+    /// Concurrently with the thread that queues the entries.
+    Beside,
+}
+
 /// Serves the entries of all rounds.
 fn serves_rounds<O: Opening + Send + Sync, R: Abort + Wait + Threads + Sync>(
     rt: &R,
     prepared: Prepared,
     procs: &mut [Vec<Box<dyn Proc + Send>>],
-    gate: &Rounds,
+    way: Way,
 )
     requires { prepared ≡ O.origin }
 {
+    let gate = Rounds::of(WORKERS);
     let (service, seats) = opened::<O>(rt, prepared);
     let mut rounds = [0; 48];
     for (place, round) in rounds.iter_mut().enumerate() {
         *round = place as u64 / WORKERS;
     }
-    queue_entries(rt, &mut service.enter(rt), &rounds);
-    let stop = AtomicBool::new(true);
-    let seats = service.run_workers(seats, procs, gate, &stop, rt);
+    let seats = if way == Way::Alone {
+        queue_entries(rt, &mut service.enter(rt), &rounds);
+        service.run_workers(seats, procs, &gate, &AtomicBool::new(true), rt)
+    } else {
+        let (seats, ()) = service.run_beside(seats, procs, &gate, rt, || {
+            queue_entries(rt, &mut service.enter(rt), &rounds)
+        });
+        seats
+    };
+    same(rt, "a worker waited in vain", gate.missed(), false);
     finished_in_each_round(rt, seats.as_slice());
     let end = ended(rt, service, seats);
     same(rt, "finished", end.finished, WORKERS * ROUNDS);
 }
 
-/// A worker called `work` and then `run` of each round's procedure.
-fn calls_in_each_round(rt: &impl Abort, calls: &Calls) {
-    same(rt, "calls", calls.count(), 2 * ROUNDS);
-    for place in 0..2 * ROUNDS as usize {
-        same(rt, "a call", calls.at(place), place as u64);
+/// A worker called `work` and then `run` of each round's procedure, each time that the rounds were served.
+fn calls_in_each_round(rt: &impl Abort, calls: &Calls, times: u64) {
+    let calls_at_once = 2 * ROUNDS;
+    same(
+        rt,
+        "calls",
+        calls.count(),
+        calls_at_once.saturating_mul(times),
+    );
+    for place in 0..calls.count() {
+        same(
+            rt,
+            "a call",
+            calls.at(place as usize),
+            place % calls_at_once,
+        );
     }
 }
 
+/// The lists come back as they were: alone, beside a program, and alone again.
 #[test]
 fn eight_workers_have_lists_of_six(rt: HostRuntime) -> Result<(), Fail> {
     let mut all = Vec::new(rt.alloc());
     let mut procs = Vec::new(rt.alloc());
     for _worker in 0..WORKERS {
-        let calls = Arc::new(rt.alloc(), Calls::with_room(rt.alloc(), 12)?)?;
+        let calls = Arc::new(rt.alloc(), Calls::with_room(rt.alloc(), 36)?)?;
         let mut list: Vec<Box<dyn Proc + Send>> = Vec::new(rt.alloc());
         for round in 0..ROUNDS {
             let calls = Arc::try_clone(&calls)?;
@@ -120,12 +149,12 @@ fn eight_workers_have_lists_of_six(rt: HostRuntime) -> Result<(), Fail> {
         all.push(calls)?;
         procs.push(list)?;
     }
-    let gate = Rounds::of(WORKERS);
-    let prepared = prepared(&rt, rt.alloc(), WORKERS);
-    serves_rounds::<Brand, HostRuntime>(&rt, prepared, procs.as_mut_slice(), &gate);
-    same(&rt, "a worker waited in vain", gate.missed(), false);
-    for calls in all.iter() {
-        calls_in_each_round(&rt, calls);
+    for (times, way) in [Way::Alone, Way::Beside, Way::Alone].iter().enumerate() {
+        let prepared = prepared(&rt, rt.alloc(), WORKERS);
+        serves_rounds::<Brand, HostRuntime>(&rt, prepared, procs.as_mut_slice(), *way);
+        for calls in all.iter() {
+            calls_in_each_round(&rt, calls, (times as u64).saturating_add(1));
+        }
     }
     Ok(())
 }

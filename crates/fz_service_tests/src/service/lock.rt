@@ -7,16 +7,16 @@ use super::wanted::{count_seats, same};
 use super::workers::Arrivals;
 use super::{ended, opened, prepared, prepared_with, queue_entries};
 use fz_model::Entry;
-use fz_service::{OpenGate, Opening, Prepared, Proc, Service, procedures};
+use fz_service::{OpenGate, Opening, Prepared, Proc, Service, procedures, retire_all};
 use fz_world::World;
-use std::alloc::Global;
+use std::alloc::{AllocError, Global};
 use std::marker::Brand;
 use std::process::Abort;
-use std::sync::atomic::{AtomicU64, Ordering};
+use std::sync::atomic::{AtomicBool, AtomicU64, Ordering};
 use std::sync::{Arc, Wait};
 use std::test::*;
-use std::thread;
 use std::thread::Threads;
+use std::{mem, thread};
 
 /// A thread that takes the lock on request.
 #[derive(Drop)]
@@ -192,15 +192,87 @@ fn serves_a_thousand<O: Opening + Send + Sync, R: Abort + Wait + Threads + Sync>
     same(rt, "finished", end.finished, 1_000);
 }
 
+impl Waits {
+    fn new(visits: &Arc<Visits, Global>) -> Result<Waits, AllocError> {
+        Ok(Waits {
+            visits: Arc::try_clone(visits)?,
+            entries: AtomicU64::new(0),
+        })
+    }
+}
+
 #[test]
 fn another_thread_has_the_lock_after_32_entries(rt: HostRuntime) -> Result<(), Fail> {
     let visits = Arc::new(rt.alloc(), Visits::none())?;
-    let waits = Waits {
-        visits: Arc::try_clone(&visits)?,
-        entries: AtomicU64::new(0),
-    };
+    let waits = Waits::new(&visits)?;
     let prepared = prepared_with(&rt, rt.alloc(), 32, 1);
     serves_a_thousand::<Brand, HostRuntime>(&rt, rt.alloc(), prepared, waits, &visits);
+    same(&rt, "waited in vain", visits.missed(), false);
+    Ok(())
+}
+
+/// A worker serves 1,000 entries beside the program, which asks for the lock once.
+fn serves_a_thousand_beside<O: Opening + Send + Sync, R: Abort + Wait + Threads + Sync>(
+    rt: &R,
+    prepared: Prepared,
+    procs: &mut [Vec<Box<dyn Proc + Send>>],
+    visits: &Visits,
+)
+    requires { prepared ≡ O.origin }
+{
+    let (service, seats) = opened::<O>(rt, prepared);
+    let (seats, ()) = service.run_beside(seats, procs, &OpenGate, rt, || {
+        queue_entries(rt, &mut service.enter(rt), &[0; 1_000]);
+        visits.visit(rt, &service, 1);
+    });
+    let end = ended(rt, service, seats);
+    same(rt, "finished", end.finished, 1_000);
+}
+
+#[test]
+fn the_program_has_the_lock_after_32_entries(rt: HostRuntime) -> Result<(), Fail> {
+    let visits = Arc::new(rt.alloc(), Visits::none())?;
+    let mut procs = procedures!(rt.alloc(); 1u64; Waits::new(&visits)?);
+    let prepared = prepared_with(&rt, rt.alloc(), 32, 1);
+    serves_a_thousand_beside::<Brand, HostRuntime>(&rt, prepared, procs.as_mut_slice(), &visits);
+    same(&rt, "waited in vain", visits.missed(), false);
+    Ok(())
+}
+
+/// A worker that was told to stop serves 1,000 entries, while another thread asks for the lock once.
+fn serves_the_last_thousand<O: Opening + Send + Sync, R: Abort + Wait + Threads + Sync>(
+    rt: &R,
+    alloc: Global,
+    prepared: Prepared,
+    procs: &mut [Vec<Box<dyn Proc + Send>>],
+    visits: &Visits,
+)
+    requires { prepared ≡ O.origin }
+{
+    let (service, seats) = opened::<O>(rt, prepared);
+    queue_entries(rt, &mut service.enter(rt), &[0; 1_000]);
+    let mut given = seats;
+    let slot = &mut given;
+    let (seats, ()) = thread::join(
+        rt,
+        || {
+            let seats = mem::replace(slot, Vec::new(alloc));
+            service.run_workers(seats, procs, &OpenGate, &AtomicBool::new(true), rt)
+        },
+        || visits.visit(rt, &service, 1),
+    );
+    retire_all(given);
+    let end = ended(rt, service, seats);
+    same(rt, "finished", end.finished, 1_000);
+}
+
+#[test]
+fn another_thread_has_the_lock_after_the_last_32_entries(rt: HostRuntime) -> Result<(), Fail> {
+    let visits = Arc::new(rt.alloc(), Visits::none())?;
+    let mut procs = procedures!(rt.alloc(); 1u64; Waits::new(&visits)?);
+    let prepared = prepared_with(&rt, rt.alloc(), 32, 1);
+    let procs = procs.as_mut_slice();
+    serves_the_last_thousand::<Brand, HostRuntime>(&rt, rt.alloc(), prepared, procs, &visits);
     same(&rt, "waited in vain", visits.missed(), false);
     Ok(())
 }

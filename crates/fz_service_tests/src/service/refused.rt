@@ -161,6 +161,7 @@ fn ended_again<O: Opening, R: Abort + Wait>(
 ) -> Final {
     let (mut service, mut seats, mut is_open) = (service, seats, is_open);
     for _ in 0..MOST_REFUSALS {
+        let shortages = service.enter(rt).shortages();
         match service.shutdown(seats) {
             Ok(end) => return end,
             Err((refusal, same_service, same_seats)) => {
@@ -168,6 +169,8 @@ fn ended_again<O: Opening, R: Abort + Wait>(
                 seats = same_seats;
                 *refusals = refusals.saturating_add(1);
                 same(rt, "the refusal", refusal, Refusal::NoMemory);
+                let counted = service.enter(rt).shortages();
+                same(rt, "shortages", counted, shortages.wrapping_add(1));
                 let was_open = service.enter(rt).close().is_ok();
                 same(rt, "whether the world was open", was_open, is_open);
                 is_open = false;

@@ -3,8 +3,8 @@
 use super::files::{FOUR_MUTATORS, KEPT_OBJECT, NO_FRAMES, NO_OPENING};
 use super::wanted::{ends, prints_and_ends, runs_row, runs_rows};
 use super::{Row, fault, run_within};
-use fz_devices::{Limits, WHOLE, bytewise};
 use fz_model::Refusal;
+use fz_runs::{Limits, WHOLE, bytewise};
 use std::test::Fail;
 
 #[test]

@@ -2,7 +2,7 @@
 
 use super::{FreeRow, Row};
 use fz_model::Refusal;
-use fz_text::DriveFault;
+use fz_runs::DriveFault;
 
 /// As many actors as there may be: eight mutators with a frame each, a collector and eight workers. The collector
 /// makes three passes and leaves a cycle open, which a pause ends; three collections follow.

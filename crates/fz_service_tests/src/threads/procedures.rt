@@ -2,12 +2,11 @@
 
 use super::wanted::{accepted, same};
 use super::{Outcome, run_with};
-use fz_devices::WHOLE;
 use fz_model::Entry;
 use fz_model::ObjKind::Scanned;
 use fz_model::RegKind::Normal;
+use fz_runs::{Keep, Nothing, WHOLE};
 use fz_service::{Proc, procedures};
-use fz_threads::{Keep, Nothing};
 use fz_world::{Config, World};
 use std::alloc::Global;
 use std::process::Abort;

@@ -3,7 +3,7 @@
 use super::files::{ALL_ACTORS, MUTATORS_AND_COLLECTOR, ROWS};
 use super::wanted::{prints, runs_rows};
 use super::{FreeRow, Outcome, joined, run};
-use fz_devices::WHOLE;
+use fz_runs::WHOLE;
 use std::alloc::AllocError;
 use std::process::Abort;
 use std::sync::Wait;

@@ -1,9 +1,8 @@
 //! Assertions that fail a test and say which result was wrong. An assertion is proved again wherever it occurs, so those that several tests need are here.
 
 use super::{Outcome, Row, run_within};
-use fz_devices::Limits;
 use fz_model::Refusal;
-use fz_text::DriveFault;
+use fz_runs::{DriveFault, Limits};
 use std::alloc::AllocError;
 use std::fmt::Debug;
 use std::process::Abort;

@@ -2,7 +2,7 @@
 
 use super::Row;
 use fz_model::Refusal;
-use fz_text::DriveFault;
+use fz_runs::DriveFault;
 
 /// An object that leads to another is finalized first, whatever the ranks.
 pub(crate) const CHAIN_IN_ORDER_RANKED: Row = Row {

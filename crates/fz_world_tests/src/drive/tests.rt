@@ -7,10 +7,10 @@ ghost use Rattle.std.specs.Prelude.{◌≡◌, ◌≤◌, ◌<◌, ◌^◌, leng
 use crate::drive::Row;
 use crate::drive::scripts::{FIRST_SMALL, LARGE, LAST_SMALL, ONE_OBJECT, TWO_IN_ORDER};
 use arrayvec::ArrayVec;
-use fz_devices::{Limits, MemorySink, MemorySource, Pieces, WHOLE, bytewise};
-use fz_drive::{Summary, drive};
 use fz_model::{MAX_BLOCKS, MAX_FRAMES, MAX_WORKERS, Refusal};
-use fz_text::{DriveFault, Failures};
+use fz_runs::{
+    DriveFault, Failures, Limits, MemorySink, MemorySource, Pieces, Summary, WHOLE, bytewise, drive,
+};
 use std::alloc::{AllocError, Global};
 use std::marker::Brand;
 use std::process::Abort;

@@ -1,10 +1,10 @@
 use Rattle.std.proofs.Common.{rules, ◌≡◌, ◌≢◌, ℕ, List, Bor, Option, Result, Ok, IfOk, arith, refl, subst, inl, inr}
 use Rattle.std.specs.Io.KnownBytes.{Keeps}
-use Rattle.fz_words.specs.declared.Program.{Program}
-use Rattle.fz_words.specs.declared.WordsFault.{WordsFault}
-use Rattle.fz_words.specs.declared.WordsFault.TheVariants.{Wrong, NoMemory}
-use Rattle.fz_words.specs.Words.{IsFile, Names, AskFor}
-use Rattle.fz_text.specs.Devices.{Log}
+use Rattle.fz_runs.specs.declared.arguments.Program.{Program}
+use Rattle.fz_runs.specs.declared.arguments.WordsFault.{WordsFault}
+use Rattle.fz_runs.specs.declared.arguments.WordsFault.TheVariants.{Wrong, NoMemory}
+use Rattle.fz_runs.specs.Arguments.{IsFile, Names, AskFor}
+use Rattle.fz_runs.specs.Devices.{Log}
 use Rattle.finalize.specs.Program.{RunsFile, Ends}
 use Rattle.finalize.proofs.program.execute.Goals as goal
 

@@ -1,5 +1,5 @@
 use Rattle.std.proofs.Common.{ap}
-use Rattle.fz_words.specs.declared.Program.TheVariants.{Run}
+use Rattle.fz_runs.specs.declared.arguments.Program.TheVariants.{Run}
 use Rattle.finalize.proofs.Running.{completed, stopped}
 use Rattle.finalize.proofs.program.run_script.Goals as goal
 

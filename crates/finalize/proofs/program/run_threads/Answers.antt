@@ -1,5 +1,5 @@
 use Rattle.std.proofs.Common.{ap}
-use Rattle.fz_words.specs.declared.Program.TheVariants.{Threads}
+use Rattle.fz_runs.specs.declared.arguments.Program.TheVariants.{Threads}
 use Rattle.finalize.proofs.Running.{completed, stopped}
 use Rattle.finalize.proofs.program.run_threads.Goals as goal
 

@@ -1,8 +1,9 @@
-use Rattle.std.proofs.Common.{◌≡◌, ◌++◌, ◌∷◌, [], ◌∙◌, ℕ, cond, List, length, sym, ap, refl, subst, arith, nat_cmp}
+use Rattle.std.proofs.Common.{◌≡◌, ◌++◌, ◌∷◌, [], ◌∙◌, ℕ, Bool, cond, List, length, sym, ap, refl, subst, arith, nat_cmp}
 use Rattle.std.specs.FinMap.{from_entries}
 use Rattle.fz_model.specs.State.{Map}
 use Rattle.fz_model.specs.declared.answers.Registration.{Registration}
 use Rattle.fz_pass.specs.Listing.{AreUnmarked, AreApart, unmarked_in, ranked}
+use Rattle.fz_pass.specs.Tiers.{skips, tiered}
 use Rattle.fz_pass.proofs.Ranking.{unmarked_more, unmarked_all, fewer}
 use Rattle.fz_pass.proofs.Walking.{one_on, all_of}
 use Rattle.fz_pass.proofs.listing.list_unmarked.Goals as goal
@@ -21,7 +22,7 @@ list_if_unmarked-requires g c =
 
 pub loop-object-preserved : goal.loop-object-preserved
 loop-object-preserved g c =
-    let marked = g.H.Host.marked c.args.host.now in
+    let marked : ℕ → Bool = skips c.args.round.second (tiered c.args.round.tiers c.args.table.now.late) (g.H.Host.marked c.args.host.now) in
     let inv = c.loop-object.invariant in
     let e : ℕ × Registration = (c.in-Some.object, c.in-Some.registration) in
     let steps = ap length c.in-Some.ensures.steps in
@@ -36,7 +37,7 @@ loop-object-preserved g c =
 
 pub returns-clause-listed : goal.returns-clause-listed
 returns-clause-listed g c =
-    let marked = g.H.Host.marked c.args.host.now in
+    let marked : ℕ → Bool = skips c.args.round.second (tiered c.args.round.tiers c.args.table.now.late) (g.H.Host.marked c.args.host.now) in
     let es = c.iter-object-items.result in
     let all : c.loop-object.yielded ≡ es = all_of c.loop-object.yielded _ es (c.loop-object.invariant.rest ∙ c.into_iter-object-iterator.ensures.into_iter_gives) c.in-None.ensures.steps.0 in
     subst (λ (m : Map Registration). AreUnmarked m marked AreApart c.loop-object.ready.items) c.iter-object-items.ensures.all

@@ -1,13 +1,14 @@
-use Rattle.std.proofs.Common.{◌≡◌, ℕ, All, rules, sym, subst}
+use Rattle.std.proofs.Common.{◌≡◌, ℕ, Bool, All, rules, sym, subst}
 use Rattle.std.proofs.lemmas.List.Sorted.{IsNonDecreasingBy-from_sort_by_key}
 use Rattle.fz_pass.specs.Listing.{AreUnmarked, AreRanked}
+use Rattle.fz_pass.specs.Tiers.{skips, tiered}
 use Rattle.fz_pass.proofs.Ranking.{by_address, of_one_rank, by_rank}
 use Rattle.fz_pass.proofs.listing.rank_unmarked.Goals as goal
 
 pub returns-then-not-is_of_one_rank-clause-listed : goal.returns-then-not-is_of_one_rank-clause-listed
 returns-then-not-is_of_one_rank-clause-listed g c =
     let registrations = c.args.table.now.registered.registrations in
-    let marked = g.H.Host.marked c.args.host.now in
+    let marked : ℕ → Bool = skips c.args.round.second (tiered c.args.round.tiers c.args.table.now.late) (g.H.Host.marked c.args.host.now) in
     let sorted = c.sort_unstable_by_key.ensures in
     let up = IsNonDecreasingBy-from_sort_by_key (λ (x : ℕ × ℕ). x.1) _ sorted.sorted (λ a r q k. search rules) in
     subst (AreUnmarked registrations marked AreRanked) (sym c.order_by_rank.ensures.ordered)
@@ -16,7 +17,7 @@ returns-then-not-is_of_one_rank-clause-listed g c =
 pub returns-else-not-is_of_one_rank-clause-listed : goal.returns-else-not-is_of_one_rank-clause-listed
 returns-else-not-is_of_one_rank-clause-listed g c =
     let registrations = c.args.table.now.registered.registrations in
-    let marked = g.H.Host.marked c.args.host.now in
+    let marked : ℕ → Bool = skips c.args.round.second (tiered c.args.round.tiers c.args.table.now.late) (g.H.Host.marked c.args.host.now) in
     let sorted = c.sort_unstable_by_key.ensures in
     let up = IsNonDecreasingBy-from_sort_by_key (λ (x : ℕ × ℕ). x.1) _ sorted.sorted (λ a r q k. search rules) in
     let one = c.is_of_one_rank.ensures c.if-not-is_of_one_rank.false in

@@ -1,66 +1,114 @@
-use Rattle.std.proofs.Common.{◌≡◌, ◌∙◌, ℕ, Bool, List, Some, is_some, sym, ap, subst, arith, nat_cmp}
-use Rattle.std.proofs.lemmas.Bool.{true≢false}
-use Rattle.std.proofs.lemmas.Option.{none-some}
-use Rattle.std.specs.FinMap.{get, contains_key, len, empty, get-empty, len-empty}
+-- The parts of the pass fit together.
+use Rattle.std.proofs.Common.{◌≡◌, ◌∙◌, ℕ, Bool, sym, ap, subst, inl, IsTrue}
+use Rattle.std.specs.FinMap.{retain_keys}
 use Rattle.fz_model.specs.State.{Map, Object}
-use Rattle.fz_model.specs.declared.answers.Entry.{Entry}
-use Rattle.fz_model.specs.declared.answers.Registration.{Registration}
-use Rattle.fz_table.specs.Registered.{Registered}
-use Rattle.fz_pass.specs.Late.{Parts, DecidesLate, parts_left}
-use Rattle.fz_pass.proofs.Alone.{decided_alone, decided_none}
+use Rattle.fz_model.specs.Memory.{points}
+use Rattle.fz_model.specs.Pass.{cleared, is_dead, links_within}
+use Rattle.fz_model.proofs.SeenKept.{points-filled}
+use Rattle.fz_pass.specs.Decides.{parts_left}
+use Rattle.fz_pass.specs.Marks.{IsClosed, AreRegistered, AreTargets, with_targets, with_containers}
+use Rattle.fz_pass.specs.Queued.{MarksLed, QueuesTiers}
+use Rattle.fz_pass.specs.Tiers.{tiered}
+use Rattle.fz_pass.proofs.Flags.{decided, left}
+use Rattle.fz_pass.proofs.Led.{led_are_marked}
+use Rattle.fz_pass.proofs.Passed.{dropped_twice, registered_still, targets_still, closed_still, pointed}
 use Rattle.fz_pass.proofs.pass.decide.Goals as goal
 
-none : (table : Registered) → table ≡ record { registrations = empty; next_number = 0 } → (a : ℕ) (r : Registration) → get table.registrations a ≡ Some r → ⊥
-none table is a r here = none-some r (sym (get-empty nat_cmp a) ∙ ap (λ (t : Registered). get t.registrations a) (sym is) ∙ here)
+pub mark_led-requires : goal.mark_led-requires
+mark_led-requires g c =
+    let t = g.H.Host in
+    let objects = t.objects c.args.host.now in
+    let found = t.marked c.args.host.now in
+    let short = c.args.short.now.links in
+    record {
+      registered = subst (λ (os : Map Object). AreRegistered os c.args.table.now.registrations) (sym c.clear_dead.ensures.objects) (registered_still objects short found c.args.table.now.registrations c.requires.registered);
+      closed = subst (IsClosed (t.objects c.clear_dead.new.host)) (sym c.clear_dead.ensures.marked)
+          (subst (λ (m : Map Object). IsClosed m found) (sym c.clear_dead.ensures.objects) (closed_still objects short found c.requires.zero c.requires.closed));
+    }
 
--- a new table is empty
-over_none : (E : Type 0) (pass first : ℕ) (objects : Map Object) (registrations : Map Registration) (short long : Map ℕ) (found : ℕ → Bool) (new : Parts) (queue new_queue : List Entry) (late : Registered) → late ≡ record { registrations = empty; next_number = 0 }
-    → DecidesLate E pass first (record { objects = objects; registrations = registrations; late = late.registrations; short = short; long = long }) found new queue new_queue
-    → DecidesLate E pass first (record { objects = objects; registrations = registrations; late = empty; short = short; long = long }) found new queue new_queue
-over_none E pass first objects registrations short long found new queue new_queue late is =
-    subst (λ (t : Registered). DecidesLate E pass first (record { objects = objects; registrations = registrations; late = t.registrations; short = short; long = long }) found new queue new_queue) is
+pub queue_tiers-requires : goal.queue_tiers-requires
+queue_tiers-requires g c =
+    let t = g.H.Host in
+    let E = t.is_exact in
+    let objects = t.objects c.args.host.now in
+    let found = t.marked c.args.host.now in
+    let short = c.args.short.now.links in
+    let all = c.args.table.now.registrations in
+    let now = t.objects c.mark_led.new.host in
+    let led = t.marked c.mark_led.new.host in
+    let still : AreRegistered now all = subst (λ (os : Map Object). AreRegistered os all) (sym (c.mark_led.ensures.objects ∙ c.clear_dead.ensures.objects)) (registered_still objects short found all c.requires.registered) in
+    let marks : MarksLed E now (t.marked c.clear_dead.new.host) led all = subst (λ (m : Map Object). MarksLed E m (t.marked c.clear_dead.new.host) led all) (sym c.mark_led.ensures.objects) c.mark_led.ensures.marked in
+    record {
+      registered = still;
+      closed = marks.closed;
+      led = led_are_marked E now (t.marked c.clear_dead.new.host) led all still marks;
+      list = c.requires.list;
+      room = c.requires.room;
+      numbers = c.requires.numbers;
+    }
 
-pub decide_with_late-requires-clause-late : goal.decide_with_late-requires-clause-late
-decide_with_late-requires-clause-late g c = λ a r here. absurd (none c.new-late.result.registered c.new-late.ensures a r here)
-
-pub decide_with_late-requires-clause-apart : goal.decide_with_late-requires-clause-apart
-decide_with_late-requires-clause-apart g c = λ a first second. true≢false (sym second ∙ ap (λ (t : Registered). contains_key t.registrations a) c.new-late.ensures ∙ ap is_some (get-empty nat_cmp a))
-
-pub decide_with_late-requires-clause-normal : goal.decide_with_late-requires-clause-normal
-decide_with_late-requires-clause-normal g c = λ a r here. absurd (none c.new-late.result.registered c.new-late.ensures a r here)
-
-pub decide_with_late-requires-clause-list : goal.decide_with_late-requires-clause-list
-decide_with_late-requires-clause-list g c =
-    let no = ap (λ (t : Registered). len t.registrations) c.new-late.ensures ∙ len-empty nat_cmp Registration in
-    omega (arith, no, c.requires.list)
-
-pub decide_with_late-requires-clause-room : goal.decide_with_late-requires-clause-room
-decide_with_late-requires-clause-room g c =
-    let no = ap (λ (t : Registered). len t.registrations) c.new-late.ensures ∙ len-empty nat_cmp Registration in
-    omega (arith, no, c.requires.room)
-
-pub decide_with_late-requires-clause-numbers : goal.decide_with_late-requires-clause-numbers
-decide_with_late-requires-clause-numbers g c =
-    let no = ap (λ (t : Registered). len t.registrations) c.new-late.ensures ∙ len-empty nat_cmp Registration in
-    omega (arith, no, c.requires.numbers)
+pub clear_dead-requires-2 : goal.clear_dead-requires-2
+clear_dead-requires-2 g c =
+    let t = g.H.Host in
+    let g0 = c.args.host.now in
+    record { targets = subst (λ (m : Map Object). AreTargets m c.args.long.now.links) (sym (c.queue_tiers.ensures.objects ∙ c.mark_led.ensures.objects ∙ c.clear_dead.ensures.objects)) (targets_still (t.objects g0) c.args.short.now.links (t.marked g0) c.args.long.now.links c.requires.long) }
 
 pub returns-clause-decided : goal.returns-clause-decided
 returns-clause-decided g c =
     let t = g.H.Host in
+    let E = t.is_exact in
     let objects = t.objects c.args.host.now in
-    let new = c.decide_with_late.new in
-    decided_alone t.is_exact c.args.pass c.args.first objects c.args.table.now.registered.registrations c.args.short.now.links c.args.long.now.links (t.marked c.args.host.now) _ c.args.queue.now.items new.queue.items
-    (over_none t.is_exact c.args.pass c.args.first objects c.args.table.now.registered.registrations c.args.short.now.links c.args.long.now.links (t.marked c.args.host.now) (parts_left (t.objects new.host) (t.marked new.host) new.table new.late new.short new.long) c.args.queue.now.items new.queue.items c.new-late.result.registered c.new-late.ensures c.decide_with_late.ensures.decided)
+    let found = t.marked c.args.host.now in
+    let led = t.marked c.mark_led.new.host in
+    let kept = t.marked c.queue_tiers.new.host in
+    let short = c.args.short.now.links in
+    let long = c.args.long.now.links in
+    let table = c.args.table.now.content in
+    let new_table = c.queue_tiers.new.table.content in
+    let late : ℕ → Bool = tiered c.args.terms.tiers table.late in
+    let queue = c.args.queue.now.items in
+    let clear : Map Object = cleared short found objects in
+    let first : t.objects c.clear_dead.new.host ≡ clear = c.clear_dead.ensures.objects in
+    let second : t.objects c.mark_led.new.host ≡ clear = c.mark_led.ensures.objects ∙ first in
+    let leading = subst (λ (m : ℕ → Bool). MarksLed E clear m led table.registrations) c.clear_dead.ensures.marked
+    (subst (λ (m : Map Object). MarksLed E m (t.marked c.clear_dead.new.host) led table.registrations) first c.mark_led.ensures.marked) in
+    let q = subst (λ (m : Map Object). QueuesTiers E late c.args.terms.pass c.args.terms.first m led kept table new_table queue c.queue_tiers.new.queue.items) second c.queue_tiers.ensures.queued in
+    let last : t.objects c.clear_dead-2.new.host ≡ cleared long kept clear = c.clear_dead-2.ensures.objects ∙ ap (cleared long kept) (c.queue_tiers.ensures.objects ∙ second) in
+    let still : t.marked c.clear_dead-2.new.host ≡ kept = c.clear_dead-2.ensures.marked in
+    let at : (w : ℕ) → points (t.objects c.clear_dead-2.new.host) w ≡ points objects w = λ w. ap (λ (m : Map Object). points m w) last ∙ pointed objects short found long kept w in
+    let short_is : c.drop_outside.new.links.links ≡ links_within objects short found kept =
+    c.drop_outside.ensures ∙ ap (λ (m : Map ℕ). with_containers (t.objects c.clear_dead-2.new.host) m (t.marked c.clear_dead-2.new.host)) (c.drop_dead.ensures ∙ ap (with_targets short) c.clear_dead.ensures.marked)
+    ∙ ap (λ (m : ℕ → Bool). with_containers (t.objects c.clear_dead-2.new.host) (with_targets short found) m) still ∙ dropped_twice (t.objects c.clear_dead-2.new.host) objects short found kept at in
+    let long_is : c.drop_outside-2.new.links.links ≡ links_within objects long kept kept =
+    c.drop_outside-2.ensures ∙ ap (λ (m : Map ℕ). with_containers (t.objects c.clear_dead-2.new.host) m (t.marked c.clear_dead-2.new.host)) c.drop_dead-2.ensures
+    ∙ ap (λ (m : ℕ → Bool). with_containers (t.objects c.clear_dead-2.new.host) (with_targets long m) m) still ∙ dropped_twice (t.objects c.clear_dead-2.new.host) objects long kept kept at in
+    let objects_are : retain_keys (t.objects c.clear_dead-2.new.host) (t.marked c.clear_dead-2.new.host) ≡ retain_keys (cleared long kept clear) kept = λ i. retain_keys (last i) (still i) in
+    let registered = registered_still objects short found table.registrations c.requires.registered in
+    let left_is : parts_left (t.objects c.clear_dead-2.new.host) (t.marked c.clear_dead-2.new.host) c.queue_tiers.new.table c.drop_outside.new.links c.drop_outside-2.new.links
+    ≡ left E late objects short long found led kept table new_table c.args.terms.pass c.args.terms.first queue c.queue_tiers.new.queue.items c.requires.normal registered leading q =
+    λ i. record { objects = objects_are i; registrations = new_table.registrations; short = short_is i; long = long_is i } in
+    decided E late objects short long found led kept table new_table c.args.terms.pass c.args.terms.first queue c.queue_tiers.new.queue.items c.requires.normal registered leading q _ left_is
 
-pub returns-clause-more : goal.returns-clause-more
-returns-clause-more g c =
+pub returns-clause-marks : goal.returns-clause-marks
+returns-clause-marks g c a was =
+    let t = g.H.Host in
+    let q = c.queue_tiers.ensures.queued in
+    let at = λ (m n : ℕ → Bool) (same : n ≡ m) (h : IsTrue (m a)). subst (λ (f : ℕ → Bool). IsTrue (f a)) (sym same) h in
+    at (t.marked c.queue_tiers.new.host) _ c.clear_dead-2.ensures.marked
+    (q.reached_late.least a (inl (q.reached.least a (inl (c.mark_led.ensures.marked.least a (inl (at (t.marked c.args.host.now) _ c.clear_dead.ensures.marked was)))))))
+
+pub returns-clause-closed : goal.returns-clause-closed
+returns-clause-closed g c =
     let t = g.H.Host in
     let objects = t.objects c.args.host.now in
-    let new = c.decide_with_late.new in
-    decided_none t.is_exact c.args.pass c.args.first objects c.args.table.now.registered.registrations c.args.short.now.links c.args.long.now.links (t.marked c.args.host.now) (parts_left (t.objects new.host) (t.marked new.host) new.table new.late new.short new.long) c.args.queue.now.items new.queue.items
-    (over_none t.is_exact c.args.pass c.args.first objects c.args.table.now.registered.registrations c.args.short.now.links c.args.long.now.links (t.marked c.args.host.now) (parts_left (t.objects new.host) (t.marked new.host) new.table new.late new.short new.long) c.args.queue.now.items new.queue.items c.new-late.result.registered c.new-late.ensures c.decide_with_late.ensures.decided)
-
-pub returns-clause-room : goal.returns-clause-room
-returns-clause-room g c =
-    let no = ap (λ (t : Registered). len t.registrations) c.new-late.ensures ∙ len-empty nat_cmp Registration in
-    omega (arith, no, c.decide_with_late.ensures.count, c.decide_with_late.ensures.capacity, c.requires.room)
+    let short = c.args.short.now.links in
+    let long = c.args.long.now.links in
+    let found = t.marked c.args.host.now in
+    let kept = t.marked c.queue_tiers.new.host in
+    let clear : Map Object = cleared short found objects in
+    let second : t.objects c.queue_tiers.new.host ≡ clear = c.queue_tiers.ensures.objects ∙ c.mark_led.ensures.objects ∙ c.clear_dead.ensures.objects in
+    let last : t.objects c.clear_dead-2.new.host ≡ cleared long kept clear = c.clear_dead-2.ensures.objects ∙ ap (cleared long kept) second in
+    let closed : IsClosed clear kept = subst (λ (m : Map Object). IsClosed m kept) (c.mark_led.ensures.objects ∙ c.clear_dead.ensures.objects) c.queue_tiers.ensures.queued.reached_late.closed in
+    let nowhere = points-filled (is_dead objects short found) 0 objects 0 ∙ c.requires.zero in
+    subst (λ (m : Map Object). IsClosed m (t.marked c.clear_dead-2.new.host)) (sym last)
+    (subst (IsClosed (cleared long kept clear)) (sym c.clear_dead-2.ensures.marked) (closed_still clear long kept nowhere closed))

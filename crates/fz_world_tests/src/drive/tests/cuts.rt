@@ -7,8 +7,8 @@ use crate::drive::Row;
 use crate::drive::scripts::{
     DROPPED_IN_A_CYCLE, DROPPED_IN_A_CYCLE_OTHERWISE, FIRST_SMALL, LAST_SMALL, TWO_IN_ORDER,
 };
-use fz_devices::WHOLE;
 use fz_model::Refusal;
+use fz_runs::WHOLE;
 use std::alloc::{AllocError, Global};
 use std::process::Abort;
 use std::test::Fail;

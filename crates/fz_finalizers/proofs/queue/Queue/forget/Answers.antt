@@ -1,8 +1,6 @@
 use Rattle.std.proofs.Common.{◌≡◌, ◌≤◌, ◌+◌, ◌-◌, ◌++◌, ℕ, nat_lt, List, take, drop, length, length-append, sym, ap, ◌∙◌, arith}
-use Rattle.std.specs.FinSet.{contains}
 use Rattle.std.proofs.lemmas.Bool.{lt-ltb}
 use Rattle.std.proofs.lemmas.List.{length-drop}
-use Rattle.fz_bits.specs.Flags.{Set}
 use Rattle.fz_model.specs.declared.answers.Entry.{Entry}
 use Rattle.fz_finalizers.specs.Queue.{Queue}
 use Rattle.fz_finalizers.proofs.Gathered.{few_placed, placed_all}

@@ -1,4 +1,4 @@
-use Rattle.std.proofs.Common.{◌≡◌, ◌≤◌, ◌<◌, ◌^◌, ◌+◌, ◌-◌, ◌++◌, [], ◌∷◌, List, take, drop, length, refl, sym, ap, ◌∙◌, arith}
+use Rattle.std.proofs.Common.{◌≡◌, ◌<◌, ◌^◌, ◌+◌, ◌++◌, [], ◌∷◌, take, length, refl, sym, ap, ◌∙◌, arith}
 use Rattle.fz_model.specs.Pass.{entries_of}
 use Rattle.fz_pass.proofs.Gathering.{pushed}
 use Rattle.fz_pass.specs.All.{unknown}

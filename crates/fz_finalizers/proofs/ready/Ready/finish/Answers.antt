@@ -1,7 +1,5 @@
-use Rattle.std.proofs.Common.{◌≡◌, ◌≤◌, ◌<◌, ◌+◌, ◌-◌, ◌++◌, [], ◌∷◌, ℕ, List, Some, drop, filter, not, length, refl, sym, ap, ◌∙◌, subst, arith}
-use Rattle.std.proofs.lemmas.List.{length-drop}
-use Rattle.fz_finalizers.specs.Ready.{Ready, IsTaken, held_of}
-use Rattle.fz_finalizers.specs.Queue.{Queue}
+use Rattle.std.proofs.Common.{filter, not, sym, ap, ◌∙◌}
+use Rattle.fz_finalizers.specs.Ready.{Ready}
 use Rattle.std.specs.List.{list_any}
 use Rattle.fz_model.specs.Events.{same_entry}
 use Rattle.fz_finalizers.proofs.Taking.{later_not_held, held_as, finishes, held_finished, none_of}

@@ -1,8 +1,6 @@
-use Rattle.std.proofs.Common.{◌≡◌, ◌≤◌, ◌<◌, ◌+◌, ◌-◌, ◌++◌, [], ◌∷◌, ℕ, List, Some, drop, length, refl, sym, ap, ◌∙◌, subst, arith}
-use Rattle.std.proofs.lemmas.List.{length-drop}
-use Rattle.fz_finalizers.specs.Ready.{Ready, IsTaken, held_of}
+use Rattle.std.proofs.Common.{ap}
 use Rattle.fz_finalizers.specs.Queue.{Queue}
-use Rattle.fz_finalizers.proofs.Taking.{all_open, count_open, forgets, held_as_before}
+use Rattle.fz_finalizers.proofs.Taking.{forgets}
 use Rattle.fz_finalizers.proofs.ready.Ready.forget.Goals as goal
 
 pub forget-requires-clause-open : goal.forget-requires-clause-open

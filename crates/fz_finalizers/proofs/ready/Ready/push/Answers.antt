@@ -1,7 +1,5 @@
-use Rattle.std.proofs.Common.{◌≡◌, ◌≤◌, ◌<◌, ◌+◌, ◌-◌, ◌++◌, [], ◌∷◌, ℕ, List, Some, drop, length, refl, sym, ap, ◌∙◌, subst, arith}
-use Rattle.std.proofs.lemmas.List.{length-drop}
-use Rattle.fz_finalizers.specs.Ready.{Ready, IsTaken, held_of}
-use Rattle.fz_finalizers.specs.Queue.{Queue}
+use Rattle.std.proofs.Common.{ap, ◌∙◌}
+use Rattle.fz_finalizers.specs.Ready.{Ready}
 use Rattle.fz_finalizers.proofs.Taking.{gains, held_still}
 use Rattle.fz_finalizers.proofs.ready.Ready.push.Goals as goal
 

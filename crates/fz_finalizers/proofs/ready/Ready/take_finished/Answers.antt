@@ -1,7 +1,5 @@
-use Rattle.std.proofs.Common.{◌≡◌, ◌≤◌, ◌<◌, ◌+◌, ◌-◌, ◌++◌, [], ◌∷◌, ℕ, List, Some, slice_get, drop, length, refl, sym, ap, ◌∙◌, subst, arith}
-use Rattle.std.proofs.lemmas.List.{length-drop}
-use Rattle.fz_finalizers.specs.Ready.{Ready, IsTaken, held_of}
-use Rattle.fz_finalizers.specs.Queue.{Queue}
+use Rattle.std.proofs.Common.{◌≡◌, ◌+◌, Some, slice_get, sym, ap, ◌∙◌, subst}
+use Rattle.fz_finalizers.specs.Ready.{Ready}
 use Rattle.fz_finalizers.proofs.Taking.{passes, held_passes}
 use Rattle.fz_finalizers.proofs.ready.Ready.take_finished.Goals as goal
 

@@ -1,6 +1,5 @@
-use Rattle.std.proofs.Common.{Option, length, ap, arith, List}
+use Rattle.std.proofs.Common.{length, ap, arith}
 use Rattle.std.proofs.lemmas.List.{length-drop}
-use Rattle.fz_model.specs.declared.answers.Entry.{Entry}
 use Rattle.fz_finalizers.specs.Queue.{shown_in}
 use Rattle.fz_finalizers.proofs.Shown.{length-shown}
 use Rattle.fz_finalizers.proofs.unfinished.Entries.places.Goals as goal

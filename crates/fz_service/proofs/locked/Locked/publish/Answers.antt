@@ -1,4 +1,4 @@
-use Rattle.std.proofs.Common.{◌∙◌, ◌+◌, ap, sym, subst, arith}
+use Rattle.std.proofs.Common.{◌+◌, ap, sym, subst, arith}
 use Rattle.fz_line.specs.States.{OwnerState}
 use Rattle.fz_service.specs.States.{locked_state, IsInOrder}
 use Rattle.fz_service.proofs.Keeps.{sent_count, outbox_count, outbox_numbered, published_more, sent_more}
@@ -13,8 +13,8 @@ publish-count-requires-clause-limit g c =
     let few = c.queue_from-outbox.ensures.few in
     omega (arith, all, few)
 
-pub overflow_add-self : goal.overflow_add-self
-overflow_add-self g c =
+pub overflow_add-sent : goal.overflow_add-sent
+overflow_add-sent g c =
     let all = outbox_count _ _ _ _ _ _ c.self.invariant.0 _ c.queue_from-outbox.ensures.queue in
     let sent = sent_count _ _ _ _ _ _ c.self.invariant.0 in
     let few = c.queue_from-outbox.ensures.few in
@@ -27,6 +27,7 @@ invariant_of-self g c =
     let rest = c.queue_from-outbox.ensures.queue in
     let sent = ap (λ (o : OwnerState). o.sent) c.publish-count.ensures.sent in
     let ready = c.self.invariant.1 in (
-      subst (λ es. IsInOrder g.O.Opening.origin (locked_state w.world es (w.published + c.publish-count.result.0) w.book.total c.note.new.self.count)) (sym sent) (published_more _ _ _ _ _ _ c.self.invariant.0 _ _ _ rest c.publish-count.ensures.within),
+      subst (λ n. IsInOrder g.O.Opening.origin (locked_state w.world c.publish-count.new.self.sent n w.book.total c.note.new.self.count)) (sym c.ring.ensures)
+          (subst (λ es. IsInOrder g.O.Opening.origin (locked_state w.world es (w.rung.entries + c.publish-count.result.0) w.book.total c.note.new.self.count)) (sym sent) (published_more _ _ _ _ _ _ c.self.invariant.0 _ _ _ rest c.publish-count.ensures.within)),
       sent_more _ _ _ _ _ _ ready c.publish-count.ensures.sent,
     )

@@ -19,7 +19,7 @@ overflow_sub-result g c =
     let w = c.self.inside in
     let queue = c.queued-enqueued.ensures in
     let held = c.outstanding-outstanding.ensures.count in
-    let d = drained_by g.O.Opening.origin (locked_state w.world w.owner.sent w.published w.book.total w.shortages.count) _ c.args.seats.items _ (c.as_mut_slice.ensures.value ∙ c.without_shares-plain.ensures.seats) c.self.invariant.0 c.drain.ensures.first c.drain.ensures.rest c.drain.ensures.idle
+    let d = drained_by g.O.Opening.origin (locked_state w.world w.owner.sent w.rung.entries w.book.total w.shortages.count) _ c.args.seats.items _ (c.as_mut_slice.ensures.value ∙ c.without_shares-plain.ensures.seats) c.self.invariant.0 c.drain.ensures.first c.drain.ensures.rest c.drain.ensures.idle
     (sym (c.audit.ensures.whole (c.without_shares-plain.ensures.all.0 ∙ c.requires.all)) ∙ c.without_shares-plain.ensures.all.1) in
     let few = enough _ _ _ _ d in
     let left = c.len.ensures in
@@ -30,17 +30,17 @@ returns g c =
     let w = c.self.inside in
     let queue = c.queued-enqueued.ensures in
     let held = c.outstanding-outstanding.ensures.count in
-    let d = drained_by g.O.Opening.origin (locked_state w.world w.owner.sent w.published w.book.total w.shortages.count) _ c.args.seats.items _ (c.as_mut_slice.ensures.value ∙ c.without_shares-plain.ensures.seats) c.self.invariant.0 c.drain.ensures.first c.drain.ensures.rest c.drain.ensures.idle
+    let d = drained_by g.O.Opening.origin (locked_state w.world w.owner.sent w.rung.entries w.book.total w.shortages.count) _ c.args.seats.items _ (c.as_mut_slice.ensures.value ∙ c.without_shares-plain.ensures.seats) c.self.invariant.0 c.drain.ensures.first c.drain.ensures.rest c.drain.ensures.idle
     (sym (c.audit.ensures.whole (c.without_shares-plain.ensures.all.0 ∙ c.requires.all)) ∙ c.without_shares-plain.ensures.all.1) in
     let left = c.len.ensures in
     let rest = c.queue_from.ensures.queue in
-    let taken : w.published - c.len.result ≡ w.published - length c.drain.new.out.items = omega (arith, left) in
+    let taken : w.rung.entries - c.len.result ≡ w.rung.entries - length c.drain.new.out.items = omega (arith, left) in
     let finished : c.queued-enqueued.result - c.outstanding-outstanding.result ≡ length w.world.queue - length w.world.held = omega (arith, queue, held) in
     let end : Final = record {
       enqueued = c.queued-enqueued.result;
-      taken = w.published - c.len.result;
+      taken = w.rung.entries - c.len.result;
       finished = c.queued-enqueued.result - c.outstanding-outstanding.result;
-      forfeited = w.published - c.len.result - (c.queued-enqueued.result - c.outstanding-outstanding.result);
+      forfeited = w.rung.entries - c.len.result - (c.queued-enqueued.result - c.outstanding-outstanding.result);
       left = c.append.new.left;
       passes = c.passes-passes.result;
       reclaimed = c.reclaimed-reclaimed.result;
@@ -51,9 +51,9 @@ returns g c =
 pub append-requires : goal.append-requires
 append-requires g c =
     let w = c.self.inside in
-    let d = drained_by g.O.Opening.origin (locked_state w.world w.owner.sent w.published w.book.total w.shortages.count) _ c.args.seats.items _ (c.as_mut_slice.ensures.value ∙ c.without_shares-plain.ensures.seats) c.self.invariant.0 c.drain.ensures.first c.drain.ensures.rest c.drain.ensures.idle
+    let d = drained_by g.O.Opening.origin (locked_state w.world w.owner.sent w.rung.entries w.book.total w.shortages.count) _ c.args.seats.items _ (c.as_mut_slice.ensures.value ∙ c.without_shares-plain.ensures.seats) c.self.invariant.0 c.drain.ensures.first c.drain.ensures.rest c.drain.ensures.idle
     (sym (c.audit.ensures.whole (c.without_shares-plain.ensures.all.0 ∙ c.requires.all)) ∙ c.without_shares-plain.ensures.all.1) in
     let same = ap (λ (s : LockedState). length s.world.queue) c.self.view_is in
     let fits = fits_left _ _ _ _ d (vec_capacity c.args.left) (omega (arith, c.requires.left.1, same)) in
-    let rest = ap (λ (l : List Entry). length l) c.queue_from.ensures.queue ∙ length-drop w.published w.world.queue in
+    let rest = ap (λ (l : List Entry). length l) c.queue_from.ensures.queue ∙ length-drop w.rung.entries w.world.queue in
     omega (arith, fits, rest, c.drain.ensures.capacity)

@@ -1,14 +1,8 @@
-use Rattle.std.proofs.Common.{length, ◌≤◌, ◌∙◌, ap, sym, subst}
-use Rattle.std.specs.FinMap.{len}
-use Rattle.fz_table.specs.declared.limits.TheConstants.{MOST_ENTRIES}
-use Rattle.fz_table.specs.Tabled.{Tabled}
-use Rattle.fz_model.proofs.KeyedEntries.{len_made}
+use Rattle.std.proofs.Common.{◌∙◌, nat_eq, ap, sym, subst}
+use Rattle.std.specs.List.{IsDistinct}
+use Rattle.std.specs.Map.{keys_of}
+use Rattle.fz_table.proofs.Flagged.{keys_plain}
 use Rattle.fz_table.proofs.table.Table.iter.Goals as goal
 
-pub returns-clause-count : goal.returns-clause-count
-returns-clause-count c =
-    ap length c.of.ensures ∙ c.iter.ensures.len ∙ sym (len_made c.self.inside.entries.entries c.iter.ensures.unique) ∙ ap (λ (t : Tabled). len t.registrations) c.self.view_is
-
-pub returns-clause-limit : goal.returns-clause-limit
-returns-clause-limit c =
-    subst (λ n. n ≤ MOST_ENTRIES) (len_made c.self.inside.entries.entries c.iter.ensures.unique ∙ sym (ap length c.of.ensures ∙ c.iter.ensures.len)) c.self.invariant
+pub returns-clause-once : goal.returns-clause-once
+returns-clause-once c = subst (IsDistinct nat_eq) (sym (ap keys_of c.of.ensures ∙ keys_plain c.iter_stored.result)) c.iter_stored.ensures.once

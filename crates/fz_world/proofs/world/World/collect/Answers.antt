@@ -23,16 +23,17 @@ pub finish-requires-clause-size : goal.finish-requires-clause-size
 finish-requires-clause-size c = c.self.inside.marked.size
 
 pub finish-requires-clause-pages : goal.finish-requires-clause-pages
-finish-requires-clause-pages c = world_pages _ _ _ _ _ _ c.self.invariant.0
+finish-requires-clause-pages c = world_pages _ _ _ _ _ c.self.invariant.0
 
 pub invariant_of-self : goal.invariant_of-self
 invariant_of-self c =
     let w = c.self.inside in
     let off : w.cycle ≡ false = ap (λ (v : WorldView). v.core.cycle) c.self.view_is ∙ ap (λ (k : Core). k.cycle) c.mark_anew.ensures.core in (
-      subst (λ (b : Bool). IsWorld w.marked.heap w.table.registered w.ready c.finish.new.self w.dirty b) (sym off) (world_remarked _ _ _ _ _ _ w.marked.heap.condemned c.finish.new.self w.dirty refl c.self.invariant.0),
+      subst (λ (b : Bool). IsWorld w.marked.heap w.finalizers.state c.finish.new.self w.dirty b) (sym off) (world_remarked _ _ _ _ _ w.marked.heap.condemned c.finish.new.self w.dirty refl c.self.invariant.0),
       c.self.invariant.1,
       c.self.invariant.2,
       c.self.invariant.3,
+      c.self.invariant.4,
     )
 
 pub pass-requires-clause-roots : goal.pass-requires-clause-roots

@@ -17,10 +17,10 @@ step-requires-clause-size c = c.self.inside.marked.size
 pub step-requires-clause-unfinished : goal.step-requires-clause-unfinished
 step-requires-clause-unfinished c =
     let on : c.self.inside.cycle ≡ true = search rules in
-    world_unfinished _ _ _ _ _ _ c.self.invariant.0 on
+    world_unfinished _ _ _ _ _ c.self.invariant.0 on
 
 pub invariant_of-self : goal.invariant_of-self
-invariant_of-self c = (world_stepped _ _ _ _ _ _ c.step.new.self c.step.ensures.kept c.step.ensures.closed c.step.ensures.still c.step.ensures.each_once c.self.invariant.0, c.self.invariant.1, c.self.invariant.2, c.self.invariant.3)
+invariant_of-self c = (world_stepped _ _ _ _ _ c.step.new.self c.step.ensures.kept c.step.ensures.closed c.step.ensures.still c.step.ensures.each_once c.self.invariant.0, c.self.invariant.1, c.self.invariant.2, c.self.invariant.3, c.self.invariant.4)
 
 pub returns-clause-step : goal.returns-clause-step
 returns-clause-step c =
@@ -31,4 +31,4 @@ returns-clause-step c =
     let each_once = c.step.ensures.each_once in
     let left = one_left w.marked.heap.objects c.step.new.self.marked w.marked.marker.scanned c.step.new.self.scanned (c.step.ensures.left more) in
     omega (arith, scans, each_once, left) in
-    rw (← c.self.view_is) (does_mark (view_of (core_inside w) w.marked.marker w.dirty w.ready) (view_of (core_inside w) c.step.new.self w.dirty w.ready) c.args.budget c.step.result none (few, refl) c.step.ensures.led refl)
+    rw (← c.self.view_is) (does_mark (view_of (core_inside w) w.marked.marker w.dirty w.finalizers.memory) (view_of (core_inside w) c.step.new.self w.dirty w.finalizers.memory) c.args.budget c.step.result none (few, refl) c.step.ensures.led refl)

@@ -22,4 +22,4 @@ returns-clause-registrations c = λ a after before.
     let w = c.self.inside in
     let none = none_starts w.marked.heap.objects c.starts_in-starts.result c.args.address _ c.starts_in-starts.type_inv c.requires.heap.0 c.starts_in-starts.ensures _ c.min.result refl (omega (arith, c.min.ensures, c.from.ensures)) (omega (arith, c.min.ensures)) refl a after before in
     ap (λ (v : WorldView). contains_key v.registrations a) (sym c.self.view_is)
-    ∙ none_registered w.marked.heap.objects w.table.registered.registrations _ _ _ (world_sound _ _ _ _ _ _ c.self.invariant.0) a none
+    ∙ none_registered w.marked.heap.objects w.finalizers.registrations _ _ _ (world_sound _ _ _ _ _ c.self.invariant.0) a none

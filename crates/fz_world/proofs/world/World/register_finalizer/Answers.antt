@@ -3,11 +3,12 @@ use Rattle.fz_model.specs.Causes.{IsRefusedFor, first_cause, start_causes, regis
 use Rattle.fz_model.specs.Memory.{slot_word}
 use Rattle.fz_model.specs.Steps.{IsRefusedAs}
 use Rattle.fz_model.specs.declared.refusal.Refusal.{Refusal}
-use Rattle.fz_table.specs.Registered.{Registered}
+use Rattle.fz_finalizers.specs.States.{State}
 use Rattle.fz_model.specs.declared.call.Call.TheVariants.{Register}
 use Rattle.fz_model.specs.Events.{Make, causes}
 use Rattle.fz_world.proofs.Inside.{core_inside}
 use Rattle.fz_world.proofs.Does.{hands_on, start_refused, table_refuses, registers_nothing}
+use Rattle.fz_world.proofs.Whole.{world_plain}
 use Rattle.fz_world.proofs.world.World.register_finalizer.Goals as goal
 
 pub returns-in_err-check_start : goal.returns-in_err-check_start
@@ -28,6 +29,11 @@ returns-in_err-number c =
     let word = c.in_ok-word.ensures.word in
     let inside : is_off_heap c.self.inside.marked.heap.blocks (slot_word c.self.inside.frames c.args.slot) ≡ false = ap (is_off_heap c.self.inside.marked.heap.blocks) (sym word) ∙ sym c.is_off_heap.ensures ∙ c.if-is_off_heap.false in
     let started = ap (λ w. first_cause (start_causes c.self.inside.marked.heap.objects w)) (sym word) ∙ c.in_ok-check_start.ensures.judged in
-    let judged = subst (λ (t : Registered). IsRefusedFor (register_causes t.registrations t.next_number c.in_ok-word.word) true r) c.make_first_room.ensures.registered c.in_err-number.ensures.registers.judged in
-    let refused : IsRefusedAs c.args.self.now.core (Make (Register c.args.slot c.args.finalizer)) r = rw (← c.self.view_is) (table_refuses (core_inside c.self.inside) c.args.slot c.args.finalizer r c.in_ok-word.ensures.judged inside started (subst (λ w. IsRefusedFor (register_causes c.self.inside.table.registrations c.self.inside.table.next_number w) true r) word judged)) in
+    let judged = subst (λ (t : State). IsRefusedFor (register_causes t.registrations t.next_number c.in_ok-word.word) true r) c.make_first_room.ensures.state c.in_err-number.ensures.registers.judged in
+    let refused : IsRefusedAs c.args.self.now.core (Make (Register c.args.slot c.args.finalizer)) r = rw (← c.self.view_is) (table_refuses (core_inside c.self.inside) c.args.slot c.args.finalizer r c.in_ok-word.ensures.judged inside started (subst (λ w. IsRefusedFor (register_causes c.self.inside.finalizers.registrations c.self.inside.finalizers.next_number w) true r) word judged)) in
     registers_nothing _ _ _ _ r _ c.from_residual-in_err-number.ensures.1 refused (search rules) (search rules) (search rules)
+
+pub enroll-requires-clause-none : goal.enroll-requires-clause-none
+enroll-requires-clause-none c =
+    let plain = world_plain _ _ _ _ _ c.self.invariant.0 in
+    ap (λ (t : State). t.late) c.make_first_room.ensures.state ∙ plain.none

@@ -1,6 +1,0 @@
--- The session is looked at, and the handle gets it back.
-use Rattle.fz_c.proofs.Looking.{finds}
-use Rattle.fz_c.proofs.shown.fz_base.Goals as goal
-
-pub returns : goal.returns
-returns c = finds _ _ _ _ c.in-Some.session.value c.deref.result.now c.object_of-found.result c.deref.ensures c.in-Some.ensures.taken c.put.ensures (c.object_of-found.ensures.start, c.object_of-found.ensures.object) c.tell_object.ensures

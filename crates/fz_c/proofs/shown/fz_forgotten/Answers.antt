@@ -1,7 +1,0 @@
--- The session is looked at, and the handle gets it back.
-use Rattle.std.proofs.Common.{refl}
-use Rattle.fz_c.proofs.Looking.{looked}
-use Rattle.fz_c.proofs.shown.fz_forgotten.Goals as goal
-
-pub returns : goal.returns
-returns c = looked _ _ _ c.in-Some.session.value c.deref.result.now c.deref.ensures c.in-Some.ensures.taken c.put.ensures (refl, c.forgotten.ensures)

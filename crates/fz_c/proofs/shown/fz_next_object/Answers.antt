@@ -1,6 +1,0 @@
--- The session is looked at, and the handle gets it back.
-use Rattle.fz_c.proofs.Looking.{finds}
-use Rattle.fz_c.proofs.shown.fz_next_object.Goals as goal
-
-pub returns : goal.returns
-returns c = finds _ _ _ _ c.in-Some.session.value c.deref.result.now c.next_object-found.result c.deref.ensures c.in-Some.ensures.taken c.put.ensures (c.next_object-found.ensures.first, c.next_object-found.ensures.object) c.tell_object.ensures

@@ -1,0 +1,96 @@
+-- What a change does to the finalizers behind a handle, the code that it returns, and what C gets.
+-- code: fz_c/src/machine/registering.rt, linking.rt
+use Rattle.std.specs.Prelude.{◌≡◌, ◌⊎◌, ℕ, ◌+◌, ◌≤◌, Bool, [], length, None}
+use Rattle.std.specs.FinMap.{get, len, contains_key}
+use Rattle.fz_model.specs.declared.answers.Entry.{Entry}
+use Rattle.std.specs.FinSet.{contains}
+use Rattle.fz_model.specs.Steps.{move_answer, old_of}
+use Rattle.fz_finalizers.specs.declared.kinds.Finalizer.{Finalizer}
+use Rattle.fz_finalizers.specs.Causes.{register_causes, link_causes, move_causes, finish_causes}
+use Rattle.fz_finalizers.specs.Follows.{Follows, Register, Unregister, Link, Unlink, Move, QueueAll, Finish}
+use Rattle.fz_pass.specs.All as passes
+use Rattle.fz_finalizers.specs.States.{HasRooms, KeepsTables, links_of, room_of}
+use Rattle.fz_machine.specs.Causes.{first_of}
+use Rattle.fz_machine.specs.Going.{HasRoomForMore}
+use Rattle.fz_machine.specs.Machines.{Machine}
+use Rattle.fz_c.specs.declared.old.Old.{Old}
+use Rattle.fz_c.specs.declared.machine.registering.Registered.{Registered}
+use Rattle.fz_c.specs.MachineCodes.{Answers, AnswersOrLacks}
+use Rattle.fz_c.specs.MachineTold.{TellsRegistered, link_number, move_number}
+use Rattle.fz_c.specs.Values.{TellsOld, link_kind_of}
+
+-- the finalizers' state is unchanged, and so is the state of their pass
+abbrev pub Stays : Machine → Machine → Type 0
+Stays m n = (n.finalizers.state ≡ m.finalizers.state) × (n.phase ≡ m.phase)
+
+-- the registration is new, and has no room in the table or in the list
+abbrev pub LacksToRegister : ℕ → Machine → Type 0
+LacksToRegister object m = (get m.finalizers.registrations object ≡ None) × ((m.finalizers.rooms.registrations ≡ 0) ⊎ (m.walk.room ≤ len m.finalizers.registrations))
+
+abbrev pub Registers : ℕ → Finalizer → ℕ → Registered → Registered → Machine → Machine → Type 0
+Registers object f code old told m n =
+    AnswersOrLacks (first_of m.phase (register_causes m.finalizers.registrations m.finalizers.next_number object)) code
+    (Follows m.finalizers.state (Register object f) n.finalizers.state
+    × TellsRegistered m.finalizers.next_number (old_of m.finalizers.registrations object) told)
+    (Stays m n × (told ≡ old))
+    (LacksToRegister object m)
+
+abbrev pub Unregisters : ℕ → ℕ → Old → Old → Machine → Machine → Type 0
+Unregisters object code old told m n =
+    Answers (first_of m.phase []) code
+    (Follows m.finalizers.state (Unregister object) n.finalizers.state × TellsOld told (old_of m.finalizers.registrations object))
+    ((n ≡ m) × (told ≡ old))
+
+-- the link is new, and has no room among those of its kind or in the list
+abbrev pub LacksToLink : Bool → ℕ → Machine → Type 0
+LacksToLink is_long word m =
+    (get (links_of m.finalizers.state (link_kind_of is_long)) word ≡ None)
+    × ((room_of m.finalizers.rooms (link_kind_of is_long) ≡ 0) ⊎ (m.walk.room ≤ len (links_of m.finalizers.state (link_kind_of is_long))))
+
+abbrev pub Links : Bool → ℕ → ℕ → ℕ → ℕ → ℕ → Machine → Machine → Type 0
+Links is_long word target code old told m n =
+    AnswersOrLacks (first_of m.phase (link_causes (links_of m.finalizers.state (link_kind_of is_long)) word target)) code
+    (Follows m.finalizers.state (Link (link_kind_of is_long) word target) n.finalizers.state
+    × (told ≡ link_number (contains_key (links_of m.finalizers.state (link_kind_of is_long)) word)))
+    (Stays m n × (told ≡ old))
+    (LacksToLink is_long word m)
+
+abbrev pub Unlinks : Bool → ℕ → ℕ → Bool → Bool → Machine → Machine → Type 0
+Unlinks is_long word code old told m n =
+    Answers (first_of m.phase []) code
+    (Follows m.finalizers.state (Unlink (link_kind_of is_long) word) n.finalizers.state
+    × (told ≡ contains_key (links_of m.finalizers.state (link_kind_of is_long)) word))
+    ((n ≡ m) × (told ≡ old))
+
+abbrev pub MovesLink : Bool → ℕ → ℕ → ℕ → ℕ → ℕ → Machine → Machine → Type 0
+MovesLink is_long word to code old told m n =
+    Answers (first_of m.phase (move_causes to)) code
+    (Follows m.finalizers.state (Move (link_kind_of is_long) word to) n.finalizers.state
+    × (told ≡ move_number (move_answer (links_of m.finalizers.state (link_kind_of is_long)) word to)))
+    (Stays m n × (told ≡ old))
+
+abbrev pub Reserves : ℕ → ℕ → ℕ → ℕ → Machine → Machine → Type 0
+Reserves registrations shorts longs code m n =
+    AnswersOrLacks (first_of m.phase []) code
+    (HasRooms n.finalizers.rooms registrations shorts longs × HasRoomForMore m.finalizers.state registrations shorts longs n.walk.room × Stays m n)
+    (Stays m n)
+    (HasRooms m.finalizers.rooms registrations shorts longs → HasRoomForMore m.finalizers.state registrations shorts longs m.walk.room → ⊥)
+
+abbrev pub QueuesAll : ℕ → ℕ → ℕ → Machine → Machine → Type 0
+QueuesAll code old told m n =
+    Answers (first_of m.phase []) code
+    (Follows m.finalizers.state QueueAll n.finalizers.state
+    × passes.QueuesAll (length m.finalizers.queue) m.finalizers.registrations (contains m.finalizers.late) m.finalizers.queue n.finalizers.queue
+    × (length n.finalizers.queue ≡ length m.finalizers.queue + told))
+    ((n ≡ m) × (told ≡ old))
+
+abbrev pub Finishes : Entry → ℕ → Machine → Machine → Type 0
+Finishes e code m n =
+    Answers (first_of m.phase (finish_causes m.finalizers.held e)) code
+    (Follows m.finalizers.state (Finish e) n.finalizers.state)
+    (Stays m n)
+
+-- only memory is freed
+abbrev pub Shrinks : ℕ → Machine → Machine → Type 0
+Shrinks code m n =
+    Answers (first_of m.phase []) code ((n.phase ≡ None) × (n.finalizers.state ≡ m.finalizers.state) × KeepsTables m.finalizers.order n.finalizers.order) (n ≡ m)

@@ -1,0 +1,41 @@
+-- How a pass proceeds through a handle.
+-- code: fz_c/src/machine/passing.rt
+use Rattle.std.specs.Prelude.{◌≡◌, ℕ, ◌/◌, ◌%◌, nat_eq, Bool, List, [], ◌∷◌, map, take, Option, Some, None}
+use Rattle.fz_machine.specs.declared.pass.Next.{Next}
+use Rattle.fz_machine.specs.declared.pass.Next.TheVariants as next
+use Rattle.fz_machine.specs.declared.phase.Phase.{Phase}
+use Rattle.fz_machine.specs.declared.refused.Refused.TheVariants.{NoPass}
+use Rattle.fz_machine.specs.Asks.{number_of}
+use Rattle.fz_machine.specs.Machines.{Machine, GoesTo, IsAbandoned}
+use Rattle.fz_c.specs.declared.machine.codes.TheConstants.{OK, EMPTY}
+use Rattle.fz_c.specs.declared.machine.passing.Question.{Question}
+use Rattle.fz_c.specs.declared.machine.passing.Passed.{Passed}
+use Rattle.fz_c.specs.MachineCodes.{code_of}
+
+abbrev pub is_bit : ℕ → ℕ → Bool
+is_bit bits weight = nat_eq ((bits / weight) % 2) 1
+
+-- the answers in a number, from its lowest bit on
+abbrev pub bits_of : ℕ → List Bool
+bits_of bits = map (is_bit bits) (1 ∷ 2 ∷ 4 ∷ 8 ∷ 16 ∷ 32 ∷ 64 ∷ 128 ∷ 256 ∷ 512 ∷ 1024 ∷ 2048 ∷ 4096 ∷ 8192 ∷ 16384 ∷ 32768 ∷ [])
+
+-- C gets the question, or what the pass has done; the other variable is unchanged
+abbrev pub TellsNext : Next → ℕ → Question → Question → Passed → Passed → Type 0
+TellsNext (next.Asks q) code old_question question old_passed passed = (code ≡ OK) × (question ≡ record { what = q.about; count = q.count; ask = number_of q.ask }) × (passed ≡ old_passed)
+TellsNext (next.Ended p) code old_question question old_passed passed = (code ≡ EMPTY) × (question ≡ old_question) × (passed ≡ record { pass = p.pass; picked = p.picked })
+
+-- the answers are processed, as many as were asked for, and the pass proceeds; if no pass is open, the call is refused
+abbrev pub AsksNextIn : Option Phase → Machine → List Bool → Machine → ℕ → Question → Question → Passed → Passed → Type 0
+AsksNextIn None m answers n code old_question question old_passed passed = (code ≡ code_of NoPass) × (n ≡ m) × (question ≡ old_question) × (passed ≡ old_passed)
+AsksNextIn (Some phase) m answers n code old_question question old_passed passed = (next : Next) × GoesTo m (take m.asked answers) n next × TellsNext next code old_question question old_passed passed
+
+abbrev pub AsksNext : Machine → List Bool → Machine → ℕ → Question → Question → Passed → Passed → Type 0
+AsksNext m = AsksNextIn m.phase m
+
+-- an open pass is abandoned; if no pass is open, the call is refused
+abbrev AbandonsIn : Option Phase → ℕ → Machine → Machine → Type 0
+AbandonsIn None code m n = (code ≡ code_of NoPass) × (n ≡ m)
+AbandonsIn (Some phase) code m n = (code ≡ OK) × IsAbandoned m n
+
+abbrev pub Abandons : ℕ → Machine → Machine → Type 0
+Abandons code m = AbandonsIn m.phase code m

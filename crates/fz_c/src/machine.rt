@@ -1,0 +1,30 @@
+//! Finalizers whose pass asks questions, for C, through a handle.
+//! `c/include/derrimas_finalizers.h` declares what C calls; it is implemented over these exports.
+
+mod codes;
+mod entries;
+mod handle;
+mod linking;
+mod opening;
+mod passing;
+mod registering;
+mod session;
+mod shown;
+mod walks;
+
+pub use crate::old::Old;
+pub use codes::Code;
+pub use entries::{HostEntry, fz_machine_finish, fz_machine_take, fz_machine_take_finished};
+pub use handle::MachineHandle;
+pub use linking::{fz_machine_link, fz_machine_move_link, fz_machine_unlink};
+pub use opening::{fz_machine_destroy, fz_machine_open, fz_machine_reserve, fz_machine_shrink};
+pub use passing::{
+    Passed, Question, fz_machine_abandon, fz_machine_begin, fz_machine_next, fz_machine_queue_all,
+};
+pub use registering::{Registered, fz_machine_register, fz_machine_unregister};
+pub use session::MachineSession;
+pub use shown::{
+    Counts, RegistrationAt, Words, fz_machine_count, fz_machine_registration, fz_machine_roots,
+    fz_machine_target,
+};
+pub use walks::{Linked, Links, Registrations, fz_machine_links, fz_machine_registrations};

@@ -1,4 +1,0 @@
-use Rattle.fz_drive.proofs.reply.write_called.Goals as goal
-
-pub returns-in-Outstanding : goal.returns-in-Outstanding
-returns-in-Outstanding g c = rw c.in-Outstanding.is c.write_line-in-Outstanding.ensures

@@ -1,4 +1,0 @@
-use Rattle.fz_drive.proofs.reply.write_linked.Goals as goal
-
-pub returns-in-Duplicate : goal.returns-in-Duplicate
-returns-in-Duplicate g c = rw c.in-Duplicate.is c.write_line-in-Duplicate.ensures

@@ -1,4 +1,0 @@
-pub mod Replies
-pub mod Script
-pub mod Report
-pub mod Machines

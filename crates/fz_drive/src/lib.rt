@@ -1,9 +1,0 @@
-//! Running scripts: one world with its workers, step by step, and a report of what each step returns.
-#![tactic(auto)]
-
-mod answer;
-mod machine;
-mod reply;
-mod run;
-
-pub use run::{Summary, drive};

@@ -1,4 +1,0 @@
-pub mod AsBox
-pub mod Typed
-pub mod Moves
-pub mod Sent

@@ -1,0 +1,15 @@
+pub mod Writing
+pub mod Reading
+pub mod Taking
+pub mod Words
+pub mod Lines
+pub mod Machines
+pub mod Calls
+pub mod Scripts
+pub mod Balance
+pub mod Runs
+pub mod FileReading
+pub mod Holding
+pub mod Sections
+pub mod Telling
+pub mod ArgumentWords

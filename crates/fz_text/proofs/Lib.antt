@@ -1,5 +1,0 @@
-pub mod Writing
-pub mod Reading
-pub mod Taking
-pub mod Words
-pub mod Lines

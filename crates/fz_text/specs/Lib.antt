@@ -1,6 +1,0 @@
-pub mod Devices
-pub mod Faults
-pub mod Lines
-pub mod Written
-pub mod Reading
-pub mod Words

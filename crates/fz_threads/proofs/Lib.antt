@@ -1,4 +1,0 @@
-pub mod FileReading
-pub mod Holding
-pub mod Sections
-pub mod Telling

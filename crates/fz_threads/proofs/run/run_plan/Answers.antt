@@ -1,7 +1,0 @@
-use Rattle.fz_threads.specs.Plans.{asked_by}
-use Rattle.fz_threads.proofs.Telling.{refusal_stops}
-use Rattle.fz_threads.proofs.run.run_plan.Goals as goal
-
-pub returns-in-Err : goal.returns-in-Err
-returns-in-Err g c =
-    refusal_stops (asked_by c.args.plan) c.args.plan.size.line c.in-Err.refusal _ _ c.tell_refused.result c.in-Err.ensures.judged c.tell_refused.ensures
