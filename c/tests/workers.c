@@ -17,7 +17,7 @@ static pthread_mutex_t lock = PTHREAD_MUTEX_INITIALIZER;
 static derrimas_finalizers finalizers;
 static derrimas_workers workers;
 static uint64_t data[4 * ALL], next_data; /* written before an object is queued, and read by its procedure, whose client data is the place */
-static atomic_uint ran[ALL + 1], all_ran, unordered, refused;
+static atomic_uint ran[ALL + 1], all_ran, entered, unordered, refused;
 static atomic_bool is_held, has_no_memory;
 static atomic_int threads_left = -1; /* of those that may be started; -1 is no limit */
 
@@ -51,6 +51,7 @@ static void enter(void *with)
 {
     (void)with;
     pthread_mutex_lock(&lock);
+    entered++;
 }
 
 static void leave(void *with)
@@ -318,6 +319,8 @@ static void held_up(void)
 /* While a pass is open between holds of the lock nothing is finished or published. */
 static void open_pass(void)
 {
+    unsigned before;
+
     start(2);
     is_held = true;
     OK(queue(2, HOLDS));
@@ -325,7 +328,10 @@ static void open_pass(void)
     OK(derrimas_finalizers_begin(&finalizers));
     IS(derrimas_workers_publish(&workers), DERRIMAS_FINALIZERS_PASS_OPEN);
     leave(NULL);
+    before = entered;
     is_held = false;
+    while (entered < before + 2) /* a worker has tried to finish */
+        sched_yield();
     IS(derrimas_workers_wait(&workers, 5), DERRIMAS_FINALIZERS_PASS_OPEN);
     enter(NULL);
     OK(derrimas_finalizers_abandon(&finalizers));
