@@ -65,16 +65,17 @@ typedef struct derrimas_workers_counts {
     uint64_t workers, published, finished, abandoned, shortages;
 } derrimas_workers_counts;
 
-/* Starts the workers: each is a thread. *started, which may be NULL, is how many there are: fewer than was asked for where
- * the system starts no further thread. It takes memory by malloc.
+/* Starts the workers: each is a thread, to which no signal comes. *started, which may be NULL, is how many there are: fewer
+ * than was asked for where the system starts no further thread. It takes memory by malloc.
  * Refused: BAD_OPTIONS (the size, or a function or the finalizers are NULL), BAD_COUNT, IS_OPEN, NO_MEMORY, NO_THREAD (not
  * one could be started), BAD_PROCESSOR. */
 DERRIMAS_CHECKED derrimas_finalizers_code derrimas_workers_start(derrimas_workers *workers,
                                                                  const derrimas_workers_options *options, uint64_t *started)
     DERRIMAS_NONNULL(1, 2);
 
-/* Takes all entries that wait and publishes them for the workers, of which it wakes one for each. Where memory is short, one
- * entry is kept, and the others wait: each finish of a worker tries again. The caller has the lock.
+/* Takes all entries that wait and publishes them for the workers, of which it wakes one for each. From then on an entry is
+ * held. Where memory is short, one entry is kept, and the others wait: each finish of a worker tries again. While a pass is
+ * open between two holds of the lock, nothing is published or finished. The caller has the lock.
  * Refused: NOT_OPEN (the workers, or their finalizers), PASS_OPEN; NO_MEMORY where not all are published. */
 derrimas_finalizers_code derrimas_workers_publish(derrimas_workers *workers) DERRIMAS_NONNULL(1);
 

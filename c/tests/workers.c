@@ -1,5 +1,5 @@
-/* derrimas_workers.h: each refusal, and workers that run what is queued, also where threads can't be started, memory is refused, a procedure ends its thread or
- * doesn't return, a pass is open, and the finalizers are destroyed too early.
+/* workers [STEPS]: derrimas_workers.h: each refusal, and workers that run what is queued, also where threads can't be started, memory is refused, a procedure
+ * ends its thread or doesn't return, a pass is open, and the finalizers are destroyed too early. Then so many steps of chance beside a plain model.
  */
 #define _POSIX_C_SOURCE 200809L
 #include "check.h"
@@ -7,6 +7,7 @@
 #include <pthread.h>
 #include <sched.h>
 #include <stdatomic.h>
+#include <stdlib.h>
 #include <time.h>
 
 enum { ALL = 2000, WORKERS = 4, FEW = 200 };
@@ -16,7 +17,7 @@ static pthread_mutex_t lock = PTHREAD_MUTEX_INITIALIZER;
 static derrimas_finalizers finalizers;
 static derrimas_workers workers;
 static uint64_t data[4 * ALL], next_data; /* written before an object is queued, and read by its procedure, whose client data is the place */
-static atomic_uint ran[ALL + 1], unordered, refused;
+static atomic_uint ran[ALL + 1], all_ran, entered, unordered, refused;
 static atomic_bool is_held, has_no_memory;
 static atomic_int threads_left = -1; /* of those that may be started; -1 is no limit */
 
@@ -50,6 +51,7 @@ static void enter(void *with)
 {
     (void)with;
     pthread_mutex_lock(&lock);
+    entered++;
 }
 
 static void leave(void *with)
@@ -67,6 +69,7 @@ static void run(void *with, const derrimas_finalizers_entry *entry)
     unordered += entry->seq < next || data[entry->cd] != 7 * entry->obj;
     next = entry->seq + 1;
     ran[entry->obj]++;
+    all_ran++;
     switch (entry->proc) {
     case HOLDS:
         while (is_held)
@@ -316,6 +319,8 @@ static void held_up(void)
 /* While a pass is open between holds of the lock nothing is finished or published. */
 static void open_pass(void)
 {
+    unsigned before;
+
     start(2);
     is_held = true;
     OK(queue(2, HOLDS));
@@ -323,7 +328,10 @@ static void open_pass(void)
     OK(derrimas_finalizers_begin(&finalizers));
     IS(derrimas_workers_publish(&workers), DERRIMAS_FINALIZERS_PASS_OPEN);
     leave(NULL);
+    before = entered;
     is_held = false;
+    while (entered < before + 2) /* a worker has tried to finish */
+        sched_yield();
     IS(derrimas_workers_wait(&workers, 5), DERRIMAS_FINALIZERS_PASS_OPEN);
     enter(NULL);
     OK(derrimas_finalizers_abandon(&finalizers));
@@ -347,7 +355,136 @@ static void destroyed_early(void)
     IS(ran_times(FEW, 1), FEW);
 }
 
-int main(void)
+/* ---- steps of chance */
+
+/* The model: whether workers are there, and of this handle how many entries were queued, finished and abandoned by workers that have been stopped. */
+static struct {
+    bool runs;
+    uint64_t started, queued, finished, abandoned, shortages;
+} model;
+
+static uint64_t chance(uint64_t below)
+{
+    static uint64_t seed = 1;
+
+    seed = seed * UINT64_C(6364136223846793005) + UINT64_C(1442695040888963407);
+    return (seed >> 33) % below;
+}
+
+static void starts(void)
+{
+    derrimas_workers_options options = usual;
+    const uint64_t fewer = chance(4) ? DERRIMAS_MAX_WORKERS : chance(3);
+    derrimas_finalizers_code code, wanted;
+
+    options.workers = chance(DERRIMAS_MAX_WORKERS + 2);
+    threads_left = (int)fewer;
+    wanted = options.workers == 0 || options.workers > DERRIMAS_MAX_WORKERS ? DERRIMAS_FINALIZERS_BAD_COUNT
+             : model.runs                                                   ? DERRIMAS_FINALIZERS_IS_OPEN
+             : fewer == 0                                                   ? DERRIMAS_FINALIZERS_NO_THREAD
+                                                                            : DERRIMAS_FINALIZERS_OK;
+    code = derrimas_workers_start(&workers, &options, &model.started);
+    threads_left = -1;
+    IS(code, wanted);
+    if (code != DERRIMAS_FINALIZERS_OK)
+        return;
+    model.runs = true;
+    IS(model.started, options.workers < fewer ? options.workers : fewer);
+}
+
+/* Queues entries, and publishes them, at times without memory, or in an open pass. */
+static void queues(void)
+{
+    const uint64_t number = chance(200), how = chance(4);
+    derrimas_finalizers_code code;
+
+    enter(NULL);
+    for (uint64_t object = 1; object <= number; object++)
+        OK(derrimas_finalizers_register(&finalizers, object, DERRIMAS_FINALIZERS_NORMAL, PLAIN, object, 0, NULL, NULL));
+    OK(derrimas_finalizers_queue_all(&finalizers, NULL));
+    model.queued += number;
+    has_no_memory = how == 0;
+    if (how == 1)
+        OK(derrimas_finalizers_begin(&finalizers));
+    code = derrimas_workers_publish(&workers);
+    has_no_memory = false;
+    if (how == 1)
+        OK(derrimas_finalizers_abandon(&finalizers));
+    leave(NULL);
+    if (!model.runs)
+        IS(code, DERRIMAS_FINALIZERS_NOT_OPEN);
+    else if (how != 0)
+        IS(code, how == 1 ? DERRIMAS_FINALIZERS_PASS_OPEN : DERRIMAS_FINALIZERS_OK);
+    else
+        IS(code == DERRIMAS_FINALIZERS_OK || code == DERRIMAS_FINALIZERS_NO_MEMORY, true);
+    model.shortages += code == DERRIMAS_FINALIZERS_NO_MEMORY;
+}
+
+/* Waits for as long as it takes: then nothing waits, and all that was ever queued has run but for what was abandoned. */
+static void waits(void)
+{
+    derrimas_workers_counts counts;
+    derrimas_finalizers_counts left;
+    derrimas_finalizers_code code = derrimas_workers_wait(&workers, chance(4) ? UINT64_MAX : chance(2));
+
+    if (code == DERRIMAS_FINALIZERS_PENDING)
+        code = derrimas_workers_wait(&workers, UINT64_MAX);
+    IS(code, model.runs ? DERRIMAS_FINALIZERS_OK : DERRIMAS_FINALIZERS_NOT_OPEN);
+    IS(derrimas_workers_count(&workers, &counts), code);
+    if (!model.runs)
+        return;
+    enter(NULL);
+    OK(derrimas_finalizers_count(&finalizers, &left));
+    leave(NULL);
+    IS(left.waiting, 0);
+    IS(left.held, model.abandoned);
+    IS(counts.published, counts.finished);
+    IS(counts.workers, model.started);
+    IS(model.finished + counts.finished + model.abandoned, model.queued);
+    IS(all_ran, model.finished + counts.finished);
+}
+
+static void stops(void)
+{
+    derrimas_workers_counts counts;
+    derrimas_finalizers_code code = derrimas_workers_stop(&workers, chance(4) ? UINT64_MAX : chance(2), &counts);
+
+    if (code == DERRIMAS_FINALIZERS_PENDING)
+        code = derrimas_workers_stop(&workers, UINT64_MAX, &counts);
+    IS(code, model.runs ? DERRIMAS_FINALIZERS_OK : DERRIMAS_FINALIZERS_NOT_OPEN);
+    if (!model.runs)
+        return;
+    model.runs = false;
+    model.finished += counts.finished;
+    model.abandoned += counts.abandoned;
+    IS(counts.workers, 0);
+    IS(counts.abandoned <= 1, true); /* what was kept for lack of memory */
+    IS(counts.published, counts.finished + counts.abandoned);
+    IS(all_ran, model.finished);
+}
+
+static void by_chance(uint64_t steps)
+{
+    OK(derrimas_finalizers_open(&finalizers, NULL));
+    for (uint64_t object = 0; object <= ALL; object++)
+        data[object] = 7 * object;
+    all_ran = 0;
+    for (uint64_t step = 0; step < steps && failures < 20; step++)
+        switch (chance(8)) {
+        case 0: starts(); break;
+        case 1: stops(); break;
+        case 2: case 3: waits(); break;
+        default: queues();
+        }
+    while (!model.runs)
+        starts();
+    waits();
+    stops();
+    IS(model.shortages > steps / 200, true);
+    derrimas_finalizers_destroy(&finalizers);
+}
+
+int main(int count, char **words)
 {
     refusals();
     each_number_of_workers();
@@ -358,6 +495,7 @@ int main(void)
     held_up();
     open_pass();
     destroyed_early();
+    by_chance(count > 1 ? strtoull(words[1], NULL, 10) : 2000);
     IS(unordered, 0);
     return told();
 }
