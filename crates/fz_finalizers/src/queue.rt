@@ -65,6 +65,8 @@ impl Model for Queue {
 }
 
 /// Reserves room for `more` entries at the end of a queue. Returns how many the queue may have then.
+///
+/// If it allocates, the room grows by another eighth of all these entries, and by no more: most of it is empty, so growing it copies little.
 fn reserve(queue: &mut Vec<Entry>, more: usize) -> Result<u64, Refused>
     requires { more ≤ 2 ^ 50 }
     ensures refused { IfErr result (λ r. r ≡ Refused.NoMemory) }
@@ -75,7 +77,9 @@ fn reserve(queue: &mut Vec<Entry>, more: usize) -> Result<u64, Refused>
     ensures capacity { vec_capacity queue.old ≤ vec_capacity queue.new }
     ensures fits { IfOk result (λ entries. entries + 64 ≤ 2 ^ 64) }
 {
-    queue.reserve(more)?;
+    if more > queue.capacity() - queue.len() {
+        queue.reserve_exact(more + (queue.len() + more) / 8)?;
+    }
     Ok((queue.len() + more) as u64)
 }
 
@@ -182,7 +186,7 @@ impl Queue {
         self.entries.capacity() - self.entries.len()
     }
 
-    /// Reserves room for further entries. Fails with `NoMemory` if an allocation fails.
+    /// Reserves room for further entries, and if it allocates, for an eighth more. Fails with `NoMemory` if an allocation fails.
     pub(crate) fn reserve(&mut self, more: usize) -> Result<(), Refused>
         requires { more ≤ 2 ^ 50 }
         ensures refused { IfErr result (λ r. r ≡ Refused.NoMemory) }
