@@ -65,10 +65,7 @@ impl Graph {
     }
 
     fn is_marked(&self, object: u64) -> bool {
-        self.marked
-            .get(index_of(object))
-            .copied()
-            .unwrap_or(false)
+        self.marked.get(index_of(object)).copied().unwrap_or(false)
     }
 
     /// Whether the object in which a link lies is marked. True if it lies in none.

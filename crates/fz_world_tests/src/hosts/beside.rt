@@ -120,8 +120,7 @@ fn register(rt: &impl Abort, all: &mut All, object: u64, random: &mut Random) {
         client_data,
         ..finalizer
     };
-    all.asked
-        .register(rt, number_of(object), asked_finalizer);
+    all.asked.register(rt, number_of(object), asked_finalizer);
 }
 
 /// Registers a link at a field of an object, to another object.
@@ -138,13 +137,8 @@ fn link(rt: &impl Abort, all: &mut All, object: u64, to: u64, random: &mut Rando
             .link(kind, id.word(field as usize % FIELDS), target)
             .expect(rt, "the same");
     }
-    all.asked.link(
-        rt,
-        kind,
-        number_of(object),
-        field as usize,
-        number_of(to),
-    );
+    all.asked
+        .link(rt, kind, number_of(object), field as usize, number_of(to));
 }
 
 /// Creates edges, a registration and links for an object.
@@ -208,7 +202,12 @@ fn stand_same(rt: &impl Abort, all: &All) {
     }
     for (start, slot) in all.starts.iter().zip(0..OBJECTS) {
         let stands = all.world.object(*start).is_some();
-        must_be(rt, all.asked.stands(number_of(slot)), stands, "a numbered object");
+        must_be(
+            rt,
+            all.asked.stands(number_of(slot)),
+            stands,
+            "a numbered object",
+        );
     }
 }
 
