@@ -4,9 +4,11 @@
  * A derrimas_finalizers holds registrations of objects, short and long disappearing links, and the entries of finalizers
  * that are ready. Objects, words, procedures and client data are numbers of 64 bits, which are compared and handed back,
  * and never followed. An object is any number but 0 by which the host finds it: its address, an address that is hidden by
- * a map that keeps the order, or an index. A link's word is, too: its address, or an object's number and an offset. A host
- * whose marker takes what looks like an address for one hides them, since questions and entries lie on its stack: objects,
- * words and targets all by the same map, and client data too.
+ * a map that keeps the order, or an index. What is proved of a pass gives an object as many numbers as it has words, from
+ * its own on, and no two objects share one. A link's word is any number but 0 by which the host finds it, and has one
+ * number: its address, or an object's number and an offset. A host whose marker takes what looks like an address for one
+ * hides them, since questions and entries lie on its stack: objects, words and targets all by the same map, and client
+ * data too.
  *
  * The host has the heap. It marks what its roots reach, and what derrimas_finalizers_roots yields. Then it runs a pass, in
  * which it is asked questions: is this object marked, mark what it reaches, write zero to this word. What isn't marked at

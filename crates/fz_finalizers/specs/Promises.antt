@@ -6,7 +6,7 @@ use Rattle.fz_model.specs.declared.answers.Entry.{Entry}
 use Rattle.fz_model.specs.declared.answers.Registration.{Registration}
 use Rattle.fz_finalizers.specs.declared.roots.Root.TheVariants.{HeldObject, HeldData}
 use Rattle.fz_finalizers.specs.States.{State, AreFlags, opening, unfinished}
-use Rattle.fz_finalizers.specs.Follows.{Event, Follows, Register, Unregister, Link, Unlink, Move, Pass, Begin, Queue, QueueAll, Take, TakeFinished, Finish}
+use Rattle.fz_finalizers.specs.Follows.{Event, Follows, Register, Unregister, Link, Unlink, Move, Pass, Begin, Queue, QueueAll, Take, TakeFinished, TakeAll, Finish}
 use Rattle.fz_finalizers.specs.Walks.{YieldsRoots}
 
 -- the taken entries, in the order of the takes, and the finished ones
@@ -18,6 +18,7 @@ pub record Past : Type 0 where
 abbrev pub with_event : Past → Event → Past
 with_event past (Take entry) = record past { taken = past.taken ++ entry ∷ [] }
 with_event past (TakeFinished entry) = record past { taken = past.taken ++ entry ∷ []; finished = past.finished ++ entry ∷ [] }
+with_event past (TakeAll entries) = record past { taken = past.taken ++ entries }
 with_event past (Finish entry) = record past { finished = past.finished ++ entry ∷ [] }
 with_event past Pass = past
 with_event past (Queue object) = past

@@ -221,7 +221,7 @@ impl Queue {
         requires list { len table.old.registrations ≤ list.old.room }
         requires room { len table.old.registrations ≤ self.old.room }
         requires numbers { length self.old.queue + len table.old.registrations < 2 ^ 64 }
-        ensures decided { Decides H.is_exact number table.old.late table.new.late
+        ensures decided { Decides H.is_exact H.place number table.old.late table.new.late
             (parts_of (H.objects host.old) table.old short.old long.old) (H.marked host.old)
             (parts_left (H.objects host.new) (H.marked host.new) table.new short.new long.new)
             self.old.queue self.new.queue }

@@ -3,6 +3,7 @@
 ghost use Rattle.std.specs.Prelude.{◌≡◌, ◌≢◌, ◌≤◌, ◌<◌, ◌+◌, ◌*◌, ◌⊎◌, true, drop, length, slice_get, Contains, IfOk, IfErr, IfSome, MatchOption};
 ghost use Rattle.fz_model.specs.declared.answers.Entry.{Entry};
 ghost use Rattle.fz_model.specs.declared.limits.TheConstants.{COUNT_LIMIT};
+ghost use Rattle.fz_finalizers.specs.Follows.{Follows, TakeAll};
 ghost use Rattle.fz_finalizers.specs.Queue.{IsNextHeld};
 ghost use Rattle.fz_finalizers.specs.States.{opening, unfinished, waiting};
 
@@ -25,7 +26,7 @@ impl Finalizers {
 
     /// Takes all entries that wait, and returns their number. They are held until they are finished.
     pub fn take_all(&mut self) -> u64
-        ensures taken { self.new.state ≡ record self.old.state { taken = length self.old.queue; held = unfinished self.old.state } }
+        ensures follows { Follows self.old.state (TakeAll (waiting self.old.state)) self.new.state }
         ensures count { result ≡ length (waiting self.old.state) }
         ensures memory { self.new.memory ≡ self.old.memory }
     {

@@ -1,4 +1,5 @@
 pub mod Records
+pub mod Outside
 pub mod Marking
 pub mod Kept
 pub mod Sound

@@ -17,6 +17,7 @@ use crate::record::{FIELDS, Field, RecordId};
 use fz_finalizers::{
     Entry, Finalizer, Finalizers, LinkAnswer, LinkKind, Old, Passed, Refused, Root,
 };
+use fz_model::Addr;
 use std::alloc::{AllocError, Global};
 
 /// Marks everything that one kind of the finalizers' roots reaches.
@@ -131,25 +132,30 @@ impl Runtime {
         self.finalizers.register(id.address(), finalizer)
     }
 
-    /// Makes a field of a record a link to an existing record.
+    /// Makes a link to an existing record: from a field of a record (`RecordId::word`), or, with a number from `OUTSIDE` on, from outside of the heap.
     pub fn link(
         &mut self,
         kind: LinkKind,
-        id: RecordId,
-        field: usize,
+        word: Addr,
         target: RecordId,
     ) -> Result<LinkAnswer, Refused>
-        requires field { field < FIELDS }
-        requires target { IsTrue (is_some (slot self.old.heap.records.slots.items target.place)) }
+        requires { IsTrue (is_some (slot self.old.heap.records.slots.items target.place)) }
         ensures heap { self.new.heap ≡ self.old.heap }
-        ensures judged { IsJudgedOrLacks (link_causes (links_of self.old.finalizers.state kind) (address_of id.place + field) (address_of target.place)) result }
-        ensures fresh { IfErr result (λ r. r ≡ Refused.NoMemory → get (links_of self.old.finalizers.state kind) (address_of id.place + field) ≡ None) }
-        ensures answer { IfOk result (λ answer. answer ≡ (if contains_key (links_of self.old.finalizers.state kind) (address_of id.place + field) then LinkAnswer.Duplicate else LinkAnswer.Success)) }
+        ensures judged { IsJudgedOrLacks (link_causes (links_of self.old.finalizers.state kind) word (address_of target.place)) result }
+        ensures fresh { IfErr result (λ r. r ≡ Refused.NoMemory → get (links_of self.old.finalizers.state kind) word ≡ None) }
+        ensures answer { IfOk result (λ answer. answer ≡ (if contains_key (links_of self.old.finalizers.state kind) word then LinkAnswer.Duplicate else LinkAnswer.Success)) }
         ensures wanting { IfErr result (λ r. r ≡ Refused.NoMemory → room_of self.old.finalizers.rooms kind ≡ 0) }
         ensures refused { OnErr result (self.new.finalizers.state ≡ self.old.finalizers.state) }
-        ensures follows { OnOk result (Follows self.old.finalizers.state (Link kind (address_of id.place + field) (address_of target.place)) self.new.finalizers.state) }
+        ensures follows { OnOk result (Follows self.old.finalizers.state (Link kind word (address_of target.place)) self.new.finalizers.state) }
     {
-        self.finalizers.link(kind, id.word(field), target.address())
+        self.finalizers.link(kind, word, target.address())
+    }
+
+    /// The address of the record to which a link leads.
+    pub fn target(&self, kind: LinkKind, word: Addr) -> Option<Addr>
+        ensures { result ≡ get (links_of self.now.finalizers.state kind) word }
+    {
+        self.finalizers.target(kind, word)
     }
 
     /// Takes the first waiting entry. Its record is retained until the entry is finished.
