@@ -43,7 +43,7 @@ none_among x here = let at = place_of [] x here in none-some x at.1
 
 -- ---- the opening
 
-opened : Promises opening (record { taken = []; finished = [] })
+opened : Promises opening (record { made = []; taken = []; finished = [] })
 opened = record {
   takes = refl;
   within = omega arith;
@@ -154,8 +154,8 @@ module _ (s : State) (past : Past) (object : ℕ) (f : Finalizer) (p : Promises 
       (λ (x : (a ≢ object) × (get s.registrations a ≡ Some q)). let lt = p.below a q x.1 in omega (arith, lt))
       (cases_of a q here)
 
-  entered : Promises (with_registration s object f) past
-  entered = record {
+  remade : Promises (with_registration s object f) (record past { made = past.made ++ (object, f) ∷ [] })
+  remade = record {
     takes = p.takes;
     within = p.within;
     numbered = p.numbered;
@@ -450,7 +450,7 @@ module _ (s : State) (past : Past) (e : Entry) (p : Promises s past) (here : lis
 -- ---- each event
 
 step : (old now : State) (past : Past) (event : Event) → Promises old past → Follows old event now → Promises now (with_event past event)
-step old now past (Register object finalizer) p does = subst (λ s. Promises s past) (sym does) (entered old past object finalizer p)
+step old now past (Register object finalizer) p does = subst (λ s. Promises s (record past { made = past.made ++ (object, finalizer) ∷ [] })) (sym does) (remade old past object finalizer p)
 step old now past (Unregister object) p does = subst (λ s. Promises s past) (sym does) (unregistered old past object p)
 step old now past (Link kind word target) p does = subst (λ s. Promises s past) (sym does) (linked old past kind _ p)
 step old now past (Unlink kind word) p does = subst (λ s. Promises s past) (sym does) (linked old past kind _ p)

@@ -1,6 +1,6 @@
 -- What a worker's diary says of its turns and of its end.
 -- code: fz_service/src/diary.rt, held.rt, turn.rt, workers.rt, worker_threads.rt
-use Rattle.std.specs.Prelude.{◌≡◌, ℕ, zero, suc, nat_lt, List, [], ◌∷◌, ◌++◌, filter, Bool, true, false, if◌then◌else◌, refl}
+use Rattle.std.specs.Prelude.{◌≡◌, ℕ, zero, suc, nat_lt, List, [], ◌∷◌, ◌++◌, filter, Option, Some, None, Bool, true, false, if◌then◌else◌, refl}
 use Rattle.std.specs.List.{flat_map}
 use Rattle.std.specs.Coded.{Coded, code_by, coded×, coded_ℕ}
 use Rattle.fz_model.specs.declared.answers.Entry.{Entry}
@@ -38,6 +38,13 @@ EndsWith event events = (before : List Event) × (events ≡ before ++ event ∷
 -- the worker read `stop` as true, and later its last take found the line empty
 abbrev pub EndsWork : List Event → Type 0
 EndsWork events = (before between : List Event) × (events ≡ (before ++ Told ∷ between) ++ FoundEmpty ∷ [])
+
+-- the seat in the slot was served to the end, as these events say, with a list of this many procedures
+abbrev pub ServesSlot : ℕ → Option SeatState → Option SeatState → Option (List Event) → Type 0
+ServesSlot count None new events = Unit {0}
+ServesSlot count (Some old) (Some new) (Some events) = RunsEach count old new events × EndsWork events
+ServesSlot count (Some old) (Some new) None = ⊥
+ServesSlot count (Some old) None events = ⊥
 
 ---- what the diary's calls note
 

@@ -1,6 +1,6 @@
 //! A worker's diary: what it did, which only contracts know.
 
-ghost use Rattle.std.specs.Prelude.{◌≡◌, ◌<◌, [], ◌∷◌, ◌++◌, IsTrue, List, length};
+ghost use Rattle.std.specs.Prelude.{◌≡◌, ◌<◌, [], ◌∷◌, ◌++◌, List, length};
 ghost use Rattle.std.specs.Borrow.{ftrue};
 ghost use Rattle.std.specs.Coded.{coded_list};
 ghost use Rattle.fz_service.specs.declared.event.Event.{Event};
@@ -27,18 +27,6 @@ pub(crate) struct Diary {
 
 impl Model for Diary {
     ghost also_owns = { λ _. ftrue };
-}
-
-/// Whether a worker has served its seat to the end. Only `Diary::served` makes one that says so.
-#[derive(Clone, Copy)]
-pub(crate) struct Served {
-    pub(crate) is_over: bool,
-}
-
-impl Served {
-    pub(crate) fn not_yet() -> Served {
-        Served { is_over: false }
-    }
 }
 
 /// A diary, and an event that comes after it.
@@ -78,15 +66,7 @@ impl Diary {
     ghost use Rattle.fz_line.specs.Takes.{GainsEntry};
     ghost use Rattle.fz_service.specs.States.{RunsCalls};
     ghost use Rattle.fz_service.specs.Takes.{MatchTake};
-    ghost use Rattle.fz_service.specs.Diary.{EndsWork, told_of, empty_of};
-
-    /// The worker has read `stop` as true, and a later take, its last one, found the line empty.
-    pub(crate) fn served(&self) -> Served
-        requires { EndsWork self.now.events }
-        ensures { IsTrue result.is_over }
-    {
-        Served { is_over: true }
-    }
+    ghost use Rattle.fz_service.specs.Diary.{told_of, empty_of};
 
     /// Reads whether the worker has to stop.
     pub(crate) fn is_told(&mut self, stop: &AtomicBool) -> bool

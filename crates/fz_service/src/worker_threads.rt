@@ -1,13 +1,13 @@
 //! Worker threads.
 
-ghost use Rattle.std.specs.Prelude.{◌≡◌, ◌≢◌, ℕ, ◌<◌, ◌≤◌, [], ◌∷◌, ◌++◌, None, Some, IsSome, IsTrue, length, map, slice_get, slice_index_or, vec_capacity};
+ghost use Rattle.std.specs.Prelude.{◌≡◌, ◌≢◌, ℕ, ◌<◌, ◌≤◌, [], ◌∷◌, ◌++◌, None, Some, IsSome, length, map, option_map, slice_get, slice_index_or, vec_capacity};
 ghost use Rattle.fz_service.specs.declared.event.Event.TheVariants.{Told, Listened, FoundEmpty};
 ghost use Rattle.fz_service.specs.Workers.{Extends, ExtendEach, SlotExtends, slots_of, in_slots};
-ghost use Rattle.fz_service.specs.Diary.{Gains, RunsEach, EndsWith, EndsWork};
+ghost use Rattle.fz_service.specs.Diary.{Gains, RunsEach, EndsWith, EndsWork, ServesSlot};
 ghost use Rattle.fz_service.specs.Waits.{HasListened, HasLooked, RunsNone};
 
 use crate::bell::{Bell, Heard};
-use crate::diary::{Diary, Served};
+use crate::diary::Diary;
 use crate::opening::Opening;
 use crate::seat::Seat;
 use crate::service::Service;
@@ -100,11 +100,11 @@ fn spin() {
 /// The procedures of one worker.
 type List = Vec<Box<dyn Proc + Send>>;
 
-/// A seat that is sent to a thread and back, with its list of procedures, and whether the thread has served it to the end.
+/// A seat that is sent to a thread and back, with its list of procedures, and the diary of the thread once it has served the seat to the end.
 struct Worker<O: Opening, L> {
     slot: Option<Seat<O>>,
     procs: L,
-    served: Served,
+    diary: Option<Diary>,
 }
 
 impl<O: Opening> Worker<O, List> {
@@ -117,13 +117,13 @@ impl<O: Opening> Worker<O, List> {
         rt: &R,
     )
         ensures slot { SlotExtends self.old.slot self.new.slot }
-        ensures served { IsSome self.old.slot → IsTrue self.new.served.is_over }
+        ensures served { ServesSlot (length self.old.procs.items) self.old.slot self.new.slot (option_map (λ diary. diary.events) self.new.diary) }
     {
         if let Some(seat) = mem::replace(&mut self.slot, None) {
             let mut diary = Diary::new();
             let procs = self.procs.as_mut_slice();
             let seat = service.serve_until(seat, procs, &mut diary, gate, stop, rt);
-            self.served = diary.served();
+            self.diary = Some(diary);
             if let Some(other) = mem::replace(&mut self.slot, Some(seat)) {
                 other.retire();
             }
@@ -170,7 +170,7 @@ fn with_lists<O: Opening>(
         workers.push_reserved(Worker {
             slot: Some(seat),
             procs: list,
-            served: Served::not_yet(),
+            diary: None,
         });
     }
     workers
@@ -190,7 +190,7 @@ fn without_lists<O: Opening>(
         let Worker {
             slot,
             procs: list,
-            served: _,
+            diary: _,
         } = workers.remove(0);
         put_list_back(procs, number, list);
         number += 1;
@@ -300,7 +300,7 @@ impl<O: Opening> Service<O> {
         O: Send + Sync,
         ensures len { length workers.new.items ≡ length workers.old.items }
         ensures each { (i : ℕ) (d : _) → i < length workers.old.items → SlotExtends (slice_index_or workers.old.items i d).slot (slice_index_or workers.new.items i d).slot }
-        ensures served { (i : ℕ) (d : _) → i < length workers.old.items → IsSome (slice_index_or workers.old.items i d).slot → IsTrue (slice_index_or workers.new.items i d).served.is_over }
+        ensures served { (i : ℕ) (d : _) → i < length workers.old.items → ServesSlot (length (slice_index_or workers.old.items i d).procs.items) (slice_index_or workers.old.items i d).slot (slice_index_or workers.new.items i d).slot (option_map (λ diary. diary.events) (slice_index_or workers.new.items i d).diary) }
     {
         let threads = workers.len();
         if threads == 0 {
@@ -308,7 +308,7 @@ impl<O: Opening> Service<O> {
         }
         let serve = |_: usize, worker: &mut Worker<O, List>|
             ensures slot { SlotExtends worker.old.slot worker.new.slot }
-            ensures served { IsSome worker.old.slot → IsTrue worker.new.served.is_over }
+            ensures served { ServesSlot (length worker.old.procs.items) worker.old.slot worker.new.slot (option_map (λ diary. diary.events) worker.new.diary) }
         { worker.serve_from_slot(self, gate, stop, rt) };
         thread::for_each_mut(rt, workers.as_mut_slice(), threads, &serve);
     }
