@@ -1,12 +1,9 @@
 -- Where none is flagged, and links stand for their own numbers, a pass is the model's.
-use Rattle.std.proofs.Common.{◌≡◌, ℕ, Bool, get_or, Some, refl, sym, ap, ◌∙◌, subst, ⊎_elim, IsTrue}
+use Rattle.std.proofs.Common.{◌≡◌, ℕ, Bool, get_or, Some, refl, sym, ◌∙◌, subst, ⊎_elim}
 use Rattle.std.proofs.lemmas.Bool.{true≢false}
-use Rattle.fz_model.specs.State.{Map, Core}
-use Rattle.fz_model.specs.declared.answers.Entry.{Entry}
-use Rattle.fz_model.specs.declared.answers.Registration.{Registration}
+use Rattle.fz_model.specs.State.{Core}
 use Rattle.fz_model.specs.Pass.{IsUnreachable, IsLedTo, IsKept, IsPicked, remaining_objects, without_picks, links_within}
-use Rattle.fz_pass.specs.Decides.{Parts}
-use Rattle.fz_pass.specs.Flagged.{LateDecisionsDecide, LateDecisionsPass, DecidesFlagged}
+use Rattle.fz_pass.specs.Flagged.{LateDecisionsDecide, LateDecisionsPass}
 use Rattle.fz_pass.specs.Places.{placed}
 use Rattle.fz_pass.proofs.Passing.{passes}
 use Rattle.fz_pass.proofs.Placing.{placed_own}
