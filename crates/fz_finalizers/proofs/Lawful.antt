@@ -13,7 +13,7 @@ use Rattle.fz_model.specs.Steps.{moved_to}
 use Rattle.fz_model.proofs.Lists.{slice_get-right}
 use Rattle.fz_model.proofs.Maps.{get-insert_same, get-insert_other, get-remove_same, get-remove_other}
 use Rattle.fz_finalizers.specs.States.{State, links_of, with_links}
-use Rattle.fz_finalizers.specs.Follows.{Event, Follows, Queues, next_pass, queued_one, queued_object, with_registration, Register, Unregister, Link, Unlink, Move, Pass, Begin, Queue, QueueAll, Take, TakeFinished, Finish}
+use Rattle.fz_finalizers.specs.Follows.{Event, Follows, Queues, next_pass, queued_one, queued_object, with_registration, Register, Unregister, Link, Unlink, Move, Pass, Begin, Queue, QueueAll, Take, TakeFinished, TakeAll, Finish}
 use Rattle.fz_finalizers.specs.Laws.{SameLinks, SameLinksBut, ChangesLinks, IsNextPass, AddsOfPass, NumbersPasses}
 use Rattle.fz_finalizers.proofs.OneQueued.{queued_queues}
 use Rattle.fz_finalizers.proofs.Recorded.{entry_has}
@@ -124,6 +124,7 @@ changes_links old new (Queue object) does = unlinked old new _ does (queued_shor
 changes_links old new QueueAll does = same_links old new does.3 does.4
 changes_links old new (Take entry) does = unlinked old new _ does.1 refl refl
 changes_links old new (TakeFinished entry) does = unlinked old new _ does.1 refl refl
+changes_links old new (TakeAll entries) does = unlinked old new _ does.1 refl refl
 changes_links old new (Finish entry) does = unlinked old new _ does.1 refl refl
 
 -- ---- passes
@@ -156,4 +157,5 @@ numbers_passes old new (Queue object) does = (ap (λ (s : State). s.passes) does
 numbers_passes old new QueueAll does = (does.5, adds 0 old new does.0)
 numbers_passes old new (Take entry) does = kept old new _ does.1 refl refl
 numbers_passes old new (TakeFinished entry) does = kept old new _ does.1 refl refl
+numbers_passes old new (TakeAll entries) does = kept old new _ does.1 refl refl
 numbers_passes old new (Finish entry) does = kept old new _ does.1 refl refl

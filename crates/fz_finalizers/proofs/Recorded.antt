@@ -24,7 +24,7 @@ use Rattle.fz_finalizers.specs.declared.kinds.Kind.TheVariants.{Normal, IgnoreSe
 use Rattle.fz_finalizers.specs.declared.kinds.Finalizer.{Finalizer}
 use Rattle.fz_finalizers.specs.Kinds.{is_late, table_kind, of_table, table_finalizer}
 use Rattle.fz_finalizers.specs.States.{State, opening, with_links, kind_at}
-use Rattle.fz_finalizers.specs.Follows.{Event, Follows, Queues, IsOf, with_registration, without_registration, Register, Unregister, Link, Unlink, Move, Pass, Begin, Queue, QueueAll, Take, TakeFinished, Finish}
+use Rattle.fz_finalizers.specs.Follows.{Event, Follows, Queues, IsOf, with_registration, without_registration, Register, Unregister, Link, Unlink, Move, Pass, Begin, Queue, QueueAll, Take, TakeFinished, TakeAll, Finish}
 use Rattle.fz_finalizers.specs.Promises.{Past, with_event, IsReached, Opened, Then, Records}
 use Rattle.fz_finalizers.proofs.Queueing as queueing
 use Rattle.fz_finalizers.proofs.OneQueued.{queued_queues}
@@ -198,6 +198,7 @@ step old now past (Queue object) p does = come _ old now past p (queued_queues o
 step old now past QueueAll p does = come _ old now past p does.0
 step old now past (Take entry) p does = subst (λ s. Records s (record past { taken = past.taken ++ entry ∷ [] })) (sym does.1) (spent old past _ _ _ past.finished p)
 step old now past (TakeFinished entry) p does = subst (λ s. Records s (record past { taken = past.taken ++ entry ∷ []; finished = past.finished ++ entry ∷ [] })) (sym does.1) (spent old past _ old.held _ _ p)
+step old now past (TakeAll entries) p does = subst (λ s. Records s (record past { taken = past.taken ++ entries })) (sym does.1) (spent old past _ _ _ past.finished p)
 step old now past (Finish entry) p does = subst (λ s. Records s (record past { finished = past.finished ++ entry ∷ [] })) (sym does.1) (spent old past old.taken _ past.taken _ p)
 
 pub recorded : (s : State) (past : Past) → IsReached s past → Records s past
