@@ -1,5 +1,5 @@
-/* questions.c - times what a pass asks, and the walk over roots, by derrimas_finalizers.h alone.
- *   questions TEST N     the nanoseconds for each of N registered objects: the least of some turns, each with a handle of its own
+/* questions.c - times calls of derrimas_finalizers.h alone: what changes tables, what a pass asks, and the walk over roots.
+ *   questions TEST N     the nanoseconds, or bytes, for each of N registered objects: the least of some turns, each with a handle of its own
  * bench/run builds it with the library of c/build.
  *
  * A question takes what lies between two answers of the host: the step to the next one, and here a host that looks at nothing. */
@@ -10,13 +10,116 @@
 #include <string.h>
 #include <time.h>
 
-enum { TURNS = 9 };
+enum { TURNS = 9, FEW_TURNS = 2, MANY = 2000000, HEAD = 16 };
 
 static derrimas_finalizers finalizers;
 
 static void fail(const char *what) { fprintf(stderr, "questions: %s\n", what); exit(1); }
 static void must(derrimas_finalizers_code code) { if (code != DERRIMAS_FINALIZERS_OK) fail("a call was refused"); }
 static double now(void) { struct timespec t; clock_gettime(CLOCK_PROCESS_CPUTIME_ID, &t); return t.tv_sec * 1e9 + t.tv_nsec; }
+
+/* How many bytes of memory the handle has. Each block has its size at its head. */
+static uint64_t bytes;
+static void *reallocate(void *data, void *at, size_t size)
+{
+    size_t before = at ? *(size_t *)((char *)at - HEAD) : 0;
+    char *block = realloc(at ? (char *)at - HEAD : NULL, HEAD + size);
+
+    (void)data;
+    if (!block)
+        return NULL;
+    *(size_t *)block = size;
+    bytes += size - before;
+    return block + HEAD;
+}
+static void *allocate(void *data, size_t size) { return reallocate(data, NULL, size); }
+static void release(void *data, void *at)
+{
+    (void)data;
+    if (!at)
+        return;
+    bytes -= *(size_t *)((char *)at - HEAD);
+    free((char *)at - HEAD);
+}
+
+/* The numbers of n objects that stand so far apart, by rising number or in random order. */
+static uint64_t *numbers(uint64_t n, uint64_t apart, bool random)
+{
+    uint64_t *of = malloc(n * sizeof *of), seed = 88172645463325252u;
+
+    if (!of)
+        fail("no memory");
+    for (uint64_t i = 0; i < n; i++)
+        of[i] = apart * (i + 1);
+    for (uint64_t i = n - 1; random && i > 0; i--) {
+        seed ^= seed << 13, seed ^= seed >> 7, seed ^= seed << 17;
+        uint64_t other = (seed >> 33) % (i + 1), it = of[i];
+        of[i] = of[other], of[other] = it;
+    }
+    return of;
+}
+
+static double entered(uint64_t n, uint64_t apart, bool random, bool linked)
+{
+    uint64_t *of = numbers(n, apart, random);
+    derrimas_finalizers_linked answer;
+    double t = now();
+
+    for (uint64_t i = 0; i < n; i++)
+        if (linked)
+            must(derrimas_finalizers_link(&finalizers, DERRIMAS_FINALIZERS_SHORT, of[i], of[i], &answer));
+        else
+            must(derrimas_finalizers_register(&finalizers, of[i], DERRIMAS_FINALIZERS_NORMAL, 1, i, 0, NULL, NULL));
+    t = now() - t;
+    free(of);
+    return t;
+}
+
+static double registered(uint64_t n) { return entered(n, 16, false, false); }
+static double registered_adjacent(uint64_t n) { return entered(n, 1, false, false); }
+static double registered_random(uint64_t n) { return entered(n, 16, true, false); }
+static double linked(uint64_t n) { return entered(n, 16, false, true); }
+static double linked_random(uint64_t n) { return entered(n, 16, true, true); }
+
+static double taken(uint64_t n)
+{
+    derrimas_finalizers_entry entry;
+    uint64_t queued;
+
+    entered(n, 16, false, false);
+    must(derrimas_finalizers_queue_all(&finalizers, &queued));
+    double t = now();
+    for (uint64_t i = 0; i < n; i++) {
+        must(derrimas_finalizers_take(&finalizers, &entry));
+        must(derrimas_finalizers_finish(&finalizers, &entry));
+    }
+    return now() - t;
+}
+
+static double bytes_registered(uint64_t n)
+{
+    uint64_t before = bytes;
+
+    entered(n, 16, false, false);
+    return (double)(bytes - before);
+}
+
+static double bytes_finished(uint64_t n)
+{
+    uint64_t before = bytes;
+
+    taken(n);
+    entered(n, 16, false, false);
+    return (double)(bytes - before);
+}
+
+static double bytes_linked(uint64_t n)
+{
+    uint64_t before = bytes;
+
+    entered(n, 16, false, true);
+    return (double)(bytes - before);
+}
 
 /* kinds that alternate are asked about one by one, of one kind in batches */
 static void register_all(uint64_t n, bool alternate)
@@ -92,18 +195,24 @@ static double roots(uint64_t n)
 }
 
 static const struct { const char *name; double (*turn)(uint64_t n); } tests[] = {
+    {"register", registered}, {"register_adjacent", registered_adjacent}, {"register_random", registered_random},
+    {"link", linked}, {"link_random", linked_random}, {"take_and_finish", taken},
+    {"bytes_registered", bytes_registered}, {"bytes_finished", bytes_finished}, {"bytes_linked", bytes_linked},
     {"one_by_one", one_by_one}, {"in_batches", in_batches}, {"live", live}, {"roots", roots},
 };
 
 int main(int count, char **words)
 {
     uint64_t n = count == 3 ? strtoull(words[2], NULL, 10) : 0;
+    int turns = n > MANY ? FEW_TURNS : TURNS;
 
     for (size_t i = 0; n && i < sizeof tests / sizeof *tests; i++)
         if (!strcmp(tests[i].name, words[1])) {
             double least = INFINITY;
-            for (int turn = 0; turn < TURNS; turn++) {
-                must(derrimas_finalizers_open(&finalizers, NULL));
+            bool counts = !strncmp(words[1], "bytes", 5);
+            derrimas_finalizers_options counting = {sizeof counting, {allocate, reallocate, release, NULL}};
+            for (int turn = 0; turn < (counts ? 1 : turns); turn++) {
+                must(derrimas_finalizers_open(&finalizers, counts ? &counting : NULL));
                 least = fmin(least, tests[i].turn(n));
                 derrimas_finalizers_destroy(&finalizers);
             }

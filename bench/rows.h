@@ -14,7 +14,7 @@ enum { MOST_WORDS = 1 << 30, MOST_IN_TABLE = 1 << 30 };
 #else
 enum { MOST_WORDS = 262144, MOST_IN_TABLE = 65536 };
 #endif
-enum { TOO_LARGE = -1, LARGE = 8, MOST_LARGE = MOST_WORDS / LARGE, COLLECTIONS = 9 };
+enum { TOO_LARGE = -1, LARGE = 8, MOST_LARGE = MOST_WORDS / LARGE, COLLECTIONS = 9, ROUNDS = 2 };
 
 static void fail(const char *what) { fprintf(stderr, "bench: %s\n", what); exit(1); }
 static void *memory(size_t bytes) { void *p = malloc(bytes); if (!p) fail("no memory"); return p; }
@@ -27,19 +27,22 @@ static size_t below(size_t n) { seed ^= seed << 13; seed ^= seed >> 7; seed ^= s
 
 /* A row: its objects, what table each of them is entered in, whether a root leads to them, and the call that is timed. MAKE makes them, ENTER enters them;
    COLLECT is one collection, or of live objects COLLECTIONS of them after the first; COLLECT_AGAIN one that comes after
-   others, whose entries a world has forgotten. RANKED ones are normal too, with ranks 0 to 255 in turn. So are BUSY
+   ROUNDS others of as many objects, whose entries are finished and, in a world, forgotten. RESIDENT isn't timed: it is the bytes that entering them makes
+   resident, and only bdwgc.c has rows of it. RANKED ones are normal too, with ranks 0 to 255 in turn. So are BUSY
    ones, whose procedure works for about 2 microseconds, which only bdwgc.c calls. LINKED ones are the targets of short links, which stand in words of other
    objects, which are live and atomic: one more than links, so that each link can MOVE one further. BOTH are normal and such targets; of them, and of what is
    removed by UNREGISTER, only bdwgc.c has rows. LARGE objects have so many words, and there is one for so many calls: these STORE into each word. */
 typedef enum { LOOSE, LOOSE_LARGE, CHAIN, MIXED_CHAIN, GRAPH } Shape;
 typedef enum { UNREGISTERED, NORMAL, RANKED, BUSY, NO_ORDER, LINKED, BOTH } Kind;
-typedef enum { MAKE, ENTER, COLLECT, COLLECT_AGAIN, FINISH, MOVE, UNLINK, UNREGISTER, STORE, STORE_IN_CYCLE } Call;
+typedef enum { MAKE, ENTER, RESIDENT, COLLECT, COLLECT_AGAIN, FINISH, MOVE, UNLINK, UNREGISTER, STORE, STORE_IN_CYCLE } Call;
 typedef struct { const char *name; Shape shape; Kind kind; bool live; Call call; } Row;
 static const Row rows[] = {
     { "alloc", LOOSE, UNREGISTERED, false, MAKE },
     { "register", LOOSE, NORMAL, false, ENTER },
+    { "register_resident", LOOSE, NORMAL, false, RESIDENT },
     { "unregister", LOOSE, NORMAL, false, UNREGISTER },
     { "link", LOOSE, LINKED, false, ENTER },
+    { "link_resident", LOOSE, LINKED, false, RESIDENT },
     { "move_link", LOOSE, LINKED, false, MOVE },
     { "unlink", LOOSE, LINKED, false, UNLINK },
     { "store", LOOSE_LARGE, UNREGISTERED, false, STORE },
@@ -49,6 +52,7 @@ static const Row rows[] = {
     { "dead_queued", LOOSE, NORMAL, false, COLLECT },
     { "dead_queued_again", LOOSE, NORMAL, false, COLLECT_AGAIN },
     { "dead_queued_linked", LOOSE, BOTH, false, COLLECT },
+    { "dead_queued_linked_again", LOOSE, BOTH, false, COLLECT_AGAIN },
     { "dead_ranked", LOOSE, RANKED, false, COLLECT },
     { "dead_no_order", LOOSE, NO_ORDER, false, COLLECT },
     { "dead_chain", CHAIN, NORMAL, false, COLLECT },

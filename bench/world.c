@@ -19,7 +19,7 @@ typedef struct {
 typedef struct { uint64_t addresses, numbers, linked, queued, reclaimed, moved, unlinked, loaded, noted, finished; bool done; } Outcome;
 Outcome world_bench_run(const Plan *plan, const uint64_t *words, size_t length);
 
-enum { HEAP_START = 65536, BLOCK_WORDS = 64, HOLDER_WORDS = 1024, SLOTS = 16, ROUNDS = 2 };
+enum { HEAP_START = 65536, BLOCK_WORDS = 64, HOLDER_WORDS = 1024, SLOTS = 16 };
 
 static uint64_t address(const Objects *objects, size_t i) { return HEAP_START + i * objects->size; }
 static uint64_t round_up(uint64_t n, uint64_t size) { return (n + size - 1) / size; }

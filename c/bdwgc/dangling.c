@@ -1,5 +1,5 @@
-/* dangling: links whose holder is lost. Holders with a linked word go, others come to stand where they stood, and then the targets go: no word of a
- * stranger may be written to.
+/* dangling: links whose holder is lost. Every second holder with a linked word goes, others come to stand where they stood, and then the targets go: no word
+ * of a stranger may be written to. The holders between them stay, so that a lost one's first word stands behind the last word of one that is retained.
  */
 #include "graph.h"
 
@@ -7,17 +7,28 @@ enum { HOLDERS = 4000, WORDS = 8, ROUNDS = 4 };
 
 static uintptr_t *places;  /* of the words of lost links, hidden */
 static void **targets;     /* a root */
+static void ***retained;   /* a root: the holders that stay */
 static uintptr_t **others; /* a root: what stands there now */
 
-APART static void make_links(bool is_long)
+APART static void make_link(unsigned n, bool is_long)
 {
-    for (unsigned n = 0; n < HOLDERS; n++) {
-        void **holder = GC_MALLOC_ATOMIC(WORDS * sizeof(void *)), **word = &holder[n % WORDS];
-        *word = targets[n] = GC_MALLOC(2 * sizeof(void *));
-        if ((is_long ? GC_register_long_link(word, *word) : GC_general_register_disappearing_link(word, *word)) != GC_SUCCESS)
-            fail("a link");
-        places[n] = ~(uintptr_t)word;
-    }
+    void **word = &retained[n][n % WORDS];
+
+    *word = targets[n] = GC_MALLOC(2 * sizeof(void *));
+    if ((is_long ? GC_register_long_link(word, *word) : GC_general_register_disappearing_link(word, *word)) != GC_SUCCESS)
+        fail("a link");
+    places[n] = ~(uintptr_t)word;
+}
+
+/* Holders one behind another, and links at their words, in the order of the holders or against it. */
+APART static void make_links(bool is_long, bool backwards)
+{
+    for (unsigned n = 0; n < HOLDERS; n++)
+        retained[n] = GC_MALLOC_ATOMIC(WORDS * sizeof(void *));
+    for (unsigned n = 0; n < HOLDERS; n++)
+        make_link(backwards ? HOLDERS - 1 - n : n, is_long);
+    for (unsigned n = 0; n < HOLDERS; n += 2)
+        retained[n] = NULL;
 }
 
 /* How many words of lost links stand in the new objects, whose words are all 1. */
@@ -30,7 +41,7 @@ APART static unsigned make_others(void)
         for (unsigned at = 0; at < WORDS; at++)
             others[n][at] = 1;
     }
-    for (unsigned n = 0; n < HOLDERS; n++) {
+    for (unsigned n = 0; n < HOLDERS; n += 2) {
         void *base = GC_base((void *)~places[n]);
         for (unsigned at = 0; at < 2 * HOLDERS && base; at++)
             if ((void *)others[at] == base) {
@@ -51,16 +62,16 @@ APART static unsigned overwritten(void)
     return all;
 }
 
-static void play(bool is_long)
+static void play(bool is_long, bool backwards)
 {
     unsigned found;
 
-    make_links(is_long);
+    make_links(is_long, backwards);
     collect();
     found = make_others();
     memset(targets, 0, HOLDERS * sizeof *targets);
     collect();
-    printf("%s links: %s places taken again, %u words of strangers written to\n", is_long ? "long" : "short", found > HOLDERS / 2 ? "most" : "few",
+    printf("%s links: %s places taken again, %u words of strangers written to\n", is_long ? "long" : "short", found > HOLDERS / 4 ? "most" : "few",
            overwritten());
 }
 
@@ -72,7 +83,8 @@ int main(void)
     places = malloc(HOLDERS * sizeof *places);
     targets = GC_MALLOC_UNCOLLECTABLE(HOLDERS * sizeof *targets);
     others = GC_MALLOC_UNCOLLECTABLE(2 * HOLDERS * sizeof *others);
+    retained = GC_MALLOC_UNCOLLECTABLE(HOLDERS * sizeof *retained);
     for (unsigned round = 0; round < ROUNDS; round++)
-        play(round % 2);
+        play(round % 2, round >= ROUNDS / 2);
     return 0;
 }

@@ -407,61 +407,121 @@ GC_API void GC_CALL GC_push_finalizer_structures(void)
 
 /* ---- the answers to a pass */
 
-static bool is_marked(void *data, uint64_t object)
+/* What was looked up last for a question: its objects and words are often neighbours. */
+struct lookup {
+    struct hblk *block; /* of an object, and its header */
+    hdr *header;
+    ptr_t holder; /* of a word, with its size, and whether it is marked */
+    size_t size;
+    bool is_marked;
+};
+
+GC_INLINE hdr *header_of(struct lookup *last, ptr_t object)
 {
-    (void)data;
-    return GC_is_marked(SHOW(object)) != 0;
+    struct hblk *block = HBLKPTR(object);
+
+    if (block != last->block) {
+        last->block = block;
+        GET_HDR(block, last->header);
+    }
+    return last->header;
 }
 
-static void mark_children(void *data, uint64_t object, bool but_itself)
+GC_INLINE word bit_of(struct lookup *last, ptr_t object)
 {
-    ptr_t it = SHOW(object);
-
-    (void)data;
-    if (GC_is_marked(it))
-        return; /* by the mark of another in this question, with all to which it leads */
-    GC_MARKED_FOR_FINALIZATION(it);
-    if (but_itself)
-        GC_MARK_FO(it, GC_ignore_self_finalize_mark_proc);
-    else
-        GC_MARK_FO(it, GC_normal_finalize_mark_proc);
-    if (GC_is_marked(it))
-        WARN("An object with a finalizer leads to itself: %p\n", it);
+    return MARK_BIT_NO(object - (ptr_t)last->block, last->header->hb_sz);
 }
 
-static void mark_alone(void *data, uint64_t object)
+GC_INLINE bool is_marked(struct lookup *last, ptr_t object)
 {
-    ptr_t it = SHOW(object);
+    hdr *header = header_of(last, object);
 
-    (void)data;
-    GC_set_mark_bit(it);
-    GC_bytes_finalized += HDR(it)->hb_sz;
-    if (GC_object_finalized_proc)
-        GC_object_finalized_proc(it);
+    return mark_bit_from_hdr(header, bit_of(last, object)) != 0;
+}
+
+GC_INLINE bool mark_words(struct lookup *last, ptr_t object, void (*words)(ptr_t))
+{
+    if (is_marked(last, object))
+        return false; /* by the mark of another in this question, with all to which it leads */
+    GC_MARKED_FOR_FINALIZATION(object);
+    GC_MARK_FO(object, words);
+    if (is_marked(last, object))
+        WARN("An object with a finalizer leads to itself: %p\n", object);
+    return false;
+}
+
+GC_INLINE bool mark_children(struct lookup *last, ptr_t object) { return mark_words(last, object, GC_normal_finalize_mark_proc); }
+GC_INLINE bool mark_others(struct lookup *last, ptr_t object) { return mark_words(last, object, GC_ignore_self_finalize_mark_proc); }
+
+GC_INLINE bool mark_alone(struct lookup *last, ptr_t object)
+{
+    if (!is_marked(last, object)) {
+        set_mark_bit_from_hdr(last->header, bit_of(last, object));
+        INCR_MARKS(last->header);
+    }
+    GC_bytes_finalized += last->header->hb_sz;
+    if (EXPECT(GC_object_finalized_proc != 0, FALSE))
+        GC_object_finalized_proc(object);
+    return false;
 }
 
 /* Without Java's rule, what an object leads to isn't kept for a finalizer that wants no order. */
-static void mark(void *data, uint64_t object)
+GC_INLINE bool mark(struct lookup *last, ptr_t object)
 {
-    ptr_t it = SHOW(object);
-
-    if (GC_java_finalization && !GC_is_marked(it))
-        GC_MARK_FO(it, GC_normal_finalize_mark_proc);
-    mark_alone(data, object);
+    if (GC_java_finalization && !is_marked(last, object))
+        GC_MARK_FO(object, GC_normal_finalize_mark_proc);
+    return mark_alone(last, object);
 }
 
-static void clear(void *data, uint64_t link)
+GC_INLINE bool clear(struct lookup *last, ptr_t link)
 {
-    (void)data;
-    *(ptr_t *)(void *)SHOW(link) = NULL;
+    (void)last;
+    *(ptr_t *)(void *)link = NULL;
+    return false;
 }
 
-static bool holder_is_marked(void *data, uint64_t link)
+GC_INLINE bool holder_is_marked(struct lookup *last, ptr_t link)
 {
-    ptr_t holder = (ptr_t)GC_base(SHOW(link));
+    if (last->holder == NULL || (word)link - (word)last->holder >= last->size) {
+        last->holder = (ptr_t)GC_base(link);
+        if (last->holder == NULL)
+            return true;
+        last->is_marked = is_marked(last, last->holder);
+        last->size = last->header->hb_sz;
+    }
+    return last->is_marked;
+}
 
-    (void)data;
-    return holder == NULL || GC_is_marked(holder) != 0;
+/* The answers about all objects or words of a question. Each of its uses is a loop of its own. */
+__attribute__((always_inline)) GC_INLINE uint64_t each(const derrimas_question *question, bool (*answer)(struct lookup *, ptr_t))
+{
+    struct lookup last = {NULL, NULL, NULL, 0, false};
+    uint64_t answers = 0, i;
+
+    for (i = 0; i < question->count; i++)
+        answers |= (uint64_t)answer(&last, SHOW(question->what[i])) << i;
+    return answers;
+}
+
+static uint64_t answers_to(const derrimas_question *question)
+{
+    switch (question->ask) {
+    case DERRIMAS_ASK_IS_MARKED:
+        return each(question, is_marked);
+    case DERRIMAS_ASK_MARK_CHILDREN:
+        return each(question, mark_children);
+    case DERRIMAS_ASK_MARK_OTHERS:
+        return each(question, mark_others);
+    case DERRIMAS_ASK_MARK:
+        return each(question, mark);
+    case DERRIMAS_ASK_MARK_ALONE:
+        return each(question, mark_alone);
+    case DERRIMAS_ASK_CLEAR:
+        return each(question, clear);
+    case DERRIMAS_ASK_HOLDER_IS_MARKED:
+        return each(question, holder_is_marked);
+    }
+    return 0;
 }
 
 /* ---- the pass */
@@ -470,8 +530,9 @@ static uint64_t links_before[2]; /* how many short and long links stood before t
 
 GC_INNER void GC_finalize(void)
 {
-    static const derrimas_host host = {is_marked, mark_children, mark, mark_alone, clear, holder_is_marked};
     derrimas_finalizers_counts counts = counted();
+    derrimas_question question;
+    uint64_t answers = 0;
 
     GC_ASSERT(I_HOLD_LOCK());
     links_before[0] = counts.short_links;
@@ -480,7 +541,9 @@ GC_INNER void GC_finalize(void)
 #ifndef GC_TOGGLE_REFS_NOT_NEEDED
     GC_mark_togglerefs();
 #endif
-    (void)derrimas_finalizers_pass(&finalizers, &host, NULL, NULL);
+    if (derrimas_finalizers_begin(&finalizers) == DERRIMAS_FINALIZERS_OK)
+        while (derrimas_finalizers_next(&finalizers, answers, &question, NULL) == DERRIMAS_FINALIZERS_OK)
+            answers = answers_to(&question);
 #ifndef GC_TOGGLE_REFS_NOT_NEEDED
     GC_clear_togglerefs();
 #endif

@@ -8,7 +8,7 @@ FLAGS = tuple('--enable-threads=posix --enable-parallel-mark --enable-cplusplus 
 SHARED = (*FLAGS[:-2], '--enable-shared', '--disable-static')
 
 
-ARCHIVE = os.path.normpath(f'{HERE}/../out/libderrimas_finalizers.a')
+ARCHIVE = os.path.normpath(f'{HERE}/../out/libderrimas.a')
 SCRATCH = f'{tempfile.gettempdir()}/derrimas-bdwgc-{os.getuid()}'
 
 

@@ -49,22 +49,10 @@
 #ifndef DERRIMAS_H
 #define DERRIMAS_H
 
-#include "derrimas_version.h"
-#include <stdbool.h>
-#include <stddef.h>
-#include <stdint.h>
+#include "derrimas_common.h"
 
 #ifdef __cplusplus
 extern "C" {
-#endif
-
-/* DERRIMAS_NONNULL: which arguments aren't NULL. DERRIMAS_CHECKED: the result has to be looked at. */
-#if defined(__GNUC__)
-#define DERRIMAS_NONNULL(...) __attribute__((nonnull(__VA_ARGS__)))
-#define DERRIMAS_CHECKED __attribute__((warn_unused_result))
-#else
-#define DERRIMAS_NONNULL(...)
-#define DERRIMAS_CHECKED
 #endif
 
 /* ---- codes, kinds, limits */
@@ -103,19 +91,6 @@ typedef enum derrimas_kind { DERRIMAS_NORMAL = 0, DERRIMAS_IGNORE_SELF = 1, DERR
 
 /* The kinds of objects: GC_malloc, GC_malloc_atomic. The words of an atomic object keep nothing. */
 typedef enum derrimas_words { DERRIMAS_SCANNED = 0, DERRIMAS_ATOMIC = 1 } derrimas_words;
-
-/* The kinds of links: GC_general_register_disappearing_link, GC_register_long_link. */
-typedef enum derrimas_links { DERRIMAS_SHORT = 0, DERRIMAS_LONG = 1 } derrimas_links;
-
-/* The answers about links. They have numbers of their own; DERRIMAS_GC_ANSWER makes gc.h's of them: GC_SUCCESS,
- * GC_DUPLICATE, GC_NOT_FOUND. */
-typedef enum derrimas_link_answer {
-    DERRIMAS_LINKED = 128,         /* the link was made, or moved */
-    DERRIMAS_LINK_DUPLICATE = 129, /* a link of this kind stood at the place */
-    DERRIMAS_LINK_NOT_FOUND = 130  /* there was no link to move */
-} derrimas_link_answer;
-
-#define DERRIMAS_GC_ANSWER(answer) ((answer) == DERRIMAS_LINKED ? 0 : (answer) == DERRIMAS_LINK_DUPLICATE ? 1 : 4)
 
 #define DERRIMAS_HEAP_START UINT64_C(65536) /* the address of the heap's first word */
 #define DERRIMAS_BLOCK_WORDS 64             /* words of a block */
@@ -520,9 +495,6 @@ const char *derrimas_name(derrimas_code code);
 
 /* What a code means: "no such frame, or no such slot of its sixteen". */
 const char *derrimas_strerror(derrimas_code code);
-
-/* The library's version, as "1.0.0". */
-const char *derrimas_version(void);
 
 /* ---- finalizers that are C procedures */
 

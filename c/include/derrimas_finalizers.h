@@ -17,7 +17,7 @@
  *
  * What the host owes, since nothing checks C:
  * - A pointer points to a value of its type, which no other thread uses meanwhile. It may be NULL only where the call's
- *   comment says so; DERRIMAS_FINALIZERS_NONNULL marks the others.
+ *   comment says so; DERRIMAS_NONNULL marks the others.
  * - A derrimas_finalizers starts as {0}, changes by these calls alone, and isn't copied.
  * - One thread at a time uses it, as behind one lock; of a collector, that of its allocator. Calls that take a const
  *   handle change nothing, and may be made by several threads at once, where no other call is made meanwhile.
@@ -39,22 +39,10 @@
 #ifndef DERRIMAS_FINALIZERS_H
 #define DERRIMAS_FINALIZERS_H
 
-#include "derrimas_version.h"
-#include <stdbool.h>
-#include <stddef.h>
-#include <stdint.h>
+#include "derrimas_common.h"
 
 #ifdef __cplusplus
 extern "C" {
-#endif
-
-/* DERRIMAS_FINALIZERS_NONNULL: which arguments aren't NULL. DERRIMAS_FINALIZERS_CHECKED: the result has to be looked at. */
-#if defined(__GNUC__)
-#define DERRIMAS_FINALIZERS_NONNULL(...) __attribute__((nonnull(__VA_ARGS__)))
-#define DERRIMAS_FINALIZERS_CHECKED __attribute__((warn_unused_result))
-#else
-#define DERRIMAS_FINALIZERS_NONNULL(...)
-#define DERRIMAS_FINALIZERS_CHECKED
 #endif
 
 /* ---- codes and kinds */
@@ -73,8 +61,12 @@ typedef enum derrimas_finalizers_code {
     DERRIMAS_FINALIZERS_IS_OPEN = 9,      /* the handle is open already */
     DERRIMAS_FINALIZERS_EMPTY = 10,       /* there is none, or no further one, of what was asked for */
     DERRIMAS_FINALIZERS_BAD_KIND = 11,    /* the kind is none of its enum */
-    DERRIMAS_FINALIZERS_BAD_OPTIONS = 12, /* the options' size isn't known here, or the allocator lacks a function */
-    DERRIMAS_FINALIZERS_BAD_PROCESSOR = 13 /* the processor lacks something of x86-64-v2, for which the library is made */
+    DERRIMAS_FINALIZERS_BAD_OPTIONS = 12, /* the options' size isn't known here, or a function is missing */
+    DERRIMAS_FINALIZERS_BAD_PROCESSOR = 13, /* the processor lacks something of x86-64-v2, for which the library is made */
+    DERRIMAS_FINALIZERS_BAD_COUNT = 14,   /* the number of workers isn't from 1 to DERRIMAS_MAX_WORKERS */
+    DERRIMAS_FINALIZERS_NO_THREAD = 15,   /* the system starts no thread */
+    DERRIMAS_FINALIZERS_IN_PROCEDURE = 16, /* one of these workers made the call, from within its procedure */
+    DERRIMAS_FINALIZERS_PENDING = 17      /* the time is over: entries are pending, or a worker has not ended */
 } derrimas_finalizers_code;
 
 /* When the finalizer of an unreachable object is ready: GC_register_finalizer, .._ignore_self, .._no_order, and
@@ -87,37 +79,20 @@ typedef enum derrimas_finalizers_kind {
     DERRIMAS_FINALIZERS_UNREACHABLE = 3  /* as NORMAL, but the references of NO_ORDER objects count too */
 } derrimas_finalizers_kind;
 
-/* Links whose words are cleared when the target is unreachable, and when not even a finalizer retains it any more:
- * GC_general_register_disappearing_link and GC_register_long_link. */
-typedef enum derrimas_finalizers_link_kind {
-    DERRIMAS_FINALIZERS_SHORT = 0,
-    DERRIMAS_FINALIZERS_LONG = 1
-} derrimas_finalizers_link_kind;
+/* The kinds of links and the answers about them, which are those of derrimas_common.h, by names of this header. */
+typedef derrimas_links derrimas_finalizers_link_kind;
+typedef derrimas_link_answer derrimas_finalizers_linked;
 
-/* What became of a link. The numbers are no codes; DERRIMAS_FINALIZERS_GC_ANSWER makes gc.h's of them: GC_SUCCESS,
- * GC_DUPLICATE and GC_NOT_FOUND. */
-typedef enum derrimas_finalizers_linked {
-    DERRIMAS_FINALIZERS_LINKED = 128,    /* the link was made, or moved */
-    DERRIMAS_FINALIZERS_DUPLICATE = 129, /* a link of this kind stood at the word */
-    DERRIMAS_FINALIZERS_NOT_FOUND = 130  /* there was no link to move */
-} derrimas_finalizers_linked;
-
-#define DERRIMAS_FINALIZERS_GC_ANSWER(answer)                                                                              \
-    ((answer) == DERRIMAS_FINALIZERS_LINKED ? 0 : (answer) == DERRIMAS_FINALIZERS_DUPLICATE ? 1 : 4)
+#define DERRIMAS_FINALIZERS_SHORT DERRIMAS_SHORT
+#define DERRIMAS_FINALIZERS_LONG DERRIMAS_LONG
+#define DERRIMAS_FINALIZERS_LINKED DERRIMAS_LINKED
+#define DERRIMAS_FINALIZERS_DUPLICATE DERRIMAS_LINK_DUPLICATE
+#define DERRIMAS_FINALIZERS_NOT_FOUND DERRIMAS_LINK_NOT_FOUND
+#define DERRIMAS_FINALIZERS_GC_ANSWER(answer) DERRIMAS_GC_ANSWER(answer)
 
 #define DERRIMAS_FINALIZERS_BATCH 16 /* the most objects or words of a question */
 
 /* ---- types */
-
-/* An allocator of the host's: as malloc, realloc and free, each with `data` before its arguments. They are called by the
- * thread whose call takes or frees memory, within it. They make no call on the same handle, and return. `reallocate` and
- * `release` are given what `allocate` or `reallocate` returned for this handle, or NULL. */
-typedef struct derrimas_allocator {
-    void *(*allocate)(void *data, size_t size);
-    void *(*reallocate)(void *data, void *memory, size_t size);
-    void (*release)(void *data, void *memory);
-    void *data;
-} derrimas_allocator;
 
 /* What a handle is opened with. `size` is sizeof(derrimas_finalizers_options), by which the library knows which fields
  * there are. All three functions of the allocator are given. */
@@ -126,12 +101,24 @@ typedef struct derrimas_finalizers_options {
     derrimas_allocator allocator;
 } derrimas_finalizers_options;
 
+typedef struct derrimas_finalizers_entry derrimas_finalizers_entry;
+
+/* What a host is told of, by derrimas_finalizers_trace. Each function may be NULL. It is called at the end of the call that
+ * brings the event about, by its thread, with `data` first. It makes no call that changes the handle, and returns. */
+typedef struct derrimas_trace {
+    void (*queued)(void *data, uint64_t pass, uint64_t count); /* a pass, or .._queue_all as pass 0, has queued entries */
+    void (*cleared)(void *data, uint64_t word);                /* a question asks the host to write zero to a link's word */
+    void (*finished)(void *data, const derrimas_finalizers_entry *entry); /* by .._finish, or taken as finished */
+    void *data;
+} derrimas_trace;
+
 /* The handle. Start it as {0}. There may be any number of them, each with its own memory. `waiting` is how many entries
  * wait, for derrimas_finalizers_has_waiting alone. */
 typedef struct derrimas_finalizers {
     void *inside;
     uint64_t waiting;
     derrimas_allocator allocator;
+    const derrimas_trace *trace;
 } derrimas_finalizers;
 
 /* The procedure and the client data of a registration that went away, and whether there was one: else both are 0. */
@@ -142,9 +129,9 @@ typedef struct derrimas_finalizers_old {
 
 /* An entry: its place in the queue of all entries ever; the pass that queued it, 0 of .._queue_all; the number of its
  * registration; the object, the procedure and the client data. */
-typedef struct derrimas_finalizers_entry {
+struct derrimas_finalizers_entry {
     uint64_t seq, pass, reg, obj, proc, cd;
-} derrimas_finalizers_entry;
+};
 
 /* A registration: its object, its number, procedure and client data, its kind and rank. */
 typedef struct derrimas_finalizers_registration_at {
@@ -195,26 +182,25 @@ typedef struct derrimas_question {
 /* Opens a handle: nothing is registered. The options may be NULL: then memory is the C library's, by malloc, realloc and
  * free. They are copied. It takes memory.
  * Refused: BAD_PROCESSOR, BAD_OPTIONS, IS_OPEN, NO_MEMORY. */
-DERRIMAS_FINALIZERS_CHECKED derrimas_finalizers_code derrimas_finalizers_open(derrimas_finalizers *finalizers,
-                                                                              const derrimas_finalizers_options *options)
-    DERRIMAS_FINALIZERS_NONNULL(1);
+DERRIMAS_CHECKED derrimas_finalizers_code derrimas_finalizers_open(derrimas_finalizers *finalizers,
+                                                                   const derrimas_finalizers_options *options)
+    DERRIMAS_NONNULL(1);
 
 /* Frees all that the handle has, by its allocator, and leaves it as {0}. Does nothing where it isn't open. */
-void derrimas_finalizers_destroy(derrimas_finalizers *finalizers) DERRIMAS_FINALIZERS_NONNULL(1);
+void derrimas_finalizers_destroy(derrimas_finalizers *finalizers) DERRIMAS_NONNULL(1);
 
 /* Makes room for so many further registrations, and for so many further links of each kind: up to there no call takes
  * memory. It takes memory itself, and time by what it makes room for.
  * Refused: NOT_OPEN, PASS_OPEN, NO_MEMORY. */
-DERRIMAS_FINALIZERS_CHECKED derrimas_finalizers_code derrimas_finalizers_reserve(derrimas_finalizers *finalizers,
-                                                                                 uint64_t registrations, uint64_t shorts,
-                                                                                 uint64_t longs)
-    DERRIMAS_FINALIZERS_NONNULL(1);
+DERRIMAS_CHECKED derrimas_finalizers_code derrimas_finalizers_reserve(derrimas_finalizers *finalizers,
+                                                                      uint64_t registrations, uint64_t shorts, uint64_t longs)
+    DERRIMAS_NONNULL(1);
 
 /* Gives back the memory that isn't needed for what is registered, linked, waits or is held; also what was reserved. Where
  * the allocator has no memory to make something smaller, that stays as it is. No other call does this but .._destroy. Takes
  * time by what there is.
  * Refused: NOT_OPEN, PASS_OPEN. */
-derrimas_finalizers_code derrimas_finalizers_shrink(derrimas_finalizers *finalizers) DERRIMAS_FINALIZERS_NONNULL(1);
+derrimas_finalizers_code derrimas_finalizers_shrink(derrimas_finalizers *finalizers) DERRIMAS_NONNULL(1);
 
 /* ---- registrations and links */
 
@@ -224,28 +210,28 @@ derrimas_finalizers_code derrimas_finalizers_shrink(derrimas_finalizers *finaliz
  * ranks come first, and within a rank lower objects. *number, which may be NULL, is the number of the registration, which
  * no other has; *old, which may be NULL, what it replaced.
  * Refused: BAD_KIND, NOT_OPEN, PASS_OPEN, ZERO, EXHAUSTED, FULL, NO_MEMORY. */
-DERRIMAS_FINALIZERS_CHECKED derrimas_finalizers_code
+DERRIMAS_CHECKED derrimas_finalizers_code
 derrimas_finalizers_register(derrimas_finalizers *finalizers, uint64_t object, derrimas_finalizers_kind kind, uint64_t proc,
                              uint64_t cd, uint8_t rank, uint64_t *number, derrimas_finalizers_old *old)
-    DERRIMAS_FINALIZERS_NONNULL(1);
+    DERRIMAS_NONNULL(1);
 
 /* Removes the finalizer of the object, if it has one, and tells in *old, which may be NULL, what it was.
  * Refused: NOT_OPEN, PASS_OPEN. */
 derrimas_finalizers_code derrimas_finalizers_unregister(derrimas_finalizers *finalizers, uint64_t object,
-                                                        derrimas_finalizers_old *old) DERRIMAS_FINALIZERS_NONNULL(1);
+                                                        derrimas_finalizers_old *old) DERRIMAS_NONNULL(1);
 
 /* Makes a link from the word to the target. Where the word has one of this kind, its target is replaced, and *answer is
  * DUPLICATE, else LINKED; it may be NULL. A pass clears the word once the target is unreachable, and the link goes. It also
  * goes, its word untouched, once the object that has the word isn't marked.
  * Refused: BAD_KIND, NOT_OPEN, PASS_OPEN, ZERO, FULL, NO_MEMORY. */
-DERRIMAS_FINALIZERS_CHECKED derrimas_finalizers_code
+DERRIMAS_CHECKED derrimas_finalizers_code
 derrimas_finalizers_link(derrimas_finalizers *finalizers, derrimas_finalizers_link_kind kind, uint64_t word, uint64_t target,
-                         derrimas_finalizers_linked *answer) DERRIMAS_FINALIZERS_NONNULL(1);
+                         derrimas_finalizers_linked *answer) DERRIMAS_NONNULL(1);
 
 /* Removes the link of this kind at the word, and tells in *was, which may be NULL, whether there was one.
  * Refused: BAD_KIND, NOT_OPEN, PASS_OPEN. */
 derrimas_finalizers_code derrimas_finalizers_unlink(derrimas_finalizers *finalizers, derrimas_finalizers_link_kind kind,
-                                                    uint64_t word, bool *was) DERRIMAS_FINALIZERS_NONNULL(1);
+                                                    uint64_t word, bool *was) DERRIMAS_NONNULL(1);
 
 /* Moves the link of this kind from the word to the word `to`. *answer, which may be NULL, is LINKED, also where both are
  * the same; or, and then nothing changed, NOT_FOUND or DUPLICATE. It takes no memory. A single move may build the table
@@ -253,13 +239,13 @@ derrimas_finalizers_code derrimas_finalizers_unlink(derrimas_finalizers *finaliz
  * Refused: BAD_KIND, NOT_OPEN, PASS_OPEN, ZERO (of `to`). */
 derrimas_finalizers_code derrimas_finalizers_move_link(derrimas_finalizers *finalizers, derrimas_finalizers_link_kind kind,
                                                        uint64_t word, uint64_t to, derrimas_finalizers_linked *answer)
-    DERRIMAS_FINALIZERS_NONNULL(1);
+    DERRIMAS_NONNULL(1);
 
 /* ---- a pass, by questions and answers */
 
 /* Opens a pass, once the host's marking is done. Until its end all changes are refused PASS_OPEN. Takes time by the links.
  * Refused: NOT_OPEN, PASS_OPEN. */
-derrimas_finalizers_code derrimas_finalizers_begin(derrimas_finalizers *finalizers) DERRIMAS_FINALIZERS_NONNULL(1);
+derrimas_finalizers_code derrimas_finalizers_begin(derrimas_finalizers *finalizers) DERRIMAS_NONNULL(1);
 
 /* Takes the answers to the question before (at first any), and puts the next question into *question. EMPTY: there is
  * none, and the pass has ended; what it did is in *passed, which may be NULL. A pass takes time by the registrations and
@@ -267,13 +253,13 @@ derrimas_finalizers_code derrimas_finalizers_begin(derrimas_finalizers *finalize
  * Refused: NOT_OPEN, NO_PASS; EMPTY. */
 derrimas_finalizers_code derrimas_finalizers_next(derrimas_finalizers *finalizers, uint64_t answers,
                                                   derrimas_question *question, derrimas_finalizers_passed *passed)
-    DERRIMAS_FINALIZERS_NONNULL(1, 3);
+    DERRIMAS_NONNULL(1, 3);
 
 /* Ends the open pass before its last question. What it has queued stays queued. A link whose CLEAR wasn't answered stays a
  * link, and an object that wasn't queued stays registered. The host reclaims nothing before its next pass has ended: what
  * that would have retained may be unmarked.
  * Refused: NOT_OPEN, NO_PASS. */
-derrimas_finalizers_code derrimas_finalizers_abandon(derrimas_finalizers *finalizers) DERRIMAS_FINALIZERS_NONNULL(1);
+derrimas_finalizers_code derrimas_finalizers_abandon(derrimas_finalizers *finalizers) DERRIMAS_NONNULL(1);
 
 /* ---- the entries of finalizers that are ready */
 
@@ -281,26 +267,26 @@ derrimas_finalizers_code derrimas_finalizers_abandon(derrimas_finalizers *finali
  * GC_finalize_all. *queued, which may be NULL, is how many. Links stay. Takes time by the registrations, which it sorts.
  * Refused: NOT_OPEN, PASS_OPEN. */
 derrimas_finalizers_code derrimas_finalizers_queue_all(derrimas_finalizers *finalizers, uint64_t *queued)
-    DERRIMAS_FINALIZERS_NONNULL(1);
+    DERRIMAS_NONNULL(1);
 
 /* Takes the first entry that waits. It is held, with its object and its client data, until .._finish.
  * Refused: NOT_OPEN, PASS_OPEN, EMPTY. */
 derrimas_finalizers_code derrimas_finalizers_take(derrimas_finalizers *finalizers, derrimas_finalizers_entry *entry)
-    DERRIMAS_FINALIZERS_NONNULL(1, 2);
+    DERRIMAS_NONNULL(1, 2);
 
 /* Takes the first entry that waits, as finished: for a procedure that may never return. Its object and its client data
  * aren't yielded as roots any more: the host retains them until the procedure has them.
  * Refused: NOT_OPEN, PASS_OPEN, EMPTY. */
 derrimas_finalizers_code derrimas_finalizers_take_finished(derrimas_finalizers *finalizers, derrimas_finalizers_entry *entry)
-    DERRIMAS_FINALIZERS_NONNULL(1, 2);
+    DERRIMAS_NONNULL(1, 2);
 
 /* Ends the holding of an entry.
  * Refused: NOT_OPEN, PASS_OPEN, NOT_HELD. */
 derrimas_finalizers_code derrimas_finalizers_finish(derrimas_finalizers *finalizers, const derrimas_finalizers_entry *entry)
-    DERRIMAS_FINALIZERS_NONNULL(1, 2);
+    DERRIMAS_NONNULL(1, 2);
 
 /* Whether entries wait, without the lock: a hint, GC_should_invoke_finalizers. */
-bool derrimas_finalizers_has_waiting(const derrimas_finalizers *finalizers) DERRIMAS_FINALIZERS_NONNULL(1);
+bool derrimas_finalizers_has_waiting(const derrimas_finalizers *finalizers) DERRIMAS_NONNULL(1);
 
 /* ---- what a handle has; nothing changes by it, and a pass may be open */
 
@@ -318,37 +304,50 @@ typedef enum derrimas_finalizers_root {
  * Refused: BAD_KIND, NOT_OPEN; EMPTY where no root is left, or `room` is 0. */
 derrimas_finalizers_code derrimas_finalizers_roots(const derrimas_finalizers *finalizers, derrimas_finalizers_root sort,
                                                    uint64_t *from, uint64_t *buffer, size_t room, size_t *count)
-    DERRIMAS_FINALIZERS_NONNULL(1, 3, 6);
+    DERRIMAS_NONNULL(1, 3, 6);
 
 /* Tells how much there is.
  * Refused: NOT_OPEN. */
 derrimas_finalizers_code derrimas_finalizers_count(const derrimas_finalizers *finalizers, derrimas_finalizers_counts *counts)
-    DERRIMAS_FINALIZERS_NONNULL(1, 2);
+    DERRIMAS_NONNULL(1, 2);
 
 /* The registration of an object.
  * Refused: NOT_OPEN; EMPTY where it has none. */
 derrimas_finalizers_code derrimas_finalizers_registration(const derrimas_finalizers *finalizers, uint64_t object,
                                                           derrimas_finalizers_registration_at *registration)
-    DERRIMAS_FINALIZERS_NONNULL(1, 3);
+    DERRIMAS_NONNULL(1, 3);
 
 /* The target of the link of this kind at the word.
  * Refused: BAD_KIND, NOT_OPEN; EMPTY where there is no link. */
 derrimas_finalizers_code derrimas_finalizers_target(const derrimas_finalizers *finalizers,
                                                     derrimas_finalizers_link_kind kind, uint64_t word, uint64_t *target)
-    DERRIMAS_FINALIZERS_NONNULL(1, 4);
+    DERRIMAS_NONNULL(1, 4);
 
 /* Copies registrations into the buffer, which has `room` places, as derrimas_finalizers_roots copies roots: from the place
  * *from on, in no order that a host may rely on. A call takes time by what it copies, wherever it starts.
  * Refused: NOT_OPEN; EMPTY where none is left, or `room` is 0. */
 derrimas_finalizers_code derrimas_finalizers_registrations(const derrimas_finalizers *finalizers, uint64_t *from,
                                                            derrimas_finalizers_registration_at *buffer, size_t room,
-                                                           size_t *count) DERRIMAS_FINALIZERS_NONNULL(1, 2, 5);
+                                                           size_t *count) DERRIMAS_NONNULL(1, 2, 5);
 
 /* The same of the links of a kind.
  * Refused: BAD_KIND, NOT_OPEN; EMPTY where none is left, or `room` is 0. */
 derrimas_finalizers_code derrimas_finalizers_links(const derrimas_finalizers *finalizers, derrimas_finalizers_link_kind kind,
                                                    uint64_t *from, derrimas_finalizers_link_at *buffer, size_t room,
-                                                   size_t *count) DERRIMAS_FINALIZERS_NONNULL(1, 3, 6);
+                                                   size_t *count) DERRIMAS_NONNULL(1, 3, 6);
+
+/* ---- what happens, for tools */
+
+/* Tells the host of what happens from now on: *trace stays where it is until another takes its place. NULL, as at first:
+ * nothing is told. The handle may be open or not; .._destroy ends the telling. */
+void derrimas_finalizers_trace(derrimas_finalizers *finalizers, const derrimas_trace *trace) DERRIMAS_NONNULL(1);
+
+/* Describes the handle for a person, by calls of `line` with `data` and a line of text: its counts, the kinds of its
+ * registrations, the registration that was made first, and the object of the entry that was queued first and isn't
+ * finished. "not open" where it isn't. The texts may change. Takes time by the registrations, and no memory. `line` makes
+ * no call that changes the handle. */
+void derrimas_finalizers_dump(const derrimas_finalizers *finalizers, void (*line)(void *data, const char *text), void *data)
+    DERRIMAS_NONNULL(1, 2);
 
 /* ---- texts */
 
@@ -357,10 +356,6 @@ const char *derrimas_finalizers_name(derrimas_finalizers_code code);
 
 /* What a code means: "no pass is open". */
 const char *derrimas_finalizers_strerror(derrimas_finalizers_code code);
-
-/* The library's version, as "1.0.0". Where its first number isn't DERRIMAS_VERSION_MAJOR, the library isn't that of this
- * header. */
-const char *derrimas_finalizers_version(void);
 
 /* ---- a host's procedures, and a pass that they drive */
 

@@ -261,6 +261,15 @@ public:
         return counts;
     }
 
+    /* Its functions don't throw, and it stays where it is; NULL ends the telling. */
+    void trace(const derrimas_trace *hooks) noexcept { derrimas_finalizers_trace(&handle_, hooks); }
+
+    /* Calls line(text) for each line; it doesn't throw. */
+    template <typename Line> void dump(Line line) const
+    {
+        derrimas_finalizers_dump(&handle_, [](void *own, const char *text) { (*static_cast<Line *>(own))(text); }, &line);
+    }
+
 private:
     static constexpr std::size_t PART = 64; /* of a walk */
 

@@ -56,8 +56,19 @@ class Heap:
         return passed, before - len(self.objects)
 
 
+class Trace:
+    """What is told of what happens."""
+
+    def queued(self, number: int, count: int) -> None:
+        print(f"  pass {number} queued {count}")
+
+    def cleared(self, word: int) -> None:
+        print("  cleared word", word - WEAK)
+
+
 heap = Heap()
 with heap.finalizers as finalizers:
+    finalizers.trace(Trace())
     finalizers.finalizer(0, lambda _, entry: print("  finalized", entry.obj, "with", entry.cd))
     child = heap.alloc()
     parent = heap.alloc(child)
@@ -82,6 +93,8 @@ with heap.finalizers as finalizers:
     heap.objects[ring] = [ring]
     finalizers.register(ring, proc=0, cd=300)
     print("a ring waits:", *heap.collect(), finalizers.registration(ring))
+    print(*finalizers.dump(), sep="\n")
+    finalizers.trace(None)
     print("at the end", finalizers.queue_all(), "is queued,", finalizers.invoke_finalizers(), "ran")
 
     with finalizers.open_pass():

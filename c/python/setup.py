@@ -1,4 +1,4 @@
-"""The package derrimas for pip, which has the libraries beside its modules. In the repository c/build makes them first.
+"""The package derrimas for pip, which has the library beside its modules. In the repository c/build makes it first.
 
     pip install --no-build-isolation --no-index c/python
 
@@ -8,7 +8,7 @@ from setuptools import Distribution, setup
 from setuptools.command.build_py import build_py
 
 HERE = os.path.dirname(os.path.abspath(__file__))
-ROOM = next((room for room in (f'{HERE}/../out', f'{HERE}/../lib') if glob.glob(f'{room}/libderrimas*.so.*')), None)
+ROOM = next((room for room in (f'{HERE}/../out', f'{HERE}/../lib') if glob.glob(f'{room}/libderrimas.so.*')), None)
 if not ROOM:
     raise SystemExit('setup.py: there is no libderrimas.so.1: run c/build first')
 LEFT = os.path.abspath(f'{ROOM}/python' if ROOM.endswith('out') else f'{HERE}/build')
@@ -17,16 +17,16 @@ os.makedirs(LEFT, exist_ok=True)
 
 def version():
     """That of the headers."""
-    text = open(f'{HERE}/../include/derrimas_version.h').read()
+    text = open(f'{HERE}/../include/derrimas_common.h').read()
     return '.'.join(re.search(rf'#define DERRIMAS_VERSION_{part} (\d+)', text)[1] for part in ('MAJOR', 'MINOR', 'PATCH'))
 
 
-class WithLibraries(build_py):
-    """Puts the shared objects beside the modules."""
+class WithLibrary(build_py):
+    """Puts the shared object beside the modules."""
 
     def run(self):
         super().run()
-        for path in glob.glob(f'{ROOM}/libderrimas*.so.*'):
+        for path in glob.glob(f'{ROOM}/libderrimas.so.*'):
             self.copy_file(path, f'{self.build_lib}/derrimas/{os.path.basename(path)}')
 
 
@@ -38,5 +38,5 @@ class OfThisMachine(Distribution):
 
 
 setup(name='derrimas', version=version(), description="Finalizers and disappearing links after bdwgc's gc.h, proved", python_requires='>=3.9',
-      packages=['derrimas'], cmdclass={'build_py': WithLibraries}, distclass=OfThisMachine,
+      packages=['derrimas'], cmdclass={'build_py': WithLibrary}, distclass=OfThisMachine,
       options={'build': {'build_base': LEFT}, 'egg_info': {'egg_base': LEFT}})

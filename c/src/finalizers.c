@@ -15,7 +15,7 @@ static bool is_root(derrimas_finalizers_root sort) { return (unsigned)sort <= DE
 /* A handle for calls that change nothing. */
 static derrimas_finalizers copied(const derrimas_finalizers *finalizers)
 {
-    derrimas_finalizers copy = {finalizers->inside, 0, {NULL, NULL, NULL, NULL}};
+    derrimas_finalizers copy = {finalizers->inside, 0, {NULL, NULL, NULL, NULL}, NULL};
 
     return copy;
 }
@@ -23,38 +23,103 @@ static derrimas_finalizers copied(const derrimas_finalizers *finalizers)
 /* Under the lock alone is this changed, and without it read. */
 static void set_waiting(derrimas_finalizers *finalizers, uint64_t waiting) { __atomic_store_n(&finalizers->waiting, waiting, __ATOMIC_RELAXED); }
 
+/* ---- what a host is told of */
+
+void derrimas_finalizers_trace(derrimas_finalizers *finalizers, const derrimas_trace *trace) { finalizers->trace = trace; }
+
+static void tell_queued(const derrimas_finalizers *finalizers, uint64_t pass, uint64_t count)
+{
+    const derrimas_trace *trace = finalizers->trace;
+
+    if (trace && trace->queued && count > 0)
+        trace->queued(trace->data, pass, count);
+}
+
+static void tell_cleared(const derrimas_finalizers *finalizers, const derrimas_question *question)
+{
+    const derrimas_trace *trace = finalizers->trace;
+
+    if (!trace || !trace->cleared || question->ask != DERRIMAS_ASK_CLEAR)
+        return;
+    for (uint64_t i = 0; i < question->count; i++)
+        trace->cleared(trace->data, question->what[i]);
+}
+
+/* What a call returns, which has finished the entry if it was accepted. */
+static code finished(const derrimas_finalizers *finalizers, code it, const derrimas_finalizers_entry *entry)
+{
+    const derrimas_trace *trace = finalizers->trace;
+
+    if (it == DERRIMAS_FINALIZERS_OK && trace && trace->finished)
+        trace->finished(trace->data, entry);
+    return it;
+}
+
 /* ---- memory */
 
-/* The allocator of the handle of this thread's last call that may take or free memory. The model "initial-exec" reads it without a call: others may allocate in
- * their first access, by malloc, which may be a collector's own. */
+/* The allocator of the handle whose call this thread makes, or NULL where it makes none that takes or frees memory. The model "initial-exec" reads it without a
+ * call: others may allocate in their first access, by malloc, which may be a collector's own. */
 static __thread const derrimas_allocator *current __attribute__((tls_model("initial-exec")));
 
-/* An allocator's function may make calls on another handle: so each names its own again. */
-
-void *derrimas_malloc(size_t size)
+/* An answer to the proved part: where there is no memory, the place of a byte that nothing uses. */
+static rattle_tried tried(void *memory)
 {
-    const derrimas_allocator *own = current;
-    void *memory = own->allocate(own->data, size);
+    static char nothing;
+    rattle_tried it = {memory != NULL, memory ? memory : &nothing};
 
-    current = own;
-    return memory;
+    return it;
 }
 
-void *derrimas_realloc(void *memory, size_t size)
+/* An allocator's function may make calls on another handle or on a world: so it runs as outside of a call. Where a size is 0, a block of the alignment is
+ * taken, since an allocator may answer 0 bytes by NULL. */
+
+rattle_tried rattle_alloc(size_t size, size_t align)
 {
     const derrimas_allocator *own = current;
-    void *other = own->reallocate(own->data, memory, size);
+    const size_t wanted = size ? size : align;
+    void *memory;
 
+    if (!own)
+        return tried(malloc(wanted));
+    current = NULL;
+    memory = own->allocate(own->data, wanted);
     current = own;
-    return other;
+    return tried(memory);
 }
 
-void derrimas_free(void *memory)
+rattle_tried rattle_realloc(void *memory, size_t kept, size_t size, size_t align)
+{
+    const derrimas_allocator *own = current;
+    const size_t wanted = size ? size : align;
+    void *other;
+
+    (void)kept;
+    if (!own)
+        return tried(realloc(memory, wanted));
+    current = NULL;
+    other = own->reallocate(own->data, memory, wanted);
+    current = own;
+    return tried(other);
+}
+
+void rattle_dealloc(void *memory)
 {
     const derrimas_allocator *own = current;
 
+    if (!own) {
+        free(memory);
+        return;
+    }
+    current = NULL;
     own->release(own->data, memory);
     current = own;
+}
+
+/* What a call returns that took or freed memory by the handle's allocator: it has ended. */
+static code after_memory(code it)
+{
+    current = NULL;
+    return it;
 }
 
 static void *allocate_by_libc(void *data, size_t size)
@@ -96,7 +161,7 @@ code derrimas_finalizers_open(derrimas_finalizers *finalizers, const derrimas_fi
     it = fz_machine_open(finalizers);
     if (it == DERRIMAS_FINALIZERS_OK)
         finalizers->allocator = *current;
-    return it;
+    return after_memory(it);
 }
 
 void derrimas_finalizers_destroy(derrimas_finalizers *finalizers)
@@ -105,20 +170,22 @@ void derrimas_finalizers_destroy(derrimas_finalizers *finalizers)
 
     current = &finalizers->allocator;
     fz_machine_destroy(finalizers);
+    current = NULL;
     finalizers->allocator = none;
+    finalizers->trace = NULL;
     set_waiting(finalizers, 0);
 }
 
 code derrimas_finalizers_reserve(derrimas_finalizers *finalizers, uint64_t registrations, uint64_t shorts, uint64_t longs)
 {
     current = &finalizers->allocator;
-    return fz_machine_reserve(finalizers, registrations, shorts, longs);
+    return after_memory(fz_machine_reserve(finalizers, registrations, shorts, longs));
 }
 
 code derrimas_finalizers_shrink(derrimas_finalizers *finalizers)
 {
     current = &finalizers->allocator;
-    return fz_machine_shrink(finalizers);
+    return after_memory(fz_machine_shrink(finalizers));
 }
 
 /* ---- registrations and links */
@@ -132,7 +199,7 @@ code derrimas_finalizers_register(derrimas_finalizers *finalizers, uint64_t obje
     if (!is_kind(kind))
         return DERRIMAS_FINALIZERS_BAD_KIND;
     current = &finalizers->allocator;
-    it = fz_machine_register(finalizers, object, (uint8_t)kind, proc, cd, rank, &registered);
+    it = after_memory(fz_machine_register(finalizers, object, (uint8_t)kind, proc, cd, rank, &registered));
     if (it == DERRIMAS_FINALIZERS_OK && number)
         *number = registered.number;
     if (it == DERRIMAS_FINALIZERS_OK && old) { /* word by word, as the export wrote them: a processor waits where two are read as one */
@@ -167,7 +234,7 @@ code derrimas_finalizers_link(derrimas_finalizers *finalizers, derrimas_finalize
     if (!is_links(kind))
         return DERRIMAS_FINALIZERS_BAD_KIND;
     current = &finalizers->allocator;
-    it = fz_machine_link(finalizers, kind == DERRIMAS_FINALIZERS_LONG, word, target, &found);
+    it = after_memory(fz_machine_link(finalizers, kind == DERRIMAS_FINALIZERS_LONG, word, target, &found));
     return answered(it, found, answer);
 }
 
@@ -202,6 +269,7 @@ static void ended(derrimas_finalizers *finalizers, const derrimas_finalizers_pas
     set_waiting(finalizers, finalizers->waiting + did->picked);
     if (passed)
         *passed = *did;
+    tell_queued(finalizers, did->pass, did->picked);
 }
 
 code derrimas_finalizers_next(derrimas_finalizers *finalizers, uint64_t answers, derrimas_question *question, derrimas_finalizers_passed *passed)
@@ -218,6 +286,7 @@ code derrimas_finalizers_next(derrimas_finalizers *finalizers, uint64_t answers,
         question->what[i] = asked.what[i];
     question->count = asked.count;
     question->ask = (derrimas_ask)asked.ask;
+    tell_cleared(finalizers, question);
     return it;
 }
 
@@ -226,8 +295,12 @@ code derrimas_finalizers_abandon(derrimas_finalizers *finalizers)
     derrimas_finalizers_counts counts;
     code it = fz_machine_abandon(finalizers);
 
-    if (it == DERRIMAS_FINALIZERS_OK && fz_machine_count(finalizers, &counts) == DERRIMAS_FINALIZERS_OK)
+    if (it == DERRIMAS_FINALIZERS_OK && fz_machine_count(finalizers, &counts) == DERRIMAS_FINALIZERS_OK) {
+        const uint64_t before = finalizers->waiting;
+
         set_waiting(finalizers, counts.waiting); /* with those that the pass had queued */
+        tell_queued(finalizers, counts.passes, counts.waiting - before);
+    }
     return it;
 }
 
@@ -243,6 +316,7 @@ code derrimas_finalizers_queue_all(derrimas_finalizers *finalizers, uint64_t *qu
     set_waiting(finalizers, finalizers->waiting + count);
     if (queued)
         *queued = count;
+    tell_queued(finalizers, 0, count);
     return it;
 }
 
@@ -261,12 +335,12 @@ code derrimas_finalizers_take(derrimas_finalizers *finalizers, derrimas_finalize
 
 code derrimas_finalizers_take_finished(derrimas_finalizers *finalizers, derrimas_finalizers_entry *entry)
 {
-    return taken(finalizers, fz_machine_take_finished(finalizers, entry));
+    return finished(finalizers, taken(finalizers, fz_machine_take_finished(finalizers, entry)), entry);
 }
 
 code derrimas_finalizers_finish(derrimas_finalizers *finalizers, const derrimas_finalizers_entry *entry)
 {
-    return fz_machine_finish(finalizers, entry);
+    return finished(finalizers, fz_machine_finish(finalizers, entry), entry);
 }
 
 bool derrimas_finalizers_has_waiting(const derrimas_finalizers *finalizers) { return __atomic_load_n(&finalizers->waiting, __ATOMIC_RELAXED) != 0; }
@@ -403,5 +477,3 @@ const char *derrimas_finalizers_strerror(derrimas_finalizers_code code)
     default: return "no code of derrimas_finalizers.h";
     }
 }
-
-const char *derrimas_finalizers_version(void) { return DERRIMAS_VERSION; }

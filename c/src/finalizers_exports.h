@@ -1,5 +1,5 @@
 /* The exports of crates/fz_c for finalizers, which are proved. finalizers.c alone calls them, and c/build hides their names. c/tests/header.py compares these
- * declarations with the crate's own. Of a handle they use `inside` alone. They take memory by the three calls at the end, which finalizers.c has. */
+ * declarations with the crate's own. Of a handle they use `inside` alone. All exports take memory by the three calls at the end, which finalizers.c has. */
 #ifndef DERRIMAS_FINALIZERS_EXPORTS_H
 #define DERRIMAS_FINALIZERS_EXPORTS_H
 
@@ -63,9 +63,15 @@ uint8_t fz_machine_links(derrimas_finalizers *finalizers, bool is_long, uint64_t
 uint8_t fz_machine_registration(derrimas_finalizers *finalizers, uint64_t object, fz_machine_registration_at *registration);
 uint8_t fz_machine_target(derrimas_finalizers *finalizers, bool is_long, uint64_t word, uint64_t *target);
 
-/* What c/build names in the place of malloc, realloc and free: by the allocator of the handle whose call this thread makes. */
-void *derrimas_malloc(size_t size);
-void *derrimas_realloc(void *memory, size_t size);
-void derrimas_free(void *memory);
+/* What the proved part calls for memory: it is taken by the allocator of the handle whose call this thread makes, and outside of such a call by the C library's.
+ * An alignment divides 16. A block that isn't had is still where it was, and as it was. */
+typedef struct rattle_tried {
+    uint64_t is_right;
+    void *memory;
+} rattle_tried;
+
+rattle_tried rattle_alloc(size_t size, size_t align);
+rattle_tried rattle_realloc(void *memory, size_t kept, size_t size, size_t align);
+void rattle_dealloc(void *memory);
 
 #endif

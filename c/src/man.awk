@@ -24,7 +24,7 @@ function pages(    rest, of) { # of each call of the declarations that have ende
 }
 BEGIN {
     printf "%s%s\n", head(name), what
-    printf ".SH SYNOPSIS\n.nf\n#include <%s.h>\n\ncc program.c \\-l%s\n.fi\n.SH DESCRIPTION\n", name, name
+    printf ".SH SYNOPSIS\n.nf\n#include <%s.h>\n\ncc program.c \\-lderrimas\n.fi\n.SH DESCRIPTION\n", name
     in_code = 0
 }
 /^#ifndef DERRIMAS_.*H$/ { begun = 1 }

@@ -327,9 +327,7 @@ static void bad_kinds(void)
 /* Each code has a name and a sentence of its own, as its constant and its comment have it, and no other number has one. */
 static void texts(void)
 {
-    static const char version[] = DERRIMAS_VERSION;
-
-    for (unsigned code = 0; code <= DERRIMAS_FINALIZERS_BAD_PROCESSOR; code++)
+    for (unsigned code = 0; code <= DERRIMAS_FINALIZERS_PENDING; code++)
         for (unsigned other = 0; other <= code; other++) {
             const bool is_same = strcmp(derrimas_finalizers_name((derrimas_finalizers_code)code), derrimas_finalizers_name((derrimas_finalizers_code)other)) == 0;
 
@@ -338,15 +336,14 @@ static void texts(void)
         }
     IS(strcmp(derrimas_finalizers_name(DERRIMAS_FINALIZERS_PASS_OPEN), "PassOpen"), 0);
     IS(strcmp(derrimas_finalizers_strerror(DERRIMAS_FINALIZERS_NO_PASS), "no pass is open"), 0);
-    IS(strcmp(derrimas_finalizers_name((derrimas_finalizers_code)(DERRIMAS_FINALIZERS_BAD_PROCESSOR + 1)), "?"), 0);
+    IS(strcmp(derrimas_finalizers_name((derrimas_finalizers_code)(DERRIMAS_FINALIZERS_PENDING + 1)), "?"), 0);
     IS(strcmp(derrimas_finalizers_strerror((derrimas_finalizers_code)255), "no code of derrimas_finalizers.h"), 0);
-    IS(strcmp(derrimas_finalizers_version(), version), 0);
 }
 
 int main(void)
 {
     finalizers.inside = &finalizers;
-    for (answer = DERRIMAS_FINALIZERS_OK; answer <= DERRIMAS_FINALIZERS_BAD_PROCESSOR; answer++) {
+    for (answer = DERRIMAS_FINALIZERS_OK; answer <= DERRIMAS_FINALIZERS_PENDING; answer++) {
         changes();
         waiting();
         reads();

@@ -9,21 +9,22 @@ they are the C side's own. And each call that a header declares has to stand in 
 import glob, os, re, sys
 
 TOP = os.path.join(os.path.dirname(os.path.abspath(__file__)), '..', '..')
+ENDS = r'(?:\s*DERRIMAS_NONNULL\([^)]*\))?;'  # of a declaration
 PLAIN = {'u64': 'uint64_t', 'u32': 'derrimas_kind', 'u8': 'uint8_t', 'bool': 'bool', 'Word': 'uint64_t', 'Addr': 'uint64_t', 'Code': 'uint8_t'}
 found = []
 
 
 class Worlds:
-    header, exports, side = 'derrimas.h', 'exports.h', 'derrimas.c'
+    headers, exports, sides = ['derrimas_common.h', 'derrimas.h'], 'exports.h', ['derrimas.c']
     parts, refusals = ['entry', 'old', 'world/**/*', 'line/**/*'], 'crates/fz_model/src/refusal.rt'
     prefix, own = 'derrimas_', 70  # the first code of the C side
     refused = range(15)  # the refusals that come to C
     types = {'WorldHandle': 'derrimas_world', 'LineHandle': 'derrimas_line', 'SeatHandle': 'derrimas_seat'}
-    alone = [*types.values(), 'derrimas_scope']  # structs that no export has, and handles
+    alone = [*types.values(), 'derrimas_scope', 'derrimas_allocator']  # structs that no export has, and handles
 
 
 class Finalizers:
-    header, exports, side = 'derrimas_finalizers.h', 'finalizers_exports.h', 'finalizers.c'
+    headers, exports, sides = ['derrimas_finalizers.h'], 'finalizers_exports.h', ['finalizers.c', 'dump.c']
     parts, refusals = ['old', 'machine/**/*'], 'crates/fz_c/src/machine/codes.rt'
     prefix, own = 'derrimas_finalizers_', 11
     refused = range(11)
@@ -31,8 +32,12 @@ class Finalizers:
              'RegistrationAt': 'fz_machine_registration_at',
              **{name: f'fz_machine_some_{name.lower()}' for name in ('Registrations', 'Links')},
              **{name: f'fz_machine_{name.lower()}' for name in ('Registered', 'Question', 'Words')}}
-    alone = ['derrimas_finalizers', 'derrimas_finalizers_registration_at', 'derrimas_question', 'derrimas_host', 'derrimas_allocator',
+    alone = ['rattle_tried', 'derrimas_finalizers', 'derrimas_finalizers_registration_at', 'derrimas_question', 'derrimas_host', 'derrimas_trace',
              'derrimas_finalizers_options']
+
+
+class Workers:
+    prefix = 'derrimas_workers_'
 
 
 def differ(what):
@@ -76,7 +81,7 @@ def declarations(text):
 def calls_of(text, of, end):
     """Each call that a file of C declares or defines, with its parameters. What the header defines inline isn't in the library."""
     text = re.sub(r'/\*.*?\*/|^#.*?$|static inline .*?^}', '', text, flags=re.S | re.M)
-    results = r'(?:DERRIMAS_\w*CHECKED )?(?:derrimas_\w*code|code|void|bool|uint64_t|const char \*)'
+    results = r'(?:DERRIMAS_CHECKED )?(?:derrimas_\w*code|code|void|bool|uint64_t|const char \*)'
     rows = re.findall(rf'^{results}\s*({of.prefix}\w+)\(((?:[^()]|\([^()]*\))*)\){end}', text, re.M)
     return {name: re.sub(r'\s+', ' ', parameters) for name, parameters in rows}
 
@@ -93,7 +98,7 @@ def structs_of_rust(text, of):
 
 def structs_of_c(text, of):
     lengths, structs = dict(re.findall(r'^#define (\w+) (\d+)', text, re.M)), {}
-    for body, name in re.findall(r'typedef struct \w+ \{(.*?)\} (\w+);', text, re.S):
+    for name, body in re.findall(r'(?:typedef )?struct (\w+) \{(.*?)\}(?: \1)?;', text, re.S):
         body = re.sub(r'\[(\w+)\]', lambda it: f'[{lengths.get(it[1], it[1])}]', body)
         fields = [(field.strip(), kind) for kind, fields in re.findall(r'(\w+) ([^;*]+);', body) for field in fields.split(',')]
         if name not in of.alone:
@@ -122,18 +127,20 @@ def compare(what, here, there):
 
 def compared(of):
     """How many exports, structs, codes and calls were compared."""
-    header, declared, side = (read(f'c/{it}') for it in (f'include/{of.header}', f'src/{of.exports}', f'src/{of.side}'))
+    header = '\n'.join(read(f'c/include/{it}') for it in of.headers)
+    declared, side = read(f'c/src/{of.exports}'), '\n'.join(read(f'c/src/{it}') for it in of.sides)
     crate = '\n'.join(read(f'crates/fz_c/src/{it}.rt') for it in of.parts)
     constants = read('crates/fz_machine/src/question.rt')
     return (compare('export', declarations(declared), exports(crate, of)),
             compare('struct', structs_of_c(header + declared, of), structs_of_rust(constants + crate, of)),
             compare('code', codes_of_c(header, of), codes_of_rust(read(of.refusals), crate, of)),
-            compare('call', calls_of(header, of, r'(?:\s*DERRIMAS_(?:FINALIZERS_)?NONNULL\([^)]*\))?;'), calls_of(side, of, r'\s*\{')))
+            compare('call', calls_of(header, of, ENDS), calls_of(side, of, r'\s*\{')))
 
 
 def main():
     counts = [compared(of) for of in (Worlds, Finalizers)]
     exports, structs, codes, calls = map(sum, zip(*counts))
+    calls += compare('call', calls_of(read('c/include/derrimas_workers.h'), Workers, ENDS), calls_of(read('c/src/workers.c'), Workers, r'\s*\{'))
     print(f'{exports} exports, {structs} structs, {codes} codes, {calls} calls; {len(found)} differ')
     sys.exit(bool(found) or not all(map(all, counts)))
 

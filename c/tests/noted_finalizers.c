@@ -27,10 +27,12 @@ void noted_finalizers_run(const derrimas_finalizers_entry *it) { noted_procedure
 uint8_t fz_machine_open(derrimas_finalizers *f)
 {
     uint8_t code = noted("open");
+    rattle_tried tried;
 
     if (code != DERRIMAS_FINALIZERS_OK)
         return code;
-    f->inside = derrimas_malloc(HANDLE);
+    tried = rattle_alloc(HANDLE, 8);
+    f->inside = tried.is_right ? tried.memory : NULL;
     noted_opened(f->inside != NULL);
     return f->inside ? code : DERRIMAS_FINALIZERS_NO_MEMORY;
 }
@@ -39,7 +41,7 @@ void fz_machine_destroy(derrimas_finalizers *f)
 {
     if (!f->inside)
         return;
-    derrimas_free(f->inside);
+    rattle_dealloc(f->inside);
     noted_opened(-1);
     f->inside = NULL;
 }
@@ -47,11 +49,14 @@ void fz_machine_destroy(derrimas_finalizers *f)
 uint8_t fz_machine_reserve(derrimas_finalizers *f, uint64_t registrations, uint64_t shorts, uint64_t longs)
 {
     uint8_t code = noted("reserve" N N N, registrations, shorts, longs);
-    void *other = code == DERRIMAS_FINALIZERS_OK ? derrimas_realloc(f->inside, RESERVED) : NULL;
+    rattle_tried tried;
 
-    if (other)
-        f->inside = other;
-    return code == DERRIMAS_FINALIZERS_OK && !other ? DERRIMAS_FINALIZERS_NO_MEMORY : code;
+    if (code != DERRIMAS_FINALIZERS_OK)
+        return code;
+    tried = rattle_realloc(f->inside, HANDLE, RESERVED, 8);
+    if (tried.is_right)
+        f->inside = tried.memory;
+    return tried.is_right ? code : DERRIMAS_FINALIZERS_NO_MEMORY;
 }
 
 uint8_t fz_machine_shrink(derrimas_finalizers *f) { return (void)f, noted("shrink"); }

@@ -1,9 +1,16 @@
 /* derrimas.hpp and derrimas_finalizers.hpp: each member, refusals as exceptions, moves, scopes, and procedures and hosts that throw. */
 #include "derrimas.hpp"
 #include "derrimas_finalizers.hpp"
+#include "derrimas_workers.hpp"
+#include <atomic>
+#include <csignal>
 #include <cstdio>
 #include <cstdlib>
+#include <mutex>
 #include <string>
+#include <sys/resource.h>
+#include <sys/wait.h>
+#include <unistd.h>
 #include <vector>
 
 using namespace derrimas;
@@ -397,6 +404,77 @@ static void memory_of_finalizers()
     IS(refusal([&] { fin none(fin::allocator{allocated, nullptr, released, &lost}); }) == "BadOptions" && lost.given == 0);
 }
 
+static void told_of_finalizers()
+{
+    std::vector<std::string> told, lines;
+    const derrimas_trace trace = {[](void *to, std::uint64_t pass, std::uint64_t count) {
+                                      static_cast<std::vector<std::string> *>(to)->push_back("queued " + std::to_string(pass) + ' ' + std::to_string(count));
+                                  },
+                                  nullptr,
+                                  [](void *to, const derrimas_finalizers_entry *entry) {
+                                      static_cast<std::vector<std::string> *>(to)->push_back("finished " + std::to_string(entry->obj));
+                                  },
+                                  &told};
+    fin f;
+
+    f.trace(&trace);
+    f.register_object(7, fin::kind::normal, 0, 0);
+    f.dump([&](const char *line) { lines.push_back(line); });
+    IS(lines.size() == 4 && lines[0] == "registrations 1, short links 0, long links 0");
+    f.queue_all();
+    f.invoke([](fin &, const fin::entry &) {});
+    IS(told == std::vector<std::string>({"queued 0 1", "finished 7"}));
+}
+
+static void threads_of_finalizers()
+{
+    fin f;
+    std::mutex lock;
+    std::atomic<std::uint64_t> sum = 0;
+    workers first(f, lock, [&](const fin::entry &entry) { sum += entry.cd; }, 3), moved(std::move(first));
+
+    IS(moved.started() == 3 && refusal([&] { first.publish(); }) == "NotOpen" && refusal([&] { first.count(); }) == "NotOpen");
+    for (std::uint64_t object = 1; object <= 100; object++)
+        f.register_object(object, fin::kind::normal, 0, object);
+    {
+        std::lock_guard guard(lock);
+        f.queue_all();
+        moved.publish();
+    }
+    IS(moved.wait() && sum == 5050 && moved.count().finished == 100);
+    IS(moved.stop()->abandoned == 0 && refusal([&] { moved.wait(); }) == "NotOpen");
+    IS(refusal([&] { workers none(f, lock, [](const fin::entry &) {}, 0); }) == "BadCount");
+    workers last(f, lock, [&](const fin::entry &) { sum++; }, 1); /* its end stops it */
+    std::lock_guard guard(lock); /* which is given back before */
+    f.register_object(1, fin::kind::normal, 0, 0);
+    f.queue_all();
+    last.publish();
+}
+
+/* In a child of this process a worker's procedure throws, which ends the child. */
+static void thrown_in_a_worker()
+{
+    int status = 0;
+    const pid_t child = fork();
+
+    if (child == 0) {
+        const rlimit no_core = {0, 0};
+        derrimas_finalizers f = {};
+        derrimas_workers workers = {};
+        const derrimas_workers_options options = {sizeof options, &f, [](void *) {}, [](void *) {}, [](void *, const derrimas_finalizers_entry *) { throw 1; },
+                                                  nullptr, 1};
+
+        setrlimit(RLIMIT_CORE, &no_core);
+        bool right = std::freopen("/dev/null", "w", stderr) && !derrimas_finalizers_open(&f, nullptr);
+        right = right && !derrimas_finalizers_register(&f, 1, DERRIMAS_FINALIZERS_NORMAL, 0, 0, 0, nullptr, nullptr);
+        right = right && !derrimas_finalizers_queue_all(&f, nullptr) && !derrimas_workers_start(&workers, &options, nullptr);
+        right = right && !derrimas_workers_wait(&workers, UINT64_MAX);
+        _exit(right);
+    }
+    IS(child > 0 && waitpid(child, &status, 0) == child);
+    IS(WIFSIGNALED(status) && WTERMSIG(status) == SIGABRT);
+}
+
 int main()
 {
     objects();
@@ -410,6 +488,9 @@ int main()
     calls_of_finalizers();
     abandoned_passes();
     memory_of_finalizers();
+    told_of_finalizers();
+    threads_of_finalizers();
+    thrown_in_a_worker();
     std::printf("%u checks, %u failed\n", checks, failures);
     return failures != 0;
 }

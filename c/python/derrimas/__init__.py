@@ -71,7 +71,7 @@ PROCEDURE = ctypes.CFUNCTYPE(None, POINTER(Handle), POINTER(Entry), c_void_p)
 
 def library() -> ctypes.CDLL:
     """The library, each of whose calls knows its types: after the world the arguments, and last the place for a result."""
-    lib, n, kind = load("DERRIMAS", "libderrimas.so.1", "derrimas_version"), c_uint64, c_uint32
+    lib, n, kind = load(), c_uint64, c_uint32
     for name, types in {
         "open": [n, n], "close": [], "alloc": [Slot, n, kind, POINTER(Made)], "set": [Slot, n], "get": [Slot, POINTER(n)], "copy": [Slot, Slot],
         "load": [Slot, n, Slot, POINTER(n)], "store": [Slot, n, Slot], "write": [Slot, n, n], "read": [n, n, POINTER(n)], "base": [n, POINTER(Object)],

@@ -1,31 +1,31 @@
-"""What both modules share: where the libraries are, the class of refusals, and structs of C."""
+"""What both modules share: where the library is, the class of refusals, and structs of C."""
 from __future__ import annotations
 import ctypes, os
 from ctypes import Structure, c_uint64
 from typing import Any, List
 
 HERE = os.path.dirname(os.path.abspath(__file__))
-MAJOR = 1  # of the libraries' versions
-# Where a library is: beside this file, as pip installs it; in a release; in the repository, where c/build makes it.
+MAJOR = 1  # of the library's version
+# Where it is: beside this file, as pip installs it; in a release; in the repository, where c/build makes it.
 ROOMS = [HERE, os.path.join(HERE, "..", "..", "lib"), os.path.join(HERE, "..", "..", "out")]
 
 
 class Error(Exception):
-    """A call of either library was refused, and changed nothing: `code` is the number of the refusal, `name` its name, and the text says what it means."""
+    """A call of the library was refused, and changed nothing: `code` is the number of the refusal, `name` its name, and the text says what it means."""
 
     def __init__(self, code: int, name: str, sentence: str) -> None:
         super().__init__(sentence)
         self.code, self.name = code, name
 
 
-def load(variable: str, file: str, version: str) -> ctypes.CDLL:
-    """The library that this variable names, or that of this file name. ImportError where there is none, or it is one of another major version."""
-    places = [os.environ[variable]] if os.environ.get(variable) else [os.path.join(room, file) for room in ROOMS]
+def load() -> ctypes.CDLL:
+    """The library that the variable DERRIMAS names, or that of the package. ImportError where there is none, or it is one of another major version."""
+    places = [os.environ["DERRIMAS"]] if os.environ.get("DERRIMAS") else [os.path.join(room, "libderrimas.so.1") for room in ROOMS]
     path = next(filter(os.path.exists, places), None)
     if path is None:
-        raise ImportError(f"there is no {' and no '.join(places)}: c/build makes it, or the variable {variable} names it")
+        raise ImportError(f"there is no {' and no '.join(places)}: c/build makes it, or the variable DERRIMAS names it")
     library = ctypes.CDLL(path)
-    told = getattr(library, version)
+    told = library.derrimas_version
     told.restype, told.argtypes = ctypes.c_char_p, []
     if int(told().split(b".")[0]) != MAJOR:
         raise ImportError(f"{path} has the version {told().decode()}, and this module is for {MAJOR}")

@@ -14,8 +14,7 @@
 
 Objects, words, procedures and client data are numbers below 2^64. The heap answers a pass by six methods: is_marked(object), mark_children(object,
 but_itself), mark(object), mark_alone(object), clear(word), holder_is_marked(word). A refused call raises Refused, whose text is the library's sentence. Use
-Finalizers from one thread at a time. The library is libderrimas_finalizers.so.1: that of the package, or the file that the variable DERRIMAS_FINALIZERS
-names."""
+Finalizers from one thread at a time. The library is libderrimas.so.1: that of the package, or the file that the variable DERRIMAS names."""
 from __future__ import annotations
 import contextlib, ctypes, enum
 from ctypes import CFUNCTYPE, POINTER, Structure, byref, c_bool, c_char_p, c_size_t, c_uint8, c_uint32, c_uint64, c_void_p
@@ -62,13 +61,16 @@ class Refused(Error):
 ALLOCATE = CFUNCTYPE(c_void_p, c_void_p, c_size_t)
 REALLOCATE = CFUNCTYPE(c_void_p, c_void_p, c_void_p, c_size_t)
 RELEASE = CFUNCTYPE(None, c_void_p, c_void_p)
+LINE = CFUNCTYPE(None, c_void_p, c_char_p)
 Allocator = struct("Allocator", "An allocator's functions, in C.", ("allocate", ALLOCATE), ("reallocate", REALLOCATE), ("release", RELEASE), ("data", c_void_p))
 Options = struct("Options", "What a handle is opened with.", ("size", c_size_t), ("allocator", Allocator))
-Handle = struct("Handle", "What stands for finalizers in C.", ("inside", c_void_p), "waiting", ("allocator", Allocator))
+Handle = struct("Handle", "What stands for finalizers in C.", ("inside", c_void_p), "waiting", ("allocator", Allocator), ("trace", c_void_p))
 Old = struct("Old", "A registration that went away, if there `was` one.", "proc", "cd", ("was", c_bool))
 Registered = struct("Registered", "A new registration: its number, and what it replaced.", "number", ("replaced", Old))
 Entry = struct("Entry", "An entry of the queue: its place, its pass, its registration, object, procedure and client data.",
                "seq", "passed", "reg", "obj", "proc", "cd")
+Trace = struct("Trace", "What is told of what happens, in C.", ("queued", CFUNCTYPE(None, c_void_p, c_uint64, c_uint64)), ("cleared", CFUNCTYPE(None, c_void_p, c_uint64)),
+               ("finished", CFUNCTYPE(None, c_void_p, POINTER(Entry))), ("data", c_void_p))
 Registration = struct("Registration", "A registration that stands; its kind is a Kind.", "object", "number", "proc", "cd", ("kind", c_uint32), ("rank", c_uint8))
 Linked = struct("Linked", "A link that stands: its word and its target.", "word", "target")
 Counts = struct("Counts", "How many registrations, links, waiting and held entries there are; how many entries and passes there ever were.",
@@ -86,7 +88,7 @@ class Question:
 
 def library() -> ctypes.CDLL:
     """The library, each of whose calls knows its types: after the handle the arguments, and last the places for results."""
-    lib, n, kind = load("DERRIMAS_FINALIZERS", "libderrimas_finalizers.so.1", "derrimas_finalizers_version"), c_uint64, c_uint32
+    lib, n, kind = load(), c_uint64, c_uint32
     walk = [POINTER(n), c_void_p, c_size_t, POINTER(c_size_t)]
     for name, types in {
         "open": [POINTER(Options)], "reserve": [n, n, n], "shrink": [], "register": [n, kind, n, n, c_uint8, POINTER(n), POINTER(Old)],
@@ -100,6 +102,8 @@ def library() -> ctypes.CDLL:
         declare(lib, f"derrimas_finalizers_{name}", c_char_p, [c_uint32])
     declare(lib, "derrimas_finalizers_destroy", None, [POINTER(Handle)])
     declare(lib, "derrimas_finalizers_has_waiting", c_bool, [POINTER(Handle)])
+    declare(lib, "derrimas_finalizers_trace", None, [POINTER(Handle), POINTER(Trace)])
+    declare(lib, "derrimas_finalizers_dump", None, [POINTER(Handle), LINE, c_void_p])
     return lib
 
 
@@ -116,7 +120,7 @@ class Finalizers:
         self.handle = Handle()
         self.procedures: Dict[int, Callable[[Finalizers, Any], Any]] = {}
         self.raised: List[BaseException] = []
-        self.options = Options(ctypes.sizeof(Options), self._functions(allocator)) if allocator is not None else None
+        self.options = Options(ctypes.sizeof(Options), self._functions(Allocator, allocator)) if allocator is not None else None
         self._call("open", byref(self.options) if self.options else None)
 
     def __enter__(self) -> Finalizers:
@@ -128,19 +132,19 @@ class Finalizers:
     def __del__(self) -> None:
         self.destroy()
 
-    def _functions(self, allocator: Any) -> Any:
-        """The functions of an allocator for C. What it lacks is NULL there."""
-        def kept(kind: Any, name: str) -> Any:
-            method = getattr(allocator, name, None)
+    def _functions(self, kind: Any, owner: Any) -> Any:
+        """A struct of C with the methods of an allocator, or of hooks. What it lacks is NULL there."""
+        def kept(name: str, function: Any) -> Any:
+            method = getattr(owner, name, None)
 
             def call(_: Any, *arguments: Any) -> Any:
                 try:
-                    return method(*arguments)
+                    return method(*(Entry.from_buffer_copy(it.contents) if isinstance(it, POINTER(Entry)) else it for it in arguments))
                 except BaseException as why:  # nothing may be raised through C
                     self.raised.append(why)
                     return None
-            return kind(call) if method else kind()
-        return Allocator(kept(ALLOCATE, "allocate"), kept(REALLOCATE, "reallocate"), kept(RELEASE, "release"))
+            return function(call) if method else function()
+        return kind(*(kept(name, function) for name, function in kind._fields_ if name != "data"))
 
     def _raise(self) -> None:
         """Raises the first that an allocator raised."""
@@ -287,6 +291,18 @@ class Finalizers:
     def counts(self) -> Counts:
         """How much there is."""
         return self._answer(Counts, "count")
+
+    def trace(self, hooks: Any) -> None:
+        """Tells `hooks` from now on what happens, by those that it has of the methods queued(pass, count), cleared(word) and finished(entry). None ends this. What
+        a method raises is raised by the call in which it came, once that has ended."""
+        self.hooks = self._functions(Trace, hooks) if hooks is not None else None
+        LIBRARY.derrimas_finalizers_trace(byref(self.handle), byref(self.hooks) if self.hooks else None)
+
+    def dump(self) -> List[str]:
+        """Lines of text that describe the handle, for a person."""
+        lines: List[str] = []
+        LIBRARY.derrimas_finalizers_dump(byref(self.handle), LINE(lambda _, text: lines.append(text.decode())), None)
+        return lines
 
 
 class OpenPass:

@@ -3,7 +3,7 @@
 ghost use Rattle.std.specs.Prelude.{◌≡◌};
 
 use super::threads::Taker;
-use super::wanted::{count_seats, same};
+use super::wanted::{count_seats, put_back, same};
 use super::workers::Arrivals;
 use super::{ended, opened, prepared, prepared_with, queue_entries};
 use fz_model::Entry;
@@ -15,8 +15,8 @@ use std::process::Abort;
 use std::sync::atomic::{AtomicBool, AtomicU64, Ordering};
 use std::sync::{Arc, Wait};
 use std::test::*;
+use std::thread;
 use std::thread::Threads;
-use std::{mem, thread};
 
 /// A thread that takes the lock on request.
 #[derive(Drop)]
@@ -239,29 +239,54 @@ fn the_program_has_the_lock_after_32_entries(rt: HostRuntime) -> Result<(), Fail
     Ok(())
 }
 
+impl<O: Opening + Send + Sync> Taker<O> {
+    /// Serves what is left, as a worker that was told to stop.
+    fn serve_the_rest<R: Abort + Wait + Threads + Sync>(
+        self,
+        rt: &R,
+        alloc: Global,
+        service: &Service<O>,
+        waits: Waits,
+    ) -> Taker<O> {
+        let mut list: Vec<Box<dyn Proc + Send>> = Vec::new(alloc);
+        let waits = Box::new(alloc, waits).expect(rt, "memory");
+        assert!(rt; list.push(waits).is_ok());
+        let mut procs = Vec::new(alloc);
+        assert!(rt; procs.push(list).is_ok());
+        let mut seats = Vec::new(alloc);
+        assert!(rt; seats.reserve(1).is_ok());
+        put_back(rt, &mut seats, self.seat());
+        let stop = AtomicBool::new(true);
+        let mut seats = service.run_workers(seats, procs.as_mut_slice(), &OpenGate, &stop, rt);
+        count_seats(rt, seats.as_slice(), 1);
+        let seat = seats.remove(0);
+        retire_all(seats);
+        Taker { seat }
+    }
+}
+
 /// A worker that was told to stop serves 1,000 entries, while another thread asks for the lock once.
 fn serves_the_last_thousand<O: Opening + Send + Sync, R: Abort + Wait + Threads + Sync>(
     rt: &R,
     alloc: Global,
     prepared: Prepared,
-    procs: &mut [Vec<Box<dyn Proc + Send>>],
+    waits: Waits,
     visits: &Visits,
 )
     requires { prepared ≡ O.origin }
 {
-    let (service, seats) = opened::<O>(rt, prepared);
+    let (service, mut seats) = opened::<O>(rt, prepared);
     queue_entries(rt, &mut service.enter(rt), &[0; 1_000]);
-    let mut given = seats;
-    let slot = &mut given;
-    let (seats, ()) = thread::join(
+    count_seats(rt, seats.as_slice(), 1);
+    let taker = Taker {
+        seat: seats.remove(0),
+    };
+    let (taker, ()) = thread::join(
         rt,
-        || {
-            let seats = mem::replace(slot, Vec::new(alloc));
-            service.run_workers(seats, procs, &OpenGate, &AtomicBool::new(true), rt)
-        },
+        || taker.serve_the_rest(rt, alloc, &service, waits),
         || visits.visit(rt, &service, 1),
     );
-    retire_all(given);
+    seats.push_reserved(taker.seat());
     let end = ended(rt, service, seats);
     same(rt, "finished", end.finished, 1_000);
 }
@@ -269,10 +294,9 @@ fn serves_the_last_thousand<O: Opening + Send + Sync, R: Abort + Wait + Threads 
 #[test]
 fn another_thread_has_the_lock_after_the_last_32_entries(rt: HostRuntime) -> Result<(), Fail> {
     let visits = Arc::new(rt.alloc(), Visits::none())?;
-    let mut procs = procedures!(rt.alloc(); 1u64; Waits::new(&visits)?);
+    let waits = Waits::new(&visits)?;
     let prepared = prepared_with(&rt, rt.alloc(), 32, 1);
-    let procs = procs.as_mut_slice();
-    serves_the_last_thousand::<Brand, HostRuntime>(&rt, rt.alloc(), prepared, procs, &visits);
+    serves_the_last_thousand::<Brand, HostRuntime>(&rt, rt.alloc(), prepared, waits, &visits);
     same(&rt, "waited in vain", visits.missed(), false);
     Ok(())
 }

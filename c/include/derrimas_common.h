@@ -1,0 +1,74 @@
+/* derrimas_common.h: what derrimas_finalizers.h and derrimas.h share: the library's version, the kinds of links, and memory.
+ * Programs include one of those. Both may be included.
+ *
+ * A change of the version's first number may break programs; it is also that of the shared object's name. */
+#ifndef DERRIMAS_COMMON_H
+#define DERRIMAS_COMMON_H
+
+#include <stdbool.h>
+#include <stddef.h>
+#include <stdint.h>
+
+#ifdef __cplusplus
+extern "C" {
+#endif
+
+/* DERRIMAS_NONNULL: which arguments aren't NULL. DERRIMAS_CHECKED: the result has to be looked at. */
+#if defined(__GNUC__)
+#define DERRIMAS_NONNULL(...) __attribute__((nonnull(__VA_ARGS__)))
+#define DERRIMAS_CHECKED __attribute__((warn_unused_result))
+#else
+#define DERRIMAS_NONNULL(...)
+#define DERRIMAS_CHECKED
+#endif
+
+/* ---- version */
+
+#define DERRIMAS_VERSION_MAJOR 1
+#define DERRIMAS_VERSION_MINOR 0
+#define DERRIMAS_VERSION_PATCH 0
+
+#define DERRIMAS_TEXT_OF(word) #word
+#define DERRIMAS_TEXT_OF_VERSION(major, minor, patch) \
+    DERRIMAS_TEXT_OF(major) "." DERRIMAS_TEXT_OF(minor) "." DERRIMAS_TEXT_OF(patch)
+
+/* The version as a text: "1.0.0". */
+#define DERRIMAS_VERSION DERRIMAS_TEXT_OF_VERSION(DERRIMAS_VERSION_MAJOR, DERRIMAS_VERSION_MINOR, DERRIMAS_VERSION_PATCH)
+
+/* The library's version, as "1.0.0". Where its first number isn't DERRIMAS_VERSION_MAJOR, the library isn't that of these
+ * headers. */
+const char *derrimas_version(void);
+
+/* ---- links */
+
+/* Links whose words are cleared when the target is unreachable, and when not even a finalizer retains it any more:
+ * GC_general_register_disappearing_link and GC_register_long_link. */
+typedef enum derrimas_links { DERRIMAS_SHORT = 0, DERRIMAS_LONG = 1 } derrimas_links;
+
+/* What became of a link. The numbers are no codes; DERRIMAS_GC_ANSWER makes gc.h's of them: GC_SUCCESS, GC_DUPLICATE and
+ * GC_NOT_FOUND. */
+typedef enum derrimas_link_answer {
+    DERRIMAS_LINKED = 128,         /* the link was made, or moved */
+    DERRIMAS_LINK_DUPLICATE = 129, /* a link of this kind stood at the word */
+    DERRIMAS_LINK_NOT_FOUND = 130  /* there was no link to move */
+} derrimas_link_answer;
+
+#define DERRIMAS_GC_ANSWER(answer) ((answer) == DERRIMAS_LINKED ? 0 : (answer) == DERRIMAS_LINK_DUPLICATE ? 1 : 4)
+
+/* ---- memory */
+
+/* An allocator of the host's: as malloc, realloc and free, each with `data` before its arguments. They are called by the
+ * thread whose call takes or frees memory, within it. They make no call on the same handle, and return. `reallocate` and
+ * `release` are given what `allocate` or `reallocate` returned for this handle, or NULL. */
+typedef struct derrimas_allocator {
+    void *(*allocate)(void *data, size_t size);
+    void *(*reallocate)(void *data, void *memory, size_t size);
+    void (*release)(void *data, void *memory);
+    void *data;
+} derrimas_allocator;
+
+#ifdef __cplusplus
+}
+#endif
+
+#endif

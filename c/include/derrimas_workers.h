@@ -1,0 +1,105 @@
+/* derrimas_workers.h: threads that run the finalizers of a derrimas_finalizers, for C99 and later, and C++17 and later, with
+ * POSIX threads.
+ *
+ * The host has a derrimas_finalizers, and a lock under which it makes its calls. It starts workers over both, with a
+ * procedure. After each pass, still under the lock, it calls derrimas_workers_publish. That takes the entries that wait, and
+ * publishes them on a line, from which the workers take without a lock. A worker calls the procedure without the lock, and
+ * finishes the entry under it. Each entry is run by one worker, once. Each worker gets its entries in the queue's order.
+ *
+ *     derrimas_workers workers = {0};
+ *     derrimas_workers_options options = {sizeof options, &heap.finalizers, enter, leave, run, &heap, 4};
+ *
+ *     code = derrimas_workers_start(&workers, &options, NULL);
+ *     ...
+ *     enter(&heap);
+ *     collect(&heap);
+ *     derrimas_workers_publish(&workers);
+ *     leave(&heap);
+ *     ...
+ *     code = derrimas_workers_wait(&workers, 2000);
+ *     code = derrimas_workers_stop(&workers, UINT64_MAX, NULL);
+ *
+ * What the host owes:
+ * - A derrimas_workers starts as {0}, changes by these calls alone, and isn't copied. One thread at a time calls
+ *   derrimas_workers_start, .._wait and .._stop, without the lock. derrimas_workers_publish is called under the lock.
+ *   derrimas_workers_count may be called by any thread between start and stop.
+ * - `enter` and `leave` take and give back the lock. They, and the procedure, are called by the workers.
+ * - The procedure returns. While it doesn't, its worker is busy, and the others go on; derrimas_workers_stop tells after
+ *   its time that it hasn't ended. A procedure may end its thread by pthread_exit: then its entry is abandoned, which means
+ *   that it stays held, and its worker is gone. An exception that leaves it ends the program, by std::terminate. It doesn't
+ *   leave by longjmp. It may make calls of derrimas_finalizers.h, under the lock, and derrimas_workers_publish and .._count.
+ * - The workers are stopped before the derrimas_finalizers is destroyed, or its lock. If it is destroyed earlier, under the
+ *   lock, what a worker has is run, and abandoned.
+ * - A forked child has no workers. It makes no call with its copy. */
+#ifndef DERRIMAS_WORKERS_H
+#define DERRIMAS_WORKERS_H
+
+#include "derrimas_finalizers.h"
+
+#ifdef __cplusplus
+extern "C" {
+#endif
+
+#define DERRIMAS_MAX_WORKERS 8
+
+/* The workers of one derrimas_finalizers. Start it as {0}. */
+typedef struct derrimas_workers {
+    void *inside;
+} derrimas_workers;
+
+/* What workers are started with. `size` is sizeof(derrimas_workers_options), by which the library knows which fields there
+ * are. `enter`, `leave` and `run` are given `data`. */
+typedef struct derrimas_workers_options {
+    size_t size;
+    derrimas_finalizers *finalizers;
+    void (*enter)(void *data);
+    void (*leave)(void *data);
+    void (*run)(void *data, const derrimas_finalizers_entry *entry);
+    void *data;
+    uint64_t workers; /* 1 to DERRIMAS_MAX_WORKERS */
+} derrimas_workers_options;
+
+/* How many workers have not ended; how many entries were published, run and finished, and abandoned; and how often one
+ * couldn't be published, for lack of memory. */
+typedef struct derrimas_workers_counts {
+    uint64_t workers, published, finished, abandoned, shortages;
+} derrimas_workers_counts;
+
+/* Starts the workers: each is a thread, to which no signal comes. *started, which may be NULL, is how many there are: fewer
+ * than was asked for where the system starts no further thread. It takes memory by malloc.
+ * Refused: BAD_OPTIONS (the size, or a function or the finalizers are NULL), BAD_COUNT, IS_OPEN, NO_MEMORY, NO_THREAD (not
+ * one could be started), BAD_PROCESSOR. */
+DERRIMAS_CHECKED derrimas_finalizers_code derrimas_workers_start(derrimas_workers *workers,
+                                                                 const derrimas_workers_options *options, uint64_t *started)
+    DERRIMAS_NONNULL(1, 2);
+
+/* Takes all entries that wait and publishes them for the workers, of which it wakes one for each. From then on an entry is
+ * held. Where memory is short, one entry is kept, and the others wait: each finish of a worker tries again. While a pass is
+ * open between two holds of the lock, nothing is published or finished. The caller has the lock.
+ * Refused: NOT_OPEN (the workers, or their finalizers), PASS_OPEN; NO_MEMORY where not all are published. */
+derrimas_finalizers_code derrimas_workers_publish(derrimas_workers *workers) DERRIMAS_NONNULL(1);
+
+/* Publishes what waits, and blocks until no entry is pending: each that was published is finished or abandoned. It blocks
+ * for at most so many milliseconds; UINT64_MAX sets no limit.
+ * Refused: NOT_OPEN, IN_PROCEDURE (a worker calls it); PENDING where the time is over, or no worker is left. */
+DERRIMAS_CHECKED derrimas_finalizers_code derrimas_workers_wait(derrimas_workers *workers, uint64_t milliseconds)
+    DERRIMAS_NONNULL(1);
+
+/* Stops the workers once they have run what was published. Blocks until they have ended, for at most so many milliseconds;
+ * UINT64_MAX sets no limit. Then it frees all, and leaves *workers as {0}. PENDING: a worker hasn't ended. It will, when its
+ * procedure returns; call again then. What waits stays in the derrimas_finalizers; an entry that was kept for lack of memory
+ * is abandoned. *counts, which may be NULL, are the last ones.
+ * Refused: NOT_OPEN, IN_PROCEDURE (a worker calls it), PENDING. */
+DERRIMAS_CHECKED derrimas_finalizers_code derrimas_workers_stop(derrimas_workers *workers, uint64_t milliseconds,
+                                                                derrimas_workers_counts *counts) DERRIMAS_NONNULL(1);
+
+/* Tells the counts.
+ * Refused: NOT_OPEN. */
+derrimas_finalizers_code derrimas_workers_count(const derrimas_workers *workers, derrimas_workers_counts *counts)
+    DERRIMAS_NONNULL(1, 2);
+
+#ifdef __cplusplus
+}
+#endif
+
+#endif

@@ -1,0 +1,84 @@
+/* derrimas_finalizers_dump: a handle as lines of text, over the calls of derrimas_finalizers.h. Nothing here is proved. */
+#include "derrimas_finalizers.h"
+#include <inttypes.h>
+#include <stdio.h>
+
+enum { PART = 64, LINE = 200, KINDS = 4 };
+
+/* Where the lines go. */
+typedef struct sink {
+    void (*line)(void *data, const char *text);
+    void *data;
+} sink;
+
+/* How many registrations each kind has, and the one that was made first. */
+typedef struct registered {
+    uint64_t of_kind[KINDS];
+    derrimas_finalizers_registration_at oldest;
+    uint64_t newest;
+    bool has_one;
+} registered;
+
+static void note(registered *all, const derrimas_finalizers_registration_at *it)
+{
+    all->of_kind[it->kind]++;
+    if (!all->has_one || it->number < all->oldest.number)
+        all->oldest = *it;
+    if (it->number > all->newest)
+        all->newest = it->number;
+    all->has_one = true;
+}
+
+static registered registered_in(const derrimas_finalizers *finalizers)
+{
+    registered all = {{0}, {0}, 0, false};
+    derrimas_finalizers_registration_at some[PART];
+    uint64_t from = 0;
+    size_t count;
+
+    while (derrimas_finalizers_registrations(finalizers, &from, some, PART, &count) == DERRIMAS_FINALIZERS_OK)
+        for (size_t n = 0; n < count; n++)
+            note(&all, &some[n]);
+    return all;
+}
+
+static void tell_registered(const registered *all, const sink *to)
+{
+    char text[LINE];
+
+    snprintf(text, sizeof text, "kinds: normal %" PRIu64 ", ignore_self %" PRIu64 ", no_order %" PRIu64 ", unreachable %" PRIu64, all->of_kind[0],
+             all->of_kind[1], all->of_kind[2], all->of_kind[3]);
+    to->line(to->data, text);
+    if (!all->has_one)
+        return;
+    snprintf(text, sizeof text, "registered longest: object %" PRIu64 ", number %" PRIu64 " (%" PRIu64 " before the newest), kind %d, rank %d, procedure %" PRIu64,
+             all->oldest.object, all->oldest.number, all->newest - all->oldest.number, (int)all->oldest.kind, all->oldest.rank, all->oldest.proc);
+    to->line(to->data, text);
+}
+
+void derrimas_finalizers_dump(const derrimas_finalizers *finalizers, void (*line)(void *data, const char *text), void *data)
+{
+    const sink to = {line, data};
+    derrimas_finalizers_counts counts;
+    registered all;
+    uint64_t from = 0, first;
+    size_t count;
+    char text[LINE];
+
+    if (derrimas_finalizers_count(finalizers, &counts) != DERRIMAS_FINALIZERS_OK) {
+        line(data, "not open");
+        return;
+    }
+    snprintf(text, sizeof text, "registrations %" PRIu64 ", short links %" PRIu64 ", long links %" PRIu64, counts.registrations, counts.short_links,
+             counts.long_links);
+    line(data, text);
+    snprintf(text, sizeof text, "passes %" PRIu64 ", entries queued %" PRIu64 ", waiting %" PRIu64 ", held %" PRIu64, counts.passes, counts.queued,
+             counts.waiting, counts.held);
+    line(data, text);
+    all = registered_in(finalizers);
+    tell_registered(&all, &to);
+    if (derrimas_finalizers_roots(finalizers, DERRIMAS_FINALIZERS_HELD_OBJECTS, &from, &first, 1, &count) == DERRIMAS_FINALIZERS_OK) {
+        snprintf(text, sizeof text, "unfinished longest: object %" PRIu64, first);
+        line(data, text);
+    }
+}
