@@ -10,6 +10,7 @@ ghost use Rattle.fz_finalizers.specs.Passed.{DecidesFor};
 ghost use Rattle.fz_finalizers.specs.States.{HasRooms, IsRoomier, KeepsWindow, limited};
 
 use crate::finalizers::Finalizers;
+use crate::linking::reserve_moves;
 use crate::refused::Refused;
 use fz_pass::Host;
 use fz_table::MOST_ENTRIES;
@@ -56,9 +57,8 @@ impl Finalizers {
             .reserve(more_short)
             .map_err(|_| Refused::NoMemory)?;
         self.long.reserve(more_long).map_err(|_| Refused::NoMemory)?;
-        self.moves.reserve(self.short.len() + more_short)?;
-        self.moves.reserve(self.long.len() + more_long)?;
-        Ok(())
+        reserve_moves(&mut self.moves, self.short.len() + more_short)?;
+        reserve_moves(&mut self.moves, self.long.len() + more_long)
     }
 
     /// Carries out a pass over the host's heap. Requires that its marking is complete. The host may reclaim what is unmarked afterwards. Takes time
