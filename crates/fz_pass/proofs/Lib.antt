@@ -7,7 +7,6 @@ pub mod Marking
 pub mod Walking
 pub mod Picked
 pub mod Ranking
-pub mod Spreading
 pub mod Listed
 pub mod Decided
 pub mod Passed

@@ -2,7 +2,6 @@
 #![tactic(auto)]
 
 mod all;
-mod by_rank;
 mod clearing;
 mod dropping;
 mod gathered;
