@@ -3,3 +3,4 @@ pub mod Marking
 pub mod Kept
 pub mod Sound
 pub mod Collected
+pub mod Pointing

@@ -9,6 +9,7 @@ mod host;
 mod law;
 mod marking;
 mod marks;
+mod paths;
 mod record;
 mod records;
 mod runtime;

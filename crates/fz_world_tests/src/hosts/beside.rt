@@ -19,11 +19,11 @@ const OBJECTS: u64 = 16;
 
 /// Pseudorandom numbers by Knuth's linear congruential generator.
 #[derive(Drop)]
-struct Random(u64);
+pub(crate) struct Random(pub(crate) u64);
 
 impl Random {
     /// The next number, below a limit.
-    fn below(&mut self, limit: u64) -> u64 {
+    pub(crate) fn below(&mut self, limit: u64) -> u64 {
         self.0 = self
             .0
             .wrapping_mul(6_364_136_223_846_793_005)
