@@ -10,3 +10,4 @@ pub mod Looping
 pub mod Rooted
 pub mod Held
 pub mod Told
+pub mod Back

@@ -13,8 +13,8 @@ use Rattle.fz_why.proofs.Spreading.{same_at}
 
 -- a path by one relation is a path by another
 pub path_as : (R S : ℕ → ℕ → Type 0) → ((a b : ℕ) → R a b → S a b) → (a : ℕ) (xs : List ℕ) (b : ℕ) → IsPath R a xs b → IsPath S a xs b
-path_as R S as a [] b h = h
-path_as R S as a (x ∷ xs) b h = (as a x h.0, path_as R S as x xs b h.1)
+path_as R S into a [] b h = h
+path_as R S into a (x ∷ xs) b h = (into a x h.0, path_as R S into x xs b h.1)
 
 before_of : ℕ → Origin → ℕ
 before_of d (After k) = k

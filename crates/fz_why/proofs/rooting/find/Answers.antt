@@ -15,7 +15,7 @@ returns-clause-found g c =
     let roots = g.H.Paths.roots c.args.host.now in
     let s = c.args.finalizers.now.state in
     let pointers = g.H.Paths.pointers c.args.host.now in
-    let first = subst (λ es. Adds (IsByHost objects roots) es c.in_ok-add_host.new.trail.entries.entries) c.new-trail.ensures c.in_ok-add_host.ensures.added in
+    let first = subst (λ es. Adds (IsByHost objects roots) es c.add_host.new.trail.entries.entries) c.new-trail.ensures c.in_ok-add_host.ensures.added in
     let two = adds_on (λ (o : Origin) (b : ℕ). IsByHost objects roots o b ⊎ IsByRegistration objects s.registrations o b) first c.in_ok-add_registered.ensures.added (λ o b. (λ h. h, λ h. h)) in
     let all = adds_on (Comes objects roots s) two c.in_ok-add_entries.ensures.added (λ o b. (λ h. h, λ h. h)) in
     reached_trail objects (λ a b. IsStepBy objects (λ w. false) (pointers a) b) (Comes objects roots s) (IsByRoot objects roots s) _ _ all c.in_ok-spread.ensures.spread

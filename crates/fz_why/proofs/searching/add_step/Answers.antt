@@ -10,8 +10,8 @@ pub returns-then-is_cut-clause-added : goal.returns-then-is_cut-clause-added
 returns-then-is_cut-clause-added g c =
     adds_nothing _ _ (λ o b h. both_ways (is_cut c.args.finalizers.now.state (option_map (λ t. t.now.entries.entries) c.args.found) c.args.pointer.word) h.1 (sym c.is_cut.ensures ∙ c.if-is_cut.true))
 
-pub returns-in-Some-clause-added : goal.returns-in-Some-clause-added
-returns-in-Some-clause-added g c =
+pub returns-in_ok-add_but-in-Some-clause-added : goal.returns-in_ok-add_but-in-Some-clause-added
+returns-in_ok-add_but-in-Some-clause-added g c =
     let live = sym c.is_cut.ensures ∙ c.if-is_cut.false in
     let pointed = sym c.in-Some.ensures in
     adds_as _ c.in_ok-add_but.ensures.added

@@ -8,5 +8,5 @@ returns-then-object-other-clause-added c = adds_nothing _ _ (λ o b h. h.2 (omeg
 pub returns-clause-added : goal.returns-clause-added
 returns-clause-added c =
     let ne : c.args.object ≢ c.args.other = omega arith in
-    adds_as _ (adds_one c.args.trail.now.entries.entries c.in_ok-add.new.self.entries.entries c.args.object c.args.origin c.in_ok-add.ensures.added)
+    adds_as _ (adds_one c.args.trail.now.entries.entries c.add.new.self.entries.entries c.args.object c.args.origin c.in_ok-add.ensures.added)
     (λ o b. (λ h. (h.0, h.1), λ h. (h.0, h.1, λ same. ne (sym h.1 ∙ same))))

@@ -24,7 +24,7 @@ loop-from-preserved g c =
     let R = ByFirst objects s fs pointers c.args.late c.args.object in
     let inv = c.loop-from.invariant in
     let e : ℕ × Registration = (c.in-Some.from, c.in-Some.registration) in
-    let one = subst (λ (k : RegKind). Adds (λ (o : Origin) b. (e.0 ≢ c.args.object) × (has fs e.0 ≡ false) × (o ≡ First e.0) × IsFirstBy objects (is_cut s (Some fs)) (pointers e.0) e.0 k b) c.loop-from.trail.entries.entries c.in_ok-add_other.new.trail.entries.entries) c.kind_toward-kind.ensures c.in_ok-add_other.ensures.added in
+    let one = subst (λ (k : RegKind). Adds (λ (o : Origin) b. (e.0 ≢ c.args.object) × (has fs e.0 ≡ false) × (o ≡ First e.0) × IsFirstBy objects (is_cut s (Some fs)) (pointers e.0) e.0 k b) c.loop-from.trail.entries.entries c.add_other.new.trail.entries.entries) c.kind_toward-kind.ensures c.in_ok-add_other.ensures.added in
     record {
       added = adds_on (ByAny (c.loop-from.yielded ++ e ∷ []) R) inv.added one (any_more R c.loop-from.yielded e);
       rest = one_on c.loop-from.yielded c.loop-from.from-iterator _ c.next.new.self e inv.rest c.in-Some.ensures.steps;

@@ -12,5 +12,5 @@ returns-clause-reached g c =
     let fs = c.args.found.now.entries.entries in
     let pointers = g.H.Paths.pointers c.args.host.now in
     let object = c.args.object in
-    let first = subst (λ es. Adds (λ (o : Origin) b. (o ≡ First object) × IsFirstBy objects (is_cut s (Some fs)) (pointers object) object c.args.kind b) es c.in_ok-add_first_steps.new.trail.entries.entries) c.new-trail.ensures c.in_ok-add_first_steps.ensures.added in
+    let first = subst (λ es. Adds (λ (o : Origin) b. (o ≡ First object) × IsFirstBy objects (is_cut s (Some fs)) (pointers object) object c.args.kind b) es c.add_first_steps.new.trail.entries.entries) c.new-trail.ensures c.in_ok-add_first_steps.ensures.added in
     ring_trail objects s fs c.requires pointers (g.met.H.Paths.are_pointers c.args.host.now) object c.args.kind _ _ first c.in_ok-spread.ensures.spread

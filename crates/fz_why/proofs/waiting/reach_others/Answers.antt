@@ -9,5 +9,5 @@ returns-clause-reached g c =
     let s = c.args.finalizers.now.state in
     let fs = c.args.found.now.entries.entries in
     let pointers = g.H.Paths.pointers c.args.host.now in
-    let first = subst (λ es. Adds (IsByOther objects s fs pointers c.args.late c.args.object) es c.in_ok-add_others.new.trail.entries.entries) c.new-trail.ensures c.in_ok-add_others.ensures.added in
+    let first = subst (λ es. Adds (IsByOther objects s fs pointers c.args.late c.args.object) es c.add_others.new.trail.entries.entries) c.new-trail.ensures c.in_ok-add_others.ensures.added in
     wait_trail objects s fs c.requires pointers (g.met.H.Paths.are_pointers c.args.host.now) c.args.object c.args.late _ _ first c.in_ok-spread.ensures.spread
