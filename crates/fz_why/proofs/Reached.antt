@@ -16,7 +16,7 @@ pub path_as : (R S : ℕ → ℕ → Type 0) → ((a b : ℕ) → R a b → S a 
 path_as R S into a [] b h = h
 path_as R S into a (x ∷ xs) b h = (into a x h.0, path_as R S into x xs b h.1)
 
-before_of : ℕ → Origin → ℕ
+abbrev before_of : ℕ → Origin → ℕ
 before_of d (After k) = k
 before_of d (Root r) = d
 before_of d (First f) = d

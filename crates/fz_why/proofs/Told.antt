@@ -20,7 +20,7 @@ late_of_table false Normal = refl
 late_of_table false IgnoreSelf = refl
 late_of_table false NoOrder = refl
 
-root_of : RootOf → Origin → RootOf
+abbrev root_of : RootOf → Origin → RootOf
 root_of d (Root r) = r
 root_of d (First f) = d
 root_of d (After k) = d

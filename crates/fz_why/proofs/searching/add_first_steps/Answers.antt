@@ -14,7 +14,7 @@ returns-in_ok-add_steps-in-Normal-clause-added g c =
     let objects = g.H.Host.objects c.args.host.now in
     let pointers = g.H.Paths.pointers c.args.host.now c.args.from in
     subst (λ (k : RegKind). Adds (λ (o : Origin) b. (o ≡ First c.args.from) × IsFirstBy objects cut pointers c.args.from k b) c.args.trail.now.entries.entries c.add_steps.new.trail.entries.entries) (sym c.in-Normal.is)
-    (adds_as _ c.in_ok-add_steps.ensures.added (λ o b. (λ h. (h.0, (h.1, λ same. none-some b same)), λ h. (h.0, h.1.0))))
+    (adds_as _ c.in_ok-add_steps-in-Normal.ensures.added (λ o b. (λ h. (h.0, (h.1, λ same. none-some b same)), λ h. (h.0, h.1.0))))
 
 pub returns-in_ok-add_steps-in-IgnoreSelf-clause-added : goal.returns-in_ok-add_steps-in-IgnoreSelf-clause-added
 returns-in_ok-add_steps-in-IgnoreSelf-clause-added g c =

@@ -14,7 +14,7 @@ pub returns-in_ok-add_but-in-Some-clause-added : goal.returns-in_ok-add_but-in-S
 returns-in_ok-add_but-in-Some-clause-added g c =
     let live = sym c.is_cut.ensures ∙ c.if-is_cut.false in
     let pointed = sym c.in-Some.ensures in
-    adds_as _ c.in_ok-add_but.ensures.added
+    adds_as _ c.in_ok-add_but-in-Some.ensures.added
     (λ o b. (λ h. (h.0, same_Some b c.in-Some.child (sym h.2 ∙ pointed), h.3), λ h. (h.0, live, pointed ∙ ap Some (sym h.1), h.2)))
 
 pub returns-in-None-clause-added : goal.returns-in-None-clause-added

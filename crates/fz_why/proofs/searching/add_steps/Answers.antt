@@ -15,7 +15,7 @@ loop-index-preserved g c =
     let cut = is_cut c.args.finalizers.now.state (option_map (λ t. t.now.entries.entries) c.args.found) in
     let pointers = g.H.Paths.pointers c.args.host.now c.args.from in
     let R = ByPointer (g.H.Host.objects c.args.host.now) cut c.args.except c.args.origin in
-    adds_on (ByBelow (c.loop-index.index + 1) pointers R) c.loop-index.invariant c.in_ok-add_step.ensures.added (below_more pointers R c.loop-index.index c.in-Some.pointer (sym c.in-Some.ensures))
+    adds_on (ByBelow (c.loop-index.index + 1) pointers R) c.loop-index.invariant c.in_ok-add_step-in-Some.ensures.added (below_more pointers R c.loop-index.index c.in-Some.pointer (sym c.in-Some.ensures))
 
 pub returns-in-None-clause-added : goal.returns-in-None-clause-added
 returns-in-None-clause-added g c =

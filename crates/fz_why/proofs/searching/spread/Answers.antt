@@ -18,7 +18,7 @@ loop-place-preserved g c =
     let Step = λ (a b : ℕ). IsStepBy (g.H.Host.objects c.args.host.now) cut (g.H.Paths.pointers c.args.host.now a) b in
     let here = c.in-Some.here in
     spreads_more Step c.args.trail.now.entries.entries c.loop-place.trail.entries.entries c.add_steps.new.trail.entries.entries c.loop-place.place here.0 here.1 c.loop-place.invariant (sym c.in-Some.ensures)
-    (adds_as (λ (o : Origin) b. (o ≡ After c.loop-place.place) × Step here.0 b) c.in_ok-add_steps.ensures.added (λ o b. (λ h. (h.0, (h.1, λ same. none-some b same)), λ h. (h.0, h.1.0))))
+    (adds_as (λ (o : Origin) b. (o ≡ After c.loop-place.place) × Step here.0 b) c.in_ok-add_steps-in-Some.ensures.added (λ o b. (λ h. (h.0, (h.1, λ same. none-some b same)), λ h. (h.0, h.1.0))))
 
 pub returns-in-None-clause-spread : goal.returns-in-None-clause-spread
 returns-in-None-clause-spread g c =
