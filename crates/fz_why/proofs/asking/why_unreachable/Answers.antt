@@ -17,7 +17,7 @@ returns-in-Some-waits-clause-told g c =
     let back = rw c.in-Some-waits.is at c.in_ok-waits.ensures.path in (
       found,
       c.requires.reached,
-      ((c.args.registration, c.requires.unfound), rw c.in-None.is at c.in_ok-circle.ensures.path, subst (λ (late : Bool). (from : ℕ) × (from ≢ c.args.object) × IsBackPath objects s found late from c.in-Some-waits.path.items c.args.object) c.is_flagged-late.ensures back),
+      ((c.args.registration, c.requires.unfound), rw c.in_default.is at c.in_ok-circle.ensures.path, subst (λ (late : Bool). (from : ℕ) × (from ≢ c.args.object) × IsBackPath objects s found late from c.in-Some-waits.path.items c.args.object) c.is_flagged-late.ensures back),
     )
 
 pub returns-in-None-clause-told : goal.returns-in-None-clause-told
@@ -25,8 +25,8 @@ returns-in-None-clause-told g c =
     let objects = g.H.Host.objects c.args.host.now in
     let s = c.args.finalizers.now.state in
     let found = has c.args.found.now.entries.entries in
-    let none = rw c.in-None-2.is at c.in_ok-waits.ensures.path in (
+    let none = rw c.in-None.is at c.in_ok-waits.ensures.path in (
       found,
       c.requires.reached,
-      ((c.args.registration, c.requires.unfound), rw c.in-None.is at c.in_ok-circle.ensures.path, subst (λ (late : Bool). (from : ℕ) → (from ≢ c.args.object) × HoldsBack objects s found late from c.args.object → ⊥) c.is_flagged-late.ensures none),
+      ((c.args.registration, c.requires.unfound), rw c.in_default.is at c.in_ok-circle.ensures.path, subst (λ (late : Bool). (from : ℕ) → (from ≢ c.args.object) × HoldsBack objects s found late from c.args.object → ⊥) c.is_flagged-late.ensures none),
     )
