@@ -5,9 +5,9 @@ import glob, re, textwrap
 PAGE = 'docs/reference/CALLS.md'
 # The types whose calls it has, each with its crate.
 TYPES = [('World', 'fz_world'), ('Service', 'fz_service'), ('Locked', 'fz_service'), ('Seat', 'fz_service'), ('Duty', 'fz_service'), ('Proc', 'fz_service'),
-         ('Gate', 'fz_service'), ('Program', 'fz_service'), ('Finalizers', 'fz_finalizers'), ('Host', 'fz_pass'), ('Machine', 'fz_machine')]
+         ('Gate', 'fz_service'), ('Program', 'fz_service'), ('Finalizers', 'fz_finalizers'), ('Host', 'fz_pass'), ('Paths', 'fz_why'), ('Machine', 'fz_machine')]
 # The crates whose functions it has, beside the calls of types.
-FUNCTIONS = ['fz_service']
+FUNCTIONS = ['fz_service', 'fz_why']
 # Where the types of answers stand, but for those of a crate itself.
 SHARED = 'fz_model'
 # What begins a block of calls in a source, a call, and a type with fields or variants.
@@ -92,11 +92,11 @@ def trait_of(name, crate):
 
 
 def functions_of(crate):
-    """The public functions of a crate that belong to no type, each as its signature and what is said of it."""
+    """The public functions of a crate that belong to no type, but for laws, which do nothing: each as its signature and what is said of it."""
     for file in sorted(glob.glob(f'crates/{crate}/src/*.rt')):
         lines = open(file).read().split('\n')
         for number, line, comment in documented(lines):
-            if line.startswith('pub fn '):
+            if line.startswith('pub fn ') and not ' '.join(comment).startswith('Does nothing.'):
                 yield signature(lines, number), in_short(comment)
 
 
@@ -147,7 +147,9 @@ def page():
             text += item(f'`{head}`: {told}')
         text += '\n'
     for crate in FUNCTIONS:
-        text += f'## Functions of {crate}\n\n' + ''.join(item(f'`{head}`: {told}') for head, told in functions_of(crate)) + '\n'
+        functions = list(functions_of(crate))
+        heads += ''.join(head + '\n' for head, _ in functions)
+        text += f'## Functions of {crate}\n\n' + ''.join(item(f'`{head}`: {told}') for head, told in functions) + '\n'
     text += '## Answers\n\n'
     for name, crate, comment, parts in answers([SHARED, *dict.fromkeys(crate for _, crate in TYPES)], heads):
         text += item(f'`{name}` in `{crate}`: {comment}')

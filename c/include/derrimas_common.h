@@ -41,8 +41,9 @@ const char *derrimas_version(void);
 
 /* ---- links */
 
-/* Links whose words are cleared when the target is unreachable, and when not even a finalizer retains it any more:
- * GC_general_register_disappearing_link and GC_register_long_link. */
+/* When a pass clears the word of a link. SHORT: when the target is unreachable, before its finalizer is queued, so nothing
+ * finds by it what is finalized. LONG: when no finalizer retains the target either, so the word finds it as long as it
+ * exists. GC_general_register_disappearing_link and GC_register_long_link. */
 typedef enum derrimas_links { DERRIMAS_SHORT = 0, DERRIMAS_LONG = 1 } derrimas_links;
 
 /* What became of a link. The numbers are no codes; DERRIMAS_GC_ANSWER makes gc.h's of them: GC_SUCCESS, GC_DUPLICATE and

@@ -4,9 +4,11 @@
  * A derrimas_finalizers holds registrations of objects, short and long disappearing links, and the entries of finalizers
  * that are ready. Objects, words, procedures and client data are numbers of 64 bits, which are compared and handed back,
  * and never followed. An object is any number but 0 by which the host finds it: its address, an address that is hidden by
- * a map that keeps the order, or an index. A link's word is, too: its address, or an object's number and an offset. A host
- * whose marker takes what looks like an address for one hides them, since questions and entries lie on its stack: objects,
- * words and targets all by the same map, and client data too.
+ * a map that keeps the order, or an index. What is proved of a pass gives an object as many numbers as it has words, from
+ * its own on, and no two objects share one. A link's word is any number but 0 by which the host finds it, and has one
+ * number: its address, or an object's number and an offset. A host whose marker takes what looks like an address for one
+ * hides them, since questions and entries lie on its stack: objects, words and targets all by the same map, and client
+ * data too.
  *
  * The host has the heap. It marks what its roots reach, and what derrimas_finalizers_roots yields. Then it runs a pass, in
  * which it is asked questions: is this object marked, mark what it reaches, write zero to this word. What isn't marked at
@@ -25,7 +27,8 @@
  * - A signal handler calls derrimas_finalizers_has_waiting alone. A forked child has a copy of each handle: it may use one
  *   if no other thread was in a call on it at the fork, as where the fork comes under the host's lock.
  * - Before the host frees, reuses or moves the memory of a link's word, it unlinks or moves the link. A pass writes to the
- *   word of each link that it clears, also where no object has the word.
+ *   word of each link that it clears, also where no object has the word. A pass that ends has removed the links whose
+ *   words lie in objects that it left unmarked: these may be freed without further calls.
  *
  * Memory is taken by derrimas_finalizers_open, .._reserve, .._shrink, .._register and .._link alone, by the handle's
  * allocator; and it is freed by those and by .._destroy alone. All other calls may be made while other threads are
@@ -243,7 +246,8 @@ derrimas_finalizers_code derrimas_finalizers_move_link(derrimas_finalizers *fina
 
 /* ---- a pass, by questions and answers */
 
-/* Opens a pass, once the host's marking is done. Until its end all changes are refused PASS_OPEN. Takes time by the links.
+/* Opens a pass, once the host's marking is done. Until its end entries are taken and finished, and all other changes are
+ * refused PASS_OPEN. Takes time by the links.
  * Refused: NOT_OPEN, PASS_OPEN. */
 derrimas_finalizers_code derrimas_finalizers_begin(derrimas_finalizers *finalizers) DERRIMAS_NONNULL(1);
 
@@ -269,23 +273,24 @@ derrimas_finalizers_code derrimas_finalizers_abandon(derrimas_finalizers *finali
 derrimas_finalizers_code derrimas_finalizers_queue_all(derrimas_finalizers *finalizers, uint64_t *queued)
     DERRIMAS_NONNULL(1);
 
-/* Takes the first entry that waits. It is held, with its object and its client data, until .._finish.
- * Refused: NOT_OPEN, PASS_OPEN, EMPTY. */
+/* Takes the first entry that waits. It is held, with its object and its client data, until .._finish. A pass may be open,
+ * also for the next two calls: what it has queued so far may be taken. A procedure that runs meanwhile is a mutator.
+ * Refused: NOT_OPEN, EMPTY. */
 derrimas_finalizers_code derrimas_finalizers_take(derrimas_finalizers *finalizers, derrimas_finalizers_entry *entry)
     DERRIMAS_NONNULL(1, 2);
 
 /* Takes the first entry that waits, as finished: for a procedure that may never return. Its object and its client data
  * aren't yielded as roots any more: the host retains them until the procedure has them.
- * Refused: NOT_OPEN, PASS_OPEN, EMPTY. */
+ * Refused: NOT_OPEN, EMPTY. */
 derrimas_finalizers_code derrimas_finalizers_take_finished(derrimas_finalizers *finalizers, derrimas_finalizers_entry *entry)
     DERRIMAS_NONNULL(1, 2);
 
 /* Ends the holding of an entry.
- * Refused: NOT_OPEN, PASS_OPEN, NOT_HELD. */
+ * Refused: NOT_OPEN, NOT_HELD. */
 derrimas_finalizers_code derrimas_finalizers_finish(derrimas_finalizers *finalizers, const derrimas_finalizers_entry *entry)
     DERRIMAS_NONNULL(1, 2);
 
-/* Whether entries wait, without the lock: a hint, GC_should_invoke_finalizers. */
+/* Whether entries wait, without the lock: a hint, GC_should_invoke_finalizers. What an open pass queues counts from its end. */
 bool derrimas_finalizers_has_waiting(const derrimas_finalizers *finalizers) DERRIMAS_NONNULL(1);
 
 /* ---- what a handle has; nothing changes by it, and a pass may be open */
@@ -305,6 +310,12 @@ typedef enum derrimas_finalizers_root {
 derrimas_finalizers_code derrimas_finalizers_roots(const derrimas_finalizers *finalizers, derrimas_finalizers_root sort,
                                                    uint64_t *from, uint64_t *buffer, size_t room, size_t *count)
     DERRIMAS_NONNULL(1, 3, 6);
+
+/* The first entry whose place in the queue, `seq`, is `from` or more and that isn't finished: it waits or is held. From 0 on,
+ * and then each time from behind the one before, these are all unfinished entries, in the queue's order.
+ * Refused: NOT_OPEN; EMPTY where there is none. */
+derrimas_finalizers_code derrimas_finalizers_unfinished(const derrimas_finalizers *finalizers, uint64_t from,
+                                                        derrimas_finalizers_entry *entry) DERRIMAS_NONNULL(1, 3);
 
 /* Tells how much there is.
  * Refused: NOT_OPEN. */
@@ -343,9 +354,9 @@ derrimas_finalizers_code derrimas_finalizers_links(const derrimas_finalizers *fi
 void derrimas_finalizers_trace(derrimas_finalizers *finalizers, const derrimas_trace *trace) DERRIMAS_NONNULL(1);
 
 /* Describes the handle for a person, by calls of `line` with `data` and a line of text: its counts, the kinds of its
- * registrations, the registration that was made first, and the object of the entry that was queued first and isn't
- * finished. "not open" where it isn't. The texts may change. Takes time by the registrations, and no memory. `line` makes
- * no call that changes the handle. */
+ * registrations, the registration that was made first, and the entry that was queued first and isn't finished, with the
+ * pass that queued it. "not open" where it isn't. The texts may change. Takes time by the registrations, and no memory.
+ * `line` makes no call that changes the handle. */
 void derrimas_finalizers_dump(const derrimas_finalizers *finalizers, void (*line)(void *data, const char *text), void *data)
     DERRIMAS_NONNULL(1, 2);
 

@@ -254,6 +254,13 @@ public:
         return found(derrimas_finalizers_target(&handle_, of(kind), word, &target)) ? std::optional(target) : std::nullopt;
     }
 
+    /* The first entry from this place in the queue on that isn't finished. */
+    std::optional<entry> unfinished(std::uint64_t from = 0) const
+    {
+        entry entry;
+        return found(derrimas_finalizers_unfinished(&handle_, from, &entry)) ? std::optional(entry) : std::nullopt;
+    }
+
     counts count() const
     {
         counts counts;

@@ -24,6 +24,8 @@
  *   derrimas_workers_start, .._wait and .._stop, without the lock. derrimas_workers_publish is called under the lock.
  *   derrimas_workers_count may be called by any thread between start and stop.
  * - `enter` and `leave` take and give back the lock. They, and the procedure, are called by the workers.
+ * - A procedure is a mutator. Where a pass is open between two holds of the lock, it waits, as the others do, before it looks
+ *   at the heap: words of links may not be cleared yet. A worker finishes its entry meanwhile.
  * - The procedure returns. While it doesn't, its worker is busy, and the others go on; derrimas_workers_stop tells after
  *   its time that it hasn't ended. A procedure may end its thread by pthread_exit: then its entry is abandoned, which means
  *   that it stays held, and its worker is gone. An exception that leaves it ends the program, by std::terminate. It doesn't
@@ -74,9 +76,9 @@ DERRIMAS_CHECKED derrimas_finalizers_code derrimas_workers_start(derrimas_worker
     DERRIMAS_NONNULL(1, 2);
 
 /* Takes all entries that wait and publishes them for the workers, of which it wakes one for each. From then on an entry is
- * held. Where memory is short, one entry is kept, and the others wait: each finish of a worker tries again. While a pass is
- * open between two holds of the lock, nothing is published or finished. The caller has the lock.
- * Refused: NOT_OPEN (the workers, or their finalizers), PASS_OPEN; NO_MEMORY where not all are published. */
+ * held. Where memory is short, one entry is kept, and the others wait: each finish of a worker tries again. A pass may be
+ * open: then what it has queued so far is published too. The caller has the lock.
+ * Refused: NOT_OPEN (the workers, or their finalizers); NO_MEMORY where not all are published. */
 derrimas_finalizers_code derrimas_workers_publish(derrimas_workers *workers) DERRIMAS_NONNULL(1);
 
 /* Publishes what waits, and blocks until no entry is pending: each that was published is finished or abandoned. It blocks

@@ -56,13 +56,28 @@ static void tell_registered(const registered *all, const sink *to)
     to->line(to->data, text);
 }
 
+/* The entry that was queued first and isn't finished. Those before the first one that waits are held. */
+static void tell_unfinished(const derrimas_finalizers *finalizers, const derrimas_finalizers_counts *counts, const sink *to)
+{
+    derrimas_finalizers_entry first;
+    char text[LINE], since[LINE / 2];
+
+    if (derrimas_finalizers_unfinished(finalizers, 0, &first) != DERRIMAS_FINALIZERS_OK)
+        return;
+    if (first.pass == 0)
+        snprintf(since, sizeof since, "not by a pass");
+    else
+        snprintf(since, sizeof since, "by pass %" PRIu64 ", %" PRIu64 " before the last", first.pass, counts->passes - first.pass);
+    snprintf(text, sizeof text, "unfinished longest: object %" PRIu64 ", entry %" PRIu64 ", queued %s, %s, procedure %" PRIu64, first.obj, first.seq, since,
+             first.seq < counts->queued - counts->waiting ? "held" : "waiting", first.proc);
+    to->line(to->data, text);
+}
+
 void derrimas_finalizers_dump(const derrimas_finalizers *finalizers, void (*line)(void *data, const char *text), void *data)
 {
     const sink to = {line, data};
     derrimas_finalizers_counts counts;
     registered all;
-    uint64_t from = 0, first;
-    size_t count;
     char text[LINE];
 
     if (derrimas_finalizers_count(finalizers, &counts) != DERRIMAS_FINALIZERS_OK) {
@@ -77,8 +92,5 @@ void derrimas_finalizers_dump(const derrimas_finalizers *finalizers, void (*line
     line(data, text);
     all = registered_in(finalizers);
     tell_registered(&all, &to);
-    if (derrimas_finalizers_roots(finalizers, DERRIMAS_FINALIZERS_HELD_OBJECTS, &from, &first, 1, &count) == DERRIMAS_FINALIZERS_OK) {
-        snprintf(text, sizeof text, "unfinished longest: object %" PRIu64, first);
-        line(data, text);
-    }
+    tell_unfinished(finalizers, &counts, &to);
 }

@@ -320,7 +320,7 @@ code derrimas_finalizers_queue_all(derrimas_finalizers *finalizers, uint64_t *qu
     return it;
 }
 
-/* What a take answers; if it was accepted, one entry fewer waits. */
+/* What a take answers; if it was accepted, one entry fewer waits. What an open pass has queued counts from its end on, so less than none may wait till then. */
 static code taken(derrimas_finalizers *finalizers, code it)
 {
     if (it == DERRIMAS_FINALIZERS_OK)
@@ -343,7 +343,7 @@ code derrimas_finalizers_finish(derrimas_finalizers *finalizers, const derrimas_
     return finished(finalizers, fz_machine_finish(finalizers, entry), entry);
 }
 
-bool derrimas_finalizers_has_waiting(const derrimas_finalizers *finalizers) { return __atomic_load_n(&finalizers->waiting, __ATOMIC_RELAXED) != 0; }
+bool derrimas_finalizers_has_waiting(const derrimas_finalizers *finalizers) { return (int64_t)__atomic_load_n(&finalizers->waiting, __ATOMIC_RELAXED) > 0; }
 
 /* ---- what is registered and linked, and roots */
 
@@ -440,6 +440,13 @@ code derrimas_finalizers_registration(const derrimas_finalizers *finalizers, uin
     if (it == DERRIMAS_FINALIZERS_OK)
         *registration = shown(&found);
     return it;
+}
+
+code derrimas_finalizers_unfinished(const derrimas_finalizers *finalizers, uint64_t from, derrimas_finalizers_entry *entry)
+{
+    derrimas_finalizers copy = copied(finalizers);
+
+    return fz_machine_unfinished(&copy, from, entry);
 }
 
 code derrimas_finalizers_target(const derrimas_finalizers *finalizers, derrimas_finalizers_link_kind kind, uint64_t word, uint64_t *target)

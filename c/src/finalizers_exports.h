@@ -56,6 +56,7 @@ uint8_t fz_machine_queue_all(derrimas_finalizers *finalizers, uint64_t *queued);
 uint8_t fz_machine_take(derrimas_finalizers *finalizers, derrimas_finalizers_entry *entry);
 uint8_t fz_machine_take_finished(derrimas_finalizers *finalizers, derrimas_finalizers_entry *entry);
 uint8_t fz_machine_finish(derrimas_finalizers *finalizers, const derrimas_finalizers_entry *entry);
+uint8_t fz_machine_unfinished(derrimas_finalizers *finalizers, uint64_t from, derrimas_finalizers_entry *entry);
 uint8_t fz_machine_roots(derrimas_finalizers *finalizers, uint8_t sort, uint64_t from, uint64_t most, fz_machine_words *words);
 uint8_t fz_machine_count(derrimas_finalizers *finalizers, derrimas_finalizers_counts *counts);
 uint8_t fz_machine_registrations(derrimas_finalizers *finalizers, uint64_t from, fz_machine_some_registrations *registrations);

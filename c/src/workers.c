@@ -163,23 +163,17 @@ static void count_one(crew *it, uint64_t *counter)
     pthread_mutex_unlock(&it->bell);
 }
 
-/* Finishes an entry under the lock. While a pass is open between two holds of the lock, it waits for its end. */
+/* Finishes an entry under the lock. */
 static code finish(crew *it, const derrimas_finalizers_entry *entry)
 {
-    const struct timespec millisecond = {0, 1000000};
+    code found;
 
-    for (;;) {
-        code found;
-
-        enter(it);
-        found = derrimas_finalizers_finish(it->own.finalizers, entry);
-        if (it->has_kept && found != DERRIMAS_FINALIZERS_PASS_OPEN)
-            (void)send_all(it);
-        leave(it);
-        if (found != DERRIMAS_FINALIZERS_PASS_OPEN)
-            return found;
-        (void)nanosleep(&millisecond, NULL);
-    }
+    enter(it);
+    found = derrimas_finalizers_finish(it->own.finalizers, entry);
+    if (it->has_kept)
+        (void)send_all(it);
+    leave(it);
+    return found;
 }
 
 static void run(worker *self, const derrimas_entry *taken)

@@ -113,7 +113,6 @@ static void changes_are_refused(derrimas_finalizers_code code)
 {
     derrimas_finalizers_old old;
     derrimas_finalizers_linked answer;
-    derrimas_finalizers_entry entry, none = {0, 0, 0, 0, 0, 0};
     uint64_t number;
     bool was;
 
@@ -135,9 +134,14 @@ static void changes_are_refused(derrimas_finalizers_code code)
     IS(derrimas_finalizers_begin(&finalizers), code);
     REFUSED(code, number, derrimas_finalizers_queue_all(&finalizers, &number));
     IS(derrimas_finalizers_queue_all(&finalizers, NULL), code);
+}
+
+static void takes_are_refused(derrimas_finalizers_code code)
+{
+    derrimas_finalizers_entry entry;
+
     REFUSED(code, entry, derrimas_finalizers_take(&finalizers, &entry));
     REFUSED(code, entry, derrimas_finalizers_take_finished(&finalizers, &entry));
-    IS(derrimas_finalizers_finish(&finalizers, &none), code);
 }
 
 /* A kind that is none comes before all other causes. */
@@ -207,6 +211,8 @@ static void closed(void)
     closes();
     options_are_refused();
     changes_are_refused(DERRIMAS_FINALIZERS_NOT_OPEN);
+    takes_are_refused(DERRIMAS_FINALIZERS_NOT_OPEN);
+    IS(derrimas_finalizers_finish(&finalizers, &(derrimas_finalizers_entry){0, 0, 0, 0, 0, 0}), DERRIMAS_FINALIZERS_NOT_OPEN);
     kinds_are_refused();
     REFUSED(DERRIMAS_FINALIZERS_NOT_OPEN, question, derrimas_finalizers_next(&finalizers, 0, &question, NULL));
     REFUSED(DERRIMAS_FINALIZERS_NOT_OPEN, passed, derrimas_finalizers_next(&finalizers, 0, &question, &passed));
@@ -427,12 +433,31 @@ static void weak(void)
     closes();
 }
 
-/* In an open pass all changes are refused, and what stands may be read. */
+/* A worker between two questions: it finishes the entry that it has, and takes the next one, each third time as finished. */
+static void works(derrimas_finalizers_entry *has)
+{
+    const derrimas_finalizers_counts counts = counted();
+    const uint64_t taken = counts.queued - counts.waiting;
+
+    IS(derrimas_finalizers_finish(&finalizers, has), counts.held ? DERRIMAS_FINALIZERS_OK : DERRIMAS_FINALIZERS_NOT_HELD);
+    IS(derrimas_finalizers_finish(&finalizers, has), DERRIMAS_FINALIZERS_NOT_HELD);
+    if (counts.waiting == 0) {
+        takes_are_refused(DERRIMAS_FINALIZERS_EMPTY);
+        return;
+    }
+    OK(taken % 3 == 2 ? derrimas_finalizers_take_finished(&finalizers, has) : derrimas_finalizers_take(&finalizers, has));
+    IS(has->seq == taken && has->pass == 1, true);
+    IS(counted().held, taken % 3 != 2);
+    walked(DERRIMAS_FINALIZERS_HELD_OBJECTS, counts.waiting - (taken % 3 == 2));
+}
+
+/* In an open pass entries are taken and finished; other changes are refused, and what stands may be read. */
 static void open_pass(void)
 {
     derrimas_finalizers_passed passed;
     derrimas_question question;
-    uint64_t asked = 0, answers = 0, from = 0, word;
+    derrimas_finalizers_entry has = {0, 0, 0, 0, 0, 0};
+    uint64_t asked = 0, answers = 0, from = 0, word, taken;
     size_t count;
 
     opens();
@@ -445,10 +470,12 @@ static void open_pass(void)
         changes_are_refused(DERRIMAS_FINALIZERS_PASS_OPEN);
         IS(derrimas_finalizers_open(&finalizers, NULL), DERRIMAS_FINALIZERS_IS_OPEN);
         IS(derrimas_finalizers_roots(&finalizers, DERRIMAS_FINALIZERS_REGISTERED_DATA, &(uint64_t){0}, &word, 0, &count), DERRIMAS_FINALIZERS_EMPTY);
-        IS(counted().waiting + counted().registrations, 100);
-        walked(DERRIMAS_FINALIZERS_HELD_OBJECTS, counted().waiting);
-        walked(DERRIMAS_FINALIZERS_HELD_DATA, counted().waiting);
+        IS(counted().queued + counted().registrations, 100);
+        walked(DERRIMAS_FINALIZERS_HELD_OBJECTS, counted().waiting + counted().held);
+        walked(DERRIMAS_FINALIZERS_HELD_DATA, counted().waiting + counted().held);
         walked(DERRIMAS_FINALIZERS_REGISTERED_DATA, counted().registrations);
+        IS(derrimas_finalizers_has_waiting(&finalizers), false);
+        works(&has);
         IS(derrimas_finalizers_has_waiting(&finalizers), false);
         memset(&passed, 1, sizeof passed);
         if (derrimas_finalizers_next(&finalizers, answers, &question, &passed) != DERRIMAS_FINALIZERS_OK)
@@ -460,11 +487,12 @@ static void open_pass(void)
     }
     IS(passed.pass == 1 && passed.picked == 100, true);
     IS(asked >= 400, true);
-    IS(counted().waiting == 100 && counted().registrations == 0 && counted().passes == 1 && counted().queued == 100, true);
+    taken = 100 - counted().waiting;
+    IS(taken > 5 && taken < 100 && counted().registrations == 0 && counted().passes == 1 && counted().queued == 100, true);
     IS(derrimas_finalizers_has_waiting(&finalizers), true);
     REFUSED(DERRIMAS_FINALIZERS_NO_PASS, passed, derrimas_finalizers_next(&finalizers, 0, &question, &passed));
     OK(derrimas_finalizers_roots(&finalizers, DERRIMAS_FINALIZERS_HELD_OBJECTS, &from, &word, 1, &count));
-    IS(from == 1 && count == 1, true);
+    IS(from >= 1 && count == 1, true); /* a finished entry may have a place */
     closes();
 }
 

@@ -153,6 +153,11 @@ uint8_t fz_machine_registration(derrimas_finalizers *f, uint64_t object, fz_mach
     return code;
 }
 
+uint8_t fz_machine_unfinished(derrimas_finalizers *f, uint64_t from, derrimas_finalizers_entry *entry)
+{
+    return noted(entry, sizeof *entry, is_copy(f), from, 0, 0, 0);
+}
+
 uint8_t fz_machine_target(derrimas_finalizers *f, bool is_long, uint64_t word, uint64_t *target)
 {
     return noted(target, sizeof *target, is_copy(f), is_long, word, 0, 0);
@@ -286,6 +291,7 @@ static void walks(size_t room)
 static void reads(void)
 {
     derrimas_finalizers_registration_at registration;
+    derrimas_finalizers_entry entry;
     derrimas_finalizers_counts counts;
     uint64_t buffer[1100], from = 100;
     size_t count;
@@ -296,6 +302,7 @@ static void reads(void)
     IS(is_filled(&counts, sizeof counts), answer != DERRIMAS_FINALIZERS_OK);
     THROUGH(registration, derrimas_finalizers_registration(&finalizers, 16, &registration), 1, 16);
     IS(answer != DERRIMAS_FINALIZERS_OK || is_shown(&registration, 41), true);
+    THROUGH(entry, derrimas_finalizers_unfinished(&finalizers, 18, &entry), 1, 18);
     THROUGH(number, derrimas_finalizers_target(&finalizers, DERRIMAS_FINALIZERS_LONG, 17, &number), 1, 1, 17);
     THROUGH(number, derrimas_finalizers_target(&finalizers, DERRIMAS_FINALIZERS_SHORT, 17, &number), 1, 0, 17);
     THROUGH(count, derrimas_finalizers_roots(&finalizers, DERRIMAS_FINALIZERS_HELD_DATA, &from, buffer, 10, &count), 1, 1, 100);

@@ -2,6 +2,7 @@
  * is called.
  */
 #include "noted.h"
+#include "derrimas_workers.h"
 #include <cpuid.h>
 #define __get_cpuid noted_cpuid
 #include "../src/finalizers.c"
@@ -110,6 +111,12 @@ uint8_t fz_machine_take(derrimas_finalizers *f, derrimas_finalizers_entry *entry
 uint8_t fz_machine_take_finished(derrimas_finalizers *f, derrimas_finalizers_entry *entry) { return (void)f, ENTRY_AT(noted("take_finished"), entry); }
 uint8_t fz_machine_finish(derrimas_finalizers *f, const derrimas_finalizers_entry *it) { return (void)f, noted("finish" ENTRY, OF_ENTRY(it)); }
 
+uint8_t fz_machine_unfinished(derrimas_finalizers *f, uint64_t from, derrimas_finalizers_entry *entry)
+{
+    (void)f;
+    return ENTRY_AT(noted("unfinished" N, from), entry);
+}
+
 uint8_t fz_machine_roots(derrimas_finalizers *f, uint8_t sort, uint64_t from, uint64_t most, fz_machine_words *words)
 {
     (void)f;
@@ -153,4 +160,56 @@ uint8_t fz_machine_target(derrimas_finalizers *f, bool is_long, uint64_t word, u
 {
     (void)f;
     return FILLED(noted("target %d" N, is_long, word), target, uint64_t, V(0));
+}
+
+/* ---- workers: no thread is started; to publish is to run an entry, as a worker does */
+
+static derrimas_workers_options started_with;
+
+/* The lock of a test's. */
+void noted_lock(bool enters) { noted_procedure("host.%s", enters ? "lock" : "unlock"); }
+
+code derrimas_workers_start(derrimas_workers *workers, const derrimas_workers_options *options, uint64_t *started)
+{
+    uint8_t code = FILLED(noted("workers_start" N, options->workers), started, uint64_t, V(0));
+
+    if (code != DERRIMAS_FINALIZERS_OK)
+        return code;
+    started_with = *options;
+    workers->inside = &started_with;
+    noted_opened(1);
+    return code;
+}
+
+code derrimas_workers_publish(derrimas_workers *workers)
+{
+    const derrimas_finalizers_entry entry = {V(0), V(1), V(2), V(3), V(4), V(5)};
+    uint8_t code = noted("workers_publish");
+
+    (void)workers;
+    if (code != DERRIMAS_FINALIZERS_OK)
+        return code;
+    started_with.run(started_with.data, &entry);
+    started_with.enter(started_with.data);
+    started_with.leave(started_with.data);
+    return code;
+}
+
+code derrimas_workers_wait(derrimas_workers *workers, uint64_t milliseconds) { return (void)workers, noted("workers_wait" N, milliseconds); }
+
+code derrimas_workers_stop(derrimas_workers *workers, uint64_t milliseconds, derrimas_workers_counts *counts)
+{
+    derrimas_workers_counts unwanted;
+    uint8_t code = FILLED(noted("workers_stop" N, milliseconds), counts ? counts : &unwanted, derrimas_workers_counts, V(0), V(1), V(2), V(3), V(4));
+
+    if (code != DERRIMAS_FINALIZERS_OK)
+        return code;
+    workers->inside = NULL;
+    noted_opened(-1);
+    return code;
+}
+
+code derrimas_workers_count(const derrimas_workers *workers, derrimas_workers_counts *counts)
+{
+    return (void)workers, FILLED(noted("workers_count"), counts, derrimas_workers_counts, V(0), V(1), V(2), V(3), V(4));
 }

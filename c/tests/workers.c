@@ -4,6 +4,7 @@
 #define _POSIX_C_SOURCE 200809L
 #include "check.h"
 #include "derrimas_workers.h"
+#include "derrimas.h"
 #include <pthread.h>
 #include <sched.h>
 #include <stdatomic.h>
@@ -17,7 +18,7 @@ static pthread_mutex_t lock = PTHREAD_MUTEX_INITIALIZER;
 static derrimas_finalizers finalizers;
 static derrimas_workers workers;
 static uint64_t data[4 * ALL], next_data; /* written before an object is queued, and read by its procedure, whose client data is the place */
-static atomic_uint ran[ALL + 1], all_ran, entered, unordered, refused;
+static atomic_uint ran[ALL + 1], all_ran, unordered, refused;
 static atomic_bool is_held, has_no_memory;
 static atomic_int threads_left = -1; /* of those that may be started; -1 is no limit */
 
@@ -51,7 +52,6 @@ static void enter(void *with)
 {
     (void)with;
     pthread_mutex_lock(&lock);
-    entered++;
 }
 
 static void leave(void *with)
@@ -269,7 +269,10 @@ static void no_memory(void)
     IS(derrimas_workers_wait(&workers, 5), DERRIMAS_FINALIZERS_PENDING);
     has_no_memory = false;
     is_held = false;
-    OK(derrimas_workers_wait(&workers, UINT64_MAX));
+    do { /* no call publishes the rest but those of the workers, as they finish */
+        OK(derrimas_workers_count(&workers, &counts));
+        sched_yield();
+    } while (counts.finished < FEW);
     IS(ran_times(FEW, 1), FEW);
     counts = stopped();
     IS(counts.finished, FEW);
@@ -316,28 +319,67 @@ static void held_up(void)
     IS(stopped().finished, FEW + 1);
 }
 
-/* While a pass is open between holds of the lock nothing is finished or published. */
+/* While a pass is open between holds of the lock, what it has queued is published, run and finished. */
 static void open_pass(void)
 {
-    unsigned before;
+    derrimas_question question;
+    derrimas_finalizers_counts counts;
 
     start(2);
     is_held = true;
     OK(queue(2, HOLDS));
     enter(NULL);
+    OK(derrimas_finalizers_register(&finalizers, 9, DERRIMAS_FINALIZERS_NORMAL, PLAIN, 9, 0, NULL, NULL));
+    OK(derrimas_finalizers_link(&finalizers, DERRIMAS_FINALIZERS_LONG, 1, 9, NULL));
     OK(derrimas_finalizers_begin(&finalizers));
-    IS(derrimas_workers_publish(&workers), DERRIMAS_FINALIZERS_PASS_OPEN);
+    do {
+        OK(derrimas_finalizers_next(&finalizers, 0, &question, NULL));
+        OK(derrimas_finalizers_count(&finalizers, &counts));
+    } while (counts.waiting == 0);
+    OK(derrimas_workers_publish(&workers));
     leave(NULL);
-    before = entered;
     is_held = false;
-    while (entered < before + 2) /* a worker has tried to finish */
-        sched_yield();
-    IS(derrimas_workers_wait(&workers, 5), DERRIMAS_FINALIZERS_PASS_OPEN);
+    OK(derrimas_workers_wait(&workers, UINT64_MAX));
+    IS(ran[9], 1);
     enter(NULL);
     OK(derrimas_finalizers_abandon(&finalizers));
     leave(NULL);
-    OK(derrimas_workers_wait(&workers, UINT64_MAX));
-    IS(stopped().finished, 2);
+    IS(stopped().finished, 3);
+}
+
+/* ---- a worker that finds the line empty, and stops there */
+
+enum { GOES, IS_TO_PARK, PARKS };
+static atomic_uint parking;
+
+derrimas_code __real_derrimas_seat_take(derrimas_seat *seat, derrimas_entry *entry);
+derrimas_code __wrap_derrimas_seat_take(derrimas_seat *seat, derrimas_entry *entry);
+
+derrimas_code __wrap_derrimas_seat_take(derrimas_seat *seat, derrimas_entry *entry)
+{
+    const derrimas_code code = __real_derrimas_seat_take(seat, entry);
+    unsigned asked = IS_TO_PARK;
+
+    if (code == DERRIMAS_EMPTY && atomic_compare_exchange_strong(&parking, &asked, PARKS))
+        while (parking == PARKS)
+            sched_yield();
+    return code;
+}
+
+/* A worker has found the line empty. Then an entry is published, and then comes the stop: the entry is run all the same. */
+static void published_behind_a_take(void)
+{
+    derrimas_workers_counts counts;
+
+    start(1);
+    parking = IS_TO_PARK;
+    while (parking != PARKS)
+        sched_yield();
+    OK(queue(1, PLAIN));
+    REFUSED(DERRIMAS_FINALIZERS_PENDING, counts, derrimas_workers_stop(&workers, 5, &counts));
+    parking = GOES;
+    IS(stopped().finished, 1);
+    IS(ran[1], 1);
 }
 
 static void destroyed_early(void)
@@ -392,7 +434,7 @@ static void starts(void)
     IS(model.started, options.workers < fewer ? options.workers : fewer);
 }
 
-/* Queues entries, and publishes them, at times without memory, or in an open pass. */
+/* Queues entries, and publishes them, at times without memory, at times in an open pass. */
 static void queues(void)
 {
     const uint64_t number = chance(200), how = chance(4);
@@ -414,7 +456,7 @@ static void queues(void)
     if (!model.runs)
         IS(code, DERRIMAS_FINALIZERS_NOT_OPEN);
     else if (how != 0)
-        IS(code, how == 1 ? DERRIMAS_FINALIZERS_PASS_OPEN : DERRIMAS_FINALIZERS_OK);
+        OK(code);
     else
         IS(code == DERRIMAS_FINALIZERS_OK || code == DERRIMAS_FINALIZERS_NO_MEMORY, true);
     model.shortages += code == DERRIMAS_FINALIZERS_NO_MEMORY;
@@ -494,6 +536,7 @@ int main(int count, char **words)
     ended_threads();
     held_up();
     open_pass();
+    published_behind_a_take();
     destroyed_early();
     by_chance(count > 1 ? strtoull(words[1], NULL, 10) : 2000);
     IS(unordered, 0);

@@ -3,6 +3,7 @@
  */
 #include "derrimas.hpp"
 #include "derrimas_finalizers.hpp"
+#include "derrimas_workers.hpp"
 #include <cstdio>
 #include <cstdlib>
 #include <fstream>
@@ -27,6 +28,7 @@ void noted_question(const char *what, std::uint64_t object);
 void noted_children(std::uint64_t object, bool but_itself);
 void noted_memory(const char *what, std::uint64_t size);
 void noted_finalizers_run(const derrimas_finalizers_entry *entry);
+void noted_lock(bool enters);
 }
 
 static unsigned checks = 0, failures = 0;
@@ -52,6 +54,7 @@ static string shown(std::uint64_t it) { return std::to_string(it); }
 static string shown(slot it) { return std::to_string(it.frame) + ":" + std::to_string(it.slot); }
 static string shown(made it) { return shown({it.address, it.birth}); }
 static string shown(old it) { return shown({it.proc, it.cd, it.was}); }
+static string shown(const workers::counts &it) { return shown({it.workers, it.published, it.finished, it.abandoned, it.shortages}); }
 static string shown(passed it) { return shown({it.pass, it.picked, it.reclaimed}); }
 static string shown(object it) { return shown({it.start, it.size, it.birth, it.atomic}); }
 static string shown(linked it) { return shown({it.place, it.target}); }
@@ -251,11 +254,25 @@ static string invoked(finalizers &f, bool throws)
     }));
 }
 
+struct noting_lock {
+    void lock() { noted_lock(true); }
+    void unlock() { noted_lock(false); }
+};
+
+/* What a member of workers returns, of three, that stop behind it. */
+static string worked(finalizers &f, const std::function<string(workers &)> &member)
+{
+    noting_lock lock;
+    workers three(f, lock, [](const finalizers::entry &of) { noted_finalizers_run(&of); }, 3);
+    return member(three);
+}
+
 /* ---- members */
 
 using member = std::function<string(fixture &, const arguments &)>;
 #define SHOWN(call) [](fixture &f, const arguments &a) { return (void)f, (void)a, shown(call); }
 #define DONE(call) [](fixture &f, const arguments &a) { return (void)f, (void)a, (void)(call), string("done"); }
+#define WORKED(call) [](fixture &f, const arguments &a) { return (void)a, worked(f.finalizers, [&](workers &w) { return call; }); }
 #define LINKS a.kind(lengths)
 #define LINK_KIND a.kind(link_kinds)
 
@@ -329,7 +346,13 @@ static const std::map<string, member> members = {
     {"finalizers_links", [](fixture &f, const arguments &a) { return walked([&](auto visit) { f.finalizers.links(LINK_KIND, visit); }); }},
     {"finalizers_registration", SHOWN(f.finalizers.registration_of(a.number(0)))},
     {"finalizers_target", SHOWN(f.finalizers.target(LINK_KIND, a.number(1)))},
+    {"finalizers_unfinished", SHOWN(a.is("default") ? f.finalizers.unfinished() : f.finalizers.unfinished(a.number(0)))},
     {"finalizers_count", SHOWN(f.finalizers.count())},
+    {"workers_start", WORKED(shown(w.started()))},
+    {"workers_publish", WORKED((w.publish(), string("done")))},
+    {"workers_wait", WORKED(shown(a.is("default") ? w.wait() : w.wait(a.number(0))))},
+    {"workers_stop", WORKED(shown(a.is("default") ? w.stop() : w.stop(a.number(0))))},
+    {"workers_count", WORKED(shown(w.count()))},
 };
 
 /* ---- the table */
@@ -354,7 +377,7 @@ struct row {
     arguments given;
     unsigned leaf = 0, bit = 0; /* what the processor lacks */
 
-    bool is_of_finalizers() const { return call.rfind("finalizers_", 0) == 0; }
+    bool is_of_finalizers() const { return call.rfind("finalizers_", 0) == 0 || call.rfind("workers_", 0) == 0; }
 
     const char *name(int code) const
     {

@@ -7,7 +7,7 @@ import ctypes, os, re, sys
 HERE = os.path.dirname(os.path.abspath(__file__))
 sys.path.insert(0, os.path.normpath(os.path.join(HERE, '..', 'python')))
 from derrimas import LIBRARY, Entry, Kind, LinkAnswer, Links, Refused, Words, World
-from derrimas import finalizers as over
+from derrimas import finalizers as over, workers as crew
 from derrimas._library import Error
 
 
@@ -25,6 +25,11 @@ class OfFinalizers:
     constants = ''
 
 
+class OfWorkers(OfFinalizers):
+    """The same of derrimas_workers.h, whose calls begin with `workers_`."""
+    header = 'derrimas_workers.h'
+
+
 KINDS = {name.lower(): it for kinds in (Kind, Words, Links, over.Kind, over.Root) for name, it in kinds.__members__.items()}
 OWN = {'register', 'invoke_finalizers'}  # calls of derrimas.h that no wrapper makes: each has its own
 checks, failures = 0, 0
@@ -37,6 +42,7 @@ LIBRARY.noted_question.argtypes, LIBRARY.noted_question.restype = [ctypes.c_char
 LIBRARY.noted_children.argtypes, LIBRARY.noted_children.restype = [ctypes.c_uint64, ctypes.c_bool], None
 LIBRARY.noted_memory.argtypes, LIBRARY.noted_memory.restype = [ctypes.c_char_p, ctypes.c_uint64], None
 LIBRARY.noted_finalizers_run.argtypes, LIBRARY.noted_finalizers_run.restype = [ctypes.POINTER(over.Entry)], None
+LIBRARY.noted_lock.argtypes, LIBRARY.noted_lock.restype = [ctypes.c_bool], None
 
 
 def check(found, wanted, where):
@@ -49,7 +55,7 @@ def check(found, wanted, where):
 
 def of(call):
     """To which header a call belongs."""
-    return OfFinalizers if call.startswith('finalizers_') else Worlds
+    return {'finalizers': OfFinalizers, 'workers': OfWorkers}.get(call.split('_')[0], Worlds)
 
 
 def entry_of(first):
@@ -198,15 +204,21 @@ def asked(finalizers, answers):
         return shown(question) if question else f'ended:{shown(questions.did)}'
 
 
-def run_of_finalizers(finalizers, how):
+def procedure_of(how):
+    """A procedure that notes its entry, and then does so. What it raises has the number of its turn."""
     turns = []
 
-    def run(_, entry):
+    def run(entry):
         LIBRARY.noted_finalizers_run(ctypes.byref(entry))
         turns.append(entry)
-        if how != 'returns':
+        if how in ('throws', 'interrupts'):
             raise (OSError if how == 'throws' else KeyboardInterrupt)(len(turns))
-    finalizers.finalizer(9, run)
+    return run
+
+
+def run_of_finalizers(finalizers, how):
+    run = procedure_of(how)
+    finalizers.finalizer(9, lambda _, entry: run(entry))
     return shown(finalizers.invoke_finalizers())
 
 
@@ -278,8 +290,36 @@ MEMBERS_OF_FINALIZERS = {
     'links': lambda it, kind: walked(with_kind(OVER.links)(it, kind)),
     'registration': lambda it, object: shown(it.registration(object)),
     'target': lambda *arguments: shown(with_kind(OVER.target)(*arguments)),
+    'unfinished': lambda it, start: shown(it.unfinished() if start == 'default' else it.unfinished(start)),
     'count': lambda it: shown(it.counts()),
 }
+
+
+class Lock:
+    """A lock that is noted."""
+
+    def acquire(self):
+        LIBRARY.noted_lock(True)
+
+    def release(self):
+        LIBRARY.noted_lock(False)
+
+
+def working(member):
+    """What a member of workers returns, of three, that stop behind it; where it has none, what they do at the end."""
+    def made(finalizers, how='returns'):
+        with crew.Workers(finalizers, Lock(), procedure_of(how), 3) as workers:
+            return member(workers, None if how == 'default' else how)
+    return made
+
+
+MEMBERS.update({f'workers_{name}': working(member) for name, member in {
+    'start': lambda it, _: shown(it.started),
+    'publish': lambda it, _: done(it.publish()),
+    'wait': lambda it, limit: shown(it.wait(limit)),
+    'stop': lambda it, limit: shown(it.stop(limit)),
+    'count': lambda it, _: shown(it.count()),
+}.items()})
 MEMBERS.update({f'finalizers_{name}': member for name, member in MEMBERS_OF_FINALIZERS.items()})
 
 
@@ -319,7 +359,7 @@ class Row:
         """Makes the call, where the export in turn returns this code."""
         codes = [of(self.call).names[code if due == '?' else due] for text, due in self.exports if not OWN_PART.match(text)]
         LIBRARY.noted_start(b'\0', 1, 0)
-        handle = OVER() if of(self.call) is OfFinalizers else World()
+        handle = World() if of(self.call) is Worlds else OVER()
         LIBRARY.noted_start(bytes(codes), len(codes), value)
         LIBRARY.noted_processor(self.lacks[0], 1 << self.lacks[1])
         found = outcome(handle, self.call, map(argument, self.words))
@@ -361,9 +401,9 @@ def is_whole(rows):
     told = {}
     for row in rows:
         told.setdefault(row.call, set()).update(row.refusals())
-    for library in (Worlds, OfFinalizers):
+    for library, least in ((Worlds, 20), (OfFinalizers, 20), (OfWorkers, 5)):
         refused = refusals_of(library)
-        check(len(refused) > 20, True, f'the calls of {library.header}')
+        check(len(refused) >= least, True, f'the calls of {library.header}')
         for call, codes in refused.items():
             if call not in OWN:
                 check(sorted(told.get(call, ())), sorted(codes), f'the codes of {call} in the table')

@@ -95,7 +95,7 @@ def library() -> ctypes.CDLL:
         "unregister": [n, POINTER(Old)], "link": [kind, n, n, POINTER(kind)], "unlink": [kind, n, POINTER(c_bool)], "move_link": [kind, n, n, POINTER(kind)],
         "begin": [], "next": [n, POINTER(CQuestion), POINTER(Passed)], "abandon": [], "queue_all": [POINTER(n)], "take": [POINTER(Entry)],
         "take_finished": [POINTER(Entry)], "finish": [POINTER(Entry)], "roots": [kind, *walk], "registrations": walk, "links": [kind, *walk],
-        "registration": [n, POINTER(Registration)], "target": [kind, n, POINTER(n)], "count": [POINTER(Counts)],
+        "registration": [n, POINTER(Registration)], "target": [kind, n, POINTER(n)], "unfinished": [n, POINTER(Entry)], "count": [POINTER(Counts)],
     }.items():
         declare(lib, f"derrimas_finalizers_{name}", c_uint32, [POINTER(Handle), *types])
     for name in ("name", "strerror"):
@@ -287,6 +287,10 @@ class Finalizers:
     def target(self, word: int, kind: LinkKind = LinkKind.SHORT) -> Optional[int]:
         """The target of the link at the word, or None."""
         return self._or_none(c_uint64, "target", kind, word)
+
+    def unfinished(self, start: int = 0) -> Optional[Entry]:
+        """The first entry from this place in the queue on that isn't finished, or None."""
+        return self._or_none(Entry, "unfinished", start)
 
     def counts(self) -> Counts:
         """How much there is."""

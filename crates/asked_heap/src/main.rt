@@ -62,7 +62,7 @@ fn main(rt: HostRuntime) -> Result<()> {
             heap.weak()
         )?;
         for _ in 0..machine.finalizers().waiting() {
-            let Some(entry) = machine.take()? else {
+            let Some(entry) = machine.take() else {
                 break;
             };
             println!(rt; "procedure {} of object {}", entry.proc, entry.obj)?;

@@ -12,7 +12,7 @@ use Rattle.fz_pass.specs.All as passes
 use Rattle.fz_finalizers.specs.States.{HasRooms, KeepsTables, links_of, room_of}
 use Rattle.fz_machine.specs.Causes.{first_of}
 use Rattle.fz_machine.specs.Going.{HasRoomForMore}
-use Rattle.fz_machine.specs.Machines.{Machine}
+use Rattle.fz_machine.specs.Machines.{KeepsPass, Machine}
 use Rattle.fz_c.specs.declared.old.Old.{Old}
 use Rattle.fz_c.specs.declared.machine.registering.Registered.{Registered}
 use Rattle.fz_c.specs.MachineCodes.{Answers, AnswersOrLacks}
@@ -86,9 +86,10 @@ QueuesAll code old told m n =
 
 abbrev pub Finishes : Entry → ℕ → Machine → Machine → Type 0
 Finishes e code m n =
-    Answers (first_of m.phase (finish_causes m.finalizers.held e)) code
+    KeepsPass m n
+    × Answers (first_of None (finish_causes m.finalizers.held e)) code
     (Follows m.finalizers.state (Finish e) n.finalizers.state)
-    (Stays m n)
+    (n.finalizers.state ≡ m.finalizers.state)
 
 -- only memory is freed
 abbrev pub Shrinks : ℕ → Machine → Machine → Type 0

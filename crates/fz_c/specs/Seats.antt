@@ -21,6 +21,22 @@ Takes (Idle seat) Away code told kept = ⊥
 Takes (Working duty) new code told kept = (new ≡ Working duty) × (code ≡ IN_HAND) × kept
 Takes Away new code told kept = (new ≡ Away) × (code ≡ NO_WORLD) × kept
 
+-- the code for what a take returned
+abbrev pub code_of_take : Take → ℕ
+code_of_take (take.Taken duty) = OK
+code_of_take (take.Empty seat) = EMPTY
+code_of_take (take.Busy seat) = BUSY
+
+-- an idle seat asks the front once, and the code says what the front replied; the others leave the front as it is
+abbrev pub Asks : SeatSession → (Take → Type 0) → Type 0 → ℕ → Type 0
+Asks (Idle seat) told same code = (taken : Take) × told taken × (code ≡ code_of_take taken)
+Asks (Working duty) told same code = same
+Asks Away told same code = same
+
+abbrev pub AsksBehind : Option SeatSession → (Take → Type 0) → Type 0 → ℕ → Type 0
+AsksBehind (Some session) told same code = Asks session told same code
+AsksBehind None told same code = same
+
 -- each result of the line gives the matching code. Means only.
 abbrev pub AnswersTake : Take → SeatSession → ℕ → (Entry → Type 0) → Type 0 → Type 0
 AnswersTake (take.Taken duty) (Working same) code told kept = (same ≡ duty) × (code ≡ OK) × told duty.entry

@@ -1,6 +1,6 @@
 -- What the readers of a world find, in terms of the world's own contracts.
 -- code: fz_c/src/world/shown.rt
-use Rattle.std.specs.Prelude.{◌≡◌, ◌+◌, ◌-◌, ◌<◌, ◌≤◌, ℕ, Option, Some, Result, IfOk, IfSome, MatchOption, Contains, IsFalse, length, slice_get, option_map}
+use Rattle.std.specs.Prelude.{◌≡◌, ◌+◌, ◌-◌, ◌≤◌, ℕ, Option, Some, Result, IfOk, IfSome, MatchOption, IsFalse, length, slice_get, option_map}
 use Rattle.std.specs.List.{list_any}
 use Rattle.std.specs.FinMap.{get, contains_key, len}
 use Rattle.std.specs.FinSet as sets
@@ -14,7 +14,7 @@ use Rattle.fz_model.specs.Causes.{IsJudgedBy, slot_causes, place_causes}
 use Rattle.fz_model.specs.Events.{links_of, same_entry}
 use Rattle.fz_world.specs.declared.shown.Object.{Object}
 use Rattle.fz_world.specs.World.{WorldView}
-use Rattle.fz_world.specs.Shown.{IsNextHeld}
+use Rattle.fz_finalizers.specs.Queue.{IsFirstHeldFrom}
 use Rattle.fz_world.specs.Shown.{shown_object, HasNoneFrom, IsFirstFrom}
 use Rattle.fz_c.specs.declared.world.shown.Counts.{Counts}
 
@@ -44,7 +44,7 @@ IsNextLink w which from found =
     × IfSome found (λ row. get (links_of w.core which) row.0 ≡ Some row.1)
 
 abbrev pub IsNextHeldEntry : WorldView → ℕ → Option Entry → Type 0
-IsNextHeldEntry w from found = MatchOption found ((e : Entry) → Contains w.held e → e.seq < from) (IsNextHeld w.held from)
+IsNextHeldEntry w from found = IsFirstHeldFrom w.held from found
 
 -- the entry of the queue with this number: any from `forgotten` on, and before that only entries that aren't finished
 abbrev pub IsQueuedEntry : WorldView → ℕ → Option Entry → Type 0

@@ -7,8 +7,6 @@ mod line_session;
 mod lines;
 mod seat_session;
 mod seats;
-#[cfg(test)]
-mod tests;
 
 pub use crate::entry::Entry;
 pub use codes::Code;

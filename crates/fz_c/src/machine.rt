@@ -14,7 +14,9 @@ mod walks;
 
 pub use crate::old::Old;
 pub use codes::Code;
-pub use entries::{HostEntry, fz_machine_finish, fz_machine_take, fz_machine_take_finished};
+pub use entries::{
+    HostEntry, fz_machine_finish, fz_machine_take, fz_machine_take_finished, fz_machine_unfinished,
+};
 pub use handle::MachineHandle;
 pub use linking::{fz_machine_link, fz_machine_move_link, fz_machine_unlink};
 pub use opening::{fz_machine_destroy, fz_machine_open, fz_machine_reserve, fz_machine_shrink};

@@ -1,5 +1,5 @@
 -- Entries come to the end of the queue, and are held.
-use Rattle.std.proofs.Common.{◌≡◌, ◌≤◌, ◌<◌, ◌^◌, ◌+◌, ◌-◌, ◌++◌, ◌||◌, ℕ, List, drop, length, length-append, append_assoc, sym, ap, ◌∙◌, subst, arith, Bool}
+use Rattle.std.proofs.Common.{◌≡◌, ◌≤◌, ◌<◌, ◌^◌, ◌+◌, ◌-◌, ◌++◌, ◌||◌, ℕ, List, drop, length, length-append, append_assoc, sym, ap, ◌∙◌, subst, arith, Bool, Option}
 use Rattle.std.proofs.lemmas.List.{drop-append-le}
 use Rattle.std.specs.FinSet.{contains}
 use Rattle.fz_bits.specs.Flags.{Set}
@@ -65,7 +65,7 @@ module _ (past items now queue : List Entry) (kept next first : ℕ) (late new_l
       → (q : QueuesAll first registrations (contains late) queue (past ++ drop kept now)) × (new_late ≡ without_flags late q.picks)
   all_there registrations q left = (record { picks = q.picks; queued = longer 0 q.picks q.queued; ordered = q.ordered; each = q.each; whole = q.whole }, left)
 
-  pub decided_there : (Exact : Type 0) (pass : ℕ) (old new : Parts) (found : ℕ → Bool) (d : DecidesFlagged Exact (contains late) pass next old found new items now) → new_late ≡ without_flags late d.picks
-      → (d : DecidesFlagged Exact (contains late) pass first old found new queue (past ++ drop kept now)) × (new_late ≡ without_flags late d.picks)
-  decided_there Exact pass old new found d left =
+  pub decided_there : (Exact : Type 0) (place : ℕ → Option ℕ) (pass : ℕ) (old new : Parts) (found : ℕ → Bool) (d : DecidesFlagged Exact place (contains late) pass next old found new items now) → new_late ≡ without_flags late d.picks
+      → (d : DecidesFlagged Exact place (contains late) pass first old found new queue (past ++ drop kept now)) × (new_late ≡ without_flags late d.picks)
+  decided_there Exact place pass old new found d left =
       (record { picks = d.picks; picked = d.picked; queued = longer pass d.picks d.queued; kept = d.kept; keeps = d.keeps; most = d.most; is = d.is }, left)

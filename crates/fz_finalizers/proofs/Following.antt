@@ -1,5 +1,5 @@
 -- What a pass queues, whatever the host.
-use Rattle.std.proofs.Common.{◌≡◌, ℕ, get_or, Bool, true≢false, length, sym, ap, ◌∙◌, ◌≢◌, ⊎_elim}
+use Rattle.std.proofs.Common.{◌≡◌, ℕ, get_or, Bool, Option, true≢false, length, sym, ap, ◌∙◌, ◌≢◌, ⊎_elim}
 use Rattle.std.specs.FinMap.{empty}
 use Rattle.std.proofs.lemmas.Bool.{true≢false}
 use Rattle.std.specs.FinSet.{contains}
@@ -12,6 +12,7 @@ use Rattle.fz_pass.specs.All.{QueuesAll}
 use Rattle.fz_pass.specs.Decides.{Parts}
 use Rattle.fz_pass.specs.Flagged.{ComesAfterFlag}
 use Rattle.fz_pass.specs.Picking.{without_flags}
+use Rattle.fz_pass.specs.Places.{placed}
 use Rattle.fz_pass.proofs.Emptied.{all_left}
 use Rattle.fz_finalizers.specs.Follows.{Queues, IsOf}
 use Rattle.fz_finalizers.specs.Passed.{parts_in}
@@ -22,15 +23,15 @@ use Rattle.fz_finalizers.specs.States.{State}
 after_differs : (late : ℕ → Bool) (m : Map Registration) (p q : Pick) → ComesAfterFlag late m p q → p.obj ≢ q.obj
 after_differs late m p q after same = ⊎_elim (λ flags. true≢false (sym flags.1 ∙ ap late (sym same) ∙ flags.0)) (λ before. before_differs m p q before.1 same) after
 
-of_pick : (old : Parts) (found : ℕ → Bool) (p : Pick) → IsPicked old.objects old.registrations old.short found p → IsOf old.registrations p
-of_pick old found p is = (is.registration, is.unreachable.registered, ap (λ (q : Pick). q.reg) is.is, ap (λ (q : Pick). q.proc) is.is, ap (λ (q : Pick). q.cd) is.is)
+of_pick : (old : Parts) (short : Map ℕ) (found : ℕ → Bool) (p : Pick) → IsPicked old.objects old.registrations short found p → IsOf old.registrations p
+of_pick old short found p is = (is.registration, is.unreachable.registered, ap (λ (q : Pick). q.reg) is.is, ap (λ (q : Pick). q.proc) is.is, ap (λ (q : Pick). q.cd) is.is)
 
-pub decided_queues : (Exact : Type 0) (pass : ℕ) (objects left : Map Object) (found : ℕ → Bool) (old new : State) → Decides Exact pass old.late new.late (parts_in objects old) found (parts_in left new) old.queue new.queue
+pub decided_queues : (Exact : Type 0) (place : ℕ → Option ℕ) (pass : ℕ) (objects left : Map Object) (found : ℕ → Bool) (old new : State) → Decides Exact place pass old.late new.late (parts_in objects old) found (parts_in left new) old.queue new.queue
     → new.taken ≡ old.taken → new.held ≡ old.held → new.next_number ≡ old.next_number → Queues pass old new
-decided_queues Exact pass objects left found old new d taken held next_number = record {
+decided_queues Exact place pass objects left found old new d taken held next_number = record {
   picks = d.0.picks;
   picked = record {
-    each = λ i x h. of_pick (parts_in objects old) found (get_or d.0.picks i x) (d.0.picked.each i x h).0;
+    each = λ i x h. of_pick (parts_in objects old) (placed place old.short) found (get_or d.0.picks i x) (d.0.picked.each i x h).0;
     apart = λ i j x lt within. after_differs (contains old.late) old.registrations (get_or d.0.picks i x) (get_or d.0.picks j x) (d.0.picked.ordered i j x lt within);
   };
   queue = d.0.queued;

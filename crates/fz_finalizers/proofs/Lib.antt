@@ -7,6 +7,8 @@ pub mod Queueing
 pub mod OneQueued
 pub mod Promised
 pub mod Walked
+pub mod Recorded
+pub mod Lawful
 pub mod Placed
 pub mod Gathered
 pub mod Queues

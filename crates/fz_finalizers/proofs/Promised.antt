@@ -1,5 +1,5 @@
 -- What every sequence of calls keeps.
-use Rattle.std.proofs.Common.{◌≡◌, ◌≢◌, ◌<◌, ◌⊎◌, inl, inr, ◌↔◌, ℕ, zero, suc, ◌+◌, Bool, true, false, true≢false, cond, List, [], ◌∷◌, ◌++◌, drop, take, filter, not, length, Some, slice_get, get_or, All, AllPairs, Contains, nat_cmp, refl, sym, ap, subst, ◌∙◌, ⊎_elim, append_assoc, arith}
+use Rattle.std.proofs.Common.{◌≡◌, ◌≢◌, ◌<◌, ◌⊎◌, inl, inr, ◌↔◌, ℕ, zero, suc, ◌+◌, Bool, true, false, true≢false, cond, List, [], ◌∷◌, ◌++◌, drop, take, filter, not, length, Some, slice_get, get_or, All, AllPairs, Contains, nat_cmp, refl, sym, ap, subst, ◌∙◌, ⊎_elim, append_assoc, append-nil, arith}
 use Rattle.std.proofs.lemmas.Bool.{cases_eq}
 use Rattle.std.proofs.lemmas.List.{length-append, take-append-le, drop-append-le, take_more, take-append-drop, length-take-le}
 use Rattle.std.proofs.lemmas.List.Kept.{AllPairs-filter}
@@ -22,13 +22,20 @@ use Rattle.fz_model.proofs.Maps.{get-insert_same, get-insert_other, get-remove_s
 use Rattle.fz_model.proofs.Sound.{entry_at}
 use Rattle.fz_finalizers.specs.declared.kinds.Finalizer.{Finalizer}
 use Rattle.fz_finalizers.specs.Kinds.{is_late, table_finalizer}
-use Rattle.fz_finalizers.specs.States.{State, opening, unfinished, with_links}
-use Rattle.fz_finalizers.specs.Follows.{Event, Follows, Queues, with_registration, without_registration, Register, Unregister, Link, Unlink, Move, Pass, Begin, Queue, QueueAll, Take, TakeFinished, Finish}
+use Rattle.fz_finalizers.specs.States.{State, opening, unfinished, waiting, with_links}
+use Rattle.fz_finalizers.specs.Follows.{Event, Follows, Queues, with_registration, without_registration, Register, Unregister, Link, Unlink, Move, Pass, Begin, Queue, QueueAll, Take, TakeFinished, TakeAll, Finish}
 use Rattle.fz_finalizers.specs.Promises.{Past, with_event, IsReached, Opened, Then, Promises}
 use Rattle.fz_finalizers.proofs.Flags.{flags_entered, flags_removed, late_is_normal, no_flags}
 use Rattle.fz_finalizers.proofs.Queueing as queueing
 use Rattle.fz_finalizers.proofs.OneQueued.{queued_queues}
 use Rattle.fz_finalizers.proofs.Taking.{next_waits}
+
+-- the first of a list from a place on
+first_of_rest : (xs : List Entry) (k : ℕ) (e : Entry) (es : List Entry) → drop k xs ≡ e ∷ es → slice_get xs k ≡ Some e
+first_of_rest [] zero e es is = ap (λ ys. slice_get ys 0) is
+first_of_rest [] (suc k) e es is = ap (λ ys. slice_get ys 0) is
+first_of_rest (x ∷ xs) zero e es is = ap (λ ys. slice_get ys 0) is
+first_of_rest (x ∷ xs) (suc k) e es is = first_of_rest xs k e es is
 
 -- no entries are among none
 none_among : {X : Type 0} (x : X) → Contains [] x → ⊥
@@ -36,7 +43,7 @@ none_among x here = let at = place_of [] x here in none-some x at.1
 
 -- ---- the opening
 
-opened : Promises opening (record { taken = []; finished = [] })
+opened : Promises opening (record { made = []; taken = []; finished = [] })
 opened = record {
   takes = refl;
   within = omega arith;
@@ -147,8 +154,8 @@ module _ (s : State) (past : Past) (object : ℕ) (f : Finalizer) (p : Promises 
       (λ (x : (a ≢ object) × (get s.registrations a ≡ Some q)). let lt = p.below a q x.1 in omega (arith, lt))
       (cases_of a q here)
 
-  entered : Promises (with_registration s object f) past
-  entered = record {
+  remade : Promises (with_registration s object f) (record past { made = past.made ++ (object, f) ∷ [] })
+  remade = record {
     takes = p.takes;
     within = p.within;
     numbered = p.numbered;
@@ -343,6 +350,41 @@ module _ (s : State) (past : Past) (e : Entry) (p : Promises s past) (at : slice
           ⊎_elim (λ (a : Contains (e ∷ []) d). inl (only d a)) (λ (b : Contains (drop (s.taken + 1) s.queue) d). inr b)
           (Contains-append_cases (e ∷ []) (drop (s.taken + 1) s.queue) d (subst (λ es. Contains es d) waits here))
 
+-- ---- all entries that wait are taken, one after another
+
+abbrev nothing : List Entry
+nothing = []
+
+abbrev WithTaken : State → Past → ℕ → List Entry → List Entry → Type 0
+WithTaken s past n held taken_ones = Promises (record s { taken = n; held = held }) (record past { taken = taken_ones })
+
+with_taken : (s : State) (past : Past) (m n : ℕ) (xs ys us vs : List Entry) → m ≡ n → xs ≡ ys → us ≡ vs → WithTaken s past m xs us → WithTaken s past n ys vs
+with_taken s past m n xs ys us vs count held all p =
+    subst (λ k. WithTaken s past k ys vs) count (subst (λ es. WithTaken s past m es vs) held (subst (λ es. WithTaken s past m xs es) all p))
+
+taken_each : (s : State) (past : Past) (entries : List Entry) → Promises s past → drop s.taken s.queue ≡ entries → WithTaken s past (s.taken + length entries) (s.held ++ entries) (past.taken ++ entries)
+taken_each s past [] p wait = with_taken s past s.taken (s.taken + length nothing) s.held (s.held ++ []) past.taken (past.taken ++ []) (omega arith) (sym (append-nil s.held)) (sym (append-nil past.taken)) p
+taken_each s past (e ∷ es) p wait =
+    with_taken s past (s.taken + 1 + length es) (s.taken + length (e ∷ es)) ((s.held ++ e ∷ []) ++ es) (s.held ++ e ∷ es) ((past.taken ++ e ∷ []) ++ es) (past.taken ++ e ∷ es)
+    (omega arith) (append_assoc s.held (e ∷ []) es) (append_assoc past.taken (e ∷ []) es)
+    (taken_each (record s { taken = s.taken + 1; held = s.held ++ e ∷ [] }) (record past { taken = past.taken ++ e ∷ [] }) es (taken s past e p at) later)
+  where
+    at : slice_get s.queue s.taken ≡ Some e
+    at = first_of_rest s.queue s.taken e es wait
+
+    later : drop (s.taken + 1) s.queue ≡ es
+    later = ap (λ xs. drop 1 xs) (sym (next_waits s.queue s.taken e at) ∙ wait)
+
+taken_all : (s : State) (past : Past) → Promises s past → Promises (record s { taken = length s.queue; held = unfinished s }) (record past { taken = past.taken ++ waiting s })
+taken_all s past p = subst (λ n. Promises (record s { taken = n; held = unfinished s }) (record past { taken = past.taken ++ waiting s })) count (taken_each s past (waiting s) p refl)
+  where
+    count : s.taken + length (drop s.taken s.queue) ≡ length s.queue
+    count =
+        let parts = ap length (take-append-drop s.taken s.queue) in
+        let both = length-append (take s.taken s.queue) (drop s.taken s.queue) in
+        let size = length-take-le s.taken s.queue p.within in
+        omega (arith, parts, both, size)
+
 -- ---- an entry is finished
 
 -- what a test keeps stands among what is left
@@ -408,7 +450,7 @@ module _ (s : State) (past : Past) (e : Entry) (p : Promises s past) (here : lis
 -- ---- each event
 
 step : (old now : State) (past : Past) (event : Event) → Promises old past → Follows old event now → Promises now (with_event past event)
-step old now past (Register object finalizer) p does = subst (λ s. Promises s past) (sym does) (entered old past object finalizer p)
+step old now past (Register object finalizer) p does = subst (λ s. Promises s (record past { made = past.made ++ (object, finalizer) ∷ [] })) (sym does) (remade old past object finalizer p)
 step old now past (Unregister object) p does = subst (λ s. Promises s past) (sym does) (unregistered old past object p)
 step old now past (Link kind word target) p does = subst (λ s. Promises s past) (sym does) (linked old past kind _ p)
 step old now past (Unlink kind word) p does = subst (λ s. Promises s past) (sym does) (linked old past kind _ p)
@@ -420,6 +462,8 @@ step old now past QueueAll p does = come _ old now past p does.0
 step old now past (Take entry) p does = subst (λ s. Promises s (record past { taken = past.taken ++ entry ∷ [] })) (sym does.1) (taken old past entry p does.0)
 step old now past (TakeFinished entry) p does =
     subst (λ s. Promises s (record past { taken = past.taken ++ entry ∷ []; finished = past.finished ++ entry ∷ [] })) (sym does.1) (taken_finished old past entry p does.0)
+step old now past (TakeAll entries) p does =
+    subst (λ s. Promises s (record past { taken = past.taken ++ entries })) (sym does.1) (subst (λ es. Promises (record old { taken = length old.queue; held = unfinished old }) (record past { taken = past.taken ++ es })) (sym does.0) (taken_all old past p))
 step old now past (Finish entry) p does = subst (λ s. Promises s (record past { finished = past.finished ++ entry ∷ [] })) (sym does.1) (finished old past entry p does.0)
 
 pub promised : (s : State) (past : Past) → IsReached s past → Promises s past

@@ -1,5 +1,5 @@
 -- What the calls do, whatever the host does: each is an event, which leads from one state to another.
--- code: fz_finalizers/src/registrations.rt, links.rt, passes.rt, entries.rt, stepwise.rt
+-- code: fz_finalizers/src/registrations.rt, links.rt, passes.rt, entries.rt, stepwise.rt, whole.rt
 use Rattle.std.specs.Prelude.{◌≡◌, ◌≢◌, ℕ, ◌+◌, ◌-◌, ◌^◌, min, not, List, [], ◌++◌, ◌∷◌, filter, length, slice_get, Some, All, AllPairs, IsTrue}
 use Rattle.std.specs.FinMap.{get, insert, remove, empty}
 use Rattle.std.specs.FinSet as sets
@@ -17,7 +17,7 @@ use Rattle.fz_pass.specs.Picking.{pick_of, without_flags}
 use Rattle.fz_table.specs.Tabled.{with_flag}
 use Rattle.fz_finalizers.specs.declared.kinds.Finalizer.{Finalizer}
 use Rattle.fz_finalizers.specs.Kinds.{is_late, table_finalizer}
-use Rattle.fz_finalizers.specs.States.{State, is_held, links_of, with_links}
+use Rattle.fz_finalizers.specs.States.{State, is_held, links_of, unfinished, waiting, with_links}
 
 -- the number of the next pass; it never exceeds 2 ^ 64 - 1
 abbrev pub next_pass : ℕ → ℕ
@@ -55,6 +55,7 @@ pub data Event : Type 0 where
   QueueAll : Event
   Take : Entry → Event
   TakeFinished : Entry → Event
+  TakeAll : List Entry → Event
   Finish : Entry → Event
 
 -- the object is registered, in place of the registration that it may have
@@ -89,4 +90,5 @@ Follows old (Queue object) new = new ≡ queued_object old object
 Follows old QueueAll new = Queues 0 old new × (new.registrations ≡ empty) × (new.late ≡ sets.empty) × (new.short ≡ old.short) × (new.long ≡ old.long) × (new.passes ≡ old.passes)
 Follows old (Take entry) new = (slice_get old.queue old.taken ≡ Some entry) × (new ≡ record old { taken = old.taken + 1; held = old.held ++ entry ∷ [] })
 Follows old (TakeFinished entry) new = (slice_get old.queue old.taken ≡ Some entry) × (new ≡ record old { taken = old.taken + 1 })
+Follows old (TakeAll entries) new = (entries ≡ waiting old) × (new ≡ record old { taken = length old.queue; held = unfinished old })
 Follows old (Finish entry) new = IsTrue (is_held old.held entry) × (new ≡ record old { held = filter (λ h. not (same_entry entry h)) old.held })

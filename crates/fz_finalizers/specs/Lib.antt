@@ -8,3 +8,4 @@ pub mod Follows
 pub mod Passed
 pub mod Walks
 pub mod Promises
+pub mod Laws

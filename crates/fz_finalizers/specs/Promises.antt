@@ -4,13 +4,15 @@ use Rattle.std.specs.Prelude.{◌≡◌, ◌≢◌, ◌↔◌, ℕ, ◌<◌, ◌
 use Rattle.std.specs.FinMap.{get}
 use Rattle.fz_model.specs.declared.answers.Entry.{Entry}
 use Rattle.fz_model.specs.declared.answers.Registration.{Registration}
+use Rattle.fz_finalizers.specs.declared.kinds.Finalizer.{Finalizer}
 use Rattle.fz_finalizers.specs.declared.roots.Root.TheVariants.{HeldObject, HeldData}
-use Rattle.fz_finalizers.specs.States.{State, AreFlags, opening, unfinished}
-use Rattle.fz_finalizers.specs.Follows.{Event, Follows, Register, Unregister, Link, Unlink, Move, Pass, Begin, Queue, QueueAll, Take, TakeFinished, Finish}
+use Rattle.fz_finalizers.specs.States.{State, AreFlags, opening, unfinished, kind_at}
+use Rattle.fz_finalizers.specs.Follows.{Event, Follows, Register, Unregister, Link, Unlink, Move, Pass, Begin, Queue, QueueAll, Take, TakeFinished, TakeAll, Finish}
 use Rattle.fz_finalizers.specs.Walks.{YieldsRoots}
 
--- the taken entries, in the order of the takes, and the finished ones
+-- the registrations that were made, each an object and its finalizer; the taken entries; and the finished ones; each in order
 pub record Past : Type 0 where
+  pub made : List (ℕ × Finalizer)
   pub taken : List Entry
   pub finished : List Entry
 
@@ -18,11 +20,12 @@ pub record Past : Type 0 where
 abbrev pub with_event : Past → Event → Past
 with_event past (Take entry) = record past { taken = past.taken ++ entry ∷ [] }
 with_event past (TakeFinished entry) = record past { taken = past.taken ++ entry ∷ []; finished = past.finished ++ entry ∷ [] }
+with_event past (TakeAll entries) = record past { taken = past.taken ++ entries }
 with_event past (Finish entry) = record past { finished = past.finished ++ entry ∷ [] }
 with_event past Pass = past
 with_event past (Queue object) = past
 with_event past QueueAll = past
-with_event past (Register object finalizer) = past
+with_event past (Register object finalizer) = record past { made = past.made ++ (object, finalizer) ∷ [] }
 with_event past (Unregister object) = past
 with_event past (Link kind word target) = past
 with_event past (Unlink kind word) = past
@@ -31,7 +34,7 @@ with_event past Begin = past
 
 -- the states that calls reach, each with its history
 pub data IsReached : State → Past → Type 0 where
-  Opened : IsReached opening (record { taken = []; finished = [] })
+  Opened : IsReached opening (record { made = []; taken = []; finished = [] })
   Then : {old new : State} {past : Past} (event : Event) → IsReached old past → Follows old event new → IsReached new (with_event past event)
 
 pub record Promises (s : State) (past : Past) : Type 0 where
@@ -52,6 +55,13 @@ pub record Promises (s : State) (past : Past) : Type 0 where
   pub finished_taken : (e : Entry) → Contains past.finished e → Contains past.taken e
   -- so an entry that isn't finished waits or is held
   pub kept : (e : Entry) → Contains s.queue e → (Contains past.finished e → ⊥) → Contains (unfinished s) e
+
+-- a registration has the number of registrations that were made before it, and what was registered; and so has its entry
+pub record Records (s : State) (past : Past) : Type 0 where
+  pub numbers : s.next_number ≡ length past.made
+  pub registered : (object : ℕ) (r : Registration) → get s.registrations object ≡ Some r
+      → (f : Finalizer) × (slice_get past.made r.number ≡ Some (object, f)) × (kind_at s object ≡ Some f.kind) × (r.proc ≡ f.procedure) × (r.cd ≡ f.client_data) × (r.rank ≡ f.rank)
+  pub queued : (e : Entry) → Contains s.queue e → (f : Finalizer) × (slice_get past.made e.reg ≡ Some (e.obj, f)) × (e.proc ≡ f.procedure) × (e.cd ≡ f.client_data)
 
 -- the iterations over held objects and over their data contain every entry that was queued and isn't finished
 abbrev pub AreWalked : State → Past → Type 0

@@ -1,7 +1,7 @@
 -- The model of the queue: every entry ever queued; the held ones, which aren't finished, waiting or taken; from which number on it is in memory; how many
 -- entries are in memory; for how many more there is room; and the places of the held ones.
 -- code: fz_finalizers/src/queue.rt, stored.rt, past.rt, unfinished.rt
-use Rattle.std.specs.Prelude.{◌≡◌, ℕ, ◌+◌, ◌^◌, ◌<◌, ◌≤◌, ◌⊎◌, ◌++◌, ◌&&◌, nat_le, nat_lt, if◌then◌else◌, Bool, List, [], ◌∷◌, length, drop, slice_get, Option, None, Some, Contains, IsTrue, refl}
+use Rattle.std.specs.Prelude.{◌≡◌, ◌≢◌, ℕ, ◌+◌, ◌^◌, ◌<◌, ◌≤◌, ◌⊎◌, ◌++◌, ◌&&◌, nat_le, nat_lt, if◌then◌else◌, Bool, List, [], ◌∷◌, length, drop, slice_get, Option, None, Some, Contains, IsTrue, MatchOption, refl}
 use Rattle.std.specs.Coded.{Coded, code_by, coded×, coded_ℕ, coded_list, coded_option}
 use Rattle.std.specs.FinSet.{contains}
 use Rattle.fz_model.specs.declared.answers.Entry.{Entry}
@@ -48,6 +48,14 @@ pub record IsNextHeld (held : List Entry) (from : ℕ) (e : Entry) : Type 0 wher
   pub member : Contains held e
   pub after : from ≤ e.seq
   pub others : (d : Entry) → Contains held d → (d.seq < from) ⊎ ((d ≡ e) ⊎ (e.seq < d.seq))
+
+-- the entry with a number among these, or none if there is none
+abbrev pub IsFoundIn : List Entry → ℕ → Option Entry → Type 0
+IsFoundIn held number found = MatchOption found ((e : Entry) → Contains held e → e.seq ≢ number) (λ e. Contains held e × (e.seq ≡ number))
+
+-- the first of these from a number on, or none if there is none
+abbrev pub IsFirstHeldFrom : List Entry → ℕ → Option Entry → Type 0
+IsFirstHeldFrom held from found = MatchOption found ((e : Entry) → Contains held e → e.seq < from) (IsNextHeld held from)
 
 -- The rest is for proofs alone: which entries are in memory, and at which index.
 

@@ -60,6 +60,6 @@ abbrev pub QueuesTable : Content → Set → List Entry → List Entry → Type 
 QueuesTable old new_late queue new_queue = (q : QueuesAll (length queue) old.registrations (contains old.late) queue new_queue) × (new_late ≡ without_flags old.late q.picks)
 
 -- the entries that a pass decides on are appended to the queue
-abbrev pub Decides : Type 0 → ℕ → Set → Set → Parts → (ℕ → Bool) → Parts → List Entry → List Entry → Type 0
-Decides Exact pass late new_late parts found new_parts old new =
-    (d : DecidesFlagged Exact (contains late) pass (length old) parts found new_parts old new) × (new_late ≡ without_flags late d.picks)
+abbrev pub Decides : Type 0 → (ℕ → Option ℕ) → ℕ → Set → Set → Parts → (ℕ → Bool) → Parts → List Entry → List Entry → Type 0
+Decides Exact place pass late new_late parts found new_parts old new =
+    (d : DecidesFlagged Exact place (contains late) pass (length old) parts found new_parts old new) × (new_late ≡ without_flags late d.picks)

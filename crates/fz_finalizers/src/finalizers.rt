@@ -23,7 +23,7 @@ pub struct Finalizers {
     pub(crate) table: Table,
     pub(crate) short: Links,
     pub(crate) long: Links,
-    /// Empty, except while a link is moved: a move may put all links here temporarily.
+    /// Empty, except while a link is moved: a move may put half of the links here temporarily.
     pub(crate) moves: Vec<(Addr, Addr)>,
     pub(crate) ready: Ready,
     pub(crate) passes: u64,
@@ -44,7 +44,7 @@ impl Drop for Finalizers {
 }
 
 impl Model for Finalizers {
-    ghost use Rattle.std.specs.Prelude.{vec_capacity};
+    ghost use Rattle.std.specs.Prelude.{◌*◌, vec_capacity};
     ghost use Rattle.fz_finalizers.specs.States.{View, view_code};
     ghost use Rattle.fz_finalizers.specs.Fits.{Fits, HasMoves, state_of, rooms_of, order_of};
 
@@ -54,12 +54,12 @@ impl Model for Finalizers {
 
     ghost view = { λ f. record {
       state = state_of f.table.content f.short f.long f.ready f.passes;
-      rooms = rooms_of f.table f.short f.long f.ready (vec_capacity f.moves);
+      rooms = rooms_of f.table f.short f.long f.ready (2 * vec_capacity f.moves);
       order = order_of f.table f.short f.long f.ready;
       memory = f.ready.memory;
     } };
 
-    ghost invariant = { λ f. Fits f.table.content f.ready × HasMoves f.short f.long f.moves.items (vec_capacity f.moves) };
+    ghost invariant = { λ f. Fits f.table.content f.ready × HasMoves f.short f.long f.moves.items (2 * vec_capacity f.moves) };
 }
 
 impl Finalizers {

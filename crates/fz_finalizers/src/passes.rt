@@ -10,6 +10,7 @@ ghost use Rattle.fz_finalizers.specs.Passed.{DecidesFor};
 ghost use Rattle.fz_finalizers.specs.States.{HasRooms, IsRoomier, KeepsWindow, limited};
 
 use crate::finalizers::Finalizers;
+use crate::linking::reserve_moves;
 use crate::refused::Refused;
 use fz_pass::Host;
 use fz_table::MOST_ENTRIES;
@@ -56,9 +57,8 @@ impl Finalizers {
             .reserve(more_short)
             .map_err(|_| Refused::NoMemory)?;
         self.long.reserve(more_long).map_err(|_| Refused::NoMemory)?;
-        self.moves.reserve(self.short.len() + more_short)?;
-        self.moves.reserve(self.long.len() + more_long)?;
-        Ok(())
+        reserve_moves(&mut self.moves, self.short.len() + more_short)?;
+        reserve_moves(&mut self.moves, self.long.len() + more_long)
     }
 
     /// Carries out a pass over the host's heap. Requires that its marking is complete. The host may reclaim what is unmarked afterwards. Takes time
@@ -67,7 +67,7 @@ impl Finalizers {
     /// First the words of short links to unmarked objects are cleared. Then an unmarked registered object is queued if no path leads to it from an unmarked
     /// registered object, not even from the object itself; `Kind` says which paths count. If the host marks more than it is asked to mark, only some of these
     /// are queued. All that unmarked registered objects reach is marked, and they are too. Then the words of long links to objects that are still unmarked are
-    /// cleared. Links that were cleared, and links whose words don't lie in a marked object, are removed.
+    /// cleared. Links that were cleared, and links that denote a word which doesn't lie in a marked object, are removed.
     ///
     /// The host has to ensure that registered objects and the targets of links are its objects.
     pub fn pass<H: Host>(&mut self, host: &mut H) -> Passed
@@ -77,7 +77,7 @@ impl Finalizers {
         // A cleared word points to nothing.
         requires zero { points (H.objects host.old) 0 ≡ None }
         requires closed { IsClosed (H.objects host.old) (H.marked host.old) }
-        ensures decided { DecidesFor H.is_exact (next_pass self.old.passes) self.old.state (H.objects host.old) (H.marked host.old) self.new.state (H.objects host.new) (H.marked host.new) }
+        ensures decided { DecidesFor H.is_exact H.place (next_pass self.old.passes) self.old.state (H.objects host.old) (H.marked host.old) self.new.state (H.objects host.new) (H.marked host.new) }
         ensures follows { Follows self.old.state Pass self.new.state }
         ensures pass { result.pass ≡ next_pass self.old.passes }
         ensures picked { length self.new.queue ≡ length self.old.queue + result.picked }

@@ -1,6 +1,6 @@
 //! The queue of finalizers, and which of its entries aren't finished.
 
-ghost use Rattle.std.specs.Prelude.{◌≡◌, ◌≢◌, ◌≤◌, ◌<◌, ◌+◌, ◌*◌, ◌^◌, ◌⊎◌, [], ◌∷◌, ◌||◌, min, not, ℕ, Bool, None, drop, filter, length, slice_get, Contains, vec_len, vec_capacity, IsTrue, OnOk, OnErr, IfOk, IfErr, IfSome, MatchOption};
+ghost use Rattle.std.specs.Prelude.{◌≡◌, ◌≤◌, ◌<◌, ◌+◌, ◌*◌, ◌^◌, ◌⊎◌, [], ◌∷◌, ◌||◌, min, not, ℕ, Bool, None, drop, filter, length, slice_get, vec_len, vec_capacity, IsTrue, OnOk, OnErr, IfOk, IfErr, IfSome};
 ghost use Rattle.std.specs.FinSet.{contains};
 ghost use Rattle.std.specs.FinMap.{len, empty};
 ghost use Rattle.std.specs.List.{list_any};
@@ -13,7 +13,7 @@ ghost use Rattle.fz_pass.specs.Marks.{IsClosed, AreRegistered, AreTargets};
 ghost use Rattle.fz_pass.specs.Decides.{parts_of, parts_left};
 ghost use Rattle.fz_pass.specs.Flagged.{AreNormal};
 ghost use Rattle.fz_finalizers.specs.Ready.{Decides, QueuesTable};
-ghost use Rattle.fz_finalizers.specs.Queue.{Gains, GainsPicks, AreOpenFrom, IsNextHeld};
+ghost use Rattle.fz_finalizers.specs.Queue.{Gains, GainsPicks, AreOpenFrom, IsFoundIn, IsFirstHeldFrom};
 ghost use Rattle.fz_finalizers.specs.Walks.{somes};
 
 use crate::past::Past;
@@ -65,6 +65,8 @@ impl Model for Queue {
 }
 
 /// Reserves room for `more` entries at the end of a queue. Returns how many the queue may have then.
+///
+/// If it allocates, the room grows by another eighth of all these entries, and by no more: most of it is empty, so growing it copies little.
 fn reserve(queue: &mut Vec<Entry>, more: usize) -> Result<u64, Refused>
     requires { more ≤ 2 ^ 50 }
     ensures refused { IfErr result (λ r. r ≡ Refused.NoMemory) }
@@ -75,7 +77,9 @@ fn reserve(queue: &mut Vec<Entry>, more: usize) -> Result<u64, Refused>
     ensures capacity { vec_capacity queue.old ≤ vec_capacity queue.new }
     ensures fits { IfOk result (λ entries. entries + 64 ≤ 2 ^ 64) }
 {
-    queue.reserve(more)?;
+    if more > queue.capacity() - queue.len() {
+        queue.reserve_exact(more + (queue.len() + more) / 8)?;
+    }
     Ok((queue.len() + more) as u64)
 }
 
@@ -143,7 +147,7 @@ impl Queue {
     /// The first held entry whose number is at least `from`.
     #[inline(always)]
     pub(crate) fn next_held(&self, from: u64) -> Option<Entry>
-        ensures next { MatchOption result ((e : Entry) → Contains self.now.held e → e.seq < from) (IsNextHeld self.now.held from) }
+        ensures next { IsFirstHeldFrom self.now.held from result }
         ensures within { IfSome result (λ e. e.seq < length self.now.queue) }
     {
         let place = place_of(&self.entries, self.kept, self.first, from);
@@ -154,7 +158,7 @@ impl Queue {
     /// The entry with a number, if it was queued and isn't both finished and forgotten.
     pub(crate) fn find(&self, number: u64) -> Option<Entry>
         ensures shown { self.now.forgotten ≤ number → result ≡ slice_get self.now.queue number }
-        ensures kept { number < self.now.forgotten → MatchOption result ((e : Entry) → Contains self.now.held e → e.seq ≢ number) (λ e. Contains self.now.held e × (e.seq ≡ number)) }
+        ensures kept { number < self.now.forgotten → IsFoundIn self.now.held number result }
     {
         if number >= self.first {
             return self.entry(number);
@@ -182,7 +186,7 @@ impl Queue {
         self.entries.capacity() - self.entries.len()
     }
 
-    /// Reserves room for further entries. Fails with `NoMemory` if an allocation fails.
+    /// Reserves room for further entries, and if it allocates, for an eighth more. Fails with `NoMemory` if an allocation fails.
     pub(crate) fn reserve(&mut self, more: usize) -> Result<(), Refused>
         requires { more ≤ 2 ^ 50 }
         ensures refused { IfErr result (λ r. r ≡ Refused.NoMemory) }
@@ -217,7 +221,7 @@ impl Queue {
         requires list { len table.old.registrations ≤ list.old.room }
         requires room { len table.old.registrations ≤ self.old.room }
         requires numbers { length self.old.queue + len table.old.registrations < 2 ^ 64 }
-        ensures decided { Decides H.is_exact number table.old.late table.new.late
+        ensures decided { Decides H.is_exact H.place number table.old.late table.new.late
             (parts_of (H.objects host.old) table.old short.old long.old) (H.marked host.old)
             (parts_left (H.objects host.new) (H.marked host.new) table.new short.new long.new)
             self.old.queue self.new.queue }

@@ -1,6 +1,6 @@
 //! The entries, and the room reserved for further ones.
 
-ghost use Rattle.std.specs.Prelude.{◌≡◌, ◌≤◌, ◌≢◌, ◌<◌, ◌+◌, ◌*◌, ◌^◌, ◌⊎◌, [], ◌∷◌, ◌++◌, ℕ, None, true, false, length, drop, filter, slice_get, min, not, Contains, IfOk, IfErr, IfSome, MatchOption, OnOk, OnErr, IsTrue};
+ghost use Rattle.std.specs.Prelude.{◌≡◌, ◌≤◌, ◌<◌, ◌+◌, ◌*◌, ◌^◌, ◌⊎◌, [], ◌∷◌, ◌++◌, ℕ, None, true, false, length, drop, filter, slice_get, min, not, IfOk, IfErr, IfSome, OnOk, OnErr, IsTrue};
 ghost use Rattle.std.specs.FinMap.{len, empty};
 ghost use Rattle.std.specs.FinSet.{contains};
 ghost use Rattle.fz_model.specs.Events.{same_entry};
@@ -12,7 +12,7 @@ ghost use Rattle.fz_pass.specs.Marks.{IsClosed, AreRegistered, AreTargets};
 ghost use Rattle.fz_pass.specs.Decides.{parts_of, parts_left};
 ghost use Rattle.fz_pass.specs.Flagged.{AreNormal};
 ghost use Rattle.fz_finalizers.specs.Ready.{Decides, HasSameEntries, QueuesTable, Takes, TakesFinished};
-ghost use Rattle.fz_finalizers.specs.Queue.{IsNextHeld};
+ghost use Rattle.fz_finalizers.specs.Queue.{IsFoundIn, IsFirstHeldFrom};
 ghost use Rattle.fz_finalizers.specs.States.{KeepsWindow, is_held};
 ghost use Rattle.fz_model.specs.declared.answers.Entry.{Entry};
 ghost use Rattle.fz_finalizers.specs.Walks.{somes};
@@ -208,7 +208,7 @@ impl Ready {
         requires closed { IsClosed (H.objects host.old) (H.marked host.old) }
         requires room { len table.old.registrations ≤ self.old.room }
         requires numbers { length self.old.queue + len table.old.registrations < 2 ^ 64 }
-        ensures decided { Decides H.is_exact number table.old.late table.new.late
+        ensures decided { Decides H.is_exact H.place number table.old.late table.new.late
             (parts_of (H.objects host.old) table.old short.old long.old) (H.marked host.old)
             (parts_left (H.objects host.new) (H.marked host.new) table.new short.new long.new)
             self.old.queue self.new.queue }
@@ -303,7 +303,7 @@ impl Ready {
     /// The entry with a number, if it was queued and isn't both finished and forgotten.
     pub(crate) fn find(&self, number: u64) -> Option<Entry>
         ensures shown { self.now.memory.forgotten ≤ number → result ≡ slice_get self.now.queue number }
-        ensures kept { number < self.now.memory.forgotten → MatchOption result ((e : Entry) → Contains (self.now.held ++ drop self.now.taken self.now.queue) e → e.seq ≢ number) (λ e. Contains (self.now.held ++ drop self.now.taken self.now.queue) e × (e.seq ≡ number)) }
+        ensures kept { number < self.now.memory.forgotten → IsFoundIn (self.now.held ++ drop self.now.taken self.now.queue) number result }
     {
         self.queue.find(number)
     }
@@ -311,7 +311,7 @@ impl Ready {
     /// The first unfinished entry whose number is at least `from`.
     #[inline(always)]
     pub(crate) fn next_unfinished(&self, from: u64) -> Option<Entry>
-        ensures next { MatchOption result ((e : Entry) → Contains (self.now.held ++ drop self.now.taken self.now.queue) e → e.seq < from) (IsNextHeld (self.now.held ++ drop self.now.taken self.now.queue) from) }
+        ensures next { IsFirstHeldFrom (self.now.held ++ drop self.now.taken self.now.queue) from result }
         ensures within { IfSome result (λ e. e.seq < length self.now.queue) }
     {
         self.queue.next_held(from)

@@ -16,7 +16,7 @@ impl Finalizers {
         self.short.shrink();
         self.long.shrink();
         let links = self.short.len().max(self.long.len());
-        self.moves.shrink_to(links);
+        self.moves.shrink_to(links.div_ceil(2));
         self.ready.shrink(self.table.len());
     }
 }

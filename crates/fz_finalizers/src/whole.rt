@@ -1,9 +1,10 @@
 //! Finalizers whose host takes all entries of a pass at once, and says when finished ones are forgotten.
 
-ghost use Rattle.std.specs.Prelude.{◌≡◌, ◌≢◌, ◌≤◌, ◌<◌, ◌+◌, ◌*◌, ◌⊎◌, true, drop, length, slice_get, Contains, IfOk, IfErr, IfSome, MatchOption};
+ghost use Rattle.std.specs.Prelude.{◌≡◌, ◌≤◌, ◌<◌, ◌+◌, ◌*◌, ◌⊎◌, true, drop, length, slice_get, IfOk, IfErr, IfSome};
 ghost use Rattle.fz_model.specs.declared.answers.Entry.{Entry};
 ghost use Rattle.fz_model.specs.declared.limits.TheConstants.{COUNT_LIMIT};
-ghost use Rattle.fz_finalizers.specs.Queue.{IsNextHeld};
+ghost use Rattle.fz_finalizers.specs.Follows.{Follows, TakeAll};
+ghost use Rattle.fz_finalizers.specs.Queue.{IsFoundIn, IsFirstHeldFrom};
 ghost use Rattle.fz_finalizers.specs.States.{opening, unfinished, waiting};
 
 use crate::finalizers::Finalizers;
@@ -25,7 +26,7 @@ impl Finalizers {
 
     /// Takes all entries that wait, and returns their number. They are held until they are finished.
     pub fn take_all(&mut self) -> u64
-        ensures taken { self.new.state ≡ record self.old.state { taken = length self.old.queue; held = unfinished self.old.state } }
+        ensures follows { Follows self.old.state (TakeAll (waiting self.old.state)) self.new.state }
         ensures count { result ≡ length (waiting self.old.state) }
         ensures memory { self.new.memory ≡ self.old.memory }
     {
@@ -56,7 +57,7 @@ impl Finalizers {
     /// The entry with this number, if it was queued and isn't both finished and forgotten.
     pub fn entry(&self, number: u64) -> Option<Entry>
         ensures shown { self.now.memory.forgotten ≤ number → result ≡ slice_get self.now.queue number }
-        ensures kept { number < self.now.memory.forgotten → MatchOption result ((e : Entry) → Contains (unfinished self.now.state) e → e.seq ≢ number) (λ e. Contains (unfinished self.now.state) e × (e.seq ≡ number)) }
+        ensures kept { number < self.now.memory.forgotten → IsFoundIn (unfinished self.now.state) number result }
     {
         self.ready.find(number)
     }
@@ -64,7 +65,7 @@ impl Finalizers {
     /// The first unfinished entry with a number of at least `from`.
     #[inline(always)]
     pub fn next_unfinished(&self, from: u64) -> Option<Entry>
-        ensures next { MatchOption result ((e : Entry) → Contains (unfinished self.now.state) e → e.seq < from) (IsNextHeld (unfinished self.now.state) from) }
+        ensures next { IsFirstHeldFrom (unfinished self.now.state) from result }
         ensures within { IfSome result (λ e. e.seq < length self.now.queue) }
         ensures few { length self.now.queue ≤ COUNT_LIMIT }
     {

@@ -6,3 +6,4 @@ pub mod Steps
 pub mod Passes
 pub mod Draining
 pub mod Seats
+pub mod Telling

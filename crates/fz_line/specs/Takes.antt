@@ -25,6 +25,17 @@ GainsEntry seat duty = (duty.seat ≡ record seat { took = seat.took ++ duty.ent
 abbrev pub Gives : Steal answers.Entry → SeatState → SeatState → Type 0
 Gives r old seat = MatchSteal r (seat ≡ old) (seat ≡ old) (λ x. GainsEntry old (record { seat = seat; entry = x }))
 
+-- each result of a steal is returned as the matching result of a take
+abbrev pub IsReplyTo : Steal answers.Entry → Take → Type 0
+IsReplyTo (steal.Success entry) (Taken duty) = duty.entry ≡ entry
+IsReplyTo steal.Empty (Empty seat) = Unit {0}
+IsReplyTo steal.Retry (Busy seat) = Unit {0}
+IsReplyTo _ _ = ⊥
+
+-- the take says what one steal returned
+abbrev pub Tells : (Steal answers.Entry → Type 0) → Take → Type 0
+Tells replies taken = (stolen : Steal answers.Entry) × replies stolen × IsReplyTo stolen taken
+
 -- ---- means only
 
 -- if the steal returned an entry, the seat's list has one entry more than it finished and forfeited

@@ -1,7 +1,7 @@
 //! Seats: consumers that take entries from the line.
 
 ghost use Rattle.std.specs.Prelude.{◌≡◌, ◌+◌, length};
-ghost use Rattle.fz_line.specs.Takes.{MatchTake, GainsEntry, FitsSteal, AnswersSteal};
+ghost use Rattle.fz_line.specs.Takes.{MatchTake, GainsEntry, Tells, FitsSteal, AnswersSteal};
 
 use crate::duty::Duty;
 use crate::taker::{Deque, Front, Taker};
@@ -60,7 +60,8 @@ impl Seat {
 
     /// Takes from this front of the line, by one steal.
     pub fn take_from<F: Front>(self, front: &mut F) -> Take
-        ensures { MatchTake result (GainsEntry self) (λ seat. seat ≡ self) }
+        ensures taken { MatchTake result (GainsEntry self) (λ seat. seat ≡ self) }
+        ensures told { Tells (λ stolen. F.replies front.old stolen front.new) result }
     {
         let Seat { mut taker } = self;
         let stolen = front.steal(&mut taker);

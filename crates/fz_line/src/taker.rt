@@ -1,5 +1,8 @@
 //! What a seat and a duty have in common, and the front of the line from which they take.
 
+ghost use Rattle.std.specs.Prelude.{⊤};
+ghost use Rattle.crossbeam_deque.specs.declared.steal.Steal.{Steal};
+ghost use Rattle.fz_model.specs.declared.answers.Entry as answers;
 ghost use Rattle.fz_line.specs.Takes.{Gives};
 
 use crate::protocol::{LinePass, LineStealer, Taking};
@@ -32,16 +35,23 @@ impl Model for Taker {
 /// The front of a line, from which a take steals. In the product it is `Deque`. A test substitutes one that returns what the test chooses, since no test can
 /// force a deque to return `Retry`.
 pub trait Front {
+    /// What a steal may return, and the state in which it may leave the front.
+    ghost replies: { Self → Steal answers.Entry → Self → Type 0 };
+
     /// One attempt to take the first entry of the line.
     fn steal(&mut self, taker: &mut Taker) -> Steal<Entry>
-        ensures { Gives result taker.old taker.new };
+        ensures given { Gives result taker.old taker.new }
+        ensures reply { replies self.old result self.new };
 }
 
 /// The front of the line itself: one steal from its deque, lock-free and without waiting.
 #[derive(Clone, Copy)]
 pub struct Deque;
 
+// Contracts know nothing about which of its results a deque's steal returns.
 impl Front for Deque {
+    ghost replies = { λ _ _ _. ⊤ };
+
     fn steal(&mut self, taker: &mut Taker) -> Steal<Entry> {
         taker.stealer.steal_as::<Taking>(&mut taker.pass)
     }

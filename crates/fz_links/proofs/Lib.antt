@@ -1,3 +1,4 @@
 pub mod Moved
 pub mod Dropping
+pub mod Halves
 pub mod PartlyBack

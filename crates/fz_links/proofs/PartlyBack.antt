@@ -1,11 +1,11 @@
--- A table that is built anew from the list of its links, but for one, from the last to the first.
+-- A table that is built anew: the links of a list come to it, but for one, from the last to the first.
 use Rattle.std.proofs.Common.{◌≡◌, ◌≢◌, ◌↔◌, ◌≤◌, ◌<◌, ℕ, ◌+◌, Bool, true, true≢false, cond, is_some, List, [], ◌∷◌, ◌++◌, length, Option, Some, None, Result, Ok, Err, IsOk, OnOk, nat_eq, nat_cmp, refl, sym, ap, ◌∙◌, ⊎_elim, append_assoc, arith}
 use Rattle.std.proofs.lemmas.Bool.{cases_eq}
-use Rattle.std.proofs.lemmas.List.{length-append, append-nil}
+use Rattle.std.proofs.lemmas.List.{length-append}
 use Rattle.std.specs.Map.{lookup}
 use Rattle.std.specs.Option.{IsSome}
 use Rattle.std.specs.Cmp.{nat_cmp_total}
-use Rattle.std.specs.FinMap.{get, insert, remove, empty, from_entries, get-empty, same_map, nat_cmp-IsAntisymmetric}
+use Rattle.std.specs.FinMap.{get, insert, remove, from_entries, same_map, nat_cmp-IsAntisymmetric}
 use Rattle.fz_model.specs.State.{Map}
 use Rattle.fz_model.proofs.Tables.{made_inserted}
 use Rattle.fz_model.proofs.Maps.{get-insert_same, get-insert_other, get-remove_same, get-remove_other}
@@ -25,11 +25,12 @@ pub record IsPartlyBack (one more : ℕ) (all left back : List (ℕ × ℕ)) (sp
   pub made : from_entries {R = nat_cmp} back ≡ remove (from_entries last) one
   pub room : length left + one_in one last + more ≤ spare
 
-none_removed : (k : ℕ) → empty ≡ remove (empty {K = ℕ} {X = ℕ} {R = nat_cmp}) k
-none_removed k = same_map nat_cmp_total nat_cmp-IsAntisymmetric _ _ (λ q. get-empty nat_cmp q ∙ sym (⊎_elim (at_key q) (λ (ne : q ≢ k). get-remove_other empty k q ne ∙ get-empty nat_cmp q) (cases_eq q k)))
+-- nothing goes where there is none
+absent_removed : (m : Map ℕ) (k : ℕ) → get m k ≡ None → m ≡ remove m k
+absent_removed m k none = same_map nat_cmp_total nat_cmp-IsAntisymmetric _ _ (λ q. sym (⊎_elim (at_key q) (λ (ne : q ≢ k). get-remove_other m k q ne) (cases_eq q k)))
   where
-    at_key : (q : ℕ) → q ≡ k → get (remove (empty {K = ℕ} {X = ℕ} {R = nat_cmp}) k) q ≡ None
-    at_key q is = ap (get (remove (empty {K = ℕ} {X = ℕ} {R = nat_cmp}) k)) is ∙ get-remove_same empty k
+    at_key : (q : ℕ) → q ≡ k → get (remove m k) q ≡ get m q
+    at_key q is = ap (get (remove m k)) is ∙ get-remove_same m k ∙ sym (ap (get m) is ∙ none)
 
 again_removed : (m : Map ℕ) (k x : ℕ) → remove m k ≡ remove (insert m k x) k
 again_removed m k x = same_map nat_cmp_total nat_cmp-IsAntisymmetric _ _ (λ q. ⊎_elim (at_key q) (elsewhere q) (cases_eq q k))
@@ -53,15 +54,16 @@ pub none_left : (left : List (ℕ × ℕ)) (len : ℕ) (popped : Option (ℕ × 
 none_left [] len popped none is some = refl
 none_left (e ∷ left) len popped none is some = absurd (true≢false (sym (some.1 (omega (arith, is))) ∙ ap is_some none))
 
-module _ (one more : ℕ) (all : List (ℕ × ℕ)) where
-  pub none_back : (back : List (ℕ × ℕ)) (spare : ℕ) → back ≡ [] → length all + more ≤ spare → IsPartlyBack one more all all back spare
-  none_back back spare is room = record {
-    last = [];
-    apart = sym (append-nil all);
-    made = ap (from_entries {R = nat_cmp}) is ∙ none_removed one;
-    room = let none = ap (λ (o : Option ℕ). one_if (is_some o)) (get-empty {X = ℕ} nat_cmp one) in omega (arith, none, room);
-  }
+-- at first the table has links that aren't listed, and not the one
+pub all_to_come : (one more : ℕ) (list table : List (ℕ × ℕ)) (spare : ℕ) → get (from_entries {R = nat_cmp} table) one ≡ None → length list + more ≤ spare → IsPartlyBack one more (list ++ table) list table spare
+all_to_come one more list table spare none room = record {
+  last = table;
+  apart = refl;
+  made = absent_removed (from_entries table) one none;
+  room = let free = ap (λ (o : Option ℕ). one_if (is_some o)) none in omega (arith, free, room);
+}
 
+module _ (one more : ℕ) (all : List (ℕ × ℕ)) where
   -- the one is passed
   pub one_passed : (front back : List (ℕ × ℕ)) (target spare : ℕ) → IsPartlyBack one more all (front ++ (one, target) ∷ []) back spare → IsPartlyBack one more all front back spare
   one_passed front back target spare was = record {

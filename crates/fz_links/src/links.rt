@@ -1,6 +1,6 @@
 //! The disappearing links of one kind.
 
-ghost use Rattle.std.specs.Prelude.{◌≡◌, ◌≤◌, ◌<◌, ◌+◌, ◌↔◌, ℕ, Bool, [], ◌∷◌, nat_eq, if◌then◌else◌, length, vec_capacity, min, ◌^◌, IsTrue, IsFalse, IsSome, None, IfOk, IfErr, OnOk, OnErr};
+ghost use Rattle.std.specs.Prelude.{◌≡◌, ◌≤◌, ◌<◌, ◌+◌, ◌*◌, ◌↔◌, ℕ, Bool, [], ◌∷◌, nat_eq, if◌then◌else◌, length, vec_capacity, min, ◌^◌, IsTrue, IsFalse, IsSome, None, IfOk, IfErr, OnOk, OnErr};
 ghost use Rattle.std.specs.FinMap.{get, insert, remove, len, empty, contains_key, from_entries};
 ghost use Rattle.std.specs.List.{IsDistinct};
 ghost use Rattle.std.specs.Map.{keys_of};
@@ -11,7 +11,7 @@ ghost use Rattle.fz_table.specs.Places.{lacks_place};
 ghost use Rattle.indexmap.specs.IndexMap.{spare, IsUnique};
 ghost use Rattle.fz_links.specs.Dropped.{ComputesTest, without};
 
-use crate::anew::{insert_but, list_all};
+use crate::anew::{insert_but, list_from, put_last};
 use fz_model::{Addr, LinkAnswer, MoveAnswer, Refusal, TABLE_LIMIT};
 use fz_table::{AddressHasher, MOST_ENTRIES, Pairs};
 use indexmap::IndexMap;
@@ -197,11 +197,11 @@ impl Links {
 
     /// Moves a link to another word, as `move_link` does, but takes no memory.
     ///
-    /// The list is empty before and after, and has room for every link. If the places reserved for moves are used up, all links are moved to the list, and
-    /// the table is rebuilt in the memory that it has. This frees the places again, so n moves of n links take time proportional to n.
+    /// The list is empty before and after, and has room for half of the links. If the places reserved for moves are used up, half of the links are moved to
+    /// the list, and the table is rebuilt in the memory that it has. This frees the places again, so n moves of n links take time proportional to n.
     pub fn move_within(&mut self, link: Addr, new: Addr, list: &mut Vec<(Addr, Addr)>) -> MoveAnswer
         requires empty { list.old.items ≡ [] }
-        requires list { len self.old.links ≤ vec_capacity list.old }
+        requires list { len self.old.links ≤ 2 * vec_capacity list.old }
         ensures answer { result ≡ move_answer self.old.links link new }
         ensures moved { self.new.links ≡ moved_to self.old.links link new (get self.old.links link) }
         // Only a new link uses reserved room.
@@ -227,7 +227,7 @@ impl Links {
     fn remove_for_another(&mut self, link: Addr, list: &mut Vec<(Addr, Addr)>)
         requires known { IsSome (get self.old.links link) }
         requires empty { list.old.items ≡ [] }
-        requires list { len self.old.links ≤ vec_capacity list.old }
+        requires list { len self.old.links ≤ 2 * vec_capacity list.old }
         ensures removed { self.new.links ≡ remove self.old.links link }
         ensures room { self.new.room ≡ self.old.room + 1 }
         ensures place { (other : ℕ) → IsFalse (lacks_place self.new.links other) }
@@ -239,8 +239,11 @@ impl Links {
             self.room = room_within(&self.entries, self.room.saturating_add(1));
             return;
         }
-        list_all(&self.entries, list);
-        self.entries.clear();
+        // A table that loses half of its links at once has all places again, also those that removed links left behind.
+        let half = self.entries.len() / 2;
+        put_last(&mut self.entries, link);
+        list_from(&self.entries, half, list);
+        self.entries.truncate(half);
         insert_but(&mut self.entries, list, link);
         self.room = room_within(&self.entries, self.room.saturating_add(1));
     }

@@ -1,5 +1,5 @@
 -- A host that answers for a graph is asked only what it may be asked.
-use Rattle.std.proofs.Common.{◌≡◌, ◌⊎◌, ◌∷◌, ◌∙◌, [], ℕ, false, List, Some, refl, sym, ap, subst, inl, inr, not, IsTrue}
+use Rattle.std.proofs.Common.{◌≡◌, ◌⊎◌, ◌∷◌, ◌∙◌, [], ℕ, false, List, Some, refl, sym, ap, subst, inl, inr, not, IsTrue, Option}
 use Rattle.std.specs.FinMap.{get}
 use Rattle.fz_model.specs.declared.answers.Registration.{Registration}
 use Rattle.fz_model.specs.declared.kinds.RegKind.{RegKind}
@@ -27,6 +27,7 @@ use Rattle.fz_machine.proofs.Phased.{IsIn, LeadsOn, PicksLate, PicksOn, clear}
 use Rattle.fz_machine.proofs.Phasing.{kept_on}
 use Rattle.fz_machine.proofs.Choosing as choosing
 use Rattle.fz_machine.proofs.Ran.{where_it_is}
+use Rattle.fz_machine.proofs.Working.{apart}
 
 child_may : (k : Kind) (o : ℕ) (h : Graph) → CanMark h o → MayBeAsked (child_ask k) o h
 child_may Normal o h can = can
@@ -34,9 +35,9 @@ child_may IgnoreSelf o h can = can
 child_may NoOrder o h can = tt
 child_may Unreachable o h can = can
 
-module _ (E : Type 0) (b : State) (before : Graph) (begin : HasBegun b before) where
+module _ (E : Type 0) (word_of : ℕ → Option ℕ) (b : State) (before : Graph) (begin : HasBegun word_of b before) where
   abbrev clearly : Map Object
-  clearly = clear E b before
+  clearly = clear E word_of b before
 
   alone_may : (o : ℕ) (h : Graph) (kind : RegKind) → (kind ≡ table.Normal) ⊎ (kind ≡ table.IgnoreSelf) → h.objects ≡ clearly → CanMark h o → ((a : ℕ) → IsLeading clearly o kind a → IsTrue (h.marked a)) → MayAsk MarkAlone o h
   alone_may o h kind is objects can led = (can, subst (λ (m : Map Object). IsLastToMark m h.marked o) (sym objects) (last_to_mark E clearly h.marked o kind is led))
@@ -46,37 +47,37 @@ module _ (E : Type 0) (b : State) (before : Graph) (begin : HasBegun b before) w
   pick_may o h table.IgnoreSelf objects can led = alone_may o h table.IgnoreSelf (inr refl) objects can led
   pick_may o h table.NoOrder objects can led = can
 
-  children_may : (s : State) (kept left : List Item) (item : Item) (h : Graph) → LeadsOn E b before s kept (item ∷ left) h → MayBeAsked (child_ask item.kind) item.object h
+  children_may : (s : State) (kept left : List Item) (item : Item) (h : Graph) → LeadsOn E word_of b before s kept (item ∷ left) h → MayBeAsked (child_ask item.kind) item.object h
   children_may s kept left item h p = by p.left_are.0.0
     where
       may_mark : (r : Registration) → get b.registrations item.object ≡ Some r → MayBeAsked (child_ask item.kind) item.object h
-      may_mark r here = child_may item.kind item.object h (can_mark E clearly b.registrations b.late before.marked (registered E b before begin) (normal E b before begin) item left h h p.are p.left_are.0.1 r here)
+      may_mark r here = child_may item.kind item.object h (can_mark E word_of clearly b.registrations b.late before.marked (registered E word_of b before begin) (normal E word_of b before begin) item left h h p.are p.left_are.0.1 r here)
 
       by : IsOfEither b.registrations b.late item → MayBeAsked (child_ask item.kind) item.object h
       by (inl other) = may_mark other.0 other.1
       by (inr late) = may_mark late.0 late.1
 
-  picks_may : (s : State) (kept left : List Item) (item : Item) (h : Graph) → PicksOn E b before s kept (item ∷ left) h → MayBeAsked (pick_ask item.kind) item.object h
+  picks_may : (s : State) (kept left : List Item) (item : Item) (h : Graph) → PicksOn E word_of b before s kept (item ∷ left) h → MayBeAsked (pick_ask item.kind) item.object h
   picks_may s kept left item h p = by p.left_are.0.0
     where
       by : IsOfEither b.registrations b.late item → MayBeAsked (pick_ask item.kind) item.object h
       by (inl (r, here, off, is)) =
           subst (λ (k : Kind). MayBeAsked (pick_ask k) item.object h) (sym (ap (λ (i : Item). i.kind) is))
           (pick_may item.object h r.kind p.are.objects
-          (choosing.can_mark E clearly item.object h h p.are.objects p.are.closed (registered E b before begin item.object r here))
-          (λ a leads. p.are.least a (others_led E b before begin p.leading item.object r here (ap not p.left_are.0.1) a leads)))
+          (choosing.can_mark E word_of clearly item.object h h p.are.objects p.are.closed (registered E word_of b before begin item.object r here))
+          (λ a leads. p.are.least a (others_led E word_of b before begin p.leading item.object r here (ap not p.left_are.0.1) a leads)))
       by (inr late) = subst (λ (k : Kind). MayBeAsked (pick_ask k) item.object h) (sym (ap (λ (i : Item). i.kind) late.3)) tt
 
-  late_may : (s : State) (left : List Item) (item : Item) (h : Graph) → PicksLate E b before s (item ∷ left) h → MayAsk MarkAlone item.object h
+  late_may : (s : State) (left : List Item) (item : Item) (h : Graph) → PicksLate E word_of b before s (item ∷ left) h → MayAsk MarkAlone item.object h
   late_may s left item h p =
       let r = p.left_are.0.0.0 in
       let here = p.left_are.0.0.1 in
       let on = p.left_are.0.0.2 in
-      alone_may item.object h r.kind (inl (normal E b before begin item.object r here on)) p.are.objects
-      (choosing.can_mark E clearly item.object h h p.are.objects p.are.closed (registered E b before begin item.object r here))
-      (λ a leads. p.are.least a (late_led E b before begin p.first item.object r (late_there E b before begin p.first item.object on ∙ here) (ap not p.left_are.0.1) a leads))
+      alone_may item.object h r.kind (inl (normal E word_of b before begin item.object r here on)) p.are.objects
+      (choosing.can_mark E word_of clearly item.object h h p.are.objects p.are.closed (registered E word_of b before begin item.object r here))
+      (λ a leads. p.are.least a (late_led E word_of b before begin p.first item.object r (late_there E word_of b before begin p.first item.object on ∙ here) (ap not p.left_are.0.1) a leads))
 
-  may : (phase : Phase) (s : State) (kept left : List Item) (item : Item) (h : Graph) → IsIn E b before phase s kept (item ∷ left) h → MayBeAsked (asks phase item) (subject phase item) h
+  may : (phase : Phase) (s : State) (kept left : List Item) (item : Item) (h : Graph) → IsIn E word_of b before phase s kept (item ∷ left) h → MayBeAsked (asks phase item) (subject phase item) h
   may ShortTargets s kept left item h p = tt
   may ShortWords s kept left item h p = tt
   may Objects s kept left item h p = tt
@@ -90,14 +91,14 @@ module _ (E : Type 0) (b : State) (before : Graph) (begin : HasBegun b before) w
   may ShortHolders s kept left item h p = tt
   may LongHolders s kept left item h p = tt
 
-  pub askable : (phase : Phase) (s : State) (kept left : List Item) (h : Graph) → IsIn E b before phase s kept left h → AreAskable E phase left h
+  pub askable : (phase : Phase) (s : State) (kept left : List Item) (h : Graph) → IsIn E word_of b before phase s kept left h → AreAskable E word_of phase left h
   askable phase s kept [] h p = tt
   askable phase s kept (item ∷ left) h p = (
     may phase s kept left item h p,
-    λ answer between honest. askable phase (after phase item answer s) (kept_on (keeps phase item answer) kept item) left between (keep E b before begin phase s kept left item h between p answer honest),
+    λ answer between honest. askable phase (after phase item answer s) (kept_on (keeps phase item answer) kept item) left between (keep E word_of b before begin phase s kept left item h between p answer honest),
   )
 
 pub asks_rightly : (E : Type 0) → AsksRightly E
-asks_rightly E old begun new past before after_it phase reached is may_begin runs at =
-    let w = where_it_is E old begun new past before after_it reached is may_begin runs in
-    askable E w.0 before w.1 phase new.finalizers.state new.walk.kept new.walk.left after_it (w.2 phase at)
+asks_rightly E word_of old begun new past before after_it phase reached is may_begin runs at =
+    let w = where_it_is E word_of old begun new past before after_it reached is may_begin runs in
+    askable E word_of w.0 before w.1 phase (apart w.0.taken w.0.held new.finalizers.state) new.walk.kept new.walk.left after_it (w.2 phase at)

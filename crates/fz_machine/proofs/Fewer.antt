@@ -8,6 +8,7 @@ use Rattle.fz_model.specs.declared.answers.Registration.{Registration}
 use Rattle.fz_model.specs.State.{Map}
 use Rattle.fz_model.proofs.KeyedEntries.{len_made}
 use Rattle.fz_table.specs.Tabled.{Set, plain}
+use Rattle.fz_finalizers.specs.Follows.{Event, Follows}
 use Rattle.fz_finalizers.specs.States.{State}
 use Rattle.fz_machine.specs.declared.item.Item.{Item}
 use Rattle.fz_machine.specs.declared.pass.Next.{Next}
@@ -15,13 +16,14 @@ use Rattle.fz_machine.specs.declared.pass.Next.TheVariants as told
 use Rattle.fz_machine.specs.declared.phase.Phase.{Phase}
 use Rattle.fz_machine.specs.declared.phase.Phase.TheVariants.{ShortTargets, ShortWords, Objects, Children, Again, Picks, LateAgain, LatePicks, LongTargets, LongWords, ShortHolders, LongHolders}
 use Rattle.fz_machine.specs.Going.{going}
-use Rattle.fz_machine.specs.Heard.{Begun, Goes, Hears, PassesEnd}
+use Rattle.fz_machine.specs.Heard.{Begun, Goes, Hears, Meanwhile, PassesEnd}
 use Rattle.fz_machine.specs.Items.{AreEntriesOf, AreLinks, AreObjects, of_link, of_stored}
-use Rattle.fz_machine.specs.Machines.{Machine, Tells}
+use Rattle.fz_machine.specs.Machines.{IsWork, Machine, Tells}
 use Rattle.fz_machine.specs.Phases.{Lists, after, asks, keeps, next_phase}
 use Rattle.fz_machine.specs.Steps.{Asks, Ends, Going, GoesOn, Turns, skip, skipped, steps}
 use Rattle.fz_machine.proofs.Phasing.{kept_on}
 use Rattle.fz_machine.proofs.Within.{IsWithin, still}
+use Rattle.fz_machine.proofs.Working.{work_apart}
 
 abbrev at : State → List Item → List Item → Going
 at s kept left = record { finalizers = s; kept = kept; left = left }
@@ -146,6 +148,11 @@ module _ (r s g : ℕ) where
   asked_for m (told.Asks question) (phase, was, is, count) p at = let within = is.within in omega (arith, within, count)
   asked_for m (told.Ended passed) (none, same, picked) p at = absurd (none-some p (sym none ∙ at))
 
+  worked_within : (t u : State) (event : Event) → IsWork event → Follows t event u → IsWithin r s g t → IsWithin r s g u
+  worked_within t u event work follows h =
+      let there = subst (IsWithin r s g) (sym (work_apart 0 [] t u event work follows)) (record { registered = h.registered; short = h.short; long = h.long }) in
+      record { registered = there.registered; short = there.short; long = there.long }
+
   heard : (begun m : Machine) (n : ℕ) → IsHearing 0 begun → Hears begun m n → IsHearing n m
   heard begun m n h Begun = h
   heard begun m n h (Goes {m = old} {next = next} {n = before} answers few goes hears) =
@@ -157,6 +164,14 @@ module _ (r s g : ℕ) where
       let here = stepped.1 in
       let there = on.1 in
       record { within = on.0; few = omega (arith, so_far, here, there); asked = asked_for m next goes.tells }
+  heard begun m n h (Meanwhile {m = old} worked hears) =
+      let was = heard begun old n h hears in
+      let now = worked_within old.finalizers.state m.finalizers.state worked.event worked.work worked.follows was.within in
+      record {
+        within = now;
+        few = subst (λ (k : Machine). n + to_come k.phase (length k.walk.kept) (length k.walk.left) ≤ 6 * r + 3 * (s + g)) (sym worked.keeps) was.few;
+        asked = subst (λ (k : Machine). (p : Phase) → k.phase ≡ Some p → k.asked ≤ length k.walk.left) (sym worked.keeps) was.asked;
+      }
 
 pub passes_end : PassesEnd
 passes_end old begun m n is hears =

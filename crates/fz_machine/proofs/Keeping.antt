@@ -1,5 +1,5 @@
 -- Each answer keeps what holds in its phase.
-use Rattle.std.proofs.Common.{◌≡◌, ◌+◌, ◌*◌, ◌^◌, ◌⊎◌, ◌++◌, ◌∷◌, ◌∙◌, [], ℕ, Bool, true, false, not, cond, List, Some, refl, sym, ap, subst, inl, inr, ⊎_elim, append_assoc, arith}
+use Rattle.std.proofs.Common.{◌≡◌, ◌+◌, ◌*◌, ◌^◌, ◌⊎◌, ◌++◌, ◌∷◌, ◌∙◌, [], ℕ, Bool, true, false, not, cond, List, Some, refl, sym, ap, subst, inl, inr, ⊎_elim, append_assoc, arith, Option}
 use Rattle.std.specs.FinMap.{get, remove}
 use Rattle.std.specs.FinSet.{contains}
 use Rattle.std.proofs.lemmas.Bool.{both_ways}
@@ -41,7 +41,7 @@ not_late_kind table.Normal = refl
 not_late_kind table.IgnoreSelf = refl
 not_late_kind table.NoOrder = refl
 
-module _ (E : Type 0) (b : State) (before : Graph) (begin : HasBegun b before) where
+module _ (E : Type 0) (word_of : ℕ → Option ℕ) (b : State) (before : Graph) (begin : HasBegun word_of b before) where
   abbrev Either : Item → Type 0
   Either = IsOfEither b.registrations b.late
 
@@ -49,16 +49,16 @@ module _ (E : Type 0) (b : State) (before : Graph) (begin : HasBegun b before) w
   Late = IsLate b.registrations b.late
 
   abbrev clearly : Map Object
-  clearly = clear E b before
+  clearly = clear E word_of b before
 
   -- ---- children
 
-  leads_on : (s : State) (kept left : List Item) (item : Item) (h new : Graph) → LeadsOn E b before s kept (item ∷ left) h → (answer : Bool) → IsHonest E (child_ask item.kind) item.object h answer new
-      → LeadsOn E b before s (kept ++ item ∷ []) left new
+  leads_on : (s : State) (kept left : List Item) (item : Item) (h new : Graph) → LeadsOn E word_of b before s kept (item ∷ left) h → (answer : Bool) → IsHonest E word_of (child_ask item.kind) item.object h answer new
+      → LeadsOn E word_of b before s (kept ++ item ∷ []) left new
   leads_on s kept left item h new p answer honest = record {
     state = p.state;
-    are = lead_more E clearly b.registrations b.late before.marked (registered E b before begin) (normal E b before begin) item left h new p.are p.left_are.0.1 p.left_are.0.0 answer honest;
-    kept_are = each_push (IsUnfound E b before) kept item p.kept_are p.left_are.0;
+    are = lead_more E word_of clearly b.registrations b.late before.marked (registered E word_of b before begin) (normal E word_of b before begin) item left h new p.are p.left_are.0.1 p.left_are.0.0 answer honest;
+    kept_are = each_push (IsUnfound E word_of b before) kept item p.kept_are p.left_are.0;
     left_are = p.left_are.1;
     rest = λ object word at off. ⊎_elim (λ k. inl (one_left (IsAt object word) kept (item ∷ []) k)) (by object word) (p.rest object word at off);
   }
@@ -69,10 +69,10 @@ module _ (E : Type 0) (b : State) (before : Graph) (begin : HasBegun b before) w
 
   -- ---- picks
 
-  module _ (s : State) (kept left : List Item) (item : Item) (h new : Graph) (p : PicksOn E b before s kept (item ∷ left) h) where
+  module _ (s : State) (kept left : List Item) (item : Item) (h new : Graph) (p : PicksOn E word_of b before s kept (item ∷ left) h) where
     -- one that comes late waits
-    waits : Late item → new ≡ h → PicksOn E b before s (kept ++ item ∷ []) left new
-    waits late same = subst (λ (x : Graph). PicksOn E b before s (kept ++ item ∷ []) left x) (sym same) (record {
+    waits : Late item → new ≡ h → PicksOn E word_of b before s (kept ++ item ∷ []) left new
+    waits late same = subst (λ (x : Graph). PicksOn E word_of b before s (kept ++ item ∷ []) left x) (sym same) (record {
       leading = p.leading;
       now = p.now;
       picks = p.picks;
@@ -103,13 +103,13 @@ module _ (E : Type 0) (b : State) (before : Graph) (begin : HasBegun b before) w
           by (inl here_at) = absurd (both_ways (contains b.late item.object) off (ap (contains b.late) here_at.0 ∙ at.1))
           by (inr k) = inr k
 
-      again : p.are.gone item.object ≡ true → PicksOn E b before (queued_object s item.object) kept left new
+      again : p.are.gone item.object ≡ true → PicksOn E word_of b before (queued_object s item.object) kept left new
       again on = record {
         leading = p.leading;
         now = p.now;
         picks = p.picks;
         state = ap (λ t. queued_object t item.object) p.state
-            ∙ queued_none b (short_left E b before) b.long p.now.registrations p.now.late p.picks item.object
+            ∙ queued_none b (short_left E word_of b before) b.long p.now.registrations p.now.late p.picks item.object
             (no_more E clearly (tabled b) p.leading.led false (contains b.late) 0 p.now p.picks item left h new p.are r here unskipped place on);
         are = chosen_again E clearly (tabled b) p.leading.led false (contains b.late) 0 p.now p.picks item left h new p.are r here unskipped place same m on;
         kept_are = p.kept_are;
@@ -118,47 +118,47 @@ module _ (E : Type 0) (b : State) (before : Graph) (begin : HasBegun b before) w
         ordered = order_without place_of kept item left p.ordered;
       }
 
-      now_picked : p.are.gone item.object ≡ false → PicksOn E b before (queued_object s item.object) kept left new
+      now_picked : p.are.gone item.object ≡ false → PicksOn E word_of b before (queued_object s item.object) kept left new
       now_picked none =
-          let object = is_some_of (get clearly item.object) (ap not (registered E b before begin item.object r here)) in
+          let object = is_some_of (get clearly item.object) (ap not (registered E word_of b before begin item.object r here)) in
           record {
             leading = p.leading;
             now = left_by p.now item.object;
             picks = p.picks ++ pick_of r item.object unknown ∷ [];
             state = ap (λ t. queued_object t item.object) p.state
-                ∙ queued_on b (short_left E b before) b.long p.now.registrations p.now.late p.picks item.object r
+                ∙ queued_on b (short_left E word_of b before) b.long p.now.registrations p.now.late p.picks item.object r
                 (still E clearly (tabled b) p.leading.led false (contains b.late) 0 p.now p.picks item left h new p.are r here unskipped place none);
-            are = chosen_more E clearly (tabled b) p.leading.led false (contains b.late) 0 p.now p.picks item left h new p.are r here unskipped place same m (starts E b before begin)
-                (order_after place_of kept item left p.ordered) object.0 object.1 (births E b before begin item.object object.0 object.1) none;
+            are = chosen_more E clearly (tabled b) p.leading.led false (contains b.late) 0 p.now p.picks item left h new p.are r here unskipped place same m (starts E word_of b before begin)
+                (order_after place_of kept item left p.ordered) object.0 object.1 (births E word_of b before begin item.object object.0 object.1) none;
             kept_are = p.kept_are;
             left_are = p.left_are.1;
             rest = others;
             ordered = order_without place_of kept item left p.ordered;
           }
 
-      picked : (on : Bool) → p.are.gone item.object ≡ on → PicksOn E b before (queued_object s item.object) kept left new
+      picked : (on : Bool) → p.are.gone item.object ≡ on → PicksOn E word_of b before (queued_object s item.object) kept left new
       picked true on = again on
       picked false none = now_picked none
 
-    picks_on : (answer : Bool) → IsHonest E (pick_ask item.kind) item.object h answer new
-        → PicksOn E b before (cond (is_late item.kind) s (queued_object s item.object)) (kept_on (is_late item.kind) kept item) left new
+    picks_on : (answer : Bool) → IsHonest E word_of (pick_ask item.kind) item.object h answer new
+        → PicksOn E word_of b before (cond (is_late item.kind) s (queued_object s item.object)) (kept_on (is_late item.kind) kept item) left new
     picks_on answer honest = by p.left_are.0.0
       where
-        by : Either item → PicksOn E b before (cond (is_late item.kind) s (queued_object s item.object)) (kept_on (is_late item.kind) kept item) left new
+        by : Either item → PicksOn E word_of b before (cond (is_late item.kind) s (queued_object s item.object)) (kept_on (is_late item.kind) kept item) left new
         by (inl (r, here, off, is)) =
             let kind = ap (λ (i : Item). i.kind) is in
-            let m = marked_by_kind E clearly item.object h new p.are.objects p.are.closed (registered E b before begin item.object r here) r.kind
-            (λ a leads. p.are.least a (others_led E b before begin p.leading item.object r here (ap not p.left_are.0.1) a leads)) answer
-            (subst (λ (k : Kind). IsHonest E (pick_ask k) item.object h answer new) kind honest) in
-            subst (λ late. PicksOn E b before (cond late s (queued_object s item.object)) (kept_on late kept item) left new) (sym (ap is_late kind ∙ not_late_kind r.kind)) (picked r here off is m.0 m.1 (p.are.gone item.object) refl)
+            let m = marked_by_kind E word_of clearly item.object h new p.are.objects p.are.closed (registered E word_of b before begin item.object r here) r.kind
+            (λ a leads. p.are.least a (others_led E word_of b before begin p.leading item.object r here (ap not p.left_are.0.1) a leads)) answer
+            (subst (λ (k : Kind). IsHonest E word_of (pick_ask k) item.object h answer new) kind honest) in
+            subst (λ late. PicksOn E word_of b before (cond late s (queued_object s item.object)) (kept_on late kept item) left new) (sym (ap is_late kind ∙ not_late_kind r.kind)) (picked r here off is m.0 m.1 (p.are.gone item.object) refl)
         by (inr late) =
             let kind = ap (λ (i : Item). i.kind) late.3 in
-            subst (λ (k : Kind). PicksOn E b before (cond (is_late k) s (queued_object s item.object)) (kept_on (is_late k) kept item) left new) (sym kind)
-            (waits late (subst (λ (k : Kind). IsHonest E (pick_ask k) item.object h answer new) kind honest))
+            subst (λ (k : Kind). PicksOn E word_of b before (cond (is_late k) s (queued_object s item.object)) (kept_on (is_late k) kept item) left new) (sym kind)
+            (waits late (subst (λ (k : Kind). IsHonest E word_of (pick_ask k) item.object h answer new) kind honest))
 
   -- ---- picks of late ones
 
-  module _ (s : State) (left : List Item) (item : Item) (h new : Graph) (p : PicksLate E b before s (item ∷ left) h) where
+  module _ (s : State) (left : List Item) (item : Item) (h new : Graph) (p : PicksLate E word_of b before s (item ∷ left) h) where
     abbrev r : Registration
     r = p.left_are.0.0.0
 
@@ -169,7 +169,7 @@ module _ (E : Type 0) (b : State) (before : Graph) (begin : HasBegun b before) w
     was = p.left_are.0.0.1
 
     here : get p.first.table.registrations item.object ≡ Some r
-    here = late_there E b before begin p.first item.object on_it ∙ was
+    here = late_there E word_of b before begin p.first item.object on_it ∙ was
 
     late_unskipped : skips true (contains b.late) p.first.mid item.object ≡ false
     late_unskipped = unskips true (contains b.late) p.first.mid item.object on_it p.left_are.0.1
@@ -178,64 +178,64 @@ module _ (E : Type 0) (b : State) (before : Graph) (begin : HasBegun b before) w
     late_place = ap place_of p.left_are.0.0.3
 
     module _ (same : new.objects ≡ h.objects) (m : Marks E clearly h.marked new.marked (Leads clearly item.object)) where
-      again_late : p.are.gone item.object ≡ true → PicksLate E b before (queued_object s item.object) left new
+      again_late : p.are.gone item.object ≡ true → PicksLate E word_of b before (queued_object s item.object) left new
       again_late on = record {
         first = p.first;
         now = p.now;
         late_picks = p.late_picks;
         state = ap (λ t. queued_object t item.object) p.state
-            ∙ queued_none b (short_left E b before) b.long p.now.registrations p.now.late (p.first.picks ++ p.late_picks) item.object
+            ∙ queued_none b (short_left E word_of b before) b.long p.now.registrations p.now.late (p.first.picks ++ p.late_picks) item.object
             (no_more E clearly p.first.table p.first.mid true (contains b.late) 256 p.now p.late_picks item left h new p.are r here late_unskipped late_place on);
         are = chosen_again E clearly p.first.table p.first.mid true (contains b.late) 256 p.now p.late_picks item left h new p.are r here late_unskipped late_place same m on;
         left_are = p.left_are.1;
         ordered = p.ordered.1;
       }
 
-      late_picked : p.are.gone item.object ≡ false → PicksLate E b before (queued_object s item.object) left new
+      late_picked : p.are.gone item.object ≡ false → PicksLate E word_of b before (queued_object s item.object) left new
       late_picked none =
-          let object = is_some_of (get clearly item.object) (ap not (registered E b before begin item.object r was)) in
+          let object = is_some_of (get clearly item.object) (ap not (registered E word_of b before begin item.object r was)) in
           let pick = pick_of r item.object unknown in
           record {
             first = p.first;
             now = left_by p.now item.object;
             late_picks = p.late_picks ++ pick ∷ [];
             state = ap (λ t. queued_object t item.object) p.state
-                ∙ queued_on b (short_left E b before) b.long p.now.registrations p.now.late (p.first.picks ++ p.late_picks) item.object r
+                ∙ queued_on b (short_left E word_of b before) b.long p.now.registrations p.now.late (p.first.picks ++ p.late_picks) item.object r
                 (still E clearly p.first.table p.first.mid true (contains b.late) 256 p.now p.late_picks item left h new p.are r here late_unskipped late_place none)
-                ∙ ap (λ ps. state_with b (short_left E b before) b.long (left_by p.now item.object).registrations (left_by p.now item.object).late ps) (append_assoc p.first.picks p.late_picks (pick ∷ []));
-            are = chosen_more E clearly p.first.table p.first.mid true (contains b.late) 256 p.now p.late_picks item left h new p.are r here late_unskipped late_place same m (late_starts E b before begin p.first)
-                p.ordered.0 object.0 object.1 (births E b before begin item.object object.0 object.1) none;
+                ∙ ap (λ ps. state_with b (short_left E word_of b before) b.long (left_by p.now item.object).registrations (left_by p.now item.object).late ps) (append_assoc p.first.picks p.late_picks (pick ∷ []));
+            are = chosen_more E clearly p.first.table p.first.mid true (contains b.late) 256 p.now p.late_picks item left h new p.are r here late_unskipped late_place same m (late_starts E word_of b before begin p.first)
+                p.ordered.0 object.0 object.1 (births E word_of b before begin item.object object.0 object.1) none;
             left_are = p.left_are.1;
             ordered = p.ordered.1;
           }
 
-      picked_late : (on : Bool) → p.are.gone item.object ≡ on → PicksLate E b before (queued_object s item.object) left new
+      picked_late : (on : Bool) → p.are.gone item.object ≡ on → PicksLate E word_of b before (queued_object s item.object) left new
       picked_late true on = again_late on
       picked_late false none = late_picked none
 
-    picks_late_on : (answer : Bool) → IsHonest E (Some MarkAlone) item.object h answer new → PicksLate E b before (queued_object s item.object) left new
+    picks_late_on : (answer : Bool) → IsHonest E word_of (Some MarkAlone) item.object h answer new → PicksLate E word_of b before (queued_object s item.object) left new
     picks_late_on answer honest =
-        let m = marked_alone E clearly item.object h new p.are.objects p.are.closed (registered E b before begin item.object r was) r.kind (inl (normal E b before begin item.object r was on_it))
-        (λ a leads. p.are.least a (late_led E b before begin p.first item.object r here (ap not p.left_are.0.1) a leads)) answer honest in
+        let m = marked_alone E word_of clearly item.object h new p.are.objects p.are.closed (registered E word_of b before begin item.object r was) r.kind (inl (normal E word_of b before begin item.object r was on_it))
+        (λ a leads. p.are.least a (late_led E word_of b before begin p.first item.object r here (ap not p.left_are.0.1) a leads)) answer honest in
         picked_late m.0 m.1 (p.are.gone item.object) refl
 
   -- ---- all phases
 
-  pub keep : (phase : Phase) (s : State) (kept left : List Item) (item : Item) (h new : Graph) → IsIn E b before phase s kept (item ∷ left) h → (answer : Bool) → IsHonest E (asks phase item) (subject phase item) h answer new
-      → IsIn E b before phase (after phase item answer s) (kept_on (keeps phase item answer) kept item) left new
-  keep ShortTargets s kept left item h new p answer honest = sifts_on E _ _ _ _ _ s kept left item h new p answer honest
-  keep ShortWords s kept left item h new p answer honest = clears_on E _ _ _ _ (λ t word. record t { short = remove t.short word }) (λ now word. refl) s left item h new p answer honest
-  keep Objects s kept left item h new p answer honest = sifts_on E _ _ _ _ _ s kept left item h new p answer honest
+  pub keep : (phase : Phase) (s : State) (kept left : List Item) (item : Item) (h new : Graph) → IsIn E word_of b before phase s kept (item ∷ left) h → (answer : Bool) → IsHonest E word_of (asks phase item) (subject phase item) h answer new
+      → IsIn E word_of b before phase (after phase item answer s) (kept_on (keeps phase item answer) kept item) left new
+  keep ShortTargets s kept left item h new p answer honest = sifts_on E word_of _ _ _ _ _ s kept left item h new p answer honest
+  keep ShortWords s kept left item h new p answer honest = clears_on E word_of _ _ _ _ (λ t word. record t { short = remove t.short word }) (λ now word. refl) s left item h new p answer honest
+  keep Objects s kept left item h new p answer honest = sifts_on E word_of _ _ _ _ _ s kept left item h new p answer honest
   keep Children s kept left item h new p answer honest = leads_on s kept left item h new p answer honest
-  keep Again s kept left item h new (l, p) answer honest = (l, sifts_on E _ _ _ _ _ s kept left item h new p answer honest)
+  keep Again s kept left item h new (l, p) answer honest = (l, sifts_on E word_of _ _ _ _ _ s kept left item h new p answer honest)
   keep Picks s kept left item h new p answer honest = picks_on s kept left item h new p answer honest
-  keep LateAgain s kept left item h new (c, p, ordered) answer honest = (c, sifts_on E _ _ _ _ _ s kept left item h new p answer honest, by answer)
+  keep LateAgain s kept left item h new (c, p, ordered) answer honest = (c, sifts_on E word_of _ _ _ _ _ s kept left item h new p answer honest, by answer)
     where
       by : (yes : Bool) → AreInOrder place_of (kept_on (not yes) kept item ++ left)
       by true = order_without place_of kept item left ordered
       by false = subst (AreInOrder place_of) (sym (append_assoc kept (item ∷ []) left)) ordered
   keep LatePicks s kept left item h new p answer honest = picks_late_on s left item h new p answer honest
-  keep LongTargets s kept left item h new (c, p) answer honest = (c, sifts_on E _ _ _ _ _ s kept left item h new p answer honest)
-  keep LongWords s kept left item h new (c, p) answer honest = (c, clears_on E _ _ _ _ (λ t word. record t { long = remove t.long word }) (λ now word. refl) s left item h new p answer honest)
-  keep ShortHolders s kept left item h new (c, p) answer honest = (c, holds_on E _ _ _ _ (λ t word. record t { short = remove t.short word }) (λ now word. refl) s left item h new p answer honest)
-  keep LongHolders s kept left item h new (c, p) answer honest = (c, holds_on E _ _ _ _ (λ t word. record t { long = remove t.long word }) (λ now word. refl) s left item h new p answer honest)
+  keep LongTargets s kept left item h new (c, p) answer honest = (c, sifts_on E word_of _ _ _ _ _ s kept left item h new p answer honest)
+  keep LongWords s kept left item h new (c, p) answer honest = (c, clears_on E word_of _ _ _ _ (λ t word. record t { long = remove t.long word }) (λ now word. refl) s left item h new p answer honest)
+  keep ShortHolders s kept left item h new (c, p) answer honest = (c, holds_on E word_of _ _ _ _ (λ t word. record t { short = remove t.short word }) (λ now word. refl) s left item h new p answer honest)
+  keep LongHolders s kept left item h new (c, p) answer honest = (c, holds_on E word_of _ _ _ _ (λ t word. record t { long = remove t.long word }) (λ now word. refl) s left item h new p answer honest)

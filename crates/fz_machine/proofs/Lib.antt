@@ -19,9 +19,10 @@ pub mod Phased
 pub mod Begun
 pub mod Keeping
 pub mod Turning
-pub mod Ran
-pub mod Fewer
 pub mod Within
 pub mod Throughout
+pub mod Working
+pub mod Ran
+pub mod Fewer
 pub mod Called
 mod Askable

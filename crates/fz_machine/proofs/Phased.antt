@@ -5,8 +5,9 @@ use Rattle.fz_table.specs.Tabled.{Content}
 use Rattle.fz_model.specs.declared.answers.Pick.{Pick}
 use Rattle.fz_model.specs.State.{Map, Object}
 use Rattle.fz_model.specs.Pass.{cleared}
-use Rattle.fz_pass.specs.Marks.{Marks, AreReached, with_targets, with_containers}
+use Rattle.fz_pass.specs.Marks.{Marks, AreReached, with_targets, with_holders}
 use Rattle.fz_pass.specs.Picking.{Picks}
+use Rattle.fz_pass.specs.Places.{placed}
 use Rattle.fz_pass.specs.Queued.{MarksLed, is_ready}
 use Rattle.fz_pass.specs.Tiers.{skips}
 use Rattle.fz_finalizers.specs.States.{State}
@@ -26,12 +27,12 @@ use Rattle.fz_machine.proofs.Phasing.{Sifts, Clears, Holds}
 use Rattle.fz_machine.proofs.Sifting.{IsAt}
 use Rattle.fz_machine.proofs.Stated.{state_with, tabled}
 
-module _ (E : Type 0) (b : State) (before : Graph) where
+module _ (E : Type 0) (word_of : ℕ → Option ℕ) (b : State) (before : Graph) where
   abbrev pub found : ℕ → Bool
   found = before.marked
 
   abbrev pub clear : Map Object
-  clear = cleared b.short found before.objects
+  clear = cleared (placed word_of b.short) found before.objects
 
   abbrev pub short_left : Map ℕ
   short_left = with_targets b.short found
@@ -66,16 +67,16 @@ module _ (E : Type 0) (b : State) (before : Graph) where
   after_picks c short long = state_with b short long c.table.registrations c.table.late (c.first.picks ++ c.late_picks)
 
   abbrev pub last : PickedBoth → Map Object
-  last c = cleared b.long c.kept clear
+  last c = cleared (placed word_of b.long) c.kept clear
 
   abbrev pub long_left : PickedBoth → Map ℕ
   long_left c = with_targets b.long c.kept
 
   abbrev pub short_held : PickedBoth → Map ℕ
-  short_held c = with_containers (last c) short_left c.kept
+  short_held c = with_holders word_of (last c) short_left c.kept
 
   abbrev pub long_held : PickedBoth → Map ℕ
-  long_held c = with_containers (last c) (long_left c) c.kept
+  long_held c = with_holders word_of (last c) (long_left c) c.kept
 
   -- ---- the phases that mark
 
@@ -84,7 +85,7 @@ module _ (E : Type 0) (b : State) (before : Graph) where
 
   pub record LeadsOn (s : State) (kept left : List Item) (h : Graph) : Type 0 where
     pub state : s ≡ state_with b short_left b.long b.registrations b.late []
-    pub are : AreLed E clear b.registrations b.late found left h
+    pub are : AreLed E word_of clear b.registrations b.late found left h
     pub kept_are : Each IsUnfound kept
     pub left_are : Each IsUnfound left
     pub rest : (object word : ℕ) → IsEitherAt b.registrations b.late object word → found object ≡ false → OneOf (IsAt object word) kept ⊎ OneOf (IsAt object word) left
@@ -113,21 +114,21 @@ module _ (E : Type 0) (b : State) (before : Graph) where
 
   abbrev pub IsIn : Phase → State → List Item → List Item → Graph → Type 0
   IsIn ShortTargets s kept left h =
-      Sifts E (state_with b b.short b.long b.registrations b.late []) before.objects found (IsLink before.objects b.short found) (IsLinkAt before.objects b.short found) s kept left h
-  IsIn ShortWords s kept left h = Clears E (λ links. state_with b links b.long b.registrations b.late []) before.objects b.short found s left h
+      Sifts E word_of (state_with b b.short b.long b.registrations b.late []) before.objects found (IsLink word_of before.objects b.short found) (IsLinkAt word_of before.objects b.short found) s kept left h
+  IsIn ShortWords s kept left h = Clears E word_of (λ links. state_with b links b.long b.registrations b.late []) before.objects b.short found s left h
   IsIn Objects s kept left h =
-      Sifts E (state_with b short_left b.long b.registrations b.late []) clear found (IsOfEither b.registrations b.late) (IsEitherAt b.registrations b.late) s kept left h
+      Sifts E word_of (state_with b short_left b.long b.registrations b.late []) clear found (IsOfEither b.registrations b.late) (IsEitherAt b.registrations b.late) s kept left h
   IsIn Children s kept left h = LeadsOn s kept left h
   IsIn Again s kept left h =
-      (l : Leading) × Sifts E (state_with b short_left b.long b.registrations b.late []) clear l.led (IsOfEither b.registrations b.late) (IsEitherAt b.registrations b.late) s kept left h
+      (l : Leading) × Sifts E word_of (state_with b short_left b.long b.registrations b.late []) clear l.led (IsOfEither b.registrations b.late) (IsEitherAt b.registrations b.late) s kept left h
   IsIn phase.Picks s kept left h = PicksOn s kept left h
   IsIn LateAgain s kept left h =
-      (c : Picked) × Sifts E (state_with b short_left b.long c.table.registrations c.table.late c.picks) clear c.mid (IsLate b.registrations b.late) (IsLateAt b.registrations b.late) s kept left h × AreInOrder place_of (kept ++ left)
+      (c : Picked) × Sifts E word_of (state_with b short_left b.long c.table.registrations c.table.late c.picks) clear c.mid (IsLate b.registrations b.late) (IsLateAt b.registrations b.late) s kept left h × AreInOrder place_of (kept ++ left)
   IsIn LatePicks s kept left h = PicksLate s left h
-  IsIn LongTargets s kept left h = (c : PickedBoth) × Sifts E (after_picks c short_left b.long) clear c.kept (IsLink clear b.long c.kept) (IsLinkAt clear b.long c.kept) s kept left h
-  IsIn LongWords s kept left h = (c : PickedBoth) × Clears E (after_picks c short_left) clear b.long c.kept s left h
-  IsIn ShortHolders s kept left h = (c : PickedBoth) × Holds E (λ links. after_picks c links (long_left c)) (last c) short_left c.kept s left h
-  IsIn LongHolders s kept left h = (c : PickedBoth) × Holds E (λ links. after_picks c (short_held c) links) (last c) (long_left c) c.kept s left h
+  IsIn LongTargets s kept left h = (c : PickedBoth) × Sifts E word_of (after_picks c short_left b.long) clear c.kept (IsLink word_of clear b.long c.kept) (IsLinkAt word_of clear b.long c.kept) s kept left h
+  IsIn LongWords s kept left h = (c : PickedBoth) × Clears E word_of (after_picks c short_left) clear b.long c.kept s left h
+  IsIn ShortHolders s kept left h = (c : PickedBoth) × Holds E word_of (λ links. after_picks c links (long_left c)) (last c) short_left c.kept s left h
+  IsIn LongHolders s kept left h = (c : PickedBoth) × Holds E word_of (λ links. after_picks c (short_held c) links) (last c) (long_left c) c.kept s left h
 
   -- ---- the end
 

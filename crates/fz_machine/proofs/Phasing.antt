@@ -1,13 +1,14 @@
 -- Phases that ask and clear, over whichever links and registrations.
-use Rattle.std.proofs.Common.{◌≡◌, ◌++◌, ◌∷◌, ◌∙◌, [], ℕ, Bool, true, false, not, cond, List, Some, sym, ap, subst}
+use Rattle.std.proofs.Common.{◌≡◌, ◌++◌, ◌∷◌, ◌∙◌, [], ℕ, Bool, true, false, not, cond, List, Some, sym, ap, subst, Option}
 use Rattle.std.specs.FinMap.{remove}
 use Rattle.fz_model.specs.State.{Map, Object}
 use Rattle.fz_model.specs.Pass.{cleared}
-use Rattle.fz_pass.specs.Marks.{AreTargets, with_targets, with_containers}
+use Rattle.fz_pass.specs.Marks.{AreTargets, with_targets, with_holders}
+use Rattle.fz_pass.specs.Places.{StandApart, placed, is_held}
 use Rattle.fz_finalizers.specs.States.{State}
 use Rattle.fz_machine.specs.declared.item.Item.{Item}
 use Rattle.fz_machine.specs.declared.question.Ask.TheVariants.{IsMarked, Clear, IsHolderMarked}
-use Rattle.fz_machine.specs.Graph.{Graph, IsHonest, is_holder_marked}
+use Rattle.fz_machine.specs.Graph.{Graph, IsHonest}
 use Rattle.fz_machine.specs.Items.{AreLinks}
 use Rattle.fz_machine.proofs.Among.{Each, OneOf}
 use Rattle.fz_machine.proofs.DeadWords.{AreCleared, AreHeld, IsLink, IsLinkAt, clearing_begins, clear_more, cleared_all, hold_more, holding_begins, held_all}
@@ -20,14 +21,14 @@ kept_on keeps kept item = cond keeps (kept ++ item ∷ []) kept
 
 -- ---- which objects are marked
 
-module _ (E : Type 0) (at : State) (objects : Map Object) (marked : ℕ → Bool) (P : Item → Type 0) (Wanted : ℕ → ℕ → Type 0) where
+module _ (E : Type 0) (word_of : ℕ → Option ℕ) (at : State) (objects : Map Object) (marked : ℕ → Bool) (P : Item → Type 0) (Wanted : ℕ → ℕ → Type 0) where
   pub record Sifts (s : State) (kept left : List Item) (h : Graph) : Type 0 where
     pub state : s ≡ at
     pub objects_are : h.objects ≡ objects
     pub marks_are : h.marked ≡ marked
     pub sifted : Sifted marked P Wanted kept left
 
-  pub sifts_on : (s : State) (kept left : List Item) (item : Item) (h new : Graph) → Sifts s kept (item ∷ left) h → (answer : Bool) → IsHonest E (Some IsMarked) item.object h answer new
+  pub sifts_on : (s : State) (kept left : List Item) (item : Item) (h new : Graph) → Sifts s kept (item ∷ left) h → (answer : Bool) → IsHonest E word_of (Some IsMarked) item.object h answer new
       → Sifts s (kept_on (not answer) kept item) left new
   sifts_on s kept left item h new p answer honest =
       let is = honest tt in
@@ -44,59 +45,59 @@ module _ (E : Type 0) (at : State) (objects : Map Object) (marked : ℕ → Bool
 
 -- ---- words of dead links are cleared
 
-module _ (E : Type 0) (at : Map ℕ → State) (objects : Map Object) (links : Map ℕ) (marked : ℕ → Bool) where
+module _ (E : Type 0) (word_of : ℕ → Option ℕ) (at : Map ℕ → State) (objects : Map Object) (links : Map ℕ) (marked : ℕ → Bool) where
   pub record Clears (s : State) (left : List Item) (h : Graph) : Type 0 where
     pub now : Map ℕ
     pub state : s ≡ at now
     pub marks_are : h.marked ≡ marked
-    pub are : AreCleared objects links marked left h.objects now
+    pub are : AreCleared word_of objects links marked left h.objects now
 
   pub clears_on : (without : State → ℕ → State) → ((now : Map ℕ) (word : ℕ) → without (at now) word ≡ at (remove now word)) → (s : State) (left : List Item) (item : Item) (h new : Graph) → Clears s (item ∷ left) h → (answer : Bool)
-      → IsHonest E (Some Clear) item.word h answer new → Clears (without s item.word) left new
+      → IsHonest E word_of (Some Clear) item.word h answer new → Clears (without s item.word) left new
   clears_on without goes s left item h new p answer honest =
       let is = honest tt in
       record {
         now = remove p.now item.word;
         state = ap (λ (t : State). without t item.word) p.state ∙ goes p.now item.word;
         marks_are = ap (λ (x : Graph). x.marked) is ∙ p.marks_are;
-        are = subst (λ (m : Map Object). AreCleared objects links marked left m (remove p.now item.word)) (sym (ap (λ (x : Graph). x.objects) is)) (clear_more objects links marked left item h.objects p.now p.are);
+        are = subst (λ (m : Map Object). AreCleared word_of objects links marked left m (remove p.now item.word)) (sym (ap (λ (x : Graph). x.objects) is)) (clear_more word_of objects links marked left item h.objects p.now p.are);
       }
 
   module _ (targets : AreTargets objects links) where
-    pub clears_begin : (s : State) (kept items : List Item) (h : Graph) → Sifts E (at links) objects marked (IsLink objects links marked) (IsLinkAt objects links marked) s kept [] h → items ≡ kept → Clears s items h
+    pub clears_begin : (s : State) (kept items : List Item) (h : Graph) → Sifts E word_of (at links) objects marked (IsLink word_of objects links marked) (IsLinkAt word_of objects links marked) s kept [] h → items ≡ kept → Clears s items h
     clears_begin s kept items h p is = record {
       now = links;
       state = p.state;
       marks_are = p.marks_are;
-      are = subst (λ (xs : List Item). AreCleared objects links marked xs h.objects links) (sym is)
-          (subst (λ (m : Map Object). AreCleared objects links marked kept m links) (sym p.objects_are) (clearing_begins objects links marked targets kept p.sifted));
+      are = subst (λ (xs : List Item). AreCleared word_of objects links marked xs h.objects links) (sym is)
+          (subst (λ (m : Map Object). AreCleared word_of objects links marked kept m links) (sym p.objects_are) (clearing_begins word_of objects links marked targets kept p.sifted));
     }
 
     -- all are, with the links
-    pub clears_all : (s : State) (h : Graph) → Clears s [] h → (s ≡ at (with_targets links marked)) × (h.objects ≡ cleared links marked objects) × (h.marked ≡ marked)
-    clears_all s h p = let all = cleared_all objects links marked targets h.objects p.now p.are in (p.state ∙ ap at all.1, all.0, p.marks_are)
+    pub clears_all : StandApart word_of → (s : State) (h : Graph) → Clears s [] h → (s ≡ at (with_targets links marked)) × (h.objects ≡ cleared (placed word_of links) marked objects) × (h.marked ≡ marked)
+    clears_all apart s h p = let all = cleared_all word_of objects links marked targets apart h.objects p.now p.are in (p.state ∙ ap at all.1, all.0, p.marks_are)
 
 -- ---- which links lie in marked objects
 
-module _ (E : Type 0) (at : Map ℕ → State) (objects : Map Object) (links : Map ℕ) (marked : ℕ → Bool) where
+module _ (E : Type 0) (word_of : ℕ → Option ℕ) (at : Map ℕ → State) (objects : Map Object) (links : Map ℕ) (marked : ℕ → Bool) where
   pub record Holds (s : State) (left : List Item) (h : Graph) : Type 0 where
     pub now : Map ℕ
     pub state : s ≡ at now
     pub objects_are : h.objects ≡ objects
     pub marks_are : h.marked ≡ marked
-    pub are : AreHeld objects links marked left now
+    pub are : AreHeld word_of objects links marked left now
 
   pub holds_on : (without : State → ℕ → State) → ((now : Map ℕ) (word : ℕ) → without (at now) word ≡ at (remove now word)) → (s : State) (left : List Item) (item : Item) (h new : Graph) → Holds s (item ∷ left) h → (answer : Bool)
-      → IsHonest E (Some IsHolderMarked) item.word h answer new → Holds (cond answer s (without s item.word)) left new
+      → IsHonest E word_of (Some IsHolderMarked) item.word h answer new → Holds (cond answer s (without s item.word)) left new
   holds_on without goes s left item h new p answer honest =
       let is = honest tt in
-      let told = is.0 ∙ (λ i. is_holder_marked (p.objects_are i) (p.marks_are i) item.word) in
+      let told = is.0 ∙ (λ i. is_held word_of (p.objects_are i) (p.marks_are i) item.word) in
       record {
         now = cond answer p.now (remove p.now item.word);
         state = by answer;
         objects_are = ap (λ (x : Graph). x.objects) is.1 ∙ p.objects_are;
         marks_are = ap (λ (x : Graph). x.marked) is.1 ∙ p.marks_are;
-        are = hold_more objects links marked left item p.now p.are answer told;
+        are = hold_more word_of objects links marked left item p.now p.are answer told;
       }
     where
       by : (b : Bool) → cond b s (without s item.word) ≡ at (cond b p.now (remove p.now item.word))
@@ -109,8 +110,8 @@ module _ (E : Type 0) (at : Map ℕ → State) (objects : Map Object) (links : M
     state = state;
     objects_are = objects_are;
     marks_are = marks_are;
-    are = holding_begins objects links marked items (links_all links items are);
+    are = holding_begins word_of objects links marked items (links_all links items are);
   }
 
-  pub holds_all : (s : State) (h : Graph) → Holds s [] h → (s ≡ at (with_containers objects links marked)) × (h.objects ≡ objects) × (h.marked ≡ marked)
-  holds_all s h p = (p.state ∙ ap at (held_all objects links marked p.now p.are), p.objects_are, p.marks_are)
+  pub holds_all : (s : State) (h : Graph) → Holds s [] h → (s ≡ at (with_holders word_of objects links marked)) × (h.objects ≡ objects) × (h.marked ≡ marked)
+  holds_all s h p = (p.state ∙ ap at (held_all word_of objects links marked p.now p.are), p.objects_are, p.marks_are)

@@ -1,5 +1,5 @@
 -- A run keeps what holds in its phases, and ends with the model's pass.
-use Rattle.std.proofs.Common.{◌≡◌, ◌∷◌, ◌∙◌, [], Bool, false, cond, List, Option, Some, None, refl, sym, ap, subst, is_some}
+use Rattle.std.proofs.Common.{ℕ, ◌≡◌, ◌∷◌, ◌∙◌, [], Bool, false, cond, List, Option, Some, None, refl, sym, ap, subst, is_some}
 use Rattle.std.specs.FinMap.{retain_keys}
 use Rattle.fz_finalizers.specs.Follows.{Follows, Pass, next_pass}
 use Rattle.fz_finalizers.proofs.Following.{decided_queues}
@@ -13,9 +13,10 @@ use Rattle.fz_machine.specs.declared.question.Ask.{Ask}
 use Rattle.fz_machine.specs.Going.{going}
 use Rattle.fz_machine.specs.Graph.{Graph, IsHonest, MayBegin}
 use Rattle.fz_machine.specs.Items.{AreLinks}
+use Rattle.fz_machine.specs.Machines as machines
 use Rattle.fz_machine.specs.Machines.{IsBegun, Machine}
 use Rattle.fz_machine.specs.Phases.{after, asks, keeps, next_phase, subject}
-use Rattle.fz_machine.specs.Runs.{AreHonest, Begun, Goes, MakesPass, Runs, RunsPass}
+use Rattle.fz_machine.specs.Runs.{AreHonest, Begun, Goes, MakesPass, Meanwhile, Runs, RunsPass}
 use Rattle.fz_machine.specs.Steps.{Asks, Begins, Ends, Going, GoesOn, Turns, skip, skipped, steps}
 use Rattle.fz_machine.proofs.Begun.{HasBegun}
 use Rattle.fz_machine.proofs.DeadWords.{IsLink, IsLinkAt}
@@ -25,109 +26,144 @@ use Rattle.fz_machine.proofs.Phased.{IsAfter, IsAtEnd, IsIn, IsWhere}
 use Rattle.fz_machine.proofs.Phasing.{kept_on, sifts_begin}
 use Rattle.fz_machine.proofs.Stated.{as_begun}
 use Rattle.fz_machine.proofs.Turning.{closed_after, decides, still_marked, turn}
+use Rattle.fz_machine.proofs.Working.{WorksAfter, apart, goes_apart, goes_works, going_apart, steps_apart, work_apart, worked_on}
 
-module _ (E : Type 0) (b : State) (before : Graph) (begin : HasBegun b before) where
+module _ (E : Type 0) (word_of : ℕ → Option ℕ) (b : State) (before : Graph) (begin : HasBegun word_of b before) where
   abbrev IsOn : Phase → Going → Graph → Type 0
-  IsOn phase g h = IsIn E b before phase g.finalizers g.kept g.left h
+  IsOn phase g h = IsIn E word_of b before phase g.finalizers g.kept g.left h
 
   abbrev at : State → List Item → List Item → Going
   at s kept left = record { finalizers = s; kept = kept; left = left }
 
   -- answers about the first items
-  steps_keep : (phase : Phase) (answers : List Bool) (s : State) (kept left : List Item) (h new : Graph) → IsIn E b before phase s kept left h → AreHonest E phase answers left h new → IsOn phase (steps phase answers (at s kept left)) new
-  steps_keep phase [] s kept left h new p same = subst (λ (x : Graph). IsIn E b before phase s kept left x) (sym same) p
+  steps_keep : (phase : Phase) (answers : List Bool) (s : State) (kept left : List Item) (h new : Graph) → IsIn E word_of b before phase s kept left h → AreHonest E word_of phase answers left h new → IsOn phase (steps phase answers (at s kept left)) new
+  steps_keep phase [] s kept left h new p same = subst (λ (x : Graph). IsIn E word_of b before phase s kept left x) (sym same) p
   steps_keep phase (answer ∷ answers) s kept [] h new p honest = absurd honest
   steps_keep phase (answer ∷ answers) s kept (item ∷ left) h new p (between, is, rest) =
-      steps_keep phase answers (after phase item answer s) (kept_on (keeps phase item answer) kept item) left between new (keep E b before begin phase s kept left item h between p answer is) rest
+      steps_keep phase answers (after phase item answer s) (kept_on (keeps phase item answer) kept item) left between new (keep E word_of b before begin phase s kept left item h between p answer is) rest
 
   -- past items of which nothing is asked
-  skips_keep : (phase : Phase) (left : List Item) (s : State) (kept : List Item) (h : Graph) → IsIn E b before phase s kept left h → IsOn phase (skipped phase left (at s kept left)) h
+  skips_keep : (phase : Phase) (left : List Item) (s : State) (kept : List Item) (h : Graph) → IsIn E word_of b before phase s kept left h → IsOn phase (skipped phase left (at s kept left)) h
   skips_keep phase [] s kept h p = p
   skips_keep phase (item ∷ left) s kept h p = by (asks phase item) refl (skips_keep phase left (after phase item false s) (kept_on (keeps phase item false) kept item) h)
     where
       by : (o : Option Ask) → asks phase item ≡ o → (IsOn phase (at (after phase item false s) (kept_on (keeps phase item false) kept item) left) h → IsOn phase (skipped phase left (at (after phase item false s) (kept_on (keeps phase item false) kept item) left)) h)
           → IsOn phase (cond (is_some o) (at s kept (item ∷ left)) (skipped phase left (at (after phase item false s) (kept_on (keeps phase item false) kept item) left))) h
-      by None none rest = rest (keep E b before begin phase s kept left item h h p false (subst (λ o. IsHonest E o (subject phase item) h false h) (sym none) refl))
+      by None none rest = rest (keep E word_of b before begin phase s kept left item h h p false (subst (λ o. IsHonest E word_of o (subject phase item) h false h) (sym none) refl))
       by (Some ask) some rest = p
 
   -- no item is left
-  none_left : (phase : Phase) (g : Going) (h : Graph) → g.left ≡ [] → IsOn phase g h → IsAfter E b before (next_phase phase) g.finalizers g.kept h
-  none_left phase g h none p = turn E b before begin phase g.finalizers g.kept h (subst (λ (xs : List Item). IsIn E b before phase g.finalizers g.kept xs h) none p)
+  none_left : (phase : Phase) (g : Going) (h : Graph) → g.left ≡ [] → IsOn phase g h → IsAfter E word_of b before (next_phase phase) g.finalizers g.kept h
+  none_left phase g h none p = turn E word_of b before begin phase g.finalizers g.kept h (subst (λ (xs : List Item). IsIn E word_of b before phase g.finalizers g.kept xs h) none p)
 
-  begins_on : (phase : Phase) (g k : Going) (h : Graph) → IsAfter E b before (Some phase) g.finalizers g.kept h → Begins phase g k → IsOn phase k h
+  begins_on : (phase : Phase) (g k : Going) (h : Graph) → IsAfter E word_of b before (Some phase) g.finalizers g.kept h → Begins phase g k → IsOn phase k h
   begins_on phase g k h after_it begins =
-      subst (λ (s : State). IsIn E b before phase s k.kept k.left h) (sym begins.same) (subst (λ (xs : List Item). IsIn E b before phase g.finalizers xs k.left h) (sym begins.none) (after_it k.left begins.lists))
+      subst (λ (s : State). IsIn E word_of b before phase s k.kept k.left h) (sym begins.same) (subst (λ (xs : List Item). IsIn E word_of b before phase g.finalizers xs k.left h) (sym begins.none) (after_it k.left begins.lists))
 
-  goes_keep : (phase : Phase) (g : Going) (last : Option Phase) (k : Going) (h : Graph) → GoesOn phase g last k → IsOn phase g h → IsWhere E b before last k.finalizers k.kept k.left h
+  goes_keep : (phase : Phase) (g : Going) (last : Option Phase) (k : Going) (h : Graph) → GoesOn phase g last k → IsOn phase g h → IsWhere E word_of b before last k.finalizers k.kept k.left h
   goes_keep phase g last k h (Asks item left some) p = skips_keep phase g.left g.finalizers g.kept h p
   goes_keep phase g last k h (Turns {next = next} {h = m} none turns begins rest) p =
       goes_keep next m last k h rest
       (begins_on next (skip phase g) m h
-      (subst (λ o. IsAfter E b before o (skip phase g).finalizers (skip phase g).kept h) turns (none_left phase (skip phase g) h none (skips_keep phase g.left g.finalizers g.kept h p))) begins)
+      (subst (λ o. IsAfter E word_of b before o (skip phase g).finalizers (skip phase g).kept h) turns (none_left phase (skip phase g) h none (skips_keep phase g.left g.finalizers g.kept h p))) begins)
   goes_keep phase g last k h (Ends none turns) p =
-      subst (λ o. IsAfter E b before o (skip phase g).finalizers (skip phase g).kept h) turns (none_left phase (skip phase g) h none (skips_keep phase g.left g.finalizers g.kept h p))
+      subst (λ o. IsAfter E word_of b before o (skip phase g).finalizers (skip phase g).kept h) turns (none_left phase (skip phase g) h none (skips_keep phase g.left g.finalizers g.kept h p))
+
+  -- with what was taken and held at the begin
+  abbrev passed : Machine → State
+  passed m = apart b.taken b.held m.finalizers.state
 
   abbrev IsAt : Machine → Graph → Type 0
-  IsAt m h = IsWhere E b before m.phase m.finalizers.state m.walk.kept m.walk.left h
+  IsAt m h = IsWhere E word_of b before m.phase (passed m) m.walk.kept m.walk.left h
 
-  ran : (begun m : Machine) (h : Graph) → IsAt begun before → Runs E begun before m h → IsAt m h
+  ran : (begun m : Machine) (h : Graph) → IsAt begun before → Runs E word_of begun before m h → IsAt m h
   ran begun m h p Begun = p
   ran begun m h p (Goes {m = old} {g = g} answers goes runs honest) =
-      let was = subst (λ o. IsWhere E b before o old.finalizers.state old.walk.kept old.walk.left g) goes.was (ran begun old g p runs) in
-      goes_keep goes.phase (steps goes.phase answers (going old.finalizers old.walk)) m.phase (going m.finalizers m.walk) h goes.goes
-      (steps_keep goes.phase answers old.finalizers.state old.walk.kept old.walk.left g h was honest)
+      let was = subst (λ o. IsWhere E word_of b before o (passed old) old.walk.kept old.walk.left g) goes.was (ran begun old g p runs) in
+      let from = going_apart b.taken b.held (going old.finalizers old.walk) in
+      let to = going_apart b.taken b.held (going m.finalizers m.walk) in
+      let on : GoesOn goes.phase (steps goes.phase answers from) m.phase to =
+      subst (λ (k : Going). GoesOn goes.phase k m.phase to) (sym (steps_apart b.taken b.held goes.phase answers (going old.finalizers old.walk)))
+      (goes_apart b.taken b.held goes.phase (steps goes.phase answers (going old.finalizers old.walk)) m.phase (going m.finalizers m.walk) goes.goes) in
+      goes_keep goes.phase (steps goes.phase answers from) m.phase to h on (steps_keep goes.phase answers (passed old) old.walk.kept old.walk.left g h was honest)
+  ran begun m h p (Meanwhile {m = old} worked runs) =
+      subst (λ (k : Machine). IsWhere E word_of b before k.phase (passed m) k.walk.kept k.walk.left h) (sym worked.keeps)
+      (subst (λ (s : State). IsWhere E word_of b before old.phase s old.walk.kept old.walk.left h)
+      (sym (work_apart b.taken b.held old.finalizers.state m.finalizers.state worked.event worked.work worked.follows)) (ran begun old h p runs))
+
+  -- what is taken and finished might as well be taken and finished at the end
+  works : (begun m : Machine) (h : Graph) → WorksAfter b.taken b.held begun.finalizers.state → Runs E word_of begun before m h → WorksAfter b.taken b.held m.finalizers.state
+  works begun m h p Begun = p
+  works begun m h p (Goes {m = old} {g = g} answers goes runs honest) =
+      goes_works b.taken b.held goes.phase answers (going old.finalizers old.walk) m.phase (going m.finalizers m.walk) goes.goes (works begun old g p runs)
+  works begun m h p (Meanwhile {m = old} worked runs) =
+      worked_on b.taken b.held old.finalizers.state m.finalizers.state worked.event worked.work worked.follows (works begun old h p runs)
 
 -- ---- from the begin to the end
 
-module _ (E : Type 0) (old begun new : Machine) (past : Past) (before after_it : Graph) (reached : IsReached old.finalizers.state past) (is : IsBegun old begun) (may : MayBegin old.finalizers.state before) (runs : Runs E begun before new after_it) where
+module _ (E : Type 0) (word_of : ℕ → Option ℕ) (old begun new : Machine) (past : Past) (before after_it : Graph) (reached : IsReached old.finalizers.state past) (is : IsBegun old begun) (may : MayBegin word_of old.finalizers.state before) (runs : Runs E word_of begun before new after_it) where
   abbrev b : State
   b = record old.finalizers.state { passes = next_pass old.finalizers.passes }
 
-  has_begun : HasBegun b before
+  has_begun : HasBegun word_of b before
   has_begun = record {
-    may = record { registered = may.registered; short = may.short; long = may.long; zero = may.zero; closed = may.closed; births = may.births; starts = may.starts };
+    may = record { registered = may.registered; short = may.short; long = may.long; zero = may.zero; closed = may.closed; births = may.births; starts = may.starts; apart = may.apart };
     flags = (promised old.finalizers.state past reached).flags;
   }
 
-  starts : IsIn E b before ShortTargets begun.finalizers.state begun.walk.kept begun.walk.left before
+  starts : IsIn E word_of b before ShortTargets begun.finalizers.state begun.walk.kept begun.walk.left before
   starts =
       let listed : AreLinks b.short begun.walk.left = subst (λ (s : State). AreLinks s.short begun.walk.left) is.finalizers is.begins.lists in
-      subst (λ (xs : List Item). IsIn E b before ShortTargets begun.finalizers.state xs begun.walk.left before) (sym is.begins.none)
-      (sifts_begin E _ before.objects before.marked (IsLink before.objects b.short before.marked) (IsLinkAt before.objects b.short before.marked) begun.finalizers.state begun.walk.left before
+      subst (λ (xs : List Item). IsIn E word_of b before ShortTargets begun.finalizers.state xs begun.walk.left before) (sym is.begins.none)
+      (sifts_begin E word_of _ before.objects before.marked (IsLink word_of before.objects b.short before.marked) (IsLinkAt word_of before.objects b.short before.marked) begun.finalizers.state begun.walk.left before
       (is.finalizers ∙ as_begun b) refl refl (links_each b.short begun.walk.left listed) (λ object word here off. links_all b.short begun.walk.left listed object word here))
 
-  is_where : IsWhere E b before new.phase new.finalizers.state new.walk.kept new.walk.left after_it
-  is_where = ran E b before has_begun begun new after_it (subst (λ o. IsWhere E b before o begun.finalizers.state begun.walk.kept begun.walk.left before) (sym is.phase) starts) runs
+  -- nothing is taken or finished yet
+  as_b : apart b.taken b.held begun.finalizers.state ≡ begun.finalizers.state
+  as_b = ap (apart b.taken b.held) is.finalizers ∙ sym is.finalizers
+
+  is_where : IsWhere E word_of b before new.phase (apart b.taken b.held new.finalizers.state) new.walk.kept new.walk.left after_it
+  is_where = ran E word_of b before has_begun begun new after_it
+      (subst (λ (s : State). IsWhere E word_of b before begun.phase s begun.walk.kept begun.walk.left before) (sym as_b)
+      (subst (λ o. IsWhere E word_of b before o begun.finalizers.state begun.walk.kept begun.walk.left before) (sym is.phase) starts)) runs
+
+  works_on : WorksAfter b.taken b.held new.finalizers.state
+  works_on = works E word_of b before has_begun begun new after_it (subst (λ (s : State). machines.Works s begun.finalizers.state) (sym as_b) machines.Begun) runs
 
   -- where the pass is, as its phase says
-  pub where_it_is : (s : State) × (h : HasBegun s before) × ((phase : Phase) → new.phase ≡ Some phase → IsIn E s before phase new.finalizers.state new.walk.kept new.walk.left after_it)
-  where_it_is = (b, has_begun, λ phase at. subst (λ o. IsWhere E b before o new.finalizers.state new.walk.kept new.walk.left after_it) at is_where)
+  pub where_it_is : (s : State) × (h : HasBegun word_of s before) × ((phase : Phase) → new.phase ≡ Some phase → IsIn E word_of s before phase (apart s.taken s.held new.finalizers.state) new.walk.kept new.walk.left after_it)
+  where_it_is = (b, has_begun, λ phase at. subst (λ o. IsWhere E word_of b before o (apart b.taken b.held new.finalizers.state) new.walk.kept new.walk.left after_it) at is_where)
 
-module _ (E : Type 0) (old begun new : Machine) (past : Past) (before after_it : Graph) (reached : IsReached old.finalizers.state past) (is : IsBegun old begun) (may : MayBegin old.finalizers.state before) (runs : Runs E begun before new after_it) (ends : new.phase ≡ None) where
+module _ (E : Type 0) (word_of : ℕ → Option ℕ) (old begun new : Machine) (past : Past) (before after_it : Graph) (reached : IsReached old.finalizers.state past) (is : IsBegun old begun) (may : MayBegin word_of old.finalizers.state before) (runs : Runs E word_of begun before new after_it) (ends : new.phase ≡ None) where
   abbrev c : State
-  c = b E old begun new past before after_it reached is may runs
+  c = b E word_of old begun new past before after_it reached is may runs
 
-  begins_so : HasBegun c before
-  begins_so = has_begun E old begun new past before after_it reached is may runs
+  begins_so : HasBegun word_of c before
+  begins_so = has_begun E word_of old begun new past before after_it reached is may runs
 
-  at_end : IsAtEnd E c before new.finalizers.state after_it
-  at_end = subst (λ o. IsWhere E c before o new.finalizers.state new.walk.kept new.walk.left after_it) ends (is_where E old begun new past before after_it reached is may runs)
+  abbrev end : State
+  end = apart c.taken c.held new.finalizers.state
+
+  at_end : IsAtEnd E word_of c before end after_it
+  at_end = subst (λ o. IsWhere E word_of c before o end new.walk.kept new.walk.left after_it) ends (is_where E word_of old begun new past before after_it reached is may runs)
 
   -- what comes and goes in the finalizers
-  as_pass : Follows old.finalizers.state Pass new.finalizers.state
+  as_pass : Follows old.finalizers.state Pass end
   as_pass = (
-    decided_queues E c.passes before.objects (retain_keys after_it.objects after_it.marked) before.marked old.finalizers.state new.finalizers.state
-        (decides E c before begins_so new.finalizers.state after_it at_end) (ap (λ (s : State). s.taken) at_end.state) (ap (λ (s : State). s.held) at_end.state) (ap (λ (s : State). s.next_number) at_end.state),
+    decided_queues E word_of c.passes before.objects (retain_keys after_it.objects after_it.marked) before.marked old.finalizers.state end
+        (decides E word_of c before begins_so end after_it at_end) (ap (λ (s : State). s.taken) at_end.state) (ap (λ (s : State). s.held) at_end.state) (ap (λ (s : State). s.next_number) at_end.state),
     ap (λ (s : State). s.passes) at_end.state,
   )
 
-  pub makes_pass : MakesPass E old.finalizers.state before new.finalizers.state after_it
+  pub makes_pass : MakesPass E word_of old.finalizers.state before new.finalizers.state after_it
   makes_pass = record {
-    decided = (decides E c before begins_so new.finalizers.state after_it at_end).0;
+    passed = end;
+    decided = (decides E word_of c before begins_so end after_it at_end).0;
     follows = as_pass;
-    marks = still_marked E c before begins_so new.finalizers.state after_it at_end;
-    closed = closed_after E c before begins_so new.finalizers.state after_it at_end;
+    works = works_on E word_of old begun new past before after_it reached is may runs;
+    marks = still_marked E word_of c before begins_so end after_it at_end;
+    closed = closed_after E word_of c before begins_so end after_it at_end;
   }
 
 pub runs_pass : (E : Type 0) → RunsPass E
-runs_pass E old begun new past before after_it reached is may runs ends = makes_pass E old begun new past before after_it reached is may runs ends
+runs_pass E word_of old begun new past before after_it reached is may runs ends = makes_pass E word_of old begun new past before after_it reached is may runs ends

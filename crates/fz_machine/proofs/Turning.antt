@@ -1,13 +1,14 @@
 -- From phase to phase, and to the end.
-use Rattle.std.proofs.Common.{◌≡◌, ◌++◌, ◌∙◌, [], ℕ, Bool, true, false, not, List, length, refl, sym, ap, subst, inl, inr, ⊎_elim, is_some, append-nil, IsTrue}
+use Rattle.std.proofs.Common.{◌≡◌, ◌++◌, ◌∙◌, [], ℕ, Bool, true, false, not, List, length, refl, sym, ap, subst, inl, inr, ⊎_elim, is_some, append-nil, IsTrue, Option}
 use Rattle.std.specs.FinMap.{retain_keys}
 use Rattle.std.specs.FinSet.{contains}
 use Rattle.fz_model.specs.State.{Map, Object}
 use Rattle.fz_model.specs.Memory.{points}
-use Rattle.fz_model.specs.Pass.{is_dead, links_within}
+use Rattle.fz_model.specs.Pass.{is_dead}
 use Rattle.fz_model.proofs.SeenKept.{points-filled}
 use Rattle.fz_pass.specs.Queued.{QueuesTiers}
 use Rattle.fz_pass.specs.Marks.{IsClosed}
+use Rattle.fz_pass.specs.Places.{placed, links_held}
 use Rattle.fz_pass.proofs.Flags.{decided}
 use Rattle.fz_pass.proofs.Passed.{closed_still, dropped_twice, pointed}
 use Rattle.fz_pass.proofs.Tiers.{flag_of_round, unskipped_off}
@@ -31,7 +32,7 @@ use Rattle.fz_machine.proofs.Phasing.{Sifts, Clears, clears_all, clears_begin, h
 use Rattle.fz_machine.proofs.Sifting.{IsAt, sifted}
 use Rattle.fz_machine.proofs.Stated.{state_with, tabled}
 
-module _ (E : Type 0) (b : State) (before : Graph) (begin : HasBegun b before) where
+module _ (E : Type 0) (word_of : ℕ → Option ℕ) (b : State) (before : Graph) (begin : HasBegun word_of b before) where
   abbrev Either : Item → Type 0
   Either = IsOfEither b.registrations b.late
 
@@ -45,42 +46,42 @@ module _ (E : Type 0) (b : State) (before : Graph) (begin : HasBegun b before) w
   LateAt = IsLateAt b.registrations b.late
 
   abbrev clearly : Map Object
-  clearly = clear E b before
+  clearly = clear E word_of b before
 
   abbrev shorts : Map ℕ
-  shorts = short_left E b before
+  shorts = short_left E word_of b before
 
-  to_objects : (s : State) (h : Graph) → Clears E (λ links. state_with b links b.long b.registrations b.late []) before.objects b.short before.marked s [] h
-      → (items : List Item) → AreObjects s.registrations s.late items → IsIn E b before Objects s [] items h
+  to_objects : (s : State) (h : Graph) → Clears E word_of (λ links. state_with b links b.long b.registrations b.late []) before.objects b.short before.marked s [] h
+      → (items : List Item) → AreObjects s.registrations s.late items → IsIn E word_of b before Objects s [] items h
   to_objects s h p items are =
-      let all = clears_all E (λ links. state_with b links b.long b.registrations b.late []) before.objects b.short before.marked begin.short s h p in
+      let all = clears_all E word_of (λ links. state_with b links b.long b.registrations b.late []) before.objects b.short before.marked begin.short begin.apart s h p in
       let listed : AreObjects b.registrations b.late items = subst (λ (t : State). AreObjects t.registrations t.late items) p.state are in
-      sifts_begin E _ clearly before.marked Either EitherAt s items h all.0 all.1 all.2 (objects_each b.registrations b.late items listed) (λ object word at off. objects_all b.registrations b.late items listed object word at)
+      sifts_begin E word_of _ clearly before.marked Either EitherAt s items h all.0 all.1 all.2 (objects_each b.registrations b.late items listed) (λ object word at off. objects_all b.registrations b.late items listed object word at)
 
-  to_children : (s : State) (kept : List Item) (h : Graph) → Sifts E (state_with b shorts b.long b.registrations b.late []) clearly before.marked Either EitherAt s kept [] h
-      → (items : List Item) → items ≡ kept → LeadsOn E b before s [] items h
+  to_children : (s : State) (kept : List Item) (h : Graph) → Sifts E word_of (state_with b shorts b.long b.registrations b.late []) clearly before.marked Either EitherAt s kept [] h
+      → (items : List Item) → items ≡ kept → LeadsOn E word_of b before s [] items h
   to_children s kept h p items is =
       let all = λ (object word : ℕ) (at : EitherAt object word) (off : before.marked object ≡ false). subst (OneOf (IsAt object word)) (sym is) (sifted before.marked Either EitherAt kept p.sifted object word at off) in
       record {
         state = p.state;
-        are = leading_begins E clearly b.registrations b.late before.marked items h p.objects_are p.marks_are (closed E b before begin)
+        are = leading_begins E word_of clearly b.registrations b.late before.marked items h p.objects_are p.marks_are (closed E word_of b before begin)
             (λ object here off. one_as (IsAt object 0) (λ (i : Item). i.object ≡ object) (λ i at. at.0) items (all object 0 (either_at b.registrations b.late object here) off));
         kept_are = tt;
-        left_are = subst (Each (IsUnfound E b before)) (sym is) p.sifted.kept_are;
+        left_are = subst (Each (IsUnfound E word_of b before)) (sym is) p.sifted.kept_are;
         rest = λ object word at off. inr (all object word at off);
       }
 
-  to_again : (s : State) (kept : List Item) (h : Graph) → LeadsOn E b before s kept [] h → (items : List Item) → items ≡ kept → IsIn E b before Again s [] items h
+  to_again : (s : State) (kept : List Item) (h : Graph) → LeadsOn E word_of b before s kept [] h → (items : List Item) → items ≡ kept → IsIn E word_of b before Again s [] items h
   to_again s kept h p items is =
-      let leading : Leading E b before = record { led = h.marked; marks = led_all E clearly b.registrations b.late before.marked (registered E b before begin) (normal E b before begin) h p.are } in (
+      let leading : Leading E word_of b before = record { led = h.marked; marks = led_all E word_of clearly b.registrations b.late before.marked (registered E word_of b before begin) (normal E word_of b before begin) h p.are } in (
         leading,
-        sifts_begin E _ clearly h.marked Either EitherAt s items h p.state p.are.objects refl
-            (subst (Each Either) (sym is) (each_as (IsUnfound E b before) Either (λ i x. x.0) kept p.kept_are))
-            (λ object word at off. subst (OneOf (IsAt object word)) (sym is) (⊎_elim (λ k. k) (λ k. absurd k) (p.rest object word at (not_before E b before begin before.marked h.marked p.are.least object off)))),
+        sifts_begin E word_of _ clearly h.marked Either EitherAt s items h p.state p.are.objects refl
+            (subst (Each Either) (sym is) (each_as (IsUnfound E word_of b before) Either (λ i x. x.0) kept p.kept_are))
+            (λ object word at off. subst (OneOf (IsAt object word)) (sym is) (⊎_elim (λ k. k) (λ k. absurd k) (p.rest object word at (not_before E word_of b before begin before.marked h.marked p.are.least object off)))),
       )
 
-  to_picks : (s : State) (kept : List Item) (h : Graph) (l : Leading E b before) → Sifts E (state_with b shorts b.long b.registrations b.late []) clearly l.led Either EitherAt s kept [] h
-      → (items : List Item) → AreInTurn kept items → PicksOn E b before s [] items h
+  to_picks : (s : State) (kept : List Item) (h : Graph) (l : Leading E word_of b before) → Sifts E word_of (state_with b shorts b.long b.registrations b.late []) clearly l.led Either EitherAt s kept [] h
+      → (items : List Item) → AreInTurn kept items → PicksOn E word_of b before s [] items h
   to_picks s kept h l p items turned =
       let all = λ (object word : ℕ) (at : EitherAt object word) (off : l.led object ≡ false). one_permuted (IsAt object word) kept items turned.0 (sifted l.led Either EitherAt kept p.sifted object word at off) in
       record {
@@ -96,19 +97,19 @@ module _ (E : Type 0) (b : State) (before : Graph) (begin : HasBegun b before) w
         ordered = order_from place_of items turned.1;
       }
 
-  to_late_again : (s : State) (kept : List Item) (h : Graph) → PicksOn E b before s kept [] h → (items : List Item) → items ≡ kept → IsIn E b before LateAgain s [] items h
+  to_late_again : (s : State) (kept : List Item) (h : Graph) → PicksOn E word_of b before s kept [] h → (items : List Item) → items ≡ kept → IsIn E word_of b before LateAgain s [] items h
   to_late_again s kept h p items is =
       let all = chosen_all E clearly (tabled b) p.leading.led false (contains b.late) 0 p.now p.picks h p.are in
-      let c : Picked E b before = record { leading = p.leading; table = p.now; picks = p.picks; mid = h.marked; are = all.0; marks = all.1 } in (
+      let c : Picked E word_of b before = record { leading = p.leading; table = p.now; picks = p.picks; mid = h.marked; are = all.0; marks = all.1 } in (
         c,
-        sifts_begin E _ clearly h.marked Late LateAt s items h p.state p.are.objects refl
+        sifts_begin E word_of _ clearly h.marked Late LateAt s items h p.state p.are.objects refl
             (subst (Each Late) (sym is) (each_as (λ i. Late i × (p.leading.led i.object ≡ false)) Late (λ i x. x.0) kept p.kept_are))
-            (λ object word at off. subst (OneOf (IsAt object word)) (sym is) (⊎_elim (λ k. k) (λ k. absurd k) (p.rest object word at (not_before E b before begin p.leading.led h.marked p.are.least object off)))),
+            (λ object word at off. subst (OneOf (IsAt object word)) (sym is) (⊎_elim (λ k. k) (λ k. absurd k) (p.rest object word at (not_before E word_of b before begin p.leading.led h.marked p.are.least object off)))),
         subst (AreInOrder place_of) (append-nil kept ∙ sym is) p.ordered,
       )
 
-  to_late_picks : (s : State) (kept : List Item) (h : Graph) (c : Picked E b before) → Sifts E (state_with b shorts b.long c.table.registrations c.table.late c.picks) clearly c.mid Late LateAt s kept [] h → AreInOrder place_of (kept ++ [])
-      → (items : List Item) → items ≡ kept → PicksLate E b before s items h
+  to_late_picks : (s : State) (kept : List Item) (h : Graph) (c : Picked E word_of b before) → Sifts E word_of (state_with b shorts b.long c.table.registrations c.table.late c.picks) clearly c.mid Late LateAt s kept [] h → AreInOrder place_of (kept ++ [])
+      → (items : List Item) → items ≡ kept → PicksLate E word_of b before s items h
   to_late_picks s kept h c p ordered items is = record {
     first = c;
     now = c.table;
@@ -117,23 +118,23 @@ module _ (E : Type 0) (b : State) (before : Graph) (begin : HasBegun b before) w
     are = choosing_begins E clearly c.table c.mid true (contains b.late) 256 items h p.objects_are p.marks_are c.marks.closed
         (λ a r here off. one_as (IsAt a 0) (λ (i : Item). i.object ≡ a) (λ i at. at.0) items
         (subst (OneOf (IsAt a 0)) (sym is)
-        (sifted c.mid Late LateAt kept p.sifted a 0 (ap is_some (was_there E b before begin c a r here), flag_of_round true (contains b.late) c.mid a (ap not off), refl) (unskipped_off true (contains b.late) c.mid a (ap not off)))));
+        (sifted c.mid Late LateAt kept p.sifted a 0 (ap is_some (was_there E word_of b before begin c a r here), flag_of_round true (contains b.late) c.mid a (ap not off), refl) (unskipped_off true (contains b.late) c.mid a (ap not off)))));
     left_are = subst (Each (λ i. Late i × (c.mid i.object ≡ false))) (sym is) p.sifted.kept_are;
     ordered = subst (AreInOrder place_of) (append-nil kept ∙ sym is) ordered;
   }
 
-  to_long_targets : (s : State) (h : Graph) → PicksLate E b before s [] h → (items : List Item) → AreLinks s.long items → IsIn E b before LongTargets s [] items h
+  to_long_targets : (s : State) (h : Graph) → PicksLate E word_of b before s [] h → (items : List Item) → AreLinks s.long items → IsIn E word_of b before LongTargets s [] items h
   to_long_targets s h p items are =
       let all = chosen_all E clearly p.first.table p.first.mid true (contains b.late) 256 p.now p.late_picks h p.are in
-      let c : PickedBoth E b before = record { first = p.first; table = p.now; late_picks = p.late_picks; kept = h.marked; are = all.0; marks = all.1 } in
+      let c : PickedBoth E word_of b before = record { first = p.first; table = p.now; late_picks = p.late_picks; kept = h.marked; are = all.0; marks = all.1 } in
       let listed : AreLinks b.long items = subst (λ (t : State). AreLinks t.long items) p.state are in (
         c,
-        sifts_begin E _ clearly h.marked (IsLink clearly b.long h.marked) (IsLinkAt clearly b.long h.marked) s items h p.state p.are.objects refl (links_each b.long items listed)
+        sifts_begin E word_of _ clearly h.marked (IsLink word_of clearly b.long h.marked) (IsLinkAt word_of clearly b.long h.marked) s items h p.state p.are.objects refl (links_each b.long items listed)
             (λ object word here off. links_all b.long items listed object word here),
       )
 
-  pub turn : (phase : Phase) (s : State) (kept : List Item) (h : Graph) → IsIn E b before phase s kept [] h → IsAfter E b before (next_phase phase) s kept h
-  turn ShortTargets s kept h p = λ items is. clears_begin E (λ links. state_with b links b.long b.registrations b.late []) before.objects b.short before.marked begin.short s kept items h p is
+  pub turn : (phase : Phase) (s : State) (kept : List Item) (h : Graph) → IsIn E word_of b before phase s kept [] h → IsAfter E word_of b before (next_phase phase) s kept h
+  turn ShortTargets s kept h p = λ items is. clears_begin E word_of (λ links. state_with b links b.long b.registrations b.late []) before.objects b.short before.marked begin.short s kept items h p is
   turn ShortWords s kept h p = λ items are. to_objects s h p items are
   turn Objects s kept h p = λ items is. to_children s kept h p items is
   turn Children s kept h p = λ items is. to_again s kept h p items is
@@ -141,34 +142,34 @@ module _ (E : Type 0) (b : State) (before : Graph) (begin : HasBegun b before) w
   turn Picks s kept h p = λ items is. to_late_again s kept h p items is
   turn LateAgain s kept h (c, p, ordered) = λ items is. to_late_picks s kept h c p ordered items is
   turn LatePicks s kept h p = λ items are. to_long_targets s h p items are
-  turn LongTargets s kept h (c, p) = λ items is. (c, clears_begin E (after_picks E b before c shorts) clearly b.long c.kept (long_targets E b before begin) s kept items h p is)
+  turn LongTargets s kept h (c, p) = λ items is. (c, clears_begin E word_of (after_picks E word_of b before c shorts) clearly b.long c.kept (long_targets E word_of b before begin) s kept items h p is)
   turn LongWords s kept h (c, p) = λ items are.
-      let all = clears_all E (after_picks E b before c shorts) clearly b.long c.kept (long_targets E b before begin) s h p in
-      (c, holds_begin E (λ links. after_picks E b before c links (long_left E b before c)) (last E b before c) shorts c.kept s items h all.0 all.1 all.2 (subst (λ (t : State). AreLinks t.short items) all.0 are))
+      let all = clears_all E word_of (after_picks E word_of b before c shorts) clearly b.long c.kept (long_targets E word_of b before begin) begin.apart s h p in
+      (c, holds_begin E word_of (λ links. after_picks E word_of b before c links (long_left E word_of b before c)) (last E word_of b before c) shorts c.kept s items h all.0 all.1 all.2 (subst (λ (t : State). AreLinks t.short items) all.0 are))
   turn ShortHolders s kept h (c, p) = λ items are.
-      let all = holds_all E (λ links. after_picks E b before c links (long_left E b before c)) (last E b before c) shorts c.kept s h p in
-      (c, holds_begin E (λ links. after_picks E b before c (short_held E b before c) links) (last E b before c) (long_left E b before c) c.kept s items h all.0 all.1 all.2 (subst (λ (t : State). AreLinks t.long items) all.0 are))
+      let all = holds_all E word_of (λ links. after_picks E word_of b before c links (long_left E word_of b before c)) (last E word_of b before c) shorts c.kept s h p in
+      (c, holds_begin E word_of (λ links. after_picks E word_of b before c (short_held E word_of b before c) links) (last E word_of b before c) (long_left E word_of b before c) c.kept s items h all.0 all.1 all.2 (subst (λ (t : State). AreLinks t.long items) all.0 are))
   turn LongHolders s kept h (c, p) =
-      let all = holds_all E (λ links. after_picks E b before c (short_held E b before c) links) (last E b before c) (long_left E b before c) c.kept s h p in
+      let all = holds_all E word_of (λ links. after_picks E word_of b before c (short_held E word_of b before c) links) (last E word_of b before c) (long_left E word_of b before c) c.kept s h p in
       record { chosen = c; state = all.0; objects_are = all.1; marks_are = all.2 }
 
   -- ---- what is left at the end
 
-  module _ (s : State) (h : Graph) (p : IsAtEnd E b before s h) where
-    abbrev c : PickedBoth E b before
+  module _ (s : State) (h : Graph) (p : IsAtEnd E word_of b before s h) where
+    abbrev c : PickedBoth E word_of b before
     c = p.chosen
 
-    lies : (w : ℕ) → points (last E b before c) w ≡ points before.objects w
-    lies w = pointed before.objects b.short before.marked b.long c.kept w
+    lies : (w : ℕ) → points (last E word_of b before c) w ≡ points before.objects w
+    lies w = pointed before.objects (placed word_of b.short) before.marked (placed word_of b.long) c.kept w
 
-    short_is : short_held E b before c ≡ links_within before.objects b.short before.marked c.kept
-    short_is = dropped_twice (last E b before c) before.objects b.short before.marked c.kept lies
+    short_is : short_held E word_of b before c ≡ links_held word_of before.objects b.short before.marked c.kept
+    short_is = dropped_twice word_of (last E word_of b before c) before.objects b.short before.marked c.kept lies
 
-    long_is : long_held E b before c ≡ links_within before.objects b.long c.kept c.kept
-    long_is = dropped_twice (last E b before c) before.objects b.long c.kept c.kept lies
+    long_is : long_held E word_of b before c ≡ links_held word_of before.objects b.long c.kept c.kept
+    long_is = dropped_twice word_of (last E word_of b before c) before.objects b.long c.kept c.kept lies
 
     abbrev end : State
-    end = after_picks E b before c (short_held E b before c) (long_held E b before c)
+    end = after_picks E word_of b before c (short_held E word_of b before c) (long_held E word_of b before c)
 
     both : QueuesTiers E (contains b.late) b.passes (length b.queue) clearly c.first.leading.led c.kept (tabled b) c.table b.queue end.queue
     both = record {
@@ -184,13 +185,13 @@ module _ (E : Type 0) (b : State) (before : Graph) (begin : HasBegun b before) w
     }
 
     abbrev DecidesHere : State → Type 0
-    DecidesHere t = Decides E b.passes b.late t.late (parts_in before.objects b) before.marked (parts_left_in h.objects h.marked t) b.queue t.queue
+    DecidesHere t = Decides E word_of b.passes b.late t.late (parts_in before.objects b) before.marked (parts_left_in h.objects h.marked t) b.queue t.queue
 
     pub decides : DecidesHere s
     decides =
-        let objects_are : retain_keys h.objects h.marked ≡ retain_keys (last E b before c) c.kept = λ i. retain_keys (p.objects_are i) (p.marks_are i) in
+        let objects_are : retain_keys h.objects h.marked ≡ retain_keys (last E word_of b before c) c.kept = λ i. retain_keys (p.objects_are i) (p.marks_are i) in
         subst DecidesHere (sym p.state)
-        (decided E (contains b.late) before.objects b.short b.long before.marked c.first.leading.led c.kept (tabled b) c.table b.passes (length b.queue) b.queue end.queue (normal E b before begin) (registered E b before begin) c.first.leading.marks both
+        (decided E word_of (contains b.late) before.objects b.short b.long before.marked c.first.leading.led c.kept (tabled b) c.table b.passes (length b.queue) b.queue end.queue (normal E word_of b before begin) (registered E word_of b before begin) c.first.leading.marks both
         (parts_left_in h.objects h.marked end) (λ i. record { objects = objects_are i; registrations = c.table.registrations; short = short_is i; long = long_is i }))
 
     pub still_marked : (a : ℕ) → IsTrue (before.marked a) → IsTrue (h.marked a)
@@ -198,5 +199,5 @@ module _ (E : Type 0) (b : State) (before : Graph) (begin : HasBegun b before) w
 
     pub closed_after : IsClosed h.objects h.marked
     closed_after =
-        let nowhere = points-filled (is_dead before.objects b.short before.marked) 0 before.objects 0 ∙ begin.zero in
-        subst (λ (m : Map Object). IsClosed m h.marked) (sym p.objects_are) (subst (IsClosed (last E b before c)) (sym p.marks_are) (closed_still clearly b.long c.kept nowhere c.marks.closed))
+        let nowhere = points-filled (is_dead before.objects (placed word_of b.short) before.marked) 0 before.objects 0 ∙ begin.zero in
+        subst (λ (m : Map Object). IsClosed m h.marked) (sym p.objects_are) (subst (IsClosed (last E word_of b before c)) (sym p.marks_are) (closed_still clearly (placed word_of b.long) c.kept nowhere c.marks.closed))

@@ -2,11 +2,11 @@
 -- code: fz_machine/src/question.rt; fz_pass/src/host.rt
 use Rattle.std.specs.Prelude.{◌≡◌, ◌<◌, ◌^◌, ℕ, Bool, true, false, Option, Some, None, IsTrue}
 use Rattle.std.specs.FinMap.{get, contains_key}
-use Rattle.std.specs.Option.{option_map_or}
-use Rattle.fz_model.specs.Memory.{points, written}
+use Rattle.fz_model.specs.Memory.{points}
 use Rattle.fz_model.specs.Reachability.{Leads}
 use Rattle.fz_model.specs.State.{Map, Object}
 use Rattle.fz_pass.specs.Marks.{IsClosed, Marks, IsLeadingBut, IsLastToMark, AreRegistered, AreTargets}
+use Rattle.fz_pass.specs.Places.{StandApart, written_at, is_held}
 use Rattle.fz_finalizers.specs.States.{State}
 use Rattle.fz_machine.specs.declared.question.Ask.{Ask}
 use Rattle.fz_machine.specs.declared.question.Ask.TheVariants.{IsMarked, MarkChildren, MarkOthers, Mark, MarkAlone, Clear, IsHolderMarked}
@@ -14,6 +14,9 @@ use Rattle.fz_machine.specs.declared.question.Ask.TheVariants.{IsMarked, MarkChi
 pub record Graph : Type 0 where
   pub objects : Map Object  -- by address
   pub marked : ℕ → Bool
+
+abbrev pub graph_of : Map Object → (ℕ → Bool) → Graph
+graph_of objects marked = record { objects = objects; marked = marked }
 
 -- only objects of the graph are marked, and only while everything that marked objects reach is marked
 abbrev pub CanMark : Graph → ℕ → Type 0
@@ -37,27 +40,24 @@ MayBeAsked (Some ask) subject g = MayAsk ask subject g
 abbrev pub Gains : Type 0 → Graph → Graph → (ℕ → Type 0) → Type 0
 Gains Exact old new gained = (new.objects ≡ old.objects) × Marks Exact old.objects old.marked new.marked gained
 
--- whether the object that contains the word is marked
-abbrev pub is_holder_marked : Map Object → (ℕ → Bool) → ℕ → Bool
-is_holder_marked objects marked word = option_map_or marked (points objects word) false
-
--- what an honest host answers, and the graph afterwards; for a command any answer is accepted
-abbrev pub Answers : Type 0 → Ask → ℕ → Graph → Bool → Graph → Type 0
-Answers Exact IsMarked object old answer new = (answer ≡ old.marked object) × (new ≡ old)
-Answers Exact MarkChildren object old answer new = Gains Exact old new (IsLeadingBut old.objects false object)
-Answers Exact MarkOthers object old answer new = Gains Exact old new (IsLeadingBut old.objects true object)
-Answers Exact Mark object old answer new = Gains Exact old new (Leads old.objects object)
-Answers Exact MarkAlone object old answer new = Gains Exact old new (λ a. a ≡ object)
-Answers Exact Clear word old answer new = new ≡ record old { objects = written word 0 old.objects }
-Answers Exact IsHolderMarked word old answer new = (answer ≡ is_holder_marked old.objects old.marked word) × (new ≡ old)
+-- what an honest host answers, and the graph afterwards; for a command any answer is accepted; `place` is the word of an object that a link denotes, if it
+-- denotes one
+abbrev pub Answers : Type 0 → (ℕ → Option ℕ) → Ask → ℕ → Graph → Bool → Graph → Type 0
+Answers Exact place IsMarked object old answer new = (answer ≡ old.marked object) × (new ≡ old)
+Answers Exact place MarkChildren object old answer new = Gains Exact old new (IsLeadingBut old.objects false object)
+Answers Exact place MarkOthers object old answer new = Gains Exact old new (IsLeadingBut old.objects true object)
+Answers Exact place Mark object old answer new = Gains Exact old new (Leads old.objects object)
+Answers Exact place MarkAlone object old answer new = Gains Exact old new (λ a. a ≡ object)
+Answers Exact place Clear word old answer new = new ≡ record old { objects = written_at place word old.objects }
+Answers Exact place IsHolderMarked word old answer new = (answer ≡ is_held place old.objects old.marked word) × (new ≡ old)
 
 -- the host is bound only if the question may be asked; if nothing is asked, nothing changes
-abbrev pub IsHonest : Type 0 → Option Ask → ℕ → Graph → Bool → Graph → Type 0
-IsHonest Exact (Some ask) subject old answer new = MayAsk ask subject old → Answers Exact ask subject old answer new
-IsHonest Exact None subject old answer new = new ≡ old
+abbrev pub IsHonest : Type 0 → (ℕ → Option ℕ) → Option Ask → ℕ → Graph → Bool → Graph → Type 0
+IsHonest Exact place (Some ask) subject old answer new = MayAsk ask subject old → Answers Exact place ask subject old answer new
+IsHonest Exact place None subject old answer new = new ≡ old
 
--- when a pass may begin: marking is complete, and registered objects and targets of links are objects of the graph
-pub record MayBegin (s : State) (g : Graph) : Type 0 where
+-- when a pass may begin: marking is complete, registered objects and targets of links are objects of the graph, and no two links denote one word
+pub record MayBegin (place : ℕ → Option ℕ) (s : State) (g : Graph) : Type 0 where
   pub registered : AreRegistered g.objects s.registrations
   pub short : AreTargets g.objects s.short
   pub long : AreTargets g.objects s.long
@@ -65,3 +65,4 @@ pub record MayBegin (s : State) (g : Graph) : Type 0 where
   pub closed : IsClosed g.objects g.marked
   pub births : (a : ℕ) (o : Object) → get g.objects a ≡ Some o → o.birth ≡ 0  -- no host is asked for births
   pub starts : (a : ℕ) → IsTrue (contains_key g.objects a) → a < 2 ^ 64  -- they are addresses
+  pub apart : StandApart place

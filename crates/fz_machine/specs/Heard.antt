@@ -5,12 +5,13 @@ use Rattle.std.specs.FinMap.{len}
 use Rattle.fz_finalizers.specs.Promises.{Past, IsReached}
 use Rattle.fz_finalizers.specs.States.{State}
 use Rattle.fz_machine.specs.declared.pass.Next.{Next}
-use Rattle.fz_machine.specs.Machines.{Machine, IsBegun, GoesTo, IsAbandoned}
+use Rattle.fz_machine.specs.Machines.{Machine, IsBegun, GoesTo, IsAbandoned, IsWorked}
 
--- this many answers were processed since a pass began, for each question no more than it asked for
+-- this many answers were processed since a pass began, for each question no more than it asked for; meanwhile workers take and finish entries
 pub data Hears (begun : Machine) : Machine → ℕ → Type 0 where
   Begun : Hears begun begun 0
   Goes : {m new : Machine} {next : Next} {n : ℕ} (answers : List Bool) → length answers ≤ m.asked → GoesTo m answers new next → Hears begun m n → Hears begun new (n + length answers)
+  Meanwhile : {m new : Machine} {n : ℕ} → IsWorked m new → Hears begun m n → Hears begun new n
 
 -- six phases process registrations, and three phases process the links of each kind
 abbrev pub most_answers : State → ℕ

@@ -3,12 +3,12 @@
 use Rattle.std.specs.Prelude.{◌≡◌, ℕ, ◌-◌, zero, suc, Bool, List, [], length, Option, Some, None, is_some, IsTrue, refl}
 use Rattle.std.specs.Coded.{Coded, code_by, coded×, coded_ℕ, coded_option}
 use Rattle.fz_model.specs.declared.answers.Entry.{Entry}
-use Rattle.fz_finalizers.specs.States.{View, view_code, waiting}
+use Rattle.fz_finalizers.specs.States.{State, View, view_code, waiting}
 use Rattle.fz_machine.specs.declared.phase.Phase.{Phase}
 use Rattle.fz_machine.specs.declared.phase.Phase.TheVariants.{ShortTargets, ShortWords, Objects, Children, Again, Picks, LateAgain, LatePicks, LongTargets, LongWords, ShortHolders, LongHolders}
 use Rattle.fz_machine.specs.declared.pass.Next.{Next}
 use Rattle.fz_machine.specs.declared.pass.Next.TheVariants.{Asks, Ended}
-use Rattle.fz_finalizers.specs.Follows.{Event, Follows, next_pass}
+use Rattle.fz_finalizers.specs.Follows.{Event, Follows, Take, TakeFinished, Finish, next_pass}
 use Rattle.fz_machine.specs.Going.{going}
 use Rattle.fz_machine.specs.Steps.{Begins, GoesOn, IsQuestion, steps}
 use Rattle.fz_machine.specs.Walks.{Walk, walk_code}
@@ -75,9 +75,31 @@ abbrev pub IsIdle : Machine → Type 0
 IsIdle m = m.phase ≡ None
 
 -- the first waiting entry is taken, as this event says; if none waits, the finalizers are unchanged
-abbrev pub Takes : (Entry → Event) → Machine → Machine → Option Entry → Type 0
-Takes event old new None = (waiting old.finalizers.state ≡ []) × (new.finalizers.state ≡ old.finalizers.state)
-Takes event old new (Some e) = Follows old.finalizers.state (event e) new.finalizers.state
+abbrev pub IsTaken : (Entry → Event) → Machine → Machine → Option Entry → Type 0
+IsTaken event old new None = (waiting old.finalizers.state ≡ []) × (new.finalizers.state ≡ old.finalizers.state)
+IsTaken event old new (Some e) = Follows old.finalizers.state (event e) new.finalizers.state
+
+-- an open pass is unchanged, and so is its list
+abbrev pub KeepsPass : Machine → Machine → Type 0
+KeepsPass old new = new ≡ record old { finalizers = new.finalizers }
+
+-- an event of a worker: an entry is taken or finished
+pub data IsWork : Event → Type 0 where
+  Takes : (e : Entry) → IsWork (Take e)
+  TakesFinished : (e : Entry) → IsWork (TakeFinished e)
+  Finishes : (e : Entry) → IsWork (Finish e)
+
+-- entries are taken and finished, by one event after another
+pub data Works : State → State → Type 0 where
+  Begun : {s : State} → Works s s
+  Goes : {old mid new : State} (event : Event) → IsWork event → Works old mid → Follows mid event new → Works old new
+
+-- an entry is taken or finished; an open pass is unchanged
+pub record IsWorked (old new : Machine) : Type 0 where
+  pub event : Event
+  pub work : IsWork event
+  pub follows : Follows old.finalizers.state event new.finalizers.state
+  pub keeps : KeepsPass old new
 
 -- a pass has begun
 pub record IsBegun (old new : Machine) : Type 0 where

@@ -1,6 +1,6 @@
 -- Runs of a pass over a graph, and their result.
 -- code: fz_machine/src/law.rt
-use Rattle.std.specs.Prelude.{◌≡◌, ℕ, Bool, List, [], ◌∷◌, None, Some, IsTrue}
+use Rattle.std.specs.Prelude.{◌≡◌, ℕ, Bool, List, [], ◌∷◌, Option, None, Some, IsTrue}
 use Rattle.fz_pass.specs.Marks.{IsClosed}
 use Rattle.fz_finalizers.specs.Follows.{Follows, Pass, next_pass}
 use Rattle.fz_finalizers.specs.Passed.{DecidesFor}
@@ -10,44 +10,48 @@ use Rattle.fz_machine.specs.declared.item.Item.{Item}
 use Rattle.fz_machine.specs.declared.pass.Next.{Next}
 use Rattle.fz_machine.specs.declared.phase.Phase.{Phase}
 use Rattle.fz_machine.specs.Graph.{Graph, IsHonest, MayBegin, MayBeAsked}
-use Rattle.fz_machine.specs.Machines.{Machine, IsBegun, GoesTo}
+use Rattle.fz_machine.specs.Machines.{Machine, IsBegun, GoesTo, IsWorked, Works}
 use Rattle.fz_machine.specs.Phases.{asks, subject}
 
 -- true answers about the first items, one after another, while the graph changes
-abbrev pub AreHonest : Type 0 → Phase → List Bool → List Item → Graph → Graph → Type 0
-AreHonest Exact phase [] items old new = new ≡ old
-AreHonest Exact phase (answer ∷ answers) [] old new = ⊥
-AreHonest Exact phase (answer ∷ answers) (item ∷ items) old new =
-    (between : Graph) × IsHonest Exact (asks phase item) (subject phase item) old answer between × AreHonest Exact phase answers items between new
+abbrev pub AreHonest : Type 0 → (ℕ → Option ℕ) → Phase → List Bool → List Item → Graph → Graph → Type 0
+AreHonest Exact place phase [] items old new = new ≡ old
+AreHonest Exact place phase (answer ∷ answers) [] old new = ⊥
+AreHonest Exact place phase (answer ∷ answers) (item ∷ items) old new =
+    (between : Graph) × IsHonest Exact place (asks phase item) (subject phase item) old answer between × AreHonest Exact place phase answers items between new
 
--- from the begin of a pass, by questions that an honest host has answered
-pub data Runs (Exact : Type 0) (begun : Machine) (before : Graph) : Machine → Graph → Type 0 where
-  Begun : Runs Exact begun before begun before
+-- from the begin of a pass, by questions that an honest host has answered; meanwhile workers take and finish entries
+pub data Runs (Exact : Type 0) (place : ℕ → Option ℕ) (begun : Machine) (before : Graph) : Machine → Graph → Type 0 where
+  Begun : Runs Exact place begun before begun before
   Goes : {m new : Machine} {g after : Graph} {next : Next} (answers : List Bool) (goes : GoesTo m answers new next)
-      → Runs Exact begun before m g → AreHonest Exact goes.phase answers m.walk.left g after → Runs Exact begun before new after
+      → Runs Exact place begun before m g → AreHonest Exact place goes.phase answers m.walk.left g after → Runs Exact place begun before new after
+  Meanwhile : {m new : Machine} {g : Graph} → IsWorked m new → Runs Exact place begun before m g → Runs Exact place begun before new g
 
--- as for `Finalizers::pass`: what the model decides, how the finalizers change, and that marks stay and are closed
-pub record MakesPass (Exact : Type 0) (old : State) (before : Graph) (new : State) (after : Graph) : Type 0 where
-  pub decided : DecidesFor Exact (next_pass old.passes) old before.objects before.marked new after.objects after.marked
-  pub follows : Follows old Pass new
+-- as for `Finalizers::pass`: what the model decides, how the finalizers change, and that marks stay and are closed; what is taken and finished meanwhile might as
+-- well be taken and finished after the pass
+pub record MakesPass (Exact : Type 0) (place : ℕ → Option ℕ) (old : State) (before : Graph) (new : State) (after : Graph) : Type 0 where
+  pub passed : State
+  pub decided : DecidesFor Exact place (next_pass old.passes) old before.objects before.marked passed after.objects after.marked
+  pub follows : Follows old Pass passed
+  pub works : Works passed new
   pub marks : (a : ℕ) → IsTrue (before.marked a) → IsTrue (after.marked a)
   pub closed : IsClosed after.objects after.marked
 
 -- after any calls of the finalizers, a run whose answers are true of a graph carries out the pass
 abbrev pub RunsPass : Type 0 → Type 0
-RunsPass Exact = (old begun new : Machine) (past : Past) (before after : Graph)
-    → IsReached old.finalizers.state past → IsBegun old begun → MayBegin old.finalizers.state before → Runs Exact begun before new after → new.phase ≡ None
-    → MakesPass Exact old.finalizers.state before new.finalizers.state after
+RunsPass Exact = (place : ℕ → Option ℕ) (old begun new : Machine) (past : Past) (before after : Graph)
+    → IsReached old.finalizers.state past → IsBegun old begun → MayBegin place old.finalizers.state before → Runs Exact place begun before new after → new.phase ≡ None
+    → MakesPass Exact place old.finalizers.state before new.finalizers.state after
 
 -- the first item may be asked about, and each later one after true answers about those before it
-abbrev pub AreAskable : Type 0 → Phase → List Item → Graph → Type 0
-AreAskable Exact phase [] g = Unit {0}
-AreAskable Exact phase (item ∷ items) g =
+abbrev pub AreAskable : Type 0 → (ℕ → Option ℕ) → Phase → List Item → Graph → Type 0
+AreAskable Exact place phase [] g = Unit {0}
+AreAskable Exact place phase (item ∷ items) g =
     MayBeAsked (asks phase item) (subject phase item) g
-    × ((answer : Bool) (between : Graph) → IsHonest Exact (asks phase item) (subject phase item) g answer between → AreAskable Exact phase items between)
+    × ((answer : Bool) (between : Graph) → IsHonest Exact place (asks phase item) (subject phase item) g answer between → AreAskable Exact place phase items between)
 
 -- a host that answers for a graph is asked only what it may be asked
 abbrev pub AsksRightly : Type 0 → Type 0
-AsksRightly Exact = (old begun new : Machine) (past : Past) (before after : Graph) (phase : Phase)
-    → IsReached old.finalizers.state past → IsBegun old begun → MayBegin old.finalizers.state before → Runs Exact begun before new after → new.phase ≡ Some phase
-    → AreAskable Exact phase new.walk.left after
+AsksRightly Exact = (place : ℕ → Option ℕ) (old begun new : Machine) (past : Past) (before after : Graph) (phase : Phase)
+    → IsReached old.finalizers.state past → IsBegun old begun → MayBegin place old.finalizers.state before → Runs Exact place begun before new after → new.phase ≡ Some phase
+    → AreAskable Exact place phase new.walk.left after

@@ -1,4 +1,4 @@
-//! The calls that change finalizers. They are refused while a pass is open.
+//! The calls that change finalizers. While a pass is open only entries are taken and finished.
 
 ghost use Rattle.std.specs.Prelude.{◌≡◌, ◌≤◌, ◌+◌, ◌⊎◌, [], None, length, if◌then◌else◌, IfOk, IfErr, OnOk, OnErr};
 ghost use Rattle.std.specs.FinMap.{get, len, contains_key};
@@ -10,7 +10,7 @@ ghost use Rattle.fz_finalizers.specs.Follows.{Follows, Register, Unregister, Lin
 ghost use Rattle.fz_finalizers.specs.States.{HasRooms, IsRoomier, KeepsTables, links_of, room_of};
 ghost use Rattle.fz_machine.specs.Causes.{IsJudgedBy, IsJudgedOrLacks};
 ghost use Rattle.fz_machine.specs.Going.{HasRoomForMore};
-ghost use Rattle.fz_machine.specs.Machines.{IsIdle, Takes};
+ghost use Rattle.fz_machine.specs.Machines.{IsIdle, IsTaken, KeepsPass};
 ghost use Rattle.fz_finalizers.specs.declared.refused.Refused.TheVariants.{NoMemory};
 
 use crate::machine::Machine;
@@ -164,35 +164,29 @@ impl Machine {
         Ok(self.finalizers.queue_all())
     }
 
-    /// Takes the first waiting entry. It is held until it is finished: its object and its client data stay roots. Fails with `PassOpen`.
-    pub fn take(&mut self) -> Result<Option<Entry>, Refused>
-        ensures judged { IsJudgedBy self.old.phase [] result }
-        ensures refused { OnErr result (self.new ≡ self.old) }
-        ensures takes { IfOk result (Takes Take self.old self.new) }
-        ensures idle { OnOk result (IsIdle self.new) }
+    /// Takes the first waiting entry. It is held until it is finished: its object and its client data stay roots. An open pass allows it.
+    pub fn take(&mut self) -> Option<Entry>
+        ensures takes { IsTaken Take self.old self.new result }
+        ensures keeps { KeepsPass self.old self.new }
     {
-        self.check()?;
-        Ok(self.finalizers.take())
+        self.finalizers.take()
     }
 
-    /// Takes the first waiting entry and finishes it at once, for a finalizer that may never return. Fails with `PassOpen`.
-    pub fn take_finished(&mut self) -> Result<Option<Entry>, Refused>
-        ensures judged { IsJudgedBy self.old.phase [] result }
-        ensures refused { OnErr result (self.new ≡ self.old) }
-        ensures takes { IfOk result (Takes TakeFinished self.old self.new) }
-        ensures idle { OnOk result (IsIdle self.new) }
+    /// Takes the first waiting entry and finishes it at once, for a finalizer that may never return. An open pass allows it.
+    pub fn take_finished(&mut self) -> Option<Entry>
+        ensures takes { IsTaken TakeFinished self.old self.new result }
+        ensures keeps { KeepsPass self.old self.new }
     {
-        self.check()?;
-        Ok(self.finalizers.take_finished())
+        self.finalizers.take_finished()
     }
 
-    /// Finishes a held entry. Fails with, in this order: `PassOpen`, `NotHeld` if no held entry equals this one in all fields.
+    /// Finishes a held entry. An open pass allows it. Fails with `NotHeld` if no held entry equals this one in all fields.
     pub fn finish(&mut self, entry: &Entry) -> Result<(), Refused>
-        ensures judged { IsJudgedBy self.old.phase (finish_causes self.old.finalizers.held entry.now) result }
-        ensures refused { OnErr result ((self.new.phase ≡ self.old.phase) × (self.new.finalizers.state ≡ self.old.finalizers.state)) }
-        ensures follows { OnOk result (IsIdle self.new × Follows self.old.finalizers.state (Finish entry.now) self.new.finalizers.state) }
+        ensures judged { IsJudgedBy None (finish_causes self.old.finalizers.held entry.now) result }
+        ensures refused { OnErr result (self.new.finalizers.state ≡ self.old.finalizers.state) }
+        ensures follows { OnOk result (Follows self.old.finalizers.state (Finish entry.now) self.new.finalizers.state) }
+        ensures keeps { KeepsPass self.old self.new }
     {
-        self.check()?;
         match self.finalizers.finish(entry) {
             Ok(()) => Ok(()),
             Err(refused) => Err(Refused::Finalizers(refused)),

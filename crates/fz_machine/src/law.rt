@@ -3,7 +3,8 @@
 ghost use Rattle.fz_machine.specs.Heard.{PassesAreCalls, PassesEnd};
 ghost use Rattle.fz_machine.specs.Runs.{AsksRightly, RunsPass};
 
-/// A run whose answers are true of a graph carries out the model's pass, as `Finalizers::pass` does, and asks nothing that it may not.
+/// A run whose answers are true of a graph carries out the model's pass, as `Finalizers::pass` does. Entries that are taken and finished between its questions
+/// might as well be taken and finished after the pass.
 ///
 /// If the host marks exactly what it is asked to mark, the run queues and retains exactly what the model does. If it marks more, the run queues no more than
 /// the model, and retains no less.
@@ -12,7 +13,7 @@ pub fn runs_make_the_pass()
     ensures more { RunsPass ⊥ }
 {}
 
-/// Whatever the host answers, a pass processes at most six answers for each registration and three for each link. This bounds answers, not calls: a call of
+/// Whatever the host answers, and whatever is taken and finished meanwhile, a pass processes at most six answers for each registration and three for each link. This bounds answers, not calls: a call of
 /// `next` without answers repeats the question, so a host that never answers never reaches the end. Each question is about at least one item, so a host that
 /// answers at least one item of each question reaches the end after at most that many questions.
 pub fn passes_end()

@@ -14,6 +14,7 @@ mod phase;
 mod question;
 mod refused;
 mod reserving;
+mod responding;
 mod walk;
 
 pub use item::Item;
@@ -23,4 +24,5 @@ pub use pass::Next;
 pub use phase::Phase;
 pub use question::{Ask, BATCH, Question};
 pub use refused::Refused;
+pub use responding::respond;
 pub use walk::Walk;

@@ -23,7 +23,7 @@ pub enum Ask {
     MarkAlone,
     /// Set the word to zero: its link is removed.
     Clear,
-    /// Is the object that contains the word marked?
+    /// Is the object that contains the word marked, or does no object contain it?
     IsHolderMarked,
 }
 

@@ -57,7 +57,7 @@ impl Walk {
         self.items.capacity()
     }
 
-    /// Reserves room for this many items. Clears the list.
+    /// Reserves room for this many items, and if it allocates, for an eighth more. Clears the list.
     pub(crate) fn reserve(&mut self, most: usize) -> Result<(), AllocError>
         ensures kept { self.old.room ≤ self.new.room }
         ensures room { OnOk result (most ≤ self.new.room) }
@@ -66,7 +66,10 @@ impl Walk {
         self.items.clear();
         self.kept = 0;
         self.place = 0;
-        self.items.reserve(most)
+        if most > self.items.capacity() {
+            self.items.reserve_exact(most.saturating_add(most / 8))?;
+        }
+        Ok(())
     }
 
     /// Frees memory, except the room for this many items. Clears the list.

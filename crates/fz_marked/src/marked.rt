@@ -1,6 +1,8 @@
 //! The heap with its marks, as a host.
 
-ghost use Rattle.std.specs.Prelude.{◌≡◌, ◌+◌, ◌*◌, ◌||◌, ℕ, None};
+ghost use Rattle.std.specs.Prelude.{◌≡◌, ◌+◌, ◌*◌, ◌||◌, ℕ, Some, None};
+ghost use Rattle.std.proofs.Common.{◌∙◌, sym};
+ghost use Rattle.std.proofs.lemmas.Option.{same_Some};
 ghost use Rattle.std.specs.FinSet.{contains};
 ghost use Rattle.std.specs.FinSet as sets;
 ghost use Rattle.std.specs.FinMap.{len, retain_keys};
@@ -30,6 +32,8 @@ impl Host for Marked {
     ghost marked = { λ m. contains m.marker.traced };
 
     ghost is_exact = { Unit {0} };
+
+    ghost place = { Some };
 
     ghost is_same = { λ old new. IsSame old.heap new.heap old.marker new.marker };
 
@@ -76,6 +80,8 @@ impl Host for Marked {
     ghost reflexive = { λ m. same_itself m.heap m.marker };
 
     ghost transitive = { λ old mid new first then. same_then old.heap mid.heap new.heap old.marker mid.marker new.marker first then };
+
+    ghost apart = { λ v w a p q. same_Some v a p ∙ sym (same_Some w a q) };
 }
 
 impl Marked {

@@ -1,5 +1,5 @@
 -- What the marks of a pass of two rounds mean in the model.
-use Rattle.std.proofs.Common.{◌≡◌, ◌≢◌, ℕ, ◌⊎◌, ◌++◌, not, Bool, true, false, List, [], map, get_or, Some, is_some, refl, sym, ap, ◌∙◌, subst, inl, inr, ⊎_elim, arith, Contains, IsTrue}
+use Rattle.std.proofs.Common.{◌≡◌, ◌≢◌, ℕ, ◌⊎◌, ◌++◌, not, Bool, true, false, List, [], map, get_or, Option, Some, is_some, refl, sym, ap, ◌∙◌, subst, inl, inr, ⊎_elim, arith, Contains, IsTrue}
 use Rattle.std.proofs.lemmas.Bool.{both_ways, and_parts, and_from}
 use Rattle.std.proofs.lemmas.List.{map-append}
 use Rattle.std.proofs.lemmas.List.Elements.{All-append, Contains-append_left, Contains-append_right}
@@ -10,7 +10,7 @@ use Rattle.fz_model.specs.declared.answers.Entry.{Entry}
 use Rattle.fz_model.specs.declared.answers.Pick.{Pick}
 use Rattle.fz_model.specs.declared.answers.Registration.{Registration}
 use Rattle.fz_model.specs.Reachability.{Leads}
-use Rattle.fz_model.specs.Pass.{ComesBefore, LeadsFirst, IsLedTo, IsPicked, rank_at, is_outside, cleared, without_picks, links_within, remaining_objects, entries_of}
+use Rattle.fz_model.specs.Pass.{ComesBefore, LeadsFirst, IsLedTo, IsPicked, rank_at, is_outside, cleared, without_picks, remaining_objects, entries_of}
 use Rattle.fz_model.proofs.Lists.{AllPairs-append}
 use Rattle.fz_model.proofs.Sound.{is_some_of}
 use Rattle.fz_table.specs.Tabled.{Content}
@@ -19,18 +19,22 @@ use Rattle.fz_pass.specs.Flagged.{AreNormal, IsUnfound, IsLast, AreFlaggedPicks,
 use Rattle.fz_pass.specs.Leading.{AreReaching, is_unreachable}
 use Rattle.fz_pass.specs.Marks.{AreRegistered}
 use Rattle.fz_pass.specs.Picking.{IsReady, without_flags}
+use Rattle.fz_pass.specs.Places.{placed, links_held}
 use Rattle.fz_pass.specs.Queued.{MarksLed, QueuesTiers, is_ready}
 use Rattle.fz_pass.proofs.Picked.{all_map, without_append, without_other, flags_append, was_registered}
 use Rattle.fz_pass.proofs.Decided as meaning
 use Rattle.fz_pass.proofs.Marking.{closed_leads, by_another}
 use Rattle.fz_pass.proofs.Tiers.{unskipped_off, flag_of_round, not_skipped, ready_off, ready_flag, is_ready_now}
 
-module _ (E : Type 0) (late : ℕ → Bool) (objects : Map Object) (short long : Map ℕ) (found led kept : ℕ → Bool) (table new_table : Content) (pass first : ℕ) (queue new_queue : List Entry)
-    (normal : AreNormal table.registrations late) (registered : AreRegistered (cleared short found objects) table.registrations)
-    (leading : MarksLed E (cleared short found objects) found led table.registrations)
-    (h : QueuesTiers E late pass first (cleared short found objects) led kept table new_table queue new_queue) where
+module _ (E : Type 0) (place : ℕ → Option ℕ) (late : ℕ → Bool) (objects : Map Object) (short long : Map ℕ) (found led kept : ℕ → Bool) (table new_table : Content) (pass first : ℕ) (queue new_queue : List Entry)
+    (normal : AreNormal table.registrations late) (registered : AreRegistered (cleared (placed place short) found objects) table.registrations)
+    (leading : MarksLed E (cleared (placed place short) found objects) found led table.registrations)
+    (h : QueuesTiers E late pass first (cleared (placed place short) found objects) led kept table new_table queue new_queue) where
+  abbrev words : Map ℕ
+  words = placed place short
+
   abbrev clear : Map Object
-  clear = cleared short found objects
+  clear = cleared words found objects
 
   abbrev all : Map Registration
   all = table.registrations
@@ -98,8 +102,8 @@ module _ (E : Type 0) (late : ℕ → Bool) (objects : Map Object) (short long :
   -- ---- what is picked
 
   ready_as : (t : Map Registration) (test : ℕ → Bool) → ((a : ℕ) (r : Registration) → get t a ≡ Some r → get all a ≡ Some r) → ((a : ℕ) → IsTrue (test a) → led a ≡ false)
-      → (x : Pick) → IsReady clear t test x → IsPicked objects all short found x
-  ready_as t test of off x is = meaning.picked objects all short found listed (λ a. refl) led leading.least x (record {
+      → (x : Pick) → IsReady clear t test x → IsPicked objects all words found x
+  ready_as t test of off x is = meaning.picked objects all words found listed (λ a. refl) led leading.least x (record {
     registration = is.registration;
     object = is.object;
     registered = of x.obj is.registration is.registered;
@@ -109,17 +113,17 @@ module _ (E : Type 0) (late : ℕ → Bool) (objects : Map Object) (short long :
   })
 
   -- an unfound one to which none leads wasn't marked
-  free : E → (o : ℕ) (r : Registration) → IsUnfound old found o r → (IsLedTo objects all short found o → ⊥) → led o ≡ false
+  free : E → (o : ℕ) (r : Registration) → IsUnfound place old found o r → (IsLedTo objects all words found o → ⊥) → led o ≡ false
   free exact o r un none = at (led o) refl
     where
       at : (b : Bool) → led o ≡ b → b ≡ false
       at false is = refl
       at true is =
-          ⊎_elim (λ was. absurd (both_ways (found o) (meaning.not_found objects all short found listed (λ a. refl) o r un) was)) (λ leads. absurd (none (meaning.to_led objects all short found listed (λ a. refl) o leads)))
+          ⊎_elim (λ was. absurd (both_ways (found o) (meaning.not_found objects all words found listed (λ a. refl) o r un) was)) (λ leads. absurd (none (meaning.to_led objects all words found listed (λ a. refl) o leads)))
           (leading.most exact o is)
 
   -- another unfound one that leads to it would have marked it
-  is_last : (o : ℕ) → h.between o ≡ false → IsLast old found o
+  is_last : (o : ℕ) → h.between o ≡ false → IsLast place old found o
   is_last o off other r un ne leads = by_flag (late other) refl
     where
       by_first : late other ≡ false → (b : Bool) → led other ≡ b → ⊥
@@ -130,16 +134,16 @@ module _ (E : Type 0) (late : ℕ → Bool) (objects : Map Object) (short long :
       by_flag false flag = by_first flag (led other) refl
       by_flag true flag =
           let step = ⊎_elim (λ same. absurd (ne (sym same))) (λ (c, step, rest). (c, subst (λ k. LeadsFirst clear other k c) (sym (normal other r un.registered flag)) step.0, rest)) (by_another E clear other o leads) in
-          both_ways (led o) (not_led o off) (leading.least o (inr (other, r, un.registered, meaning.is_listed objects all short found listed (λ a. refl) other r un, step)))
+          both_ways (led o) (not_led o off) (leading.least o (inr (other, r, un.registered, meaning.is_listed objects all words found listed (λ a. refl) other r un, step)))
 
-  last_free : E → (o : ℕ) → late o ≡ true → IsLast old found o → led o ≡ false → h.between o ≡ false
+  last_free : E → (o : ℕ) → late o ≡ true → IsLast place old found o → led o ≡ false → h.between o ≡ false
   last_free exact o on last off = at (h.between o) refl
     where
       at : (b : Bool) → h.between o ≡ b → b ≡ false
       at false is = refl
       at true is =
           ⊎_elim (λ was. absurd (both_ways (led o) off was))
-          (λ (other, r, here, un, leads). absurd (last other r (meaning.unreachable_as objects all short found listed (λ a. refl) other r here (is_listed other r here (unskipped_off false late led other un)))
+          (λ (other, r, here, un, leads). absurd (last other r (meaning.unreachable_as objects all words found listed (λ a. refl) other r here (is_listed other r here (unskipped_off false late led other un)))
           (λ same. both_ways (late other) (flag_of_round false late led other un) (ap late same ∙ on)) leads))
           (h.reached.most exact o is)
 
@@ -159,9 +163,9 @@ module _ (E : Type 0) (late : ℕ → Bool) (objects : Map Object) (short long :
   rank_same x is = ap (λ o. option_map_or (λ (r : Registration). r.rank) o 0) (still x.obj (late_flag x is))
 
   abbrev each_pick : Pick → Type 0
-  each_pick p = IsPicked objects all short found p × (IsTrue (late p.obj) → IsLast old found p.obj)
+  each_pick p = IsPicked objects all words found p × (IsTrue (late p.obj) → IsLast place old found p.obj)
 
-  are_picks : AreFlaggedPicks old found E late (h.picked.picks ++ h.picked_late.picks)
+  are_picks : AreFlaggedPicks place old found E late (h.picked.picks ++ h.picked_late.picks)
   are_picks = record {
     ordered = AllPairs-append (ComesAfterFlag late all) h.picked.picks h.picked_late.picks
         (λ i j d lt within. inr (early_flag _ (h.picked.picked.each i d (omega (arith, lt, within))) ∙ sym (early_flag _ (h.picked.picked.each j d within)), h.picked.picked.ordered i j d lt within))
@@ -181,7 +185,7 @@ module _ (E : Type 0) (late : ℕ → Bool) (objects : Map Object) (short long :
       ranked : (x y : Pick) → P2 x → P2 y → ComesBefore h.mid.registrations x y → ComesBefore all x y
       ranked x y p q = ⊎_elim (λ less. inl (let a = rank_same x p in let b = rank_same y q in omega (arith, less, a, b))) (λ same. inr (sym (rank_same x p) ∙ same.0 ∙ rank_same y q, same.1))
 
-      by : E → (o : ℕ) (r : Registration) → IsUnfound old found o r → (IsLedTo objects all short found o → ⊥) → (IsTrue (late o) → IsLast old found o) → (b : Bool) → late o ≡ b
+      by : E → (o : ℕ) (r : Registration) → IsUnfound place old found o r → (IsLedTo objects all words found o → ⊥) → (IsTrue (late o) → IsLast place old found o) → (b : Bool) → late o ≡ b
           → Contains (map (λ (p : Pick). p.obj) h.picked.picks ++ map (λ (p : Pick). p.obj) h.picked_late.picks) o
       by exact o r un none may false flag =
           Contains-append_left (map (λ (p : Pick). p.obj) h.picked.picks) (map (λ (p : Pick). p.obj) h.picked_late.picks) o
@@ -205,21 +209,21 @@ module _ (E : Type 0) (late : ℕ → Bool) (objects : Map Object) (short long :
 
   abbrev pub left : Parts
   left = record {
-    objects = remaining_objects objects short long found kept;
+    objects = remaining_objects objects words (placed place long) found kept;
     registrations = new_table.registrations;
-    short = links_within objects short found kept;
-    long = links_within objects long kept kept;
+    short = links_held place objects short found kept;
+    long = links_held place objects long kept kept;
   }
 
-  pub decided : (new : Parts) → new ≡ left → (d : DecidesFlagged E late pass first old found new queue new_queue) × (new_table.late ≡ without_flags table.late d.picks)
+  pub decided : (new : Parts) → new ≡ left → (d : DecidesFlagged E place late pass first old found new queue new_queue) × (new_table.late ≡ without_flags table.late d.picks)
   decided new is = (
     record {
       picks = h.picked.picks ++ h.picked_late.picks;
       picked = are_picks;
       queued = h.queued ∙ (λ i. queue ++ entries_of pass first (h.picked.out_is i ++ h.picked_late.out_is i));
       kept = kept;
-      keeps = meaning.keeps objects all short found listed (λ a. refl) led leading.least kept kept_least;
-      most = λ exact a. (meaning.computes_kept objects all short found listed (λ a. refl) led leading.least kept kept_least (leading.most exact) (kept_most exact) a).0;
+      keeps = meaning.keeps objects all words found listed (λ a. refl) led leading.least kept kept_least;
+      most = λ exact a. (meaning.computes_kept objects all words found listed (λ a. refl) led leading.least kept kept_least (leading.most exact) (kept_most exact) a).0;
       is = is ∙ (λ i. record left { registrations = left_registrations i });
     },
     left_flags,

@@ -1,6 +1,7 @@
 pub mod Filling
 pub mod Gathering
 pub mod Dead
+pub mod Placing
 pub mod Cleared
 pub mod AnyOf
 pub mod Marking

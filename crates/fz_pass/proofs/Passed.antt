@@ -6,25 +6,31 @@ use Rattle.std.specs.FinMap.{get, contains_key, same_map, nat_cmp-IsAntisymmetri
 use Rattle.fz_model.specs.State.{Map, Object}
 use Rattle.fz_model.specs.declared.answers.Registration.{Registration}
 use Rattle.fz_model.specs.Memory.{points}
-use Rattle.fz_model.specs.Pass.{is_dead, cleared, links_within}
+use Rattle.fz_model.specs.Pass.{is_dead, cleared}
 use Rattle.fz_model.proofs.Maps.{get-retain}
 use Rattle.fz_model.proofs.SeenKept.{points-filled}
-use Rattle.fz_pass.specs.Marks.{IsClosed, AreRegistered, AreTargets, with_targets, with_containers}
+use Rattle.fz_pass.specs.Marks.{IsClosed, AreRegistered, AreTargets, with_targets, with_holders}
+use Rattle.fz_pass.specs.Places.{is_held, links_held}
 use Rattle.fz_pass.proofs.Filling.{has_filled}
 use Rattle.fz_pass.proofs.Decided.{child_before}
 
 -- ---- links that are dropped by their targets, and then by their words
 
-pub dropped_twice : (a b : Map Object) (links : Map ℕ) (targets containers : ℕ → Bool) → ((w : ℕ) → points a w ≡ points b w) → with_containers a (with_targets links targets) containers ≡ links_within b links targets containers
-dropped_twice a b links targets containers same =
+pub dropped_twice : (place : ℕ → Option ℕ) (a b : Map Object) (links : Map ℕ) (targets containers : ℕ → Bool) → ((w : ℕ) → points a w ≡ points b w)
+    → with_holders place a (with_targets links targets) containers ≡ links_held place b links targets containers
+dropped_twice place a b links targets containers same =
     same_map nat_cmp_total nat_cmp-IsAntisymmetric _ _
     (λ k.
     get-retain (with_targets links targets) _ k
-    ∙ ap (λ o. cond (option_map_or (λ _. option_map_or containers (points a k) false) o false) o None) (get-retain links _ k)
-    ∙ ap (λ w. cond (option_map_or (λ _. option_map_or containers w false) (cond (option_map_or targets (get links k) false) (get links k) None) false) (cond (option_map_or targets (get links k) false) (get links k) None) None) (same k)
-    ∙ each (option_map_or containers (points b k) false) (get links k) (option_map_or targets (get links k) false)
+    ∙ ap (λ o. cond (option_map_or (λ _. is_held place a containers k) o false) o None) (get-retain links _ k)
+    ∙ ap (λ h. cond (option_map_or (λ _. h) (cond (option_map_or targets (get links k) false) (get links k) None) false) (cond (option_map_or targets (get links k) false) (get links k) None) None) (held (place k))
+    ∙ each (is_held place b containers k) (get links k) (option_map_or targets (get links k) false)
     ∙ sym (get-retain links _ k))
   where
+    held : (o : Option ℕ) → option_map_or (λ w. option_map_or containers (points a w) false) o true ≡ option_map_or (λ w. option_map_or containers (points b w) false) o true
+    held None = refl
+    held (Some w) = ap (λ p. option_map_or containers p false) (same w)
+
     none : (c : Bool) (o : Option ℕ) → o ≡ cond c o o
     none true o = refl
     none false o = refl

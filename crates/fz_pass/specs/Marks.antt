@@ -1,12 +1,12 @@
 -- How marking changes the marks of a host's heap.
 -- code: fz_pass/src/host.rt; fz_marked/src/marked.rt; own_heap/src/host.rt
-use Rattle.std.specs.Prelude.{◌≡◌, ◌≢◌, ℕ, Bool, false, not, ◌⊎◌, IsTrue, Some}
+use Rattle.std.specs.Prelude.{◌≡◌, ◌≢◌, ℕ, Bool, false, not, ◌⊎◌, IsTrue, Option, Some}
 use Rattle.std.specs.FinMap.{get, contains_key, retain_keys}
 use Rattle.std.specs.Option.{option_map_or}
-use Rattle.fz_model.specs.Memory.{points}
 use Rattle.fz_model.specs.State.{Map, Object}
 use Rattle.fz_model.specs.Reachability.{Child, Leads}
 use Rattle.fz_model.specs.declared.answers.Registration.{Registration}
+use Rattle.fz_pass.specs.Places.{is_held}
 
 -- the marks are closed under children
 abbrev pub IsClosed : Map Object → (ℕ → Bool) → Type 0
@@ -37,9 +37,9 @@ AreTargets objects links = (link target : ℕ) → get links link ≡ Some targe
 abbrev pub AreReached : Map Object → Map Registration → (ℕ → Bool) → ℕ → Type 0
 AreReached objects registrations marked a = (o : ℕ) × (r : Registration) × (get registrations o ≡ Some r) × IsTrue (not (marked o)) × Leads objects o a
 
--- the links whose targets are marked, and the links whose words lie in marked objects
+-- the links whose targets are marked, and the links that marked objects hold
 abbrev pub with_targets : Map ℕ → (ℕ → Bool) → Map ℕ
 with_targets links marked = retain_keys links (λ link. option_map_or marked (get links link) false)
 
-abbrev pub with_containers : Map Object → Map ℕ → (ℕ → Bool) → Map ℕ
-with_containers objects links marked = retain_keys links (λ link. option_map_or (λ _. option_map_or marked (points objects link) false) (get links link) false)
+abbrev pub with_holders : (ℕ → Option ℕ) → Map Object → Map ℕ → (ℕ → Bool) → Map ℕ
+with_holders place objects links marked = retain_keys links (λ link. option_map_or (λ _. is_held place objects marked link) (get links link) false)

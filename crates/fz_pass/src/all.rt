@@ -1,7 +1,8 @@
 //! Queueing every registration, whatever is marked.
 
-ghost use Rattle.std.specs.Prelude.{◌≡◌, ◌≤◌, ◌+◌, ◌<◌, ◌^◌, [], ℕ, Bool, false, List, length, vec_len, vec_capacity, IsTrue, Some, refl};
+ghost use Rattle.std.specs.Prelude.{◌≡◌, ◌≤◌, ◌+◌, ◌<◌, ◌^◌, [], ℕ, Bool, false, List, None, length, vec_len, vec_capacity, IsTrue, Some, refl};
 ghost use Rattle.std.proofs.Common.{◌∙◌};
+ghost use Rattle.std.proofs.lemmas.Option.{none-some};
 ghost use Rattle.std.specs.FinMap.{get, contains_key, len, empty};
 ghost use Rattle.std.specs.FinSet.{contains};
 ghost use Rattle.fz_model.specs.State.{Map, Object};
@@ -29,6 +30,8 @@ impl Host for Nothing {
 
     ghost is_exact = { Unit {0} };
 
+    ghost place = { λ _. None };
+
     ghost is_same = { λ _ _. Unit {0} };
 
     fn is_marked(&self, _object: Addr) -> bool {
@@ -36,7 +39,7 @@ impl Host for Nothing {
     }
 
     fn is_holder_marked(&self, _word: Addr) -> bool {
-        false
+        true
     }
 
     fn birth(&self, _object: Addr) -> u64 {
@@ -54,6 +57,8 @@ impl Host for Nothing {
     ghost reflexive = { λ _. tt };
 
     ghost transitive = { λ _ _ _ _ _. tt };
+
+    ghost apart = { λ _ _ a stands _. absurd (none-some a stands) };
 }
 
 /// Removes the object's registration from the table, and returns its pick, without a birth. Requires a registered object.

@@ -1,9 +1,8 @@
 //! Removing links.
 
-ghost use Rattle.std.specs.Prelude.{◌≡◌, not, false};
-ghost use Rattle.std.specs.Option.{option_map_or};
-ghost use Rattle.fz_model.specs.Memory.{points};
-ghost use Rattle.fz_pass.specs.Marks.{with_targets, with_containers};
+ghost use Rattle.std.specs.Prelude.{◌≡◌, not};
+ghost use Rattle.fz_pass.specs.Marks.{with_targets, with_holders};
+ghost use Rattle.fz_pass.specs.Places.{is_held};
 
 use crate::host::Host;
 use fz_links::Links;
@@ -20,13 +19,13 @@ pub(crate) fn drop_dead<H: Host>(host: &H, links: &mut Links)
     );
 }
 
-/// Removes the links whose words don't lie in a marked object.
+/// Removes the links whose words don't lie in a marked object. Those that denote no word stay.
 pub(crate) fn drop_outside<H: Host>(host: &H, links: &mut Links)
-    ensures { links.new.links ≡ with_containers (H.objects host.now) links.old.links (H.marked host.now) }
+    ensures { links.new.links ≡ with_holders H.place (H.objects host.now) links.old.links (H.marked host.now) }
 {
     links.drop_where(
         |link: Addr, _: Addr| -> bool
-            ensures { result ≡ not (option_map_or (H.marked host.entry.now) (points (H.objects host.entry.now) link) false) }
+            ensures { result ≡ not (is_held H.place (H.objects host.entry.now) (H.marked host.entry.now) link) }
         { !host.is_holder_marked(link) },
     );
 }

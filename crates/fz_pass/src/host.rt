@@ -1,22 +1,22 @@
 //! A host's heap at the moment of a pass, after its marking is complete.
 
-ghost use Rattle.std.specs.Prelude.{◌≡◌, ℕ, Bool, false, IsTrue, Some};
-ghost use Rattle.std.specs.Option.{option_map_or};
+ghost use Rattle.std.specs.Prelude.{◌≡◌, ℕ, Bool, IsTrue, Option, Some};
 ghost use Rattle.std.specs.FinMap.{get, contains_key};
 ghost use Rattle.fz_model.specs.State.{Map, Object};
-ghost use Rattle.fz_model.specs.Memory.{points, written};
 ghost use Rattle.fz_model.specs.Reachability.{Leads};
 ghost use Rattle.fz_pass.specs.Marks.{IsClosed, Marks, IsLeadingBut, IsLastToMark};
+ghost use Rattle.fz_pass.specs.Places.{StandApart, written_at, is_held};
 
 use fz_model::Addr;
 
 /// A heap with marks, as a pass uses it. Marking must be complete.
 ///
 /// Objects and words are numbers that a pass only compares and passes back. The host knows what they mean. The contracts of these methods refer to the host's
-/// objects as the model defines them, by address: which words point to which objects, and in which object a word lies.
+/// objects as the model defines them, by address: which words point to which objects, and in which object a word lies. So no two objects have an address in
+/// common. A link has a number of its own, which is named `word` here: `place` says which word of an object it denotes, if any.
 ///
-/// A host also defines four ghost members, and proves that `is_same` is reflexive and transitive. A host whose marking is exact defines `is_exact` as
-/// `Unit {0}`, and one that may mark more as `⊥`. The heap of records in `own_heap/src/host.rt` is an example.
+/// A host also defines five ghost members, and proves that `is_same` is reflexive and transitive, and that no two links denote one word. A host whose marking
+/// is exact defines `is_exact` as `Unit {0}`, and one that may mark more as `⊥`. The heap of records in `own_heap/src/host.rt` is an example.
 pub trait Host {
     /// Its objects, by address.
     ghost objects: { Self → Map Object };
@@ -24,6 +24,8 @@ pub trait Host {
     ghost marked: { Self → ℕ → Bool };
     /// Whether marking is exact: it marks what it is asked to mark, and nothing else. A host that scans conservatively may mark more.
     ghost is_exact: { Type 0 };
+    /// Which word of an object a link denotes, if any.
+    ghost place: { ℕ → Option ℕ };
     /// Whether everything else in the host is unchanged.
     ghost is_same: { Self → Self → Type 0 };
 
@@ -31,9 +33,9 @@ pub trait Host {
     fn is_marked(&self, object: Addr) -> bool
         ensures { result ≡ marked self.now object };
 
-    /// Whether the object that contains the word is marked. False for a word outside every object.
+    /// Whether the object that contains the word of a link is marked. True if the link denotes no word, and false if its word lies outside every object.
     fn is_holder_marked(&self, word: Addr) -> bool
-        ensures { result ≡ option_map_or (marked self.now) (points (objects self.now) word) false };
+        ensures { result ≡ is_held place (objects self.now) (marked self.now) word };
 
     /// The birth of an object, which distinguishes it from earlier objects at the same address. A host without births returns 0, and so do its objects.
     fn birth(&self, object: Addr) -> u64
@@ -64,9 +66,9 @@ pub trait Host {
         ensures marked { Marks is_exact (objects self.old) (marked self.old) (marked self.new) (IsLeadingBut (objects self.old) but_itself object) }
         ensures same { is_same self.old self.new };
 
-    /// Clears the word of a link, that is, sets it to zero.
+    /// Clears the word of a link, that is, sets it to zero. A link that denotes no word of an object may have one elsewhere.
     fn clear(&mut self, word: Addr)
-        ensures objects { objects self.new ≡ written word 0 (objects self.old) }
+        ensures objects { objects self.new ≡ written_at place word (objects self.old) }
         ensures marked { marked self.new ≡ marked self.old }
         ensures same { is_same self.old self.new };
 
@@ -75,4 +77,7 @@ pub trait Host {
 
     /// What doesn't change in two steps doesn't change in both together.
     ghost transitive: { (f g h : Self) → is_same f g → is_same g h → is_same f h };
+
+    /// No two links denote one word.
+    ghost apart: { StandApart place };
 }

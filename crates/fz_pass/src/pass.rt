@@ -66,7 +66,7 @@ fn queue_tiers<H: Host>(
 /// The order is that of bdwgc's finalize.c. Short links to unmarked objects are cleared and removed. What unmarked registered objects reach, by their kinds,
 /// is marked. Those that are still unmarked are queued, by rank, then address: they leave the table, their entries are appended to the queue with
 /// successive numbers from `terms.first` on, and they and everything that they reach are marked. Long links to unmarked objects are cleared and removed. So
-/// are all links whose words don't lie in a marked object.
+/// are all links that denote a word (`Host::place`) which doesn't lie in a marked object.
 ///
 /// With `terms.tiers`, objects of the kind unreachable (`GC_register_finalizer_unreachable`), which are registered as normal ones, form a second tier: they are
 /// queued after the others, and only if no other unmarked registered object reaches them.
@@ -91,7 +91,7 @@ pub fn decide<H: Host>(
     requires list { len table.old.registrations ≤ ready.old.room }
     requires room { vec_len queue.old + len table.old.registrations ≤ vec_capacity queue.old }
     requires numbers { terms.first + len table.old.registrations < 2 ^ 64 }
-    ensures decided { (d : DecidesFlagged H.is_exact (tiered terms.tiers table.old.late) terms.pass terms.first
+    ensures decided { (d : DecidesFlagged H.is_exact H.place (tiered terms.tiers table.old.late) terms.pass terms.first
         (parts_of (H.objects host.old) table.old short.old long.old) (H.marked host.old)
         (parts_left (H.objects host.new) (H.marked host.new) table.new short.new long.new)
         queue.old.items queue.new.items) × (table.new.late ≡ without_flags table.old.late d.picks) }

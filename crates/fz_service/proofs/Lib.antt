@@ -10,3 +10,4 @@ pub mod Notes
 pub mod Waiting
 pub mod Slots
 pub mod Retried
+pub mod Lawful

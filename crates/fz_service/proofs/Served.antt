@@ -1,5 +1,5 @@
 -- What a served duty leaves under the lock.
-use Rattle.std.proofs.Common.{◌≡◌, ◌≢◌, ℕ, ◌<◌, ◌≤◌, Bool, true, false, true≢false, cond, not, None, Some, List, length, filter, slice_index_or, Contains, Ok, Err, sym, ap, ◌∙◌, subst, ⊎_elim}
+use Rattle.std.proofs.Common.{◌≡◌, ℕ, ◌<◌, ◌≤◌, Bool, true, false, true≢false, cond, not, None, Some, List, length, filter, slice_index_or, Contains, Ok, Err, sym, ap, ◌∙◌, subst, ⊎_elim}
 use Rattle.std.proofs.lemmas.Bool.{both_ways, not-true}
 use Rattle.std.proofs.lemmas.Option.{none-some}
 use Rattle.std.proofs.lemmas.List.Elements.{filter_passes}
@@ -50,7 +50,7 @@ pub still_sent : (first_room : ℕ) (old new : LockedState) → new.published �
 still_sent first_room old new same queue room unsent = subst (λ n. first_room ≤ n) (sym same) (room (subst (λ n. n < length old.world.queue) same (subst (λ (es : List Entry). new.published < length es) queue unsent)))
 
 -- and what counted it stays counted
-pub still_short : (shortages : ℕ) (old new : LockedState) → new.shortages ≡ old.shortages → new.published ≡ old.published → new.world.queue ≡ old.world.queue → (old.published < length old.world.queue → old.shortages ≢ shortages)
-    → new.published < length new.world.queue → new.shortages ≢ shortages
-still_short shortages old new counted same queue short unsent is =
-    short (subst (λ n. n < length old.world.queue) same (subst (λ (es : List Entry). new.published < length es) queue unsent)) (sym counted ∙ is)
+pub still_short : (shortages : ℕ) (old new : LockedState) → new.shortages ≡ old.shortages → new.published ≡ old.published → new.world.queue ≡ old.world.queue → (old.published < length old.world.queue → old.shortages ≡ shortages)
+    → new.published < length new.world.queue → new.shortages ≡ shortages
+still_short shortages old new counted same queue short unsent =
+    counted ∙ short (subst (λ n. n < length old.world.queue) same (subst (λ (es : List Entry). new.published < length es) queue unsent))

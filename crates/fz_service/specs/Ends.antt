@@ -6,8 +6,13 @@ use Rattle.std.specs.FinMap.{len}
 use Rattle.fz_model.specs.declared.refusal.Refusal.{Refusal}
 use Rattle.fz_model.specs.declared.refusal.Refusal.TheVariants.{SeatsMissing, NoMemory}
 use Rattle.fz_line.specs.States.{Line, SeatState, taken_by, IsIdle}
-use Rattle.fz_service.specs.States.{Origin, LockedState, IsInOrder}
+use Rattle.fz_service.specs.States.{Origin, LockedState, one_more, IsInOrder}
 use Rattle.fz_service.specs.declared.ending.Final.{Final}
+
+-- the state under the lock after an end that was refused: the same, but for the shortage that it counts if memory ran out
+abbrev pub left_by : Refusal → LockedState → LockedState
+left_by NoMemory s = record s { shortages = one_more s.shortages }
+left_by _ s = s
 
 -- some seat has this index
 abbrev pub has_index : ℕ → List SeatState → Bool

@@ -5,3 +5,4 @@ pub mod Workers
 pub mod Diary
 pub mod Waits
 pub mod Turns
+pub mod Laws

@@ -1,6 +1,6 @@
 -- What a service was opened with, and the model of the state under its lock.
 -- code: fz_service/src/locked.rt, calls.rt, service.rt, opening.rt
-use Rattle.std.specs.Prelude.{◌≡◌, ◌≢◌, ℕ, ◌+◌, ◌*◌, ◌<◌, ◌≤◌, min, Bool, true, false, IsTrue, IsFalse, not, List, [], length, take, filter, Some, Contains, Result, OnOk, OnErr, refl}
+use Rattle.std.specs.Prelude.{◌≡◌, ℕ, ◌+◌, ◌*◌, ◌%◌, ◌^◌, ◌<◌, ◌≤◌, min, Bool, true, false, IsTrue, IsFalse, not, List, [], length, take, filter, Some, Contains, Result, OnOk, OnErr, refl}
 use Rattle.std.specs.Coded.{Coded, code_by, coded×, coded_ℕ, coded_list}
 use Rattle.std.specs.FinMap.{get}
 use Rattle.fz_model.specs.declared.answers.Entry.{Entry}
@@ -37,6 +37,10 @@ pub record LockedState : Type 0 where
   pub published : ℕ  -- the number of entries that were sent, which is kept beside the world
   pub finished : ℕ  -- the number of finished duties, by the ledger
   pub shortages : ℕ  -- how often a push or an end ran out of memory, modulo 2^64
+
+-- the count with one shortage more
+abbrev pub one_more : ℕ → ℕ
+one_more shortages = (shortages + 1) % 2 ^ 64
 
 abbrev pub locked_state : WorldView → List Entry → ℕ → ℕ → ℕ → LockedState
 locked_state world sent published finished shortages = record { world = world; sent = sent; published = published; finished = finished; shortages = shortages }
@@ -80,13 +84,13 @@ ends_cycle Pause = true
 ends_cycle Collect = true
 ends_cycle _ = false
 
--- the queue may have grown, all of it was sent, and nothing else has changed; entries wait in the overflow queue only if a push ran out of memory since the
--- old state, which it doesn't within the room of the line
+-- the queue may have grown, all of it was sent, and nothing else has changed; entries wait in the overflow queue only if a push ran out of memory, which
+-- counts as one shortage, and which doesn't happen within the room of the line
 pub record SendsMore (origin : Origin) (old new : LockedState) : Type 0 where
   pub same : new ≡ record old { world = new.world; sent = new.sent; published = new.published; shortages = new.shortages }
   pub more : old.published ≤ new.published
   pub all : new.published ≡ length new.world.queue → new.shortages ≡ old.shortages
-  pub short : new.published < length new.world.queue → new.shortages ≢ old.shortages
+  pub short : new.published < length new.world.queue → new.shortages ≡ one_more old.shortages
   pub room : new.published < length new.world.queue → line_room origin.blocks ≤ new.published
 
 -- the world made the call, and what it queued was sent; a refused call changed nothing

@@ -3,6 +3,7 @@
 ghost use Rattle.std.specs.Prelude.{◌≡◌, ◌++◌, ◌∷◌, [], IfOk, IfErr};
 ghost use Rattle.fz_model.specs.Causes.{IsJudgedOrLacks, bad_count};
 ghost use Rattle.fz_model.specs.declared.limits.TheConstants.{MAX_WORKERS};
+ghost use Rattle.fz_model.specs.declared.refusal.Refusal.TheVariants.{NoMemory};
 ghost use Rattle.fz_world.specs.Does.{open_causes};
 ghost use Rattle.fz_service.specs.Ends.{IsEndOfSize};
 ghost use Rattle.fz_service.specs.Workers.{ExtendEach};
@@ -11,10 +12,10 @@ use crate::bell::Stop;
 use crate::ending::Final;
 use crate::opening::Opening;
 use crate::prepared::Prepared;
+use crate::room::ServiceError;
 use crate::seat::{Seat, retire_all};
 use crate::service::Service;
 use crate::workers::{Gate, OpenGate, Proc};
-use fz_model::Refusal;
 use fz_world::Config;
 use std::alloc::Global;
 use std::marker::Brand;
@@ -88,7 +89,7 @@ pub fn with_service<T: Drop, P: Program<R, T> + Drop, R: Threads + Wait + Sync>(
     mut procs: Vec<Vec<Box<dyn Proc + Send>>>,
     rt: &R,
     program: P,
-) -> Result<(T, Final), Refusal>
+) -> Result<(T, Final), ServiceError>
     ensures judged { IsJudgedOrLacks (open_causes config.blocks config.frames ++ bad_count MAX_WORKERS workers ∷ []) result }
     ensures ended { IfOk result (λ told. IsEndOfSize config.blocks config.frames workers told.1) }
 {
@@ -107,9 +108,9 @@ fn open_and_run<
     procs: &mut [Vec<Box<dyn Proc + Send>>],
     rt: &R,
     program: P,
-) -> Result<(T, Final), Refusal>
+) -> Result<(T, Final), ServiceError>
     requires { prepared ≡ O.origin }
-    ensures refused { IfErr result (λ refusal. refusal ≡ Refusal.NoMemory) }
+    ensures refused { IfErr result (λ refusal. refusal ≡ NoMemory) }
     ensures ended { IfOk result (λ told. IsEndOfSize O.origin.blocks O.origin.frames O.origin.workers told.1) }
 {
     let (service, seats) = Service::<O>::open(prepared)?;

@@ -1,14 +1,14 @@
 //! Ending a service.
 
 ghost use Rattle.fz_line.specs.States.{taken_by};
-ghost use Rattle.std.specs.Prelude.{◌≡◌, ◌≢◌, ◌+◌, ◌-◌, ◌≤◌, ◌⊎◌, ◌↔◌, [], ◌++◌, IsTrue, IfOk, IfErr, length, sum_by, All, vec_capacity};
+ghost use Rattle.std.specs.Prelude.{◌≡◌, ◌+◌, ◌-◌, ◌≤◌, ◌⊎◌, ◌↔◌, [], ◌++◌, IsTrue, IfOk, IfErr, length, sum_by, All, vec_capacity};
 ghost use Rattle.std.specs.FinMap.{len};
 ghost use Rattle.fz_service.specs.States.{IsInOrder};
-ghost use Rattle.fz_service.specs.Ends.{IsEnd, IsEachOnce, IsOfLine, IsRefusedEnd, has_index};
+ghost use Rattle.fz_service.specs.Ends.{IsEnd, IsEachOnce, IsOfLine, IsRefusedEnd, left_by, has_index};
 
 use crate::locked::{Locked, queue_from};
 use crate::opening::{Finishes, Opening};
-use crate::room::reserve;
+use crate::room::{ServiceError, reserve};
 use crate::seat::Seat;
 use fz_line::retire_all;
 use fz_model::{Entry, Refusal};
@@ -38,16 +38,14 @@ impl<O: Opening> Locked<O> {
     ///
     /// Fails with, in this order: `SeatsMissing` if the seats' indices aren't each index exactly once, `NoMemory` if an allocation fails, which counts as a
     /// shortage. Then it returns everything that it was given.
-    pub fn end(self, seats: Vec<Seat<O>>) -> Result<Final, (Refusal, Locked<O>, Vec<Seat<O>>)>
+    pub fn end(self, seats: Vec<Seat<O>>) -> Result<Final, (ServiceError, Locked<O>, Vec<Seat<O>>)>
         ensures ended { IfOk result (λ end. IsEnd self seats.items end × IsEachOnce O.origin.workers seats.items) }
         ensures order { IsInOrder O.origin self }
         ensures refused { IfErr result (λ refused. IsRefusedEnd O.origin.workers seats.items refused.0) }
-        ensures same { IfErr result (λ refused. (refused.1 ≡ record self { shortages = refused.1.shortages }) × (refused.2.items ≡ seats.items)) }
-        ensures missing { IfErr result (λ refused. refused.0 ≡ Refusal.SeatsMissing → refused.1 ≡ self) }
-        ensures short { IfErr result (λ refused. refused.0 ≡ Refusal.NoMemory → refused.1.shortages ≢ self.shortages) }
+        ensures same { IfErr result (λ refused. (refused.1 ≡ left_by refused.0 self) × (refused.2.items ≡ seats.items)) }
     {
         if !is_each_once(seats.as_slice(), self.owner.seats()) {
-            return Err((Refusal::SeatsMissing, self, seats));
+            return Err((ServiceError::of(Refusal::SeatsMissing), self, seats));
         }
         let entries = self
             .world
@@ -57,8 +55,8 @@ impl<O: Opening> Locked<O> {
             Ok((left, plain)) => Ok(self.settle(seats, plain, left)),
             Err(no_room) => {
                 let mut locked = self;
-                locked.shortages.note_room(no_room);
-                Err((Refusal::NoMemory, locked, seats))
+                locked.shortages.note_room(&no_room);
+                Err((ServiceError::from(no_room), locked, seats))
             }
         }
     }

@@ -1,8 +1,8 @@
 //! The lock, as a worker keeps it from entry to entry.
 
-ghost use Rattle.std.specs.Prelude.{◌≡◌, ◌≢◌, ◌<◌, ◌≤◌, ◌+◌, ◌++◌, Contains, IfSome, length};
+ghost use Rattle.std.specs.Prelude.{◌≡◌, ◌<◌, ◌≤◌, ◌+◌, ◌++◌, Contains, IfSome, length};
 ghost use Rattle.fz_service.specs.declared.held.TheConstants.{ENTRIES_IN_A_HOLD};
-ghost use Rattle.fz_service.specs.States.{line_room, RunsCalls};
+ghost use Rattle.fz_service.specs.States.{line_room, one_more, RunsCalls};
 ghost use Rattle.fz_service.specs.Workers.{Serves};
 ghost use Rattle.fz_service.specs.Diary.{run_of};
 
@@ -92,7 +92,7 @@ impl<O: Opening> Locked<O> {
         ensures ran { diary.new.events ≡ diary.old.events ++ run_of (length procs.old) duty.entry }
         ensures answer { ¬ Contains self.new.world.held duty.entry }
         ensures sent { self.new.published < length self.new.world.queue → line_room O.origin.blocks ≤ self.new.published }
-        ensures short { self.new.published < length self.new.world.queue → self.new.shortages ≢ self.old.shortages }
+        ensures short { self.new.published < length self.new.world.queue → self.new.shortages ≡ one_more self.old.shortages }
     {
         run(procs, diary, duty.entry(), &mut self.world);
         self.publish();

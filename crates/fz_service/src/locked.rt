@@ -1,13 +1,13 @@
 //! What the lock protects.
 
-ghost use Rattle.std.specs.Prelude.{◌≡◌, ◌≢◌, ◌+◌, ◌<◌, ◌≤◌, [], ◌++◌, drop, length, take, IfOk, IfErr, OnOk};
+ghost use Rattle.std.specs.Prelude.{◌≡◌, ◌+◌, ◌<◌, ◌≤◌, [], ◌++◌, drop, length, take, IfOk, IfErr, OnOk};
 ghost use Rattle.fz_model.specs.declared.limits.TheConstants.{COUNT_LIMIT};
 ghost use Rattle.fz_model.specs.Events.{Finish};
 ghost use Rattle.fz_model.specs.State.{opening};
 ghost use Rattle.fz_line.specs.States.{owner_state};
 ghost use Rattle.fz_world.specs.Does.{Does, StandsFor};
 ghost use Rattle.fz_world.specs.World.{WorldView, KeepsMarks};
-ghost use Rattle.fz_service.specs.States.{locked_state, line_room, LetsGo, RunsCalls, KeepsLine, SendsMore};
+ghost use Rattle.fz_service.specs.States.{locked_state, line_room, one_more, LetsGo, RunsCalls, KeepsLine, SendsMore};
 ghost use Rattle.std.specs.Fn.{FnOnceReturnsAtMut};
 ghost use Rattle.fz_service.specs.Takes.{reply_of};
 
@@ -117,7 +117,7 @@ impl<O: Opening> Locked<O> {
         ensures sent { self.new ≡ record self.old { sent = self.old.sent ++ take result (drop self.old.published self.old.world.queue); published = self.old.published + result; shortages = self.new.shortages } }
         ensures within { self.new.published ≤ length self.old.world.queue }
         ensures all { self.new.published ≡ length self.old.world.queue → self.new.shortages ≡ self.old.shortages }
-        ensures short { self.new.published < length self.old.world.queue → self.new.shortages ≢ self.old.shortages }
+        ensures short { self.new.published < length self.old.world.queue → self.new.shortages ≡ one_more self.old.shortages }
         ensures room { self.new.published < length self.old.world.queue → line_room O.origin.blocks ≤ self.new.published }
     {
         let outbox = queue_from(&self.world, self.rung.entries);

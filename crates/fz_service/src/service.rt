@@ -14,11 +14,12 @@ use crate::ending::Final;
 use crate::locked::Locked;
 use crate::opening::Opening;
 use crate::prepared::Prepared;
+use crate::room::{ServiceError, open_line, open_world, room_for, two_handles};
 use crate::seat;
 use crate::seat::Seat;
-use fz_line::{line, retire_all};
+use fz_line::retire_all;
 use fz_model::{BLOCK_WORDS, MAX_BLOCKS, MAX_FRAMES, Refusal, TABLE_LIMIT};
-use fz_world::{Config, World};
+use fz_world::Config;
 use std::alloc::Global;
 use std::hint;
 use std::marker::Brand;
@@ -46,14 +47,14 @@ impl<O: Opening> Drop for Service<O> {
 }
 
 /// Checks that the size of a world is within its limits.
-fn check_config(config: Config) -> Result<(), Refusal>
+fn check_config(config: Config) -> Result<(), ServiceError>
     ensures { IsJudgedBy (open_causes config.blocks config.frames) result }
 {
     if config.blocks < 1 || config.blocks > MAX_BLOCKS {
-        return Err(Refusal::BadCount);
+        return Err(ServiceError::of(Refusal::BadCount));
     }
     if config.frames < 1 || config.frames > MAX_FRAMES {
-        return Err(Refusal::BadCount);
+        return Err(ServiceError::of(Refusal::BadCount));
     }
     Ok(())
 }
@@ -76,15 +77,15 @@ impl Service<Brand> {
     /// 5.2 MB and about 4 ms for a heap of 1,024 blocks or more.
     ///
     /// Fails with, in this order: `BadCount` if blocks, frames or workers are outside their limits, `NoMemory` if an allocation fails.
-    pub fn prepare(alloc: Global, config: Config, workers: u64) -> Result<Prepared, Refusal>
+    pub fn prepare(alloc: Global, config: Config, workers: u64) -> Result<Prepared, ServiceError>
         ensures judged { IsJudgedOrLacks (open_causes config.blocks config.frames ++ bad_count MAX_WORKERS workers ∷ []) result }
         ensures prepared { IfOk result (λ made. (made.blocks ≡ config.blocks) × (made.frames ≡ config.frames) × (made.workers ≡ workers)) }
     {
         check_config(config)?;
         let room = line_room(config.blocks);
-        let (owner, seats) = line(alloc, workers, room)?;
+        let (owner, seats) = open_line(alloc, workers, room)?;
         let blank = Blank::new(workers);
-        match World::open(alloc, config) {
+        match open_world(alloc, config) {
             Ok(world) => Ok(Prepared {
                 alloc,
                 config,
@@ -93,9 +94,9 @@ impl Service<Brand> {
                 seats,
                 blank,
             }),
-            Err(refusal) => {
+            Err(error) => {
                 retire_all(seats);
-                Err(refusal)
+                Err(error)
             }
         }
     }
@@ -105,14 +106,13 @@ impl<O: Opening> Service<O> {
     /// The service, under a type that names this one opening, and its seats in order of index.
     ///
     /// Fails with `NoMemory` if an allocation fails; then what was prepared is dropped.
-    pub fn open(prepared: Prepared) -> Result<(Service<O>, Vec<Seat<O>>), Refusal>
+    pub fn open(prepared: Prepared) -> Result<(Service<O>, Vec<Seat<O>>), ServiceError>
         requires { prepared ≡ O.origin }
         ensures seats { IfOk result (λ opened. opened.1.items ≡ new_seats O.origin.line O.origin.workers) }
         ensures refused { IfErr result (λ refusal. refusal ≡ Refusal.NoMemory) }
     {
-        let bell = Arc::new(prepared.alloc, Bell::new())?;
-        let rung = Arc::try_clone(&bell)?;
-        let room = Vec::with_capacity(prepared.alloc, prepared.seats.len())?;
+        let (bell, rung) = two_handles(prepared.alloc)?;
+        let room = room_for(prepared.alloc, prepared.seats.len())?;
         Ok(prepared.into_service(room, bell, rung))
     }
 
@@ -150,7 +150,10 @@ impl<O: Opening> Service<O> {
     ///
     /// Fails with, in this order: `SeatsMissing` if the seats' indices aren't each index exactly once, `NoMemory` if an allocation fails. Then it returns
     /// everything that it was given.
-    pub fn shutdown(self, seats: Vec<Seat<O>>) -> Result<Final, (Refusal, Service<O>, Vec<Seat<O>>)>
+    pub fn shutdown(
+        self,
+        seats: Vec<Seat<O>>,
+    ) -> Result<Final, (ServiceError, Service<O>, Vec<Seat<O>>)>
         ensures ended { IfOk result (λ end. IsEndOfRun O.origin seats.items end × IsEachOnce O.origin.workers seats.items) }
         ensures refused { IfErr result (λ refused. IsRefusedEnd O.origin.workers seats.items refused.0) }
         ensures same { IfErr result (λ refused. refused.2.items ≡ seats.items) }
@@ -158,9 +161,9 @@ impl<O: Opening> Service<O> {
         let Service { lock, bell } = self;
         match lock.into_inner().end(seats) {
             Ok(end) => Ok(end),
-            Err((refusal, locked, seats)) => {
+            Err((error, locked, seats)) => {
                 let lock = Mutex::new(locked);
-                Err((refusal, Service { lock, bell }, seats))
+                Err((error, Service { lock, bell }, seats))
             }
         }
     }
@@ -169,15 +172,15 @@ impl<O: Opening> Service<O> {
     /// proportional to the heap and to the entries that are left.
     ///
     /// Fails with, in this order: `SeatsMissing` if the seats' indices aren't each index exactly once, `NoMemory` if an allocation fails.
-    pub fn conclude(self, seats: Vec<Seat<O>>) -> Result<Final, Refusal>
+    pub fn conclude(self, seats: Vec<Seat<O>>) -> Result<Final, ServiceError>
         ensures ended { IfOk result (λ end. IsEndOfRun O.origin seats.items end × IsEachOnce O.origin.workers seats.items) }
         ensures refused { IfErr result (λ refusal. IsRefusedEnd O.origin.workers seats.items refusal) }
     {
         match self.shutdown(seats) {
             Ok(totals) => Ok(totals),
-            Err((refusal, _service, seats)) => {
+            Err((error, _service, seats)) => {
                 seat::retire_all(seats);
-                Err(refusal)
+                Err(error)
             }
         }
     }

@@ -1,7 +1,8 @@
 //! How often memory ran out.
 
-ghost use Rattle.std.specs.Prelude.{◌≡◌, ◌≢◌, IsSome};
+ghost use Rattle.std.specs.Prelude.{◌≡◌, IsSome};
 ghost use Rattle.std.specs.Option.{IsNone};
+ghost use Rattle.fz_service.specs.States.{one_more};
 
 use crate::room::NoRoom;
 use fz_line::Shortage;
@@ -26,30 +27,26 @@ impl Shortages {
         self.count
     }
 
-    fn one_more(&mut self)
-        ensures { self.new.count ≢ self.old.count }
+    fn add_one(&mut self)
+        ensures { self.new.count ≡ one_more self.old.count }
     {
-        self.count = if self.count == u64::MAX {
-            0
-        } else {
-            self.count + 1
-        };
+        self.count = self.count.wrapping_add(1);
     }
 
     /// Counts the shortage of a push, if there is one.
     pub(crate) fn note(&mut self, shortage: Option<Shortage>)
-        ensures counted { IsSome shortage → self.new.count ≢ self.old.count }
+        ensures counted { IsSome shortage → self.new.count ≡ one_more self.old.count }
         ensures same { IsNone shortage → self.new.count ≡ self.old.count }
     {
         if let Some(_counted) = shortage {
-            self.one_more();
+            self.add_one();
         }
     }
 
     /// Counts a reservation that failed.
-    pub(crate) fn note_room(&mut self, _no_room: NoRoom)
-        ensures { self.new.count ≢ self.old.count }
+    pub(crate) fn note_room(&mut self, _no_room: &NoRoom)
+        ensures { self.new.count ≡ one_more self.old.count }
     {
-        self.one_more();
+        self.add_one();
     }
 }

@@ -189,8 +189,8 @@ fn ends_with_all_seats<O: Opening, R: Abort + Wait>(rt: &R, prepared: Prepared)
             second.retire();
             panic!(rt; "a seat is missing")
         }
-        Err((refusal, service, mut seats)) => {
-            same(rt, "the refusal", refusal, Refusal::SeatsMissing);
+        Err((error, service, mut seats)) => {
+            same(rt, "the refusal", error.refusal(), Refusal::SeatsMissing);
             let second = finish_next(rt, &service, second, 0);
             put_back(rt, &mut seats, second);
             let end = ended(rt, service, seats);

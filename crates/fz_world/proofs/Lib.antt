@@ -13,3 +13,4 @@ pub mod Stretches
 pub mod Plain
 pub mod Linking
 pub mod Leaving
+pub mod Lawful

@@ -1,5 +1,5 @@
 -- A pass of a world: what it does to its finalizers and to its heap, taken together.
-use Rattle.std.proofs.Common.{◌≡◌, ◌∙◌, ℕ, ◌+◌, ◌<◌, ◌++◌, Bool, false, List, length, length-append, drop, refl, sym, ap, subst, arith, IsTrue, IsFalse}
+use Rattle.std.proofs.Common.{◌≡◌, ◌∙◌, ℕ, ◌+◌, ◌<◌, ◌++◌, Bool, false, List, Some, length, length-append, drop, refl, sym, ap, subst, arith, IsTrue, IsFalse}
 use Rattle.std.proofs.Math.Seq.{drop-append_seam}
 use Rattle.std.specs.FinMap.{len}
 use Rattle.std.specs.FinSet.{contains}
@@ -25,7 +25,7 @@ use Rattle.fz_world.proofs.Targets.{short_passed, long_passed}
 use Rattle.fz_world.proofs.Whole.{world_passed}
 
 module _ (w : Inside) (mid left : State) (found : ℕ → Bool) (kept : Map Object) (plain : IsPlain w.finalizers.state) (few : w.finalizers.passes + 1 < COUNT_LIMIT)
-    (decides : DecidesFlagged (Unit {0}) (contains w.finalizers.late) (next_pass w.finalizers.passes) (length w.finalizers.queue) (parts_in w.marked.heap.objects w.finalizers.state) found (parts_in kept mid) w.finalizers.queue mid.queue)
+    (decides : DecidesFlagged (Unit {0}) Some (contains w.finalizers.late) (next_pass w.finalizers.passes) (length w.finalizers.queue) (parts_in w.marked.heap.objects w.finalizers.state) found (parts_in kept mid) w.finalizers.queue mid.queue)
     (queues : Queues (next_pass w.finalizers.passes) w.finalizers.state mid) (passes : mid.passes ≡ next_pass w.finalizers.passes) (left_is : left ≡ record mid { taken = length mid.queue; held = unfinished mid }) where
   abbrev c : Core
   c = core_inside w
@@ -33,8 +33,8 @@ module _ (w : Inside) (mid left : State) (found : ℕ → Bool) (kept : Map Obje
   pub number : next_pass w.finalizers.passes ≡ w.finalizers.passes + 1
   number = omega (arith, few)
 
-  lone : DecidesFlagged (Unit {0}) (contains w.finalizers.late) (c.passes + 1) (length c.queue) (core_parts c) found (parts_in kept mid) c.queue mid.queue
-  lone = subst (λ n. DecidesFlagged (Unit {0}) (contains w.finalizers.late) n (length w.finalizers.queue) (parts_in w.marked.heap.objects w.finalizers.state) found (parts_in kept mid) w.finalizers.queue mid.queue) number decides
+  lone : DecidesFlagged (Unit {0}) Some (contains w.finalizers.late) (c.passes + 1) (length c.queue) (core_parts c) found (parts_in kept mid) c.queue mid.queue
+  lone = subst (λ n. DecidesFlagged (Unit {0}) Some (contains w.finalizers.late) n (length w.finalizers.queue) (parts_in w.marked.heap.objects w.finalizers.state) found (parts_in kept mid) w.finalizers.queue mid.queue) number decides
 
   -- since none is flagged, it is the model's decision
   into : DecidesInto (Unit {0}) (c.passes + 1) (length c.queue) (core_parts c) found (parts_in kept mid) c.queue mid.queue

@@ -1,6 +1,6 @@
 //! Entries of the queue, and closing a world.
 
-ghost use Rattle.std.specs.Prelude.{◌≡◌, ◌≢◌, ◌≤◌, ◌<◌, ◌+◌, ◌-◌, ◌*◌, ◌⊎◌, drop, length, slice_get, Contains, Some, IsFalse, MatchOption, OnErr};
+ghost use Rattle.std.specs.Prelude.{◌≡◌, ◌≤◌, ◌<◌, ◌+◌, ◌-◌, ◌*◌, ◌⊎◌, drop, length, slice_get, Some, IsFalse, MatchOption, OnErr};
 ghost use Rattle.std.specs.List.{list_any};
 ghost use Rattle.std.specs.FinMap.{len};
 ghost use Rattle.std.specs.declared.result.Result.TheVariants.{Ok};
@@ -11,6 +11,7 @@ ghost use Rattle.fz_model.specs.declared.call.Call.TheVariants as calls;
 ghost use Rattle.fz_model.specs.Places.{slot_at};
 ghost use Rattle.fz_model.specs.State.{State};
 ghost use Rattle.fz_model.specs.Events.{Make, Hold, Finish, Queue, causes, same_entry};
+ghost use Rattle.fz_finalizers.specs.Queue.{IsFoundIn};
 ghost use Rattle.fz_world.specs.World.{KeepsMarks};
 ghost use Rattle.fz_world.specs.Does.{Does, StandsFor};
 
@@ -108,7 +109,7 @@ impl World {
     /// The entry with this number, if it was queued and isn't both finished and forgotten. For a caller that took `taken` entries this is the next one.
     pub fn next(&self, taken: u64) -> Option<Entry>
         ensures shown { self.now.forgotten ≤ taken → result ≡ slice_get self.now.queue taken }
-        ensures kept { taken < self.now.forgotten → MatchOption result ((e : Entry) → Contains self.now.held e → e.seq ≢ taken) (λ e. Contains self.now.held e × (e.seq ≡ taken)) }
+        ensures kept { taken < self.now.forgotten → IsFoundIn self.now.held taken result }
         ensures queued { MatchOption result ((e : Entry) → slice_get self.now.queue taken ≡ Some e → IsFalse (list_any (same_entry e) self.now.held)) (λ e. slice_get self.now.queue taken ≡ Some e) }
     {
         self.finalizers.entry(taken)

@@ -112,7 +112,7 @@ fn enroll(
     ensures memory { IsTrue finalizers.old.memory.whole → finalizers.new.memory ≡ finalizers.old.memory }
 {
     check_limits(finalizers, object)?;
-    // Within these limits only memory can be wanting.
+    // Within these limits a registration fails only if memory runs out.
     let Ok(answer) = finalizers.register(object, entered(finalizer)) else {
         return Err(Refusal::NoMemory);
     };

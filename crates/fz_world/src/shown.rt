@@ -4,7 +4,7 @@
 //! one at or after an address. A caller that continues after each result sees each of them once. So no list is built, nothing is sorted, and each result is
 //! exact by itself.
 
-ghost use Rattle.std.specs.Prelude.{◌≡◌, ◌<◌, ◌≤◌, ◌+◌, ◌*◌, ◌^◌, ℕ, Some, IsFalse, IfOk, IfSome, MatchOption, Contains, length, option_map, slice_get};
+ghost use Rattle.std.specs.Prelude.{◌≡◌, ◌<◌, ◌≤◌, ◌+◌, ◌*◌, ◌^◌, ℕ, Some, IsFalse, IfOk, IfSome, MatchOption, length, option_map, slice_get};
 ghost use Rattle.std.specs.List.{list_any};
 ghost use Rattle.std.specs.FinMap.{get, keys, contains_key, len};
 ghost use Rattle.fz_model.specs.declared.answers.Entry.{Entry};
@@ -17,7 +17,8 @@ ghost use Rattle.fz_model.specs.Extents.{IsInHeap};
 ghost use Rattle.fz_model.specs.declared.limits.TheConstants.{BLOCK_WORDS};
 ghost use Rattle.fz_heap.specs.Contents.{words_of};
 ghost use Rattle.fz_world.specs.declared.shown.Object.{Object};
-ghost use Rattle.fz_world.specs.Shown.{IsNextHeld, shown_object, has_row, HasNoneFrom, IsFirstFrom};
+ghost use Rattle.fz_finalizers.specs.Queue.{IsFirstHeldFrom};
+ghost use Rattle.fz_world.specs.Shown.{shown_object, has_row, HasNoneFrom, IsFirstFrom};
 
 use crate::world::World;
 use fz_heap::Starts;
@@ -142,7 +143,7 @@ impl World {
     /// The first held entry with a number of at least `from`. `queue` also has the finished ones.
     #[inline(always)]
     pub fn next_held(&self, from: u64) -> Option<Entry>
-        ensures next { MatchOption result ((e : Entry) → Contains self.now.held e → e.seq < from) (IsNextHeld self.now.held from) }
+        ensures next { IsFirstHeldFrom self.now.held from result }
         ensures queued { IfSome result (λ e. slice_get self.now.queue e.seq ≡ Some e) }
         ensures passed { (k : ℕ) (e : Entry) → from ≤ k → IfSome result (λ next. k < next.seq) → slice_get self.now.queue k ≡ Some e → IsFalse (list_any (same_entry e) self.now.held) }
         ensures few { length self.now.queue ≤ COUNT_LIMIT }

@@ -4,3 +4,4 @@ mod asked;
 mod beside;
 mod equal;
 mod runtime;
+mod why;

@@ -7,14 +7,15 @@ use Rattle.std.specs.FinMap.{get, insert, contains_key, get-empty}
 use Rattle.std.specs.Ordering.{nat_cmp}
 use Rattle.fz_model.specs.declared.answers.Registration.{Registration}
 use Rattle.fz_model.specs.State.{Map, Object}
-use Rattle.fz_model.specs.Memory.{filled, points}
-use Rattle.fz_model.specs.Pass.{links_within, cleared, FoundItself, LedFrom}
+use Rattle.fz_model.specs.Memory.{filled}
+use Rattle.fz_model.specs.Pass.{cleared, FoundItself, LedFrom}
 use Rattle.fz_model.specs.Reachability.{Itself}
 use Rattle.fz_model.proofs.Maps.{get-insert_same, get-insert_other, get-retain, retained_back}
 use Rattle.fz_model.proofs.Sound.{left_back}
 use Rattle.fz_pass.specs.Decides.{Parts}
 use Rattle.fz_pass.specs.Flagged.{DecidesFlagged, IsLast}
 use Rattle.fz_pass.specs.Marks.{AreRegistered, AreTargets}
+use Rattle.fz_pass.specs.Places.{placed, is_held, links_held}
 use Rattle.own_heap.specs.declared.heap.Heap.{Heap}
 use Rattle.own_heap.specs.declared.record.Record.{Record}
 use Rattle.own_heap.specs.declared.record.RecordId.{RecordId}
@@ -177,20 +178,26 @@ entries_have pass seq (p ∷ ps) e (suc k, low, is) =
     (rest.0, (suc rest.1.0, omega (arith, rest.1.1), rest.1.2), rest.2)
 
 -- a link that is left was one, and its target is in the set
-within_back : (objects : Map Object) (links : Map ℕ) (targets containers : ℕ → Bool) (link target : ℕ) → get (links_within objects links targets containers) link ≡ Some target → (get links link ≡ Some target) × IsTrue (targets target)
-within_back objects links targets containers link target is =
-    let back = retained_back links (λ l. option_map_or targets (get links l) false && option_map_or containers (points objects l) false) link target is in
-    let test = (and_parts (option_map_or targets (get links link) false) (option_map_or containers (points objects link) false) back.0).0 in
+within_back : (place : ℕ → Option ℕ) (objects : Map Object) (links : Map ℕ) (targets containers : ℕ → Bool) (link target : ℕ) → get (links_held place objects links targets containers) link ≡ Some target → (get links link ≡ Some target) × IsTrue (targets target)
+within_back place objects links targets containers link target is =
+    let back = retained_back links (λ l. option_map_or targets (get links l) false && is_held place objects containers l) link target is in
+    let test = (and_parts (option_map_or targets (get links link) false) (is_held place objects containers link) back.0).0 in
     (back.1, sym (ap (λ o. option_map_or targets o false) back.1) ∙ test)
 
-module _ (E : Type 0) (late : ℕ → Bool) (pass first : ℕ) (old : Parts) (found : ℕ → Bool) (new : Parts) (queue new_queue : List Entry) (d : DecidesFlagged E late pass first old found new queue new_queue) where
+module _ (E : Type 0) (place : ℕ → Option ℕ) (late : ℕ → Bool) (pass first : ℕ) (old : Parts) (found : ℕ → Bool) (new : Parts) (queue new_queue : List Entry) (d : DecidesFlagged E place late pass first old found new queue new_queue) where
+  abbrev short : Map ℕ
+  short = placed place old.short
+
+  abbrev long : Map ℕ
+  long = placed place old.long
+
   -- an object that was kept stands
   kept_stands : (a : ℕ) → IsTrue (d.kept a) → IsTrue (contains_key old.objects a) → IsTrue (contains_key new.objects a)
   kept_stands a kept here =
       ap (λ (p : Parts). contains_key p.objects a) d.is
-      ∙ ap is_some (get-retain (cleared old.long d.kept (cleared old.short found old.objects)) d.kept a ∙ ap (λ b. cond b (get (cleared old.long d.kept (cleared old.short found old.objects)) a) None) kept)
-      ∙ filled_keys (is_dead (cleared old.short found old.objects) old.long d.kept) (cleared old.short found old.objects) a
-      ∙ filled_keys (is_dead old.objects old.short found) old.objects a
+      ∙ ap is_some (get-retain (cleared long d.kept (cleared short found old.objects)) d.kept a ∙ ap (λ b. cond b (get (cleared long d.kept (cleared short found old.objects)) a) None) kept)
+      ∙ filled_keys (is_dead (cleared short found old.objects) long d.kept) (cleared short found old.objects) a
+      ∙ filled_keys (is_dead old.objects short found) old.objects a
       ∙ here
     where
       same : {X Y : Type 0} (f : X → Y) (o : Option X) → is_some (option_map f o) ≡ is_some o
@@ -218,18 +225,18 @@ module _ (E : Type 0) (late : ℕ → Bool) (pass first : ℕ) (old : Parts) (fo
 
   pub passed_short : AreTargets old.objects old.short → AreTargets new.objects new.short
   passed_short all link target is =
-      let was = within_back old.objects old.short found d.kept link target (sym (ap (λ (p : Parts). get p.short link) d.is) ∙ is) in
+      let was = within_back place old.objects old.short found d.kept link target (sym (ap (λ (p : Parts). get p.short link) d.is) ∙ is) in
       kept_stands target (found_kept target was.1) (all link target was.0)
 
   pub passed_long : AreTargets old.objects old.long → AreTargets new.objects new.long
   passed_long all link target is =
-      let was = within_back old.objects old.long d.kept d.kept link target (sym (ap (λ (p : Parts). get p.long link) d.is) ∙ is) in
+      let was = within_back place old.objects old.long d.kept d.kept link target (sym (ap (λ (p : Parts). get p.long link) d.is) ∙ is) in
       kept_stands target was.1 (all link target was.0)
 
   -- a pick's object is kept
   picked_kept : (p : Pick) → Contains d.picks p → IsTrue (contains_key new.objects p.obj)
   picked_kept p within =
-      let picked = (All-contains (λ (q : Pick). IsPicked old.objects old.registrations old.short found q × (IsTrue (late q.obj) → IsLast old found q.obj)) d.picks p d.picked.each within).0 in
+      let picked = (All-contains (λ (q : Pick). IsPicked old.objects old.registrations short found q × (IsTrue (late q.obj) → IsLast place old found q.obj)) d.picks p d.picked.each within).0 in
       let here = ap is_some picked.here in
       kept_stands p.obj (registered_kept p.obj picked.registration picked.unreachable.registered here) here
 

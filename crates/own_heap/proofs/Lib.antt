@@ -7,3 +7,4 @@ pub mod Collected
 pub mod References
 pub mod Keeping
 pub mod Holding
+pub mod Pointed

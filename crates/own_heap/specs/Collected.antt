@@ -12,6 +12,7 @@ use Rattle.fz_finalizers.specs.Follows.{next_pass}
 use Rattle.fz_finalizers.specs.Passed.{parts_in}
 use Rattle.fz_finalizers.specs.Walks.{YieldsRoots}
 use Rattle.own_heap.specs.declared.record.RecordId.{RecordId}
+use Rattle.own_heap.specs.Outside.{place_of_link}
 use Rattle.own_heap.specs.Records.{IsLedByWord, IsLedByRoot}
 
 -- a record that contains one of these words reaches it
@@ -34,4 +35,4 @@ pub record Collects (objects : Map Object) (roots : List RecordId) (old : State)
   pub by_objects : MarksKept objects HeldObject old rooted held
   pub by_data : MarksKept objects HeldData old held handed
   pub by_registered : MarksKept objects RegisteredData old handed found
-  pub decided : DecidesFlagged (Unit {0}) (contains old.late) (next_pass old.passes) (length old.queue) (parts_in objects old) found (parts_in left new) old.queue new.queue
+  pub decided : DecidesFlagged (Unit {0}) place_of_link (contains old.late) (next_pass old.passes) (length old.queue) (parts_in objects old) found (parts_in left new) old.queue new.queue

@@ -2,11 +2,13 @@
 
 ghost use Rattle.std.specs.Prelude.{◌≡◌, refl};
 ghost use Rattle.std.proofs.Common.{◌∙◌};
+ghost use Rattle.own_heap.specs.Outside.{place_of_link, links_apart};
 ghost use Rattle.own_heap.specs.Records.{objects_of, AreFieldsKept};
 ghost use Rattle.own_heap.specs.Marking.{is_marked};
 ghost use Rattle.own_heap.specs.Kept.{kept_itself, kept_on};
 
 use crate::heap::Heap;
+use crate::record::place_of_link;
 use fz_model::Addr;
 use fz_pass::Host;
 
@@ -17,6 +19,8 @@ impl Host for Heap {
 
     ghost is_exact = { Unit {0} };
 
+    ghost place = { place_of_link };
+
     ghost is_same = { λ g h. (h.roots ≡ g.roots) × (h.births ≡ g.births) × (h.cursor ≡ g.cursor) × AreFieldsKept g.records.slots.items h.records.slots.items };
 
     fn is_marked(&self, object: Addr) -> bool {
@@ -24,7 +28,10 @@ impl Host for Heap {
     }
 
     fn is_holder_marked(&self, word: Addr) -> bool {
-        match self.records.holder(word) {
+        let Some(field) = place_of_link(word) else {
+            return true;
+        };
+        match self.records.holder(field) {
             Some(object) => self.marks.contains(object),
             None => false,
         }
@@ -53,10 +60,14 @@ impl Host for Heap {
     }
 
     fn clear(&mut self, word: Addr) {
-        self.records.clear(word);
+        if let Some(field) = place_of_link(word) {
+            self.records.clear(field);
+        }
     }
 
     ghost reflexive = { λ h. (refl, refl, refl, kept_itself h.records.slots.items) };
 
     ghost transitive = { λ f g h p q. (q.0 ∙ p.0, q.1 ∙ p.1, q.2 ∙ p.2, kept_on f.records.slots.items g.records.slots.items h.records.slots.items p.3 q.3) };
+
+    ghost apart = { links_apart };
 }

@@ -1,7 +1,8 @@
 //! A small mark-and-sweep heap of records, as a template for a host of your own, and a runtime that gives its records finalizers.
 //!
 //! Records have typed fields, and are named by their index. For a pass, a record's address is computed from its index, and a field's address is the record's
-//! address plus the field's number. So no two records have the same address. In the model a reference is the address of its record, and any other field is 0.
+//! address plus the field's number. So no two records overlap. In the model a reference is the address of its record, and any other field is 0. A link lies in
+//! a field, and has its address as its number; or it lies outside of the heap, and has a number from `OUTSIDE` on.
 #![tactic(auto)]
 
 mod heap;
@@ -9,11 +10,12 @@ mod host;
 mod law;
 mod marking;
 mod marks;
+mod paths;
 mod record;
 mod records;
 mod runtime;
 
 pub use heap::Heap;
 pub use law::objects_are_records;
-pub use record::{FIELDS, Field, Record, RecordId};
+pub use record::{FIELDS, Field, OUTSIDE, Record, RecordId};
 pub use runtime::Runtime;

@@ -1,12 +1,16 @@
 //! Records, and the addresses by which finalizers name them.
 
 ghost use Rattle.std.specs.Prelude.{◌≡◌, ◌+◌, ◌<◌, Option};
+ghost use Rattle.own_heap.specs.Outside.{place_of_link};
 ghost use Rattle.own_heap.specs.Records.{address_of, place_of, word_of};
 
 use fz_model::{Addr, Word};
 
 /// The number of fields of a record.
 pub const FIELDS: usize = 4;
+
+/// The first number of a link that lies in no record. All addresses of fields are smaller.
+pub const OUTSIDE: Addr = 0x8000_0000_0000_0000;
 
 /// Names a record by its index in the heap.
 #[derive(Clone, Copy, Debug, PartialEq, Eq)]
@@ -58,6 +62,13 @@ impl Field {
             Field::Nothing | Field::Number(_) => 0,
         }
     }
+}
+
+/// The address of the field in which a link lies, if it lies in a record.
+pub(crate) fn place_of_link(word: Addr) -> Option<Addr>
+    ensures { result ≡ place_of_link word }
+{
+    if word < OUTSIDE { Some(word) } else { None }
 }
 
 /// The index of the record with this address, if it is the address of one.

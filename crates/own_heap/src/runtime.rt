@@ -1,13 +1,16 @@
 //! A heap with finalizers.
 
-ghost use Rattle.std.specs.Prelude.{◌≡◌, ◌+◌, ◌++◌, ◌∷◌, ◌⊎◌, ◌^◌, [], ◌<◌, if◌then◌else◌, is_some, length, option_map, replicate, slice_set, IfErr, IfOk, IfSome, IsTrue, MatchOption, OnErr, OnOk, None};
+ghost use Rattle.std.specs.Prelude.{◌≡◌, ◌+◌, ◌++◌, ◌∷◌, ◌⊎◌, ◌^◌, [], ◌<◌, if◌then◌else◌, is_some, length, map, option_map, replicate, slice_set, IfErr, IfOk, IfSome, IsTrue, MatchOption, OnErr, OnOk, None};
 ghost use Rattle.std.specs.FinMap.{contains_key, get};
 ghost use Rattle.fz_model.specs.Steps.{old_of};
 ghost use Rattle.fz_finalizers.specs.Causes.{IsJudgedBy, IsJudgedOrLacks, finish_causes, link_causes, register_causes};
 ghost use Rattle.fz_finalizers.specs.States.{HasRooms, links_of, opening, room_of, waiting};
 ghost use Rattle.fz_finalizers.specs.Follows.{Follows, Register, Link, Take, Finish, next_pass};
+ghost use Rattle.own_heap.specs.Outside.{place_of_link};
 ghost use Rattle.own_heap.specs.Records.{address_of, objects_of, slot, with_field, IsFull, IsMade};
 ghost use Rattle.fz_pass.specs.Marks.{IsClosed};
+ghost use Rattle.fz_why.specs.Why.{IsToldOf};
+ghost use Rattle.own_heap.specs.declared.record.RecordId.{RecordId};
 ghost use Rattle.own_heap.specs.Sound.{HeldStand, IsSound};
 ghost use Rattle.own_heap.specs.Marking.{is_marked};
 ghost use Rattle.own_heap.specs.Collected.{Collects, MarksKept};
@@ -17,6 +20,8 @@ use crate::record::{FIELDS, Field, RecordId};
 use fz_finalizers::{
     Entry, Finalizer, Finalizers, LinkAnswer, LinkKind, Old, Passed, Refused, Root,
 };
+use fz_model::Addr;
+use fz_why::{Reason, why};
 use std::alloc::{AllocError, Global};
 
 /// Marks everything that one kind of the finalizers' roots reaches.
@@ -131,25 +136,30 @@ impl Runtime {
         self.finalizers.register(id.address(), finalizer)
     }
 
-    /// Makes a field of a record a link to an existing record.
+    /// Makes a link to an existing record: from a field of a record (`RecordId::word`), or, with a number from `OUTSIDE` on, from outside of the heap.
     pub fn link(
         &mut self,
         kind: LinkKind,
-        id: RecordId,
-        field: usize,
+        word: Addr,
         target: RecordId,
     ) -> Result<LinkAnswer, Refused>
-        requires field { field < FIELDS }
-        requires target { IsTrue (is_some (slot self.old.heap.records.slots.items target.place)) }
+        requires { IsTrue (is_some (slot self.old.heap.records.slots.items target.place)) }
         ensures heap { self.new.heap ≡ self.old.heap }
-        ensures judged { IsJudgedOrLacks (link_causes (links_of self.old.finalizers.state kind) (address_of id.place + field) (address_of target.place)) result }
-        ensures fresh { IfErr result (λ r. r ≡ Refused.NoMemory → get (links_of self.old.finalizers.state kind) (address_of id.place + field) ≡ None) }
-        ensures answer { IfOk result (λ answer. answer ≡ (if contains_key (links_of self.old.finalizers.state kind) (address_of id.place + field) then LinkAnswer.Duplicate else LinkAnswer.Success)) }
+        ensures judged { IsJudgedOrLacks (link_causes (links_of self.old.finalizers.state kind) word (address_of target.place)) result }
+        ensures fresh { IfErr result (λ r. r ≡ Refused.NoMemory → get (links_of self.old.finalizers.state kind) word ≡ None) }
+        ensures answer { IfOk result (λ answer. answer ≡ (if contains_key (links_of self.old.finalizers.state kind) word then LinkAnswer.Duplicate else LinkAnswer.Success)) }
         ensures wanting { IfErr result (λ r. r ≡ Refused.NoMemory → room_of self.old.finalizers.rooms kind ≡ 0) }
         ensures refused { OnErr result (self.new.finalizers.state ≡ self.old.finalizers.state) }
-        ensures follows { OnOk result (Follows self.old.finalizers.state (Link kind (address_of id.place + field) (address_of target.place)) self.new.finalizers.state) }
+        ensures follows { OnOk result (Follows self.old.finalizers.state (Link kind word (address_of target.place)) self.new.finalizers.state) }
     {
-        self.finalizers.link(kind, id.word(field), target.address())
+        self.finalizers.link(kind, word, target.address())
+    }
+
+    /// The address of the record to which a link leads.
+    pub fn target(&self, kind: LinkKind, word: Addr) -> Option<Addr>
+        ensures { result ≡ get (links_of self.now.finalizers.state kind) word }
+    {
+        self.finalizers.target(kind, word)
     }
 
     /// Takes the first waiting entry. Its record is retained until the entry is finished.
@@ -168,6 +178,14 @@ impl Runtime {
         ensures follows { OnOk result (Follows self.old.finalizers.state (Finish entry.now) self.new.finalizers.state) }
     {
         self.finalizers.finish(entry)
+    }
+
+    /// Why a record isn't finalized, as `fz_why::why` says.
+    pub fn why(&self, alloc: Global, id: RecordId) -> Result<Reason, Refused>
+        ensures refused { IfErr result (λ r. r ≡ Refused.NoMemory) }
+        ensures told { IfOk result (λ reason. IsToldOf place_of_link (objects_of self.now.heap.records.slots.items) (map (λ (root : RecordId). address_of root.place) self.now.heap.roots.items) self.now.finalizers.state reason (address_of id.place)) }
+    {
+        why(alloc, &self.finalizers, &self.heap, id.address())
     }
 
     /// A collection: marks what the roots, the unfinished entries and the client data reach, runs the finalizers' pass, and frees all other records.

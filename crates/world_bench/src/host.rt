@@ -124,7 +124,7 @@ fn link(
         let target = named(ids, order, place)?;
         let holder = *ids.get(place as usize).ok_or(Refused::Zero)?;
         if runtime.heap().get(target).is_some() && !plan.only_looks {
-            runtime.link(LinkKind::Short, holder, 0, target)?;
+            runtime.link(LinkKind::Short, holder.word(0), target)?;
         }
     }
     Ok(())

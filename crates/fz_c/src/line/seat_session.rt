@@ -1,8 +1,9 @@
 //! What a seat's handle points to.
 
 ghost use Rattle.std.specs.Prelude.{◌≡◌};
+ghost use Rattle.fz_line.specs.Takes.{Tells};
 ghost use Rattle.fz_c.specs.Values.{entry_of};
-ghost use Rattle.fz_c.specs.Seats.{Takes, AnswersTake, Finishes};
+ghost use Rattle.fz_c.specs.Seats.{Takes, Asks, AnswersTake, Finishes};
 
 use crate::entry::Entry;
 use crate::line::codes::{BUSY, Code, EMPTY, IN_HAND, NO_WORLD, OK};
@@ -43,7 +44,8 @@ impl SeatSession {
     /// Takes an entry from this front of the line, unless one is in flight, and stores it in C's variable.
     #[tactic(auto, using(crate::proofs::Answered::takes))]
     pub(crate) fn take<F: Front>(self, front: &mut F, entry: &mut Entry) -> (SeatSession, Code)
-        ensures { Takes self result.0 result.1 (λ taken. entry_of entry.new ≡ taken) (entry.new ≡ entry.old) }
+        ensures taken { Takes self result.0 result.1 (λ taken. entry_of entry.new ≡ taken) (entry.new ≡ entry.old) }
+        ensures asked { Asks self (Tells (λ stolen. F.replies front.old stolen front.new)) (front.new ≡ front.old) result.1 }
     {
         match self {
             SeatSession::Working(duty) => (SeatSession::Working(duty), IN_HAND),

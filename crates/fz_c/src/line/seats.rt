@@ -1,8 +1,9 @@
 //! Seats: consumers that take entries.
 
 ghost use Rattle.std.specs.Prelude.{◌≡◌, None};
+ghost use Rattle.fz_line.specs.Takes.{Tells};
 ghost use Rattle.fz_c.specs.Values.{entry_of};
-ghost use Rattle.fz_c.specs.Seats.{TakesBehind, FinishesBehind};
+ghost use Rattle.fz_c.specs.Seats.{TakesBehind, AsksBehind, FinishesBehind};
 
 use crate::entry::Entry;
 use crate::handle::{behind, take};
@@ -20,7 +21,8 @@ pub(crate) fn take_from<F: Front>(
     front: &mut F,
     entry: &mut Entry,
 ) -> Code
-    ensures { TakesBehind seat.old.value seat.new.value result (λ taken. entry_of entry.new ≡ taken) (entry.new ≡ entry.old) }
+    ensures asked { AsksBehind seat.old.value (Tells (λ stolen. F.replies front.old stolen front.new)) (front.new ≡ front.old) result }
+    ensures taken { TakesBehind seat.old.value seat.new.value result (λ taken. entry_of entry.new ≡ taken) (entry.new ≡ entry.old) }
 {
     behind!(alloc, seat, NO_WORLD, |it| {
         let (next, code) = replace(&mut *it, SeatSession::Away).take(front, entry);

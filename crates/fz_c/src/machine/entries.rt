@@ -2,9 +2,10 @@
 
 ghost use Rattle.std.specs.Prelude.{◌≡◌};
 ghost use Rattle.fz_finalizers.specs.Follows.{Take, TakeFinished};
+ghost use Rattle.fz_finalizers.specs.States.{unfinished};
 ghost use Rattle.fz_c.specs.MachineChanges.{Finishes};
 ghost use Rattle.fz_c.specs.MachineCodes.{Behind};
-ghost use Rattle.fz_c.specs.MachineEntries.{TellsEntry, Takes, entry_of};
+ghost use Rattle.fz_c.specs.MachineEntries.{ShowsUnfinished, TellsEntry, Takes, entry_of};
 
 use crate::handle::behind;
 use crate::machine::codes::{Code, EMPTY, NOT_OPEN, OK, code_of};
@@ -59,16 +60,15 @@ pub extern "C" fn fz_machine_take(
     finalizers: &mut MachineHandle,
     entry: &mut HostEntry,
 ) -> Code
-    ensures { Behind finalizers.old.value finalizers.new.value result (entry.new ≡ entry.old) (λ m n. Takes Take m.phase m n result entry.old entry.new) }
+    ensures { Behind finalizers.old.value finalizers.new.value result (entry.new ≡ entry.old) (λ m n. Takes Take m n result entry.old entry.new) }
 {
     let reply = behind!(alloc, finalizers, NOT_OPEN, |it| it.machine.take());
     match reply {
-        Ok(Some(taken)) => {
+        Some(taken) => {
             *entry = HostEntry::of(taken);
             OK
         }
-        Ok(None) => EMPTY,
-        Err(refused) => code_of(refused),
+        None => EMPTY,
     }
 }
 
@@ -79,16 +79,15 @@ pub extern "C" fn fz_machine_take_finished(
     finalizers: &mut MachineHandle,
     entry: &mut HostEntry,
 ) -> Code
-    ensures { Behind finalizers.old.value finalizers.new.value result (entry.new ≡ entry.old) (λ m n. Takes TakeFinished m.phase m n result entry.old entry.new) }
+    ensures { Behind finalizers.old.value finalizers.new.value result (entry.new ≡ entry.old) (λ m n. Takes TakeFinished m n result entry.old entry.new) }
 {
     let reply = behind!(alloc, finalizers, NOT_OPEN, |it| it.machine.take_finished());
     match reply {
-        Ok(Some(taken)) => {
+        Some(taken) => {
             *entry = HostEntry::of(taken);
             OK
         }
-        Ok(None) => EMPTY,
-        Err(refused) => code_of(refused),
+        None => EMPTY,
     }
 }
 
@@ -111,4 +110,27 @@ pub extern "C" fn fz_machine_finish(
         Ok(()) => OK,
         Err(refused) => code_of(refused),
     }
+}
+
+/// `Finalizers::next_unfinished`. It changes nothing, and works while a pass is open.
+#[unsafe(no_mangle)]
+pub extern "C" fn fz_machine_unfinished(
+    alloc: Global,
+    finalizers: &mut MachineHandle,
+    from: u64,
+    entry: &mut HostEntry,
+) -> Code
+    ensures { Behind finalizers.old.value finalizers.new.value result (entry.new ≡ entry.old) (λ m n. (n ≡ m) × ShowsUnfinished (unfinished m.finalizers.state) from result entry.old entry.new) }
+{
+    let found = behind!(
+        alloc,
+        finalizers,
+        NOT_OPEN,
+        |it| it.machine.finalizers().next_unfinished(from)
+    );
+    let Some(shown) = found else {
+        return EMPTY;
+    };
+    *entry = HostEntry::of(shown);
+    OK
 }

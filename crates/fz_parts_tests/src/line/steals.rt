@@ -1,5 +1,7 @@
 //! What a take returns if its steal gives `Retry`, which no test can force, `Empty` or an entry.
 
+ghost use Rattle.std.specs.Prelude.{⊤};
+
 use super::{counts, entry, must_be};
 use fz_line::{Deque, Front, Seat, Steal, Take, Taker, line, retire_all};
 use fz_model::Entry;
@@ -12,6 +14,8 @@ struct Told<'a> {
 }
 
 impl Front for Told<'_> {
+    ghost replies = { λ _ _ _. ⊤ };
+
     fn steal(&mut self, taker: &mut Taker) -> Steal<Entry> {
         let Some((first, rest)) = self.answers.split_first() else {
             return Deque.steal(taker);

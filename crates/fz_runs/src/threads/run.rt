@@ -136,7 +136,7 @@ fn run_prepared<O: Opening + Send + Sync, W: Sink, R: Threads + Wait + Sync>(
 {
     let (service, seats) = match Service::<O>::open(prepared) {
         Ok(opened) => opened,
-        Err(refusal) => return Err(tell_refused(writer, refusal, line)),
+        Err(error) => return Err(tell_refused(writer, error.refusal(), line)),
     };
     if let Err(fault) = start_thread(rt) {
         retire_all(seats);
@@ -187,7 +187,7 @@ fn run_plan<W: Sink, T: Threads + Wait + Sync>(
             procs,
             rt,
         ),
-        Err(refusal) => Err(tell_refused(writer, refusal, size.line)),
+        Err(error) => Err(tell_refused(writer, error.refusal(), size.line)),
     }
 }
 

@@ -322,9 +322,9 @@ fn refuses_to_end_without_seats<O: Opening>(rt: &impl Abort, alloc: Global, prep
             retire_all(seats);
             panic!(rt; "no seat was given")
         }
-        Err((refusal, service, none)) => {
+        Err((error, service, none)) => {
             retire_all(none);
-            same(rt, "the refusal", refusal, Refusal::SeatsMissing);
+            same(rt, "the refusal", error.refusal(), Refusal::SeatsMissing);
             let end = ended(rt, service, seats);
             same(rt, "passes", end.passes, 0);
         }

@@ -20,10 +20,10 @@ const POWERS: [u64; 13] = [1, 2, 4, 8, 16, 32, 64, 128, 256, 512, 1_024, 2_048, 
 fn opens<R: Abort + Alloc<A = Global>>(rt: &R, config: Config, workers: u64) {
     match Service::prepare(rt.alloc(), config, workers) {
         Ok(prepared) => opens_with_seats::<Brand>(rt, prepared, workers),
-        Err(refusal) => {
+        Err(error) => {
             let is_within = 0 < config.blocks && config.blocks <= MAX_BLOCKS;
             same(rt, "a size within the limits", is_within, false);
-            same(rt, "the refusal", refusal, Refusal::BadCount);
+            same(rt, "the refusal", error.refusal(), Refusal::BadCount);
         }
     }
 }
@@ -67,7 +67,7 @@ fn runs<R: Abort + Threads + Wait + Sync + Alloc<A = Global>>(
             same(rt, "address and birth", made, Ok((HEAP_START, 0)));
             same(rt, "passes", end.passes, 0);
         }
-        Err(refusal) => panic!(rt; "{refusal:?} with {workers} workers"),
+        Err(error) => panic!(rt; "{error} with {workers} workers"),
     }
 }
 

@@ -67,7 +67,7 @@ fn nine_workers_are_refused(rt: HostRuntime) {
     let lists = Vec::new(rt.alloc());
     match with_service(rt.alloc(), config, 9, lists, &rt, Queues(1)) {
         Ok(_) => panic!(&rt; "nine workers"),
-        Err(refusal) => same(&rt, "the refusal", refusal, Refusal::BadCount),
+        Err(error) => same(&rt, "the refusal", error.refusal(), Refusal::BadCount),
     }
 }
 
@@ -95,9 +95,9 @@ fn lends_the_world<O: Opening, R: Abort + Wait>(rt: &R, prepared: Prepared)
             other.retire();
             panic!(rt; "a seat is missing")
         }
-        Err(refusal) => {
+        Err(error) => {
             other.retire();
-            same(rt, "the refusal", refusal, Refusal::SeatsMissing);
+            same(rt, "the refusal", error.refusal(), Refusal::SeatsMissing);
         }
     }
 }

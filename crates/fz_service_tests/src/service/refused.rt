@@ -8,7 +8,7 @@ use super::{ended, must_finish, must_take};
 use fz_model::ObjKind::Scanned;
 use fz_model::RegKind::Normal;
 use fz_model::{Entry, HEAP_START, Passed, Refusal, TABLE_LIMIT};
-use fz_service::{Final, Locked, Opening, Prepared, Seat, Service};
+use fz_service::{Final, Locked, Opening, Prepared, Seat, Service, ServiceError};
 use fz_world::Config;
 use std::alloc::Global;
 use std::marker::Brand;
@@ -63,12 +63,21 @@ fn are_before(rt: &impl Abort, entries: &[Entry], end: u64, count: u64) {
     }
 }
 
+/// Whether memory ran out.
+fn lacks_memory(answer: &Result<Prepared, ServiceError>) -> bool {
+    match answer {
+        Ok(_) => false,
+        Err(error) => error.refusal() == Refusal::NoMemory,
+    }
+}
+
 fn prepared_again(rt: &impl Abort, alloc: Global, refusals: &mut u64) -> Prepared {
     for _ in 0..MOST_REFUSALS {
-        match Service::prepare(alloc, CONFIG, 2) {
-            Err(Refusal::NoMemory) => *refusals = refusals.saturating_add(1),
-            answer => return answer.expect(rt, "memory"),
+        let answer = Service::prepare(alloc, CONFIG, 2);
+        if !lacks_memory(&answer) {
+            return answer.expect(rt, "memory");
         }
+        *refusals = refusals.saturating_add(1);
     }
     Service::prepare(alloc, CONFIG, 2).expect(rt, "memory")
 }
@@ -164,11 +173,11 @@ fn ended_again<O: Opening, R: Abort + Wait>(
         let shortages = service.enter(rt).shortages();
         match service.shutdown(seats) {
             Ok(end) => return end,
-            Err((refusal, same_service, same_seats)) => {
+            Err((error, same_service, same_seats)) => {
                 service = same_service;
                 seats = same_seats;
                 *refusals = refusals.saturating_add(1);
-                same(rt, "the refusal", refusal, Refusal::NoMemory);
+                same(rt, "the refusal", error.refusal(), Refusal::NoMemory);
                 let counted = service.enter(rt).shortages();
                 same(rt, "shortages", counted, shortages.wrapping_add(1));
                 let was_open = service.enter(rt).close().is_ok();

@@ -11,10 +11,20 @@ use std::test::*;
 /// The largest number of objects.
 const OBJECTS: usize = 16;
 
-/// The first word of the first object.
+/// The number of a link is that of its word and this number. A smaller one names a link that lies in no object.
 const FIRST_WORD: u64 = 1_000;
 
-/// Objects, numbered from 1 on, whose words refer to others or are 0.
+/// The number of an object, by its index. It is that of the object's first word, so no two objects overlap.
+pub(crate) fn number_of(index: u64) -> u64 {
+    index.saturating_add(1).saturating_mul(FIELDS as u64)
+}
+
+/// The index of the object that has this word.
+fn index_of(word: u64) -> usize {
+    (word / FIELDS as u64).wrapping_sub(1) as usize
+}
+
+/// Objects whose words refer to others or are 0.
 #[derive(Drop)]
 pub(crate) struct Graph {
     words: [[u64; FIELDS]; OBJECTS],
@@ -25,14 +35,14 @@ pub(crate) struct Graph {
 
 impl Graph {
     fn mark_one(&mut self, object: u64) {
-        if let Some(marked) = self.marked.get_mut(object.wrapping_sub(1) as usize) {
+        if let Some(marked) = self.marked.get_mut(index_of(object)) {
             *marked = true;
         }
     }
 
     /// Marks the objects to which the words of an object refer, optionally without the object itself.
     fn mark_words(&mut self, object: u64, but_itself: bool) {
-        let Some(words) = self.words.get(object.wrapping_sub(1) as usize).copied() else {
+        let Some(words) = self.words.get(index_of(object)).copied() else {
             return;
         };
         for word in words.iter() {
@@ -45,7 +55,8 @@ impl Graph {
     /// Marks everything that marked objects reach.
     fn close(&mut self) {
         for _ in 0..OBJECTS {
-            for object in 1..=OBJECTS as u64 {
+            for index in 0..OBJECTS as u64 {
+                let object = number_of(index);
                 if self.is_marked(object) {
                     self.mark_words(object, false);
                 }
@@ -54,20 +65,20 @@ impl Graph {
     }
 
     fn is_marked(&self, object: u64) -> bool {
-        self.marked
-            .get(object.wrapping_sub(1) as usize)
-            .copied()
-            .unwrap_or(false)
+        self.marked.get(index_of(object)).copied().unwrap_or(false)
     }
 
-    /// Whether the object that contains the word is marked.
-    fn is_holder_marked(&self, word: u64) -> bool {
-        self.is_marked(word.wrapping_sub(FIRST_WORD) / FIELDS as u64 + 1)
+    /// Whether the object in which a link lies is marked. True if it lies in none.
+    fn is_holder_marked(&self, link: u64) -> bool {
+        match link.checked_sub(FIRST_WORD) {
+            Some(word) => self.is_marked(word),
+            None => true,
+        }
     }
 
     /// Writes a word of an object.
     fn set(&mut self, object: u64, field: usize, to: u64) {
-        if let Some(words) = self.words.get_mut(object.wrapping_sub(1) as usize) {
+        if let Some(words) = self.words.get_mut(index_of(object)) {
             if let Some(word) = words.get_mut(field) {
                 *word = to;
             }
@@ -99,9 +110,9 @@ impl Graph {
                 false
             }
             Ask::Clear => {
-                let place = about.wrapping_sub(FIRST_WORD);
-                let field = (place % FIELDS as u64) as usize;
-                self.set(place / FIELDS as u64 + 1, field, 0);
+                if let Some(word) = about.checked_sub(FIRST_WORD) {
+                    self.set(word, (word % FIELDS as u64) as usize, 0);
+                }
                 false
             }
         }
@@ -133,10 +144,15 @@ impl Asked {
         self.graph.set(object, field, to);
     }
 
-    /// Makes an object a root for ever.
+    /// Makes an object a root.
     pub(crate) fn add_root(&mut self, object: u64) {
-        if let Some(root) = self.graph.roots.get_mut(object.wrapping_sub(1) as usize) {
-            *root = true;
+        self.set_root(object, true);
+    }
+
+    /// Makes an object a root, or not.
+    fn set_root(&mut self, object: u64, is_root: bool) {
+        if let Some(root) = self.graph.roots.get_mut(index_of(object)) {
+            *root = is_root;
         }
     }
 
@@ -145,7 +161,7 @@ impl Asked {
         !self
             .graph
             .gone
-            .get(object.wrapping_sub(1) as usize)
+            .get(index_of(object))
             .copied()
             .unwrap_or(true)
     }
@@ -166,15 +182,15 @@ impl Asked {
         field: usize,
         to: u64,
     ) {
-        let word = FIRST_WORD
-            .wrapping_add(object.wrapping_sub(1).wrapping_mul(FIELDS as u64))
-            .wrapping_add(field as u64);
-        self.machine.link(kind, word, to).expect(rt, "a link");
+        let word = object.saturating_add(field as u64);
+        self.machine
+            .link(kind, FIRST_WORD.saturating_add(word), to)
+            .expect(rt, "a link");
     }
 
     /// Takes the next entry.
-    pub(crate) fn take(&mut self, rt: &impl Abort) -> Option<Entry> {
-        self.machine.take().expect(rt, "no open pass")
+    pub(crate) fn take(&mut self) -> Option<Entry> {
+        self.machine.take()
     }
 
     /// Finishes an entry.
@@ -212,9 +228,10 @@ impl Asked {
     pub(crate) fn collect(&mut self, rt: &impl Abort) -> Passed {
         self.mark_roots();
         let passed = self.pass(rt);
-        for object in 1..=OBJECTS as u64 {
+        for index in 0..OBJECTS as u64 {
+            let object = number_of(index);
             if !self.graph.is_marked(object) {
-                if let Some(gone) = self.graph.gone.get_mut(object.wrapping_sub(1) as usize) {
+                if let Some(gone) = self.graph.gone.get_mut(index_of(object)) {
                     *gone = true;
                 }
             }
@@ -237,13 +254,37 @@ fn answers_of(graph: &mut Graph, question: &Question) -> [bool; BATCH] {
 }
 
 #[test]
+fn a_link_in_no_object_lives_as_long_as_its_target(rt: HostRuntime) {
+    let mut asked = Asked::new(&rt, rt.alloc());
+    let (outside, target) = (1, number_of(0));
+    asked.add_root(target);
+    for kind in [LinkKind::Short, LinkKind::Long].iter() {
+        asked
+            .machine
+            .link(*kind, outside, target)
+            .expect(&rt, "a link");
+    }
+    asked.collect(&rt);
+    asked.collect(&rt);
+    for kind in [LinkKind::Short, LinkKind::Long].iter() {
+        let stays = asked.machine.finalizers().target(*kind, outside);
+        must_be(&rt, stays, Some(target), "it stays");
+    }
+    asked.set_root(target, false);
+    asked.collect(&rt);
+    for kind in [LinkKind::Short, LinkKind::Long].iter() {
+        let left = asked.machine.finalizers().target(*kind, outside);
+        must_be(&rt, left, None, "it goes with its target");
+    }
+}
+
+#[test]
 fn a_pass_that_is_open_takes_answers_alone(rt: HostRuntime) {
     let mut asked = Asked::new(&rt, rt.alloc());
     asked.machine.begin().expect(&rt, "a pass");
     must_be(&rt, asked.machine.is_open(), true, "it is open");
     must_be(&rt, asked.machine.begin().is_err(), true, "no other opens");
     must_be(&rt, asked.machine.unregister(1).is_err(), true, "no change");
-    must_be(&rt, asked.machine.take().is_err(), true, "no take");
     must_be(&rt, asked.machine.shrink().is_err(), true, "no shrinking");
     let ended = asked.machine.next(&[]).expect(&rt, "an answer");
     must_be(
@@ -272,8 +313,7 @@ fn pass_of_unmarked(rt: &impl Abort, machine: &mut Machine, answers: &[bool]) ->
 
 /// Takes the entry of an object.
 fn take_of(rt: &impl Abort, machine: &mut Machine, object: u64) {
-    let taken = machine.take().expect(rt, "no open pass");
-    let entry = taken.expect(rt, "an entry");
+    let entry = machine.take().expect(rt, "an entry");
     must_be(rt, entry.obj, object, "the next pick");
     machine.finish(&entry).expect(rt, "the end");
 }
@@ -312,6 +352,62 @@ fn lists_are_longer_than_questions(rt: HostRuntime) {
     for count in [1, 7, BATCH].iter() {
         forty_are_picked(&rt, rt.alloc(), &answers[..*count]);
     }
+}
+
+/// A worker between two questions: it takes an entry, the second one as finished, and finishes one that it took before.
+fn works(rt: &impl Abort, machine: &mut Machine, held: &mut Vec<Option<Entry>>) {
+    let (waited, taken) = (machine.finalizers().waiting(), held.len());
+    let entry = if taken == 1 {
+        machine.take_finished()
+    } else {
+        machine.take()
+    };
+    must_be(rt, entry.is_some(), waited > 0, "the first that waits");
+    let Some(entry) = entry else {
+        return;
+    };
+    let object = (taken as u64).saturating_add(1);
+    must_be(rt, entry.obj, object, "in the queue's order");
+    let kept = if taken == 1 { None } else { Some(entry) };
+    held.push(kept).expect(rt, "memory");
+    let Some(place) = held.get_mut(taken / 2) else {
+        return;
+    };
+    if let Some(before) = *place {
+        must_be(rt, machine.finish(&before).is_ok(), true, "it is held");
+        must_be(rt, machine.finish(&before).is_err(), true, "once");
+        *place = None;
+    }
+}
+
+#[test]
+fn a_worker_works_in_an_open_pass(rt: HostRuntime) {
+    let mut machine = Machine::new(rt.alloc()).expect(&rt, "memory");
+    for object in 1..=20 {
+        let finalizer = Finalizer {
+            kind: Kind::Normal,
+            procedure: object,
+            client_data: 0,
+            rank: 0,
+        };
+        machine.register(object, finalizer).expect(&rt, "memory");
+    }
+    let mut held = Vec::new(rt.alloc());
+    machine.begin().expect(&rt, "no other pass");
+    let mut passed = None;
+    for _ in 0..1_000 {
+        works(&rt, &mut machine, &mut held);
+        if let Next::Ended(ended) = machine.next(&[false]).expect(&rt, "an open pass") {
+            passed = Some(ended);
+            break;
+        }
+    }
+    let ended = Passed {
+        pass: 1,
+        picked: 20,
+    };
+    must_be(&rt, passed, Some(ended), "all are picked");
+    must_be(&rt, held.len() > 10, true, "most are taken before the end");
 }
 
 /// Twenty objects, whose pass is abandoned after this many questions: what it has queued waits, and the next pass queues the others.

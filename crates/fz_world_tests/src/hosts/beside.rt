@@ -1,7 +1,7 @@
 //! The heap of records, and a graph whose finalizers ask questions, compared with a world: for the same graphs they queue the same objects and retain the
 //! same.
 
-use crate::hosts::asked::Asked;
+use crate::hosts::asked::{Asked, number_of};
 use crate::hosts::equal::must_be;
 use fz_finalizers::{Finalizer, Kind};
 use fz_model::LinkKind::{Long, Short};
@@ -19,11 +19,11 @@ const OBJECTS: u64 = 16;
 
 /// Pseudorandom numbers by Knuth's linear congruential generator.
 #[derive(Drop)]
-struct Random(u64);
+pub(crate) struct Random(pub(crate) u64);
 
 impl Random {
     /// The next number, below a limit.
-    fn below(&mut self, limit: u64) -> u64 {
+    pub(crate) fn below(&mut self, limit: u64) -> u64 {
         self.0 = self
             .0
             .wrapping_mul(6_364_136_223_846_793_005)
@@ -33,7 +33,7 @@ impl Random {
 }
 
 /// A world, a heap of records and a graph with the same objects. Each object is in the slot of its number, until that slot is cleared; in the graph its
-/// number is one more.
+/// number is `number_of` its slot.
 #[derive(Drop)]
 struct All {
     world: World,
@@ -84,11 +84,8 @@ fn refer(rt: &impl Abort, all: &mut All, object: u64, field: u64, to: u64) {
     let target = id_of(rt, all, to);
     all.runtime
         .set(id, field as usize % FIELDS, Reference(target));
-    all.asked.refer(
-        object.saturating_add(1),
-        field as usize,
-        to.saturating_add(1),
-    );
+    all.asked
+        .refer(number_of(object), field as usize, number_of(to));
 }
 
 /// Registers an object, with a kind that all three have, and client data that may refer to another object.
@@ -118,13 +115,12 @@ fn register(rt: &impl Abort, all: &mut All, object: u64, random: &mut Random) {
     if all.runtime.heap().stands(id) {
         all.runtime.register(id, finalizer).expect(rt, "the same");
     }
-    let client_data = if to < OBJECTS { to + 1 } else { 0 };
+    let client_data = if to < OBJECTS { number_of(to) } else { 0 };
     let asked_finalizer = Finalizer {
         client_data,
         ..finalizer
     };
-    all.asked
-        .register(rt, object.saturating_add(1), asked_finalizer);
+    all.asked.register(rt, number_of(object), asked_finalizer);
 }
 
 /// Registers a link at a field of an object, to another object.
@@ -138,16 +134,11 @@ fn link(rt: &impl Abort, all: &mut All, object: u64, to: u64, random: &mut Rando
     let target = id_of(rt, all, to);
     if all.runtime.heap().stands(target) {
         all.runtime
-            .link(kind, id, field as usize % FIELDS, target)
+            .link(kind, id.word(field as usize % FIELDS), target)
             .expect(rt, "the same");
     }
-    all.asked.link(
-        rt,
-        kind,
-        object.saturating_add(1),
-        field as usize,
-        to.saturating_add(1),
-    );
+    all.asked
+        .link(rt, kind, number_of(object), field as usize, number_of(to));
 }
 
 /// Creates edges, a registration and links for an object.
@@ -170,7 +161,7 @@ fn settle(rt: &impl Abort, all: &mut All, object: u64, random: &mut Random) {
     if random.below(8) == 0 {
         let id = id_of(rt, all, object);
         all.runtime.add_root(id).expect(rt, "memory");
-        all.asked.add_root(object.saturating_add(1));
+        all.asked.add_root(number_of(object));
     } else {
         all.world.set(0, object, 0).expect(rt, "a slot");
     }
@@ -181,15 +172,15 @@ fn take_same(rt: &impl Abort, all: &mut All, taken: u64) -> u64 {
     for number in taken..u64::MAX {
         let Some(entry) = all.world.next(number) else {
             must_be(rt, all.runtime.take().is_none(), true, "no other pick");
-            must_be(rt, all.asked.take(rt).is_none(), true, "no other pick");
+            must_be(rt, all.asked.take().is_none(), true, "no other pick");
             return number;
         };
         let same = all.runtime.take().expect(rt, "an entry of all");
         let numbers = (same.reg, same.birth, same.proc);
         must_be(rt, numbers, (entry.reg, entry.birth, entry.proc), "a pick");
-        let third = all.asked.take(rt).expect(rt, "an entry of all");
+        let third = all.asked.take().expect(rt, "an entry of all");
         let numbers = (third.reg, third.obj, third.proc);
-        let number_of_its = entry.proc.saturating_add(1);
+        let number_of_its = number_of(entry.proc);
         must_be(
             rt,
             numbers,
@@ -209,9 +200,14 @@ fn stand_same(rt: &impl Abort, all: &All) {
         let stands = all.world.object(*start).is_some();
         must_be(rt, all.runtime.heap().stands(*id), stands, "an object");
     }
-    for (start, number) in all.starts.iter().zip(1..=OBJECTS) {
+    for (start, slot) in all.starts.iter().zip(0..OBJECTS) {
         let stands = all.world.object(*start).is_some();
-        must_be(rt, all.asked.stands(number), stands, "a numbered object");
+        must_be(
+            rt,
+            all.asked.stands(number_of(slot)),
+            stands,
+            "a numbered object",
+        );
     }
 }
 

@@ -3,7 +3,7 @@
 use crate::hosts::equal::must_be;
 use fz_finalizers::{Finalizer, Kind, LinkKind};
 use own_heap::Field::{Nothing, Number, Reference};
-use own_heap::{FIELDS, Field, RecordId, Runtime};
+use own_heap::{FIELDS, Field, OUTSIDE, RecordId, Runtime};
 use std::process::Abort;
 use std::test::*;
 
@@ -33,7 +33,7 @@ fn register(rt: &impl Abort, runtime: &mut Runtime, id: RecordId, finalizer: Fin
 fn link(rt: &impl Abort, runtime: &mut Runtime, id: RecordId, target: RecordId) {
     if runtime.heap().stands(target) {
         runtime
-            .link(LinkKind::Short, id, 1, target)
+            .link(LinkKind::Short, id.word(1), target)
             .expect(rt, "a link");
     }
 }
@@ -77,4 +77,27 @@ fn the_record_of_a_taken_entry_stands_until_it_is_finished(rt: HostRuntime) {
     must_be(&rt, runtime.collect().picked, 0, "nothing is left");
     must_be(&rt, runtime.heap().stands(stem), false, "the stem is gone");
     must_be(&rt, runtime.heap().stands(leaf), false, "the leaf is gone");
+}
+
+#[test]
+fn a_link_outside_of_the_heap_lives_as_long_as_its_record(rt: HostRuntime) {
+    let mut runtime = Runtime::new(rt.alloc(), 8).expect(&rt, "a runtime");
+    let leaf = made(&rt, &mut runtime, [Number(7), Nothing, Nothing, Nothing]);
+    runtime.add_root(leaf).expect(&rt, "a root");
+    for kind in [LinkKind::Short, LinkKind::Long].iter() {
+        if runtime.heap().stands(leaf) {
+            runtime.link(*kind, OUTSIDE, leaf).expect(&rt, "a link");
+        }
+    }
+    runtime.collect();
+    runtime.collect();
+    for kind in [LinkKind::Short, LinkKind::Long].iter() {
+        let stays = runtime.target(*kind, OUTSIDE);
+        must_be(&rt, stays, Some(leaf.address()), "it stays");
+    }
+    must_be(&rt, runtime.pop_root(), Some(leaf), "the root");
+    runtime.collect();
+    for kind in [LinkKind::Short, LinkKind::Long].iter() {
+        must_be(&rt, runtime.target(*kind, OUTSIDE), None, "it goes, too");
+    }
 }

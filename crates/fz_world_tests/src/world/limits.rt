@@ -1,7 +1,7 @@
-//! The limits of a world's size, and its slots.
+//! The limits of a world's size, its slots, and a queue, which has none.
 
 use super::tests::opened;
-use fz_model::{MAX_BLOCKS, MAX_FRAMES, Refusal, SLOTS};
+use fz_model::{MAX_BLOCKS, MAX_FRAMES, ObjKind, Refusal, RegKind, SLOTS};
 use fz_world::World;
 use std::alloc::Global;
 
@@ -42,4 +42,46 @@ fn all_slots_answer(alloc: Global) -> Result<bool, Refusal> {
 #[test]
 fn limits_of_frames(rt: HostRuntime) {
     assert_eq!(rt; all_slots_answer(rt.alloc()), Ok(true));
+}
+
+/// How many objects are queued in a round.
+const ROUND: u64 = 30_000;
+
+/// Queues a round's objects by a collection.
+fn queue_round(world: &mut World) -> Result<(), Refusal> {
+    for _ in 0..ROUND {
+        world.alloc(0, 0, 1, ObjKind::Atomic)?;
+        world.register(0, 0, RegKind::Normal, 0, 0, 0)?;
+    }
+    world.set(0, 0, 0)?;
+    world.collect()?;
+    Ok(())
+}
+
+/// Finishes the entries from a number on.
+fn finish_from(world: &mut World, from: u64) -> Result<(), Refusal> {
+    for number in from..world.queued() {
+        if let Some(entry) = world.next(number) {
+            world.finish(&entry)?;
+        }
+    }
+    Ok(())
+}
+
+/// How many entries a world has queued after this many rounds, how many of them are in memory, and how many aren't finished. It forgets none.
+fn queued_in_rounds(alloc: Global, rounds: u64) -> Result<(u64, usize, u64), Refusal> {
+    let mut world = opened(alloc, 1_024, 1)?;
+    for _ in 0..rounds {
+        let from = world.queued();
+        queue_round(&mut world)?;
+        finish_from(&mut world, from)?;
+    }
+    Ok((world.queued(), world.queue().len(), world.outstanding()))
+}
+
+/// A queue grows on past 2^18 entries, all in memory.
+#[test]
+fn a_long_queue_grows_with_ample_memory(rt: HostRuntime) {
+    let queued = queued_in_rounds(rt.alloc(), 9);
+    assert_eq!(rt; queued, Ok((270_000, 270_000, 0)));
 }

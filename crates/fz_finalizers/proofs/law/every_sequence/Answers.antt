@@ -1,6 +1,23 @@
 use Rattle.fz_finalizers.proofs.Promised.{promised}
-use Rattle.fz_finalizers.proofs.Walked.{walked}
+use Rattle.fz_finalizers.proofs.Walked.{walked, yield_all}
+use Rattle.fz_finalizers.proofs.Recorded.{recorded}
+use Rattle.fz_finalizers.proofs.Lawful.{changes_links, numbers_passes}
 use Rattle.fz_finalizers.proofs.law.every_sequence.Goals as goal
 
-pub returns : goal.returns
-returns c = record { promises = promised; walked = walked }
+pub returns-clause-promises : goal.returns-clause-promises
+returns-clause-promises c = promised
+
+pub returns-clause-walked : goal.returns-clause-walked
+returns-clause-walked c = walked
+
+pub returns-clause-recorded : goal.returns-clause-recorded
+returns-clause-recorded c = recorded
+
+pub returns-clause-links : goal.returns-clause-links
+returns-clause-links c = changes_links
+
+pub returns-clause-passes : goal.returns-clause-passes
+returns-clause-passes c = numbers_passes
+
+pub returns-clause-walks : goal.returns-clause-walks
+returns-clause-walks c = yield_all

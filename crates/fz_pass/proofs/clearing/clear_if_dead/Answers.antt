@@ -6,10 +6,10 @@ pub returns-then-not-is_marked-clause-objects : goal.returns-then-not-is_marked-
 returns-then-not-is_marked-clause-objects g c =
     let t = g.H.Host in
     let host = c.args.host.now in
-    c.clear.ensures.objects ∙ cleared_dead (t.objects host) (t.marked host) c.args.link c.args.target c.requires.target (sym c.is_marked.ensures ∙ c.if-not-is_marked.true)
+    c.clear.ensures.objects ∙ cleared_dead (t.objects host) (t.marked host) (t.place c.args.link) c.args.target c.requires.target (sym c.is_marked.ensures ∙ c.if-not-is_marked.true)
 
 pub returns-else-not-is_marked-clause-objects : goal.returns-else-not-is_marked-clause-objects
 returns-else-not-is_marked-clause-objects g c =
     let t = g.H.Host in
     let host = c.args.host.now in
-    cleared_live (t.objects host) (t.marked host) c.args.link c.args.target (sym c.is_marked.ensures ∙ c.if-not-is_marked.false)
+    cleared_live (t.objects host) (t.marked host) (t.place c.args.link) c.args.target (sym c.is_marked.ensures ∙ c.if-not-is_marked.false)

@@ -1,7 +1,7 @@
 use Rattle.std.proofs.Common.{◌≡◌, ◌∙◌, ℕ, Bool, true, false, not, Option, Some, None, refl, rules}
 use Rattle.std.specs.Option.{option_map_or}
 use Rattle.std.specs.FinMap.{get, retain_keys}
-use Rattle.fz_model.specs.Memory.{points}
+use Rattle.fz_pass.specs.Places.{is_held}
 use Rattle.fz_pass.proofs.dropping.drop_outside.Goals as goal
 
 twice : (b : Bool) → not (not b) ≡ b
@@ -15,5 +15,5 @@ same b (Some t) = twice b
 pub returns : goal.returns
 returns g c =
     let links = c.args.links.now.links in
-    let inside = λ (link : ℕ). option_map_or (g.H.Host.marked c.args.host.now) (points (g.H.Host.objects c.args.host.now) link) false in
+    let inside = λ (link : ℕ). is_held g.H.Host.place (g.H.Host.objects c.args.host.now) (g.H.Host.marked c.args.host.now) link in
     c.drop_where.ensures.dropped (λ link target. not (inside link)) (λ link target b call. search rules) ∙ (λ i. retain_keys links (λ link. same (inside link) (get links link) i))

@@ -41,7 +41,7 @@ returns-clause-follows g c =
     let old = state_of c.self.inside.table.content c.self.inside.short c.self.inside.long c.reuse.new.self c.self.inside.passes in
     let same = (λ i. record old { queue = c.reuse.ensures.same.0 i; taken = c.reuse.ensures.same.1 i; held = c.reuse.ensures.same.2 i }) ∙ ap (λ (v : View). v.state) c.self.view_is in
     let queues =
-    decided_queues g.H.Host.is_exact c.saturating_add-pass.result (g.H.Host.objects c.args.host.now) _ (g.H.Host.marked c.args.host.now) old new e.decided e.taken e.held
+    decided_queues g.H.Host.is_exact g.H.Host.place c.saturating_add-pass.result (g.H.Host.objects c.args.host.now) _ (g.H.Host.marked c.args.host.now) old new e.decided e.taken e.held
     (ap (λ (t : Registered). t.next_number) e.table) in
     let number = c.saturating_add-pass.ensures ∙ ap (λ (v : View). next_pass v.passes) c.self.view_is in
     (subst (λ (s : State). Queues (next_pass s.passes) s new) same (subst (λ n. Queues n old new) c.saturating_add-pass.ensures queues), number)

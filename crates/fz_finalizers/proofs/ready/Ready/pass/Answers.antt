@@ -17,6 +17,6 @@ returns-clause-decided g c =
     let new = c.pass.new in
     subst
     (λ (es : List Entry).
-    Decides t.is_exact c.args.number c.args.table.now.late new.table.late (parts_of (t.objects c.args.host.now) c.args.table.now c.args.short.now c.args.long.now) (t.marked c.args.host.now)
+    Decides t.is_exact t.place c.args.number c.args.table.now.late new.table.late (parts_of (t.objects c.args.host.now) c.args.table.now c.args.short.now c.args.long.now) (t.marked c.args.host.now)
     (parts_left (t.objects new.host) (t.marked new.host) new.table new.short new.long) es new.self.queue)
     (ap (λ (r : Ready). r.queue) c.self.view_is) c.pass.ensures.decided

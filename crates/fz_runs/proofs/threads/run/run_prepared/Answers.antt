@@ -12,7 +12,8 @@ end_of-requires g c =
 
 pub returns-in-Err : goal.returns-in-Err
 returns-in-Err g c =
-    refusal_stops (asked_from g.O.Opening.origin c.args.collections c.args.sections.now.jobs.items) c.args.line c.in-Err.refusal _ _ c.tell_refused.result (inr (c.requires.within, c.in-Err.ensures.refused, refl)) c.tell_refused.ensures
+    refusal_stops (asked_from g.O.Opening.origin c.args.collections c.args.sections.now.jobs.items) c.args.line c.refusal.result _ _ c.tell_refused.result
+    (inr (c.requires.within, c.refusal.ensures ∙ c.in-Err.ensures.refused, refl)) c.tell_refused.ensures
 
 pub returns-in-Err-start_thread : goal.returns-in-Err-start_thread
 returns-in-Err-start_thread g c =

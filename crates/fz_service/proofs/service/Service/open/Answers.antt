@@ -9,5 +9,5 @@ into_service-requires-clause-room g c =
     let w = c.prepared.inside in
     let count = ap (λ (seats : List SeatState). length seats) c.prepared.invariant.1 ∙ length-new_seats w.owner.line w.owner.seats ∙ ap (λ (o : Origin). o.workers) c.prepared.view_is in
     let len = c.len.ensures in
-    let room = c.in_ok-room.ensures.capacity in
-    (c.in_ok-room.ensures.items, omega (arith, count, len, room))
+    let room = c.in_ok-room.ensures.1 in
+    (c.in_ok-room.ensures.0, omega (arith, count, len, room))

@@ -1,4 +1,4 @@
-use Rattle.std.proofs.Common.{ℕ, ◌+◌, ◌<◌, sym, ap, subst, ◌∙◌, is_some, IsTrue, IsFalse, length, true≢false}
+use Rattle.std.proofs.Common.{ℕ, ◌+◌, ◌<◌, sym, ap, subst, ◌∙◌, Some, is_some, IsTrue, IsFalse, length, true≢false}
 use Rattle.std.specs.FinMap.{contains_key, keys, retain_keys}
 use Rattle.std.specs.FinSet.{contains}
 use Rattle.fz_model.specs.declared.limits.TheConstants.{COUNT_LIMIT}
@@ -55,18 +55,18 @@ invariant_of-self c =
     let roots = subst (λ (v : WorldView). (a : ℕ) → IsRoot v.core a → IsTrue (contains v.marked a)) (sym c.self.view_is) c.requires.roots in
     let same = c.pass-passed.ensures.same in
     let decides =
-    subst (λ (s : Set). DecidesFlagged (Unit {0}) (contains w.finalizers.late) (next_pass w.finalizers.passes) (length w.finalizers.queue) (parts_in w.marked.heap.objects w.finalizers.state) (contains s) (parts_in kept mid) w.finalizers.queue mid.queue)
+    subst (λ (s : Set). DecidesFlagged (Unit {0}) Some (contains w.finalizers.late) (next_pass w.finalizers.passes) (length w.finalizers.queue) (parts_in w.marked.heap.objects w.finalizers.state) (contains s) (parts_in kept mid) w.finalizers.queue mid.queue)
     (ap (λ (m : Marking). m.traced) c.trace_found.ensures.marker)
-    (subst (λ (h : Contents). DecidesFlagged (Unit {0}) (contains w.finalizers.late) (next_pass w.finalizers.passes) (length w.finalizers.queue) (parts_in h.objects w.finalizers.state) (contains c.trace_found.new.self.marker.traced) (parts_in kept mid) w.finalizers.queue mid.queue)
+    (subst (λ (h : Contents). DecidesFlagged (Unit {0}) Some (contains w.finalizers.late) (next_pass w.finalizers.passes) (length w.finalizers.queue) (parts_in h.objects w.finalizers.state) (contains c.trace_found.new.self.marker.traced) (parts_in kept mid) w.finalizers.queue mid.queue)
     c.trace_found.ensures.heap c.pass-passed.ensures.decided) in
     let heap_is = c.reclaim.ensures.heap ∙ ap (λ (h : Contents). record h { objects = after.objects; condemned = after.condemned }) (same.heap_is ∙ ap (λ (h : Contents). record h { objects = host.heap.objects }) c.trace_found.ensures.heap) in
     let fewer = c.reclaim.ensures.reclaimed ∙ len_by_keys w.marked.heap.objects host.heap.objects (same.starts ∙ ap (λ (h : Contents). keys h.objects) c.trace_found.ensures.heap) in
     let memory = c.take_all.ensures.memory ∙ c.pass-passed.ensures.memory c.self.invariant.4 in (
-      pass_keeps w mid left found kept plain few decides c.pass-passed.ensures.follows.0 c.pass-passed.ensures.follows.1 c.take_all.ensures.taken after c.reclaim.result c.pass-passed.result.picked heap_is c.reclaim.ensures.objects fewer c.pass-passed.ensures.picked idle
+      pass_keeps w mid left found kept plain few decides c.pass-passed.ensures.follows.0 c.pass-passed.ensures.follows.1 c.take_all.ensures.follows.1 after c.reclaim.result c.pass-passed.result.picked heap_is c.reclaim.ensures.objects fewer c.pass-passed.ensures.picked idle
           c.reclaim.new.self.marker (has_reachable (core_inside w) w.marked.marker.marked closed roots) c.self.invariant.0,
       λ on. absurd (true≢false (sym on ∙ idle)),
-      short_left w mid left found kept plain few decides c.pass-passed.ensures.follows.0 c.pass-passed.ensures.follows.1 c.take_all.ensures.taken after.objects c.reclaim.ensures.objects c.self.invariant.2,
-      long_left w mid left found kept plain few decides c.pass-passed.ensures.follows.0 c.pass-passed.ensures.follows.1 c.take_all.ensures.taken after.objects c.reclaim.ensures.objects c.self.invariant.3,
+      short_left w mid left found kept plain few decides c.pass-passed.ensures.follows.0 c.pass-passed.ensures.follows.1 c.take_all.ensures.follows.1 after.objects c.reclaim.ensures.objects c.self.invariant.2,
+      long_left w mid left found kept plain few decides c.pass-passed.ensures.follows.0 c.pass-passed.ensures.follows.1 c.take_all.ensures.follows.1 after.objects c.reclaim.ensures.objects c.self.invariant.3,
       ap (λ (m : Memory). m.whole) memory ∙ c.self.invariant.4,
     )
 
@@ -84,14 +84,14 @@ returns-clause-passes c =
     let idle : IsFalse w.cycle = subst (λ (v : WorldView). IsFalse v.core.cycle) (sym c.self.view_is) c.requires.idle in
     let same = c.pass-passed.ensures.same in
     let decides =
-    subst (λ (s : Set). DecidesFlagged (Unit {0}) (contains w.finalizers.late) (next_pass w.finalizers.passes) (length w.finalizers.queue) (parts_in w.marked.heap.objects w.finalizers.state) (contains s) (parts_in kept mid) w.finalizers.queue mid.queue)
+    subst (λ (s : Set). DecidesFlagged (Unit {0}) Some (contains w.finalizers.late) (next_pass w.finalizers.passes) (length w.finalizers.queue) (parts_in w.marked.heap.objects w.finalizers.state) (contains s) (parts_in kept mid) w.finalizers.queue mid.queue)
     (ap (λ (m : Marking). m.traced) c.trace_found.ensures.marker)
-    (subst (λ (h : Contents). DecidesFlagged (Unit {0}) (contains w.finalizers.late) (next_pass w.finalizers.passes) (length w.finalizers.queue) (parts_in h.objects w.finalizers.state) (contains c.trace_found.new.self.marker.traced) (parts_in kept mid) w.finalizers.queue mid.queue)
+    (subst (λ (h : Contents). DecidesFlagged (Unit {0}) Some (contains w.finalizers.late) (next_pass w.finalizers.passes) (length w.finalizers.queue) (parts_in h.objects w.finalizers.state) (contains c.trace_found.new.self.marker.traced) (parts_in kept mid) w.finalizers.queue mid.queue)
     c.trace_found.ensures.heap c.pass-passed.ensures.decided) in
     let heap_is = c.reclaim.ensures.heap ∙ ap (λ (h : Contents). record h { objects = after.objects; condemned = after.condemned }) (same.heap_is ∙ ap (λ (h : Contents). record h { objects = host.heap.objects }) c.trace_found.ensures.heap) in
     let fewer = c.reclaim.ensures.reclaimed ∙ len_by_keys w.marked.heap.objects host.heap.objects (same.starts ∙ ap (λ (h : Contents). keys h.objects) c.trace_found.ensures.heap) in
-    let done = pass_passes w mid left found kept plain few decides c.pass-passed.ensures.follows.0 c.pass-passed.ensures.follows.1 c.take_all.ensures.taken after c.reclaim.result c.pass-passed.result.picked heap_is c.reclaim.ensures.objects fewer c.pass-passed.ensures.picked idle in
-    let pass = c.pass-passed.ensures.pass ∙ number w mid left found kept plain few decides c.pass-passed.ensures.follows.0 c.pass-passed.ensures.follows.1 c.take_all.ensures.taken in
+    let done = pass_passes w mid left found kept plain few decides c.pass-passed.ensures.follows.0 c.pass-passed.ensures.follows.1 c.take_all.ensures.follows.1 after c.reclaim.result c.pass-passed.result.picked heap_is c.reclaim.ensures.objects fewer c.pass-passed.ensures.picked idle in
+    let pass = c.pass-passed.ensures.pass ∙ number w mid left found kept plain few decides c.pass-passed.ensures.follows.0 c.pass-passed.ensures.follows.1 c.take_all.ensures.follows.1 in
     rw (← c.self.view_is)
     (subst (λ (k : ℕ). Passes (core_inside w) found (record { pass = k; picked = c.pass-passed.result.picked; reclaimed = c.reclaim.result }) (core_of after w.frames left w.closed w.cycle)) (sym pass) done)
 

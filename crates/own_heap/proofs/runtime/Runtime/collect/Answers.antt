@@ -7,6 +7,7 @@ use Rattle.fz_finalizers.specs.declared.roots.Root.TheVariants.{HeldObject, Held
 use Rattle.fz_finalizers.specs.Follows.{next_pass}
 use Rattle.fz_finalizers.specs.Passed.{parts_in, parts_left_in}
 use Rattle.own_heap.specs.declared.records.Records.{Records}
+use Rattle.own_heap.specs.Outside.{place_of_link}
 use Rattle.own_heap.specs.Records.{objects_of}
 use Rattle.own_heap.specs.Marking.{is_marked}
 use Rattle.own_heap.specs.Sound.{IsSound}
@@ -47,14 +48,14 @@ invariant_of-self c =
     let last = c.mark_kept-3.ensures.rest.0 ∙ third in
     let by_objects = subst (λ (r : Records). MarksKept (objects_of r.slots.items) HeldObject state (is_marked c.mark_roots.new.self.marks) (is_marked c.mark_kept.new.heap.marks)) first c.mark_kept.ensures.marked in
     let still = λ (a : ℕ) (h : IsTrue (is_marked c.mark_kept.new.heap.marks a)). c.mark_kept-3.ensures.marked.marked.least a (inl (c.mark_kept-2.ensures.marked.marked.least a (inl h))) in
-    let d = subst (λ (r : Records). DecidesFlagged (Unit {0}) (contains state.late) (next_pass state.passes) (length state.queue) (parts_in (objects_of r.slots.items) state) (is_marked c.mark_kept-3.new.heap.marks) (parts_left_in (objects_of c.pass-passed.new.host.records.slots.items) (is_marked c.pass-passed.new.host.marks) c.pass-passed.new.self.state) state.queue c.pass-passed.new.self.state.queue) last c.pass-passed.ensures.decided in
+    let d = subst (λ (r : Records). DecidesFlagged (Unit {0}) place_of_link (contains state.late) (next_pass state.passes) (length state.queue) (parts_in (objects_of r.slots.items) state) (is_marked c.mark_kept-3.new.heap.marks) (parts_left_in (objects_of c.pass-passed.new.host.records.slots.items) (is_marked c.pass-passed.new.host.marks) c.pass-passed.new.self.state) state.queue c.pass-passed.new.self.state.queue) last c.pass-passed.ensures.decided in
     record {
       sound = subst (λ m. IsSound m c.pass-passed.new.self.state) (sym c.sweep.ensures.objects) (record {
-        registered = passed_registered _ _ _ _ _ _ _ _ _ d old.sound.registered;
-        short = passed_short _ _ _ _ _ _ _ _ _ d old.sound.short;
-        long = passed_long _ _ _ _ _ _ _ _ _ d old.sound.long;
+        registered = passed_registered _ _ _ _ _ _ _ _ _ _ d old.sound.registered;
+        short = passed_short _ _ _ _ _ _ _ _ _ _ d old.sound.short;
+        long = passed_long _ _ _ _ _ _ _ _ _ _ d old.sound.long;
         held = let queues = c.pass-passed.ensures.follows.0 in
-            passed_held _ _ _ _ _ _ _ _ _ d state c.pass-passed.new.self.state refl refl queues.taken queues.held (λ e here. (still e.obj (held_found slots state old.sound _ _ by_objects e here), old.sound.held e here));
+            passed_held _ _ _ _ _ _ _ _ _ _ d state c.pass-passed.new.self.state refl refl queues.taken queues.held (λ e here. (still e.obj (held_found slots state old.sound _ _ by_objects e here), old.sound.held e here));
       });
     }
 
@@ -76,8 +77,8 @@ returns-clause-collected c =
       by_objects = subst (λ (r : Records). MarksKept (objects_of r.slots.items) HeldObject state (is_marked c.mark_roots.new.self.marks) (is_marked c.mark_kept.new.heap.marks)) first c.mark_kept.ensures.marked;
       by_data = subst (λ (r : Records). MarksKept (objects_of r.slots.items) HeldData state (is_marked c.mark_kept.new.heap.marks) (is_marked c.mark_kept-2.new.heap.marks)) second c.mark_kept-2.ensures.marked;
       by_registered = subst (λ (r : Records). MarksKept (objects_of r.slots.items) RegisteredData state (is_marked c.mark_kept-2.new.heap.marks) (is_marked c.mark_kept-3.new.heap.marks)) third c.mark_kept-3.ensures.marked;
-      decided = subst (λ (left : Map Object). DecidesFlagged (Unit {0}) (contains state.late) (next_pass state.passes) (length state.queue) (parts_in (objects_of old.heap.records.slots.items) state) (is_marked c.mark_kept-3.new.heap.marks) (parts_in left new.state) state.queue new.queue)
+      decided = subst (λ (left : Map Object). DecidesFlagged (Unit {0}) place_of_link (contains state.late) (next_pass state.passes) (length state.queue) (parts_in (objects_of old.heap.records.slots.items) state) (is_marked c.mark_kept-3.new.heap.marks) (parts_in left new.state) state.queue new.queue)
           (sym c.sweep.ensures.objects)
-          (subst (λ (r : Records). DecidesFlagged (Unit {0}) (contains state.late) (next_pass state.passes) (length state.queue) (parts_in (objects_of r.slots.items) state) (is_marked c.mark_kept-3.new.heap.marks) (parts_left_in (objects_of c.pass-passed.new.host.records.slots.items) (is_marked c.pass-passed.new.host.marks) new.state) state.queue new.queue)
+          (subst (λ (r : Records). DecidesFlagged (Unit {0}) place_of_link (contains state.late) (next_pass state.passes) (length state.queue) (parts_in (objects_of r.slots.items) state) (is_marked c.mark_kept-3.new.heap.marks) (parts_left_in (objects_of c.pass-passed.new.host.records.slots.items) (is_marked c.pass-passed.new.host.marks) new.state) state.queue new.queue)
           last c.pass-passed.ensures.decided);
     }

@@ -8,5 +8,5 @@ pub invariant_of-self : goal.invariant_of-self
 invariant_of-self c =
     let old = c.args.self.now in
     let slots = old.heap.records.slots.items in
-    let here = subst (λ a. IsTrue (contains_key (objects_of slots) a)) (sym c.address.ensures) (stands_object slots c.args.target.place c.requires.target) in
-    record { sound = link_sound (objects_of slots) old.finalizers.state c.link.new.self.state c.args.kind c.word.result c.address.result c.link.result c.link.ensures.refused c.link.ensures.follows here old.sound }
+    let here = subst (λ a. IsTrue (contains_key (objects_of slots) a)) (sym c.address.ensures) (stands_object slots c.args.target.place c.requires) in
+    record { sound = link_sound (objects_of slots) old.finalizers.state c.link.new.self.state c.args.kind c.args.word c.address.result c.link.result c.link.ensures.refused c.link.ensures.follows here old.sound }

@@ -1,0 +1,60 @@
+-- What each event does to links and to the numbers of passes, and what iterators yield, said of each key. These laws test the definitions.
+-- code: fz_finalizers/src/law.rt
+use Rattle.std.specs.Prelude.{◌≡◌, ◌↔◌, ℕ, ◌+◌, ◌-◌, ◌^◌, ◌<◌, ◌≤◌, ◌⊎◌, List, Contains, length, slice_get, None, Some}
+use Rattle.std.specs.FinMap.{get}
+use Rattle.fz_model.specs.declared.answers.Entry.{Entry}
+use Rattle.fz_model.specs.declared.answers.Registration.{Registration}
+use Rattle.fz_model.specs.declared.kinds.LinkKind.{LinkKind}
+use Rattle.fz_finalizers.specs.declared.roots.Root.{Root}
+use Rattle.fz_finalizers.specs.declared.roots.Root.TheVariants.{HeldObject, HeldData, RegisteredData}
+use Rattle.fz_finalizers.specs.States.{State, links_of, unfinished}
+use Rattle.fz_finalizers.specs.Follows.{Event, Link, Unlink, Move, Pass, Begin, Queue, QueueAll}
+use Rattle.fz_finalizers.specs.Walks.{AreRegistrations, AreLinks, YieldsRoots}
+
+-- each link is the same, except those of which this holds
+abbrev pub SameLinksBut : (LinkKind → ℕ → Type 0) → State → State → Type 0
+SameLinksBut changed old new = (kind : LinkKind) (word : ℕ) → (changed kind word → ⊥) → get (links_of new kind) word ≡ get (links_of old kind) word
+
+abbrev pub SameLinks : State → State → Type 0
+SameLinks old new = SameLinksBut (λ kind word. ⊥) old new
+
+-- an event changes the links that it names: a link leads from its word to its target, and moves only to a word that has none. A pass clears links as the host
+-- answers.
+abbrev pub ChangesLinks : State → Event → State → Type 0
+ChangesLinks old (Link kind word target) new = (get (links_of new kind) word ≡ Some target) × SameLinksBut (λ k w. (k ≡ kind) × (w ≡ word)) old new
+ChangesLinks old (Unlink kind word) new = (get (links_of new kind) word ≡ None) × SameLinksBut (λ k w. (k ≡ kind) × (w ≡ word)) old new
+ChangesLinks old (Move kind word to) new =
+    ((target : ℕ) → get (links_of old kind) word ≡ Some target → get (links_of old kind) to ≡ None
+    → (get (links_of new kind) to ≡ Some target) × (get (links_of new kind) word ≡ None) × SameLinksBut (λ k w. (k ≡ kind) × ((w ≡ word) ⊎ (w ≡ to))) old new)
+    × (get (links_of old kind) word ≡ None → SameLinks old new)
+    × ((target : ℕ) → get (links_of old kind) to ≡ Some target → SameLinks old new)
+ChangesLinks old Pass new = Unit {0}
+ChangesLinks old event new = SameLinks old new
+
+-- passes count from 1 to the last number, which then stays
+abbrev pub IsNextPass : ℕ → ℕ → Type 0
+IsNextPass old new = (old < 2 ^ 64 - 1 → new ≡ old + 1) × (2 ^ 64 - 1 ≤ old → new ≡ 2 ^ 64 - 1)
+
+-- the entries that were appended to the queue are of this pass
+abbrev pub AddsOfPass : ℕ → State → State → Type 0
+AddsOfPass pass old new = (k : ℕ) (e : Entry) → slice_get new.queue (length old.queue + k) ≡ Some e → e.pass ≡ pass
+
+-- what a pass queues has its number; what is queued otherwise has that of the last pass begun, or none
+abbrev pub NumbersPasses : State → Event → State → Type 0
+NumbersPasses old Pass new = IsNextPass old.passes new.passes × AddsOfPass new.passes old new
+NumbersPasses old Begin new = IsNextPass old.passes new.passes × (new.queue ≡ old.queue)
+NumbersPasses old (Queue object) new = (new.passes ≡ old.passes) × AddsOfPass old.passes old new
+NumbersPasses old QueueAll new = (new.passes ≡ old.passes) × AddsOfPass 0 old new
+NumbersPasses old event new = (new.passes ≡ old.passes) × (new.queue ≡ old.queue)
+
+-- the word is one of this kind of roots
+abbrev pub IsRootWord : Root → State → ℕ → Type 0
+IsRootWord HeldObject s word = (e : Entry) × Contains (unfinished s) e × (e.obj ≡ word)
+IsRootWord HeldData s word = (e : Entry) × Contains (unfinished s) e × (e.cd ≡ word)
+IsRootWord RegisteredData s word = (object : ℕ) × (r : Registration) × (get s.registrations object ≡ Some r) × (r.cd ≡ word)
+
+-- iterators yield all that there is, and nothing else
+pub record YieldAll (s : State) : Type 0 where
+  pub roots : (root : Root) (words : List ℕ) → YieldsRoots root s words → (word : ℕ) → Contains words word ↔ IsRootWord root s word
+  pub registrations : (list : List (ℕ × Registration)) → AreRegistrations s list → (object : ℕ) (r : Registration) → Contains list (object, r) ↔ (get s.registrations object ≡ Some r)
+  pub links : (kind : LinkKind) (list : List (ℕ × ℕ)) → AreLinks s kind list → (word target : ℕ) → Contains list (word, target) ↔ (get (links_of s kind) word ≡ Some target)

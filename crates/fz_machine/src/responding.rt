@@ -1,0 +1,40 @@
+//! Answers of a host that can be called.
+
+ghost use Rattle.fz_machine.specs.Graph.{MayAsk, Answers, graph_of};
+
+use crate::question::Ask;
+use fz_model::Addr;
+use fz_pass::Host;
+
+/// Asks a host that can be called about one object or link, or has it carry out a command, for which the answer is false. The answer is an honest one: what
+/// `runs_make_the_pass` states of answers, the methods of `Host` promise.
+pub fn respond<H: Host>(host: &mut H, ask: Ask, subject: Addr) -> bool
+    requires { MayAsk ask subject (graph_of (H.objects host.old) (H.marked host.old)) }
+    ensures honest { Answers H.is_exact H.place ask subject (graph_of (H.objects host.old) (H.marked host.old)) result (graph_of (H.objects host.new) (H.marked host.new)) }
+    ensures same { H.is_same host.old host.new }
+{
+    match ask {
+        Ask::IsMarked => host.is_marked(subject),
+        Ask::MarkChildren => {
+            host.mark_children(subject, false);
+            false
+        }
+        Ask::MarkOthers => {
+            host.mark_children(subject, true);
+            false
+        }
+        Ask::Mark => {
+            host.mark(subject);
+            false
+        }
+        Ask::MarkAlone => {
+            host.mark_alone(subject);
+            false
+        }
+        Ask::Clear => {
+            host.clear(subject);
+            false
+        }
+        Ask::IsHolderMarked => host.is_holder_marked(subject),
+    }
+}

@@ -1,0 +1,13 @@
+pub mod Trails
+pub mod Adding
+pub mod Stepping
+pub mod Spreading
+pub mod Reached
+pub mod Holding
+pub mod Judged
+pub mod Hosts
+pub mod Looping
+pub mod Rooted
+pub mod Held
+pub mod Told
+pub mod Back

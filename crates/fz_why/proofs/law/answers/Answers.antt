@@ -1,0 +1,8 @@
+use Rattle.fz_why.proofs.Judged.{is_apart, is_judged}
+use Rattle.fz_why.proofs.law.answers.Goals as goal
+
+pub returns-clause-apart : goal.returns-clause-apart
+returns-clause-apart c = is_apart
+
+pub returns-clause-passes : goal.returns-clause-passes
+returns-clause-passes c = λ place objects roots s found o comp. is_judged place objects roots s o found comp

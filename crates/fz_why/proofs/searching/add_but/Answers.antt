@@ -1,0 +1,16 @@
+use Rattle.std.proofs.Common.{◌≡◌, ◌≢◌, ◌∙◌, ℕ, Option, Some, None, ap, sym}
+use Rattle.std.proofs.lemmas.Option.{none-some, same_Some}
+use Rattle.fz_why.proofs.Adding.{adds_nothing, adds_one, adds_as}
+use Rattle.fz_why.proofs.searching.add_but.Goals as goal
+
+pub returns-in_ok-add_unless-in-Some-clause-added : goal.returns-in_ok-add_unless-in-Some-clause-added
+returns-in_ok-add_unless-in-Some-clause-added c =
+    let is : c.args.except ≡ Some c.in-Some.other = c.in-Some.is in
+    adds_as _ c.in_ok-add_unless-in-Some.ensures.added
+    (λ o b. (λ h. (h.0, h.1, λ (same : b ≡ c.in-Some.other). h.2 (is ∙ ap Some (sym same))), λ h. (h.0, h.1, λ same. h.2 (same_Some b c.in-Some.other (sym same ∙ is)))))
+
+pub returns-in_ok-add-in-None-clause-added : goal.returns-in_ok-add-in-None-clause-added
+returns-in_ok-add-in-None-clause-added c =
+    let is : c.args.except ≡ None = c.in-None.is in
+    adds_as _ (adds_one c.args.trail.now.entries.entries c.add.new.self.entries.entries c.args.object c.args.origin c.in_ok-add-in-None.ensures.added)
+    (λ o b. (λ h. (h.0, h.1), λ h. (h.0, h.1, λ same. none-some b (sym is ∙ same))))

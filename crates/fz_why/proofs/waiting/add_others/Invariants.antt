@@ -1,0 +1,11 @@
+-- The first steps of the registered objects so far were added.
+use Rattle.std.proofs.Common.{◌≡◌, ◌++◌}
+use Rattle.fz_why.specs.Trail.{Adds}
+use Rattle.fz_why.proofs.Looping.{ByAny, ByFirst}
+use Rattle.fz_why.proofs.waiting.add_others.Given as goal
+
+abbrev pub invariant-loop-from : goal.invariant-loop-from
+invariant-loop-from g l = record {
+  added : Adds (ByAny l.yielded (ByFirst g.H.Paths.link (g.H.Host.objects l.host) l.finalizers.state l.found.entries.entries (g.H.Paths.pointers l.host) l.late l.object)) l.initial.trail.entries.entries l.trail.entries.entries;
+  rest : l.yielded ++ l.from-iterator ≡ l.initial.from-iterator;
+}

@@ -1,0 +1,4 @@
+pub mod Paths
+pub mod Why
+pub mod Trail
+pub mod Laws

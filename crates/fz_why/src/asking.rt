@@ -1,0 +1,167 @@
+//! Why an object isn't finalized.
+
+ghost use Rattle.std.specs.Prelude.{◌≡◌, ◌≢◌, ℕ, List, false, Contains, IfOk, IfErr, MatchOption, Option, None, Some};
+ghost use Rattle.std.specs.FinMap.{get};
+ghost use Rattle.std.specs.FinSet.{contains};
+ghost use Rattle.fz_model.specs.declared.answers.Entry.{Entry};
+ghost use Rattle.fz_model.specs.declared.answers.Registration.{Registration};
+ghost use Rattle.fz_model.specs.Memory.{points};
+ghost use Rattle.fz_model.specs.State.{Map, Object};
+ghost use Rattle.fz_model.specs.Reachability.{Computes};
+ghost use Rattle.fz_pass.specs.Marks.{AreRegistered, AreTargets};
+ghost use Rattle.fz_finalizers.specs.Kinds.{is_late};
+ghost use Rattle.fz_finalizers.specs.States.{unfinished};
+ghost use Rattle.fz_why.specs.Why.{IsReached, IsToldOf, IsUnfound};
+ghost use Rattle.fz_why.specs.Trail.{has, IsOrdered, IsSound, IsTrailPath};
+
+use crate::origin::Origin;
+use crate::paths::Paths;
+use crate::reaching::path_to;
+use crate::reason::{Reason, RootOf};
+use crate::rooting::find;
+use crate::trail::Trail;
+use crate::waiting::{ring, wait};
+use fz_finalizers::{Addr, Entry, Finalizers, Kind, Refused};
+use fz_model::Registration;
+use std::alloc::Global;
+
+/// An unfinished entry of an object.
+fn entry_of(finalizers: &Finalizers, object: Addr) -> Option<Entry>
+    ensures { MatchOption result ((e : Entry) → Contains (unfinished finalizers.now.state) e → e.obj ≢ object) (λ e. Contains (unfinished finalizers.now.state) e × (e.obj ≡ object)) }
+{
+    for entry in finalizers.entries() {
+        if entry.obj == object {
+            return Some(entry);
+        }
+    }
+    None
+}
+
+/// The path from a root to an object that was found.
+fn root_path(
+    alloc: Global,
+    found: &Trail,
+    object: Addr,
+) -> Result<Option<(RootOf, Vec<Addr>)>, Refused>
+    requires { IsOrdered found.now.entries.entries }
+    ensures refused { IfErr result (λ r. r ≡ Refused.NoMemory) }
+    ensures path { IfOk result (λ answer. MatchOption answer (has found.now.entries.entries object ≡ false) (λ p. IsTrailPath found.now.entries.entries object (Origin.Root p.0) p.1.items)) }
+{
+    let told = path_to(alloc, found, object)?;
+    let Some((origin, path)) = told else {
+        return Ok(None);
+    };
+    match origin {
+        Origin::Root(root) => Ok(Some((root, path))),
+        Origin::First(_) | Origin::After(_) => Err(Refused::NoMemory),
+    }
+}
+
+/// Whether this is the kind that is judged after the others.
+fn is_late(kind: Kind) -> bool
+    ensures { result ≡ is_late kind }
+{
+    match kind {
+        Kind::Unreachable => true,
+        Kind::Normal | Kind::IgnoreSelf | Kind::NoOrder => false,
+    }
+}
+
+/// Whether a registered object is of the kind `Unreachable`.
+fn is_flagged(finalizers: &Finalizers, object: Addr) -> bool
+    requires { (r : Registration) × (get finalizers.now.state.registrations object ≡ Some r) }
+    ensures { result ≡ contains finalizers.now.state.late object }
+{
+    match finalizers.kind(object) {
+        Some(kind) => is_late(kind),
+        None => false,
+    }
+}
+
+/// Why a registered object that is unreachable isn't finalized.
+fn why_unreachable<H: Paths>(
+    alloc: Global,
+    finalizers: &Finalizers,
+    host: &H,
+    found: &Trail,
+    object: Addr,
+    registration: Registration,
+) -> Result<Reason, Refused>
+    requires sound { IsSound (H.objects host.now) finalizers.now.state }
+    requires unfound { IsUnfound H.place (H.objects host.now) finalizers.now.state (has found.now.entries.entries) object registration }
+    requires reached { Computes (has found.now.entries.entries) (IsReached (H.objects host.now) (H.roots host.now) finalizers.now.state) }
+    ensures refused { IfErr result (λ r. r ≡ Refused.NoMemory) }
+    ensures told { IfOk result (λ reason. IsToldOf H.place (H.objects host.now) (H.roots host.now) finalizers.now.state reason object) }
+{
+    let circle = ring(alloc, finalizers, host, found, object, registration)?;
+    if let Some(path) = circle {
+        return Ok(Reason::Ring(path));
+    }
+    let late = is_flagged(finalizers, object);
+    let waits = wait(alloc, finalizers, host, found, object, late)?;
+    match waits {
+        Some(path) => Ok(Reason::Waits(path)),
+        None => Ok(Reason::Ready),
+    }
+}
+
+/// Why a registered object isn't finalized.
+fn why_registered<H: Paths>(
+    alloc: Global,
+    finalizers: &Finalizers,
+    host: &H,
+    object: Addr,
+    registration: Registration,
+) -> Result<Reason, Refused>
+    requires sound { IsSound (H.objects host.now) finalizers.now.state }
+    requires registered { get finalizers.now.state.registrations object ≡ Some registration }
+    ensures refused { IfErr result (λ r. r ≡ Refused.NoMemory) }
+    ensures told { IfOk result (λ reason. IsToldOf H.place (H.objects host.now) (H.roots host.now) finalizers.now.state reason object) }
+{
+    let found = find(alloc, finalizers, host)?;
+    let rooted = root_path(alloc, &found, object)?;
+    if let Some((root, path)) = rooted {
+        return Ok(Reason::Found(root, path));
+    }
+    let reason = why_unreachable(alloc, finalizers, host, &found, object, registration)?;
+    Ok(reason)
+}
+
+/// Why an object that isn't registered isn't finalized.
+fn why_unregistered(finalizers: &Finalizers, object: Addr) -> Reason
+    requires { get finalizers.now.state.registrations object ≡ None }
+    ensures { (place : ℕ → Option ℕ) (objects : Map Object) (roots : List ℕ) → IsToldOf place objects roots finalizers.now.state result object }
+{
+    match entry_of(finalizers, object) {
+        Some(entry) => Reason::Queued(entry),
+        None => Reason::Unregistered,
+    }
+}
+
+/// Why an object isn't finalized, with a path as evidence. It may be called at any time outside of a pass, and nothing has to be marked.
+///
+/// Words are as they are once dead short links are cleared. The host has to ensure that registered objects and the targets of links are its objects.
+///
+/// Takes time proportional to the words of all objects that roots and registered objects reach, and memory for each of these objects. Fails with `NoMemory` if
+/// an allocation fails. Nothing changes in any case.
+pub fn why<H: Paths>(
+    alloc: Global,
+    finalizers: &Finalizers,
+    host: &H,
+    object: Addr,
+) -> Result<Reason, Refused>
+    requires registered { AreRegistered (H.objects host.now) finalizers.now.state.registrations }
+    requires short { AreTargets (H.objects host.now) finalizers.now.state.short }
+    // A cleared word points to nothing.
+    requires zero { points (H.objects host.now) 0 ≡ None }
+    ensures refused { IfErr result (λ r. r ≡ Refused.NoMemory) }
+    ensures told { IfOk result (λ reason. IsToldOf H.place (H.objects host.now) (H.roots host.now) finalizers.now.state reason object) }
+{
+    match finalizers.registration(object) {
+        Some(registration) => {
+            let reason = why_registered(alloc, finalizers, host, object, registration)?;
+            Ok(reason)
+        }
+        None => Ok(why_unregistered(finalizers, object)),
+    }
+}

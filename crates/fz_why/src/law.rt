@@ -1,0 +1,21 @@
+//! What the answers say of passes.
+
+ghost use Rattle.std.specs.Prelude.{ℕ, Bool, List, Option};
+ghost use Rattle.fz_model.specs.State.{Map, Object};
+ghost use Rattle.fz_model.specs.Reachability.{Computes};
+ghost use Rattle.fz_finalizers.specs.States.{State};
+ghost use Rattle.fz_why.specs.Why.{IsReached};
+ghost use Rattle.fz_why.specs.Laws.{IsApart, IsJudgedByPasses, IsNotQueuedBy, RingStays};
+
+/// Does nothing. Its contract says that no two of found, ring or waits, and ready hold of a registered object. A pass of the state that is told of queues an
+/// object that is ready, if its host's marks are exact, and no other.
+pub fn answers()
+    ensures apart { (place : ℕ → Option ℕ) (objects : Map Object) (roots : List ℕ) (s : State) (o : ℕ) → IsApart place objects roots s o }
+    ensures passes { (place : ℕ → Option ℕ) (objects : Map Object) (roots : List ℕ) (s : State) (found : ℕ → Bool) (o : ℕ) → Computes found (IsReached objects roots s) → IsJudgedByPasses place objects roots s found o }
+{}
+
+/// Does nothing. Its contract says that no later pass queues an object on a ring, whatever it finds, as long as its registration and the words of the ring
+/// stay.
+pub fn rings()
+    ensures { (place : ℕ → Option ℕ) (objects later : Map Object) (s t : State) (found later_found : ℕ → Bool) (path : List ℕ) (o : ℕ) → RingStays place objects later s t found later_found path o → IsNotQueuedBy place later t later_found o }
+{}

@@ -1,0 +1,18 @@
+//! Why an object isn't finalized: what retains it, which other objects with finalizers it waits for, or on which ring it is.
+#![tactic(auto)]
+
+mod asking;
+mod law;
+mod origin;
+mod paths;
+mod reaching;
+mod reason;
+mod rooting;
+mod searching;
+mod trail;
+mod waiting;
+
+pub use asking::why;
+pub use law::{answers, rings};
+pub use paths::{Paths, Pointer};
+pub use reason::{Reason, RootOf};

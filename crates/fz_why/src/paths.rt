@@ -1,0 +1,53 @@
+//! A host that can list its roots and the words of its objects.
+
+ghost use Rattle.std.specs.Prelude.{◌≡◌, ℕ, List, Option, slice_get};
+ghost use Rattle.fz_model.specs.Memory.{points};
+ghost use Rattle.fz_why.specs.declared.paths.Pointer.{Pointer};
+ghost use Rattle.fz_why.specs.Paths.{ArePointers, AreLinks};
+
+use fz_model::{Addr, Word};
+use fz_pass::Host;
+
+/// A word of an object that may point to another.
+#[derive(Clone, Copy, Debug, PartialEq, Eq)]
+pub struct Pointer {
+    /// The address of the word.
+    pub word: Addr,
+    /// What the word contains.
+    pub value: Word,
+}
+
+/// A host that can list its roots, and the words of its objects that point to others.
+///
+/// It also defines three ghost members, and proves two facts: the words listed of an object are the object's own, with each that points to an object among
+/// them, and a link's number is found by the word that it denotes.
+pub trait Paths: Host {
+    /// The words of an object that may point to others.
+    ghost pointers: { Self → ℕ → List Pointer };
+    /// The words from which it marks, but for those of the finalizers.
+    ghost roots: { Self → List ℕ };
+    /// The number of the link that denotes a word, if one does.
+    ghost link: { ℕ → Option ℕ };
+
+    /// A word of an object by its index, counted from 0. `None` after the last.
+    fn pointer(&self, object: Addr, index: usize) -> Option<Pointer>
+        ensures { result ≡ slice_get (pointers self.now object) index };
+
+    /// A root by its index, counted from 0: a word from which the host marks. `None` after the last.
+    fn root(&self, index: usize) -> Option<Word>
+        ensures { result ≡ slice_get (roots self.now) index };
+
+    /// The number of the link that denotes a word of an object (`Host::place`), whether or not it is registered. `None` if no number does.
+    fn link_at(&self, word: Addr) -> Option<Addr>
+        ensures { result ≡ link word };
+
+    /// The object to which a word points.
+    fn target(&self, word: Word) -> Option<Addr>
+        ensures { result ≡ points (Self.objects self.now) word };
+
+    /// The words that are listed of an object are those of the model's object.
+    ghost are_pointers: { (h : Self) (a : ℕ) → ArePointers (Self.objects h) a (pointers h a) };
+
+    /// Numbers of links are found by the words that they denote.
+    ghost are_links: { AreLinks Self.place link };
+}

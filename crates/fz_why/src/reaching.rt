@@ -1,0 +1,55 @@
+//! The path along a trail.
+
+ghost use Rattle.std.specs.Prelude.{◌≡◌, ◌++◌, ◌∷◌, [], false, IfErr, IfOk, MatchOption, OnOk};
+ghost use Rattle.fz_why.specs.Trail.{has, IsOrdered, IsTrailPath};
+
+use crate::origin::Origin;
+use crate::trail::Trail;
+use fz_finalizers::{Addr, Refused};
+use std::alloc::Global;
+
+/// Appends an object to a path.
+fn push(path: &mut Vec<Addr>, object: Addr) -> Result<(), Refused>
+    ensures refused { IfErr result (λ r. r ≡ Refused.NoMemory) }
+    ensures pushed { OnOk result (path.new.items ≡ path.old.items ++ object ∷ []) }
+{
+    match path.push(object) {
+        Ok(()) => Ok(()),
+        Err(_) => Err(Refused::NoMemory),
+    }
+}
+
+/// The path along the trail to an object, and how it begins. `None` if the search didn't come to the object.
+pub(crate) fn path_to(
+    alloc: Global,
+    trail: &Trail,
+    object: Addr,
+) -> Result<Option<(Origin, Vec<Addr>)>, Refused>
+    requires { IsOrdered trail.now.entries.entries }
+    ensures refused { IfErr result (λ r. r ≡ Refused.NoMemory) }
+    ensures path { IfOk result (λ answer. MatchOption answer (has trail.now.entries.entries object ≡ false) (λ p. IsTrailPath trail.now.entries.entries object p.0 p.1.items)) }
+{
+    let Some(end) = trail.place_of(object) else {
+        return Ok(None);
+    };
+    let mut path = Vec::new(alloc);
+    let mut place = end;
+    'back: loop {
+        let Some(here) = trail.at(place) else {
+            unreachable!()
+        };
+        push(&mut path, here.0)?;
+        match here.1 {
+            Origin::After(before) => place = before,
+            Origin::First(from) => {
+                push(&mut path, from)?;
+                path.reverse();
+                return Ok(Some((here.1, path)));
+            }
+            Origin::Root(_) => {
+                path.reverse();
+                return Ok(Some((here.1, path)));
+            }
+        }
+    }
+}

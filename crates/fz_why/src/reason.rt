@@ -1,0 +1,33 @@
+//! The answers to why an object isn't finalized.
+
+use fz_finalizers::{Addr, Entry};
+
+/// What a root is.
+#[derive(Clone, Copy, Debug, PartialEq, Eq)]
+pub enum RootOf {
+    /// A root of the host, by its index.
+    Host(usize),
+    /// The client data of the registration with this number.
+    RegisteredData(u64),
+    /// The object of the entry with this number, which waits or is held.
+    HeldObject(u64),
+    /// The client data of the entry with this number, which waits or is held.
+    HeldData(u64),
+}
+
+/// Why an object isn't finalized, or that it is ready. Each object of a path is a child of the one before.
+#[derive(Debug, Drop)]
+pub enum Reason {
+    /// It has no finalizer, and no entry.
+    Unregistered,
+    /// Its entry waits or is held.
+    Queued(Entry),
+    /// It is reachable. The path begins at the object to which the root points, and ends at the object.
+    Found(RootOf, Vec<Addr>),
+    /// It is unreachable, and a path leads to it from itself, which begins and ends with it. Its first step is one that its kind counts.
+    Ring(Vec<Addr>),
+    /// It is unreachable and on no ring. The path leads to it from another unreachable object with a finalizer. Its first step is one that counts.
+    Waits(Vec<Addr>),
+    /// A pass queues it.
+    Ready,
+}

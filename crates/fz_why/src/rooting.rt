@@ -1,0 +1,95 @@
+//! What the roots reach.
+
+ghost use Rattle.std.specs.Prelude.{◌≡◌, ℕ, Contains, IfErr, IfOk, OnOk, Some, take, slice_get};
+ghost use Rattle.std.specs.FinMap.{get};
+ghost use Rattle.fz_model.specs.declared.answers.Entry.{Entry};
+ghost use Rattle.fz_model.specs.declared.answers.Registration.{Registration};
+ghost use Rattle.fz_model.specs.Memory.{points};
+ghost use Rattle.fz_finalizers.specs.States.{unfinished};
+ghost use Rattle.fz_why.specs.Trail.{Adds, IsReachedTrail, IsByRoot, IsByHost, IsByRegistration, IsByEntry};
+
+use crate::origin::Origin;
+use crate::paths::Paths;
+use crate::reason::RootOf;
+use crate::searching::spread;
+use crate::trail::Trail;
+use fz_finalizers::{Finalizers, Refused};
+use fz_model::Word;
+use std::alloc::Global;
+
+/// Adds the object to which the word of a root points.
+fn add_root<H: Paths>(host: &H, word: Word, root: RootOf, trail: &mut Trail) -> Result<(), Refused>
+    ensures refused { IfErr result (λ r. r ≡ Refused.NoMemory) }
+    ensures added { OnOk result (Adds (λ o b. (o ≡ Origin.Root root) × (points (H.objects host.now) word ≡ Some b)) trail.old.entries.entries trail.new.entries.entries) }
+{
+    match host.target(word) {
+        Some(object) => {
+            trail.add(object, Origin::Root(root))?;
+            Ok(())
+        }
+        None => Ok(()),
+    }
+}
+
+/// Adds the objects to which the host's own roots point.
+fn add_host<H: Paths>(host: &H, trail: &mut Trail) -> Result<(), Refused>
+    ensures refused { IfErr result (λ r. r ≡ Refused.NoMemory) }
+    ensures added { OnOk result (Adds (IsByHost (H.objects host.now) (H.roots host.now)) trail.old.entries.entries trail.new.entries.entries) }
+{
+    for index in 0..usize::MAX {
+        match host.root(index) {
+            Some(word) => add_root(host, word, RootOf::Host(index), trail)?,
+            None => return Ok(()),
+        }
+    }
+    Err(Refused::NoMemory)
+}
+
+/// Adds the objects to which client data of registrations points.
+fn add_registered<H: Paths>(
+    finalizers: &Finalizers,
+    host: &H,
+    trail: &mut Trail,
+) -> Result<(), Refused>
+    ensures refused { IfErr result (λ r. r ≡ Refused.NoMemory) }
+    ensures added { OnOk result (Adds (IsByRegistration (H.objects host.now) finalizers.now.state.registrations) trail.old.entries.entries trail.new.entries.entries) }
+{
+    for each in finalizers.iter() {
+        let root = RootOf::RegisteredData(each.1.number);
+        add_root(host, each.1.cd, root, trail)?;
+    }
+    Ok(())
+}
+
+/// Adds the objects of entries that aren't finished, and those to which their client data points.
+fn add_entries<H: Paths>(
+    finalizers: &Finalizers,
+    host: &H,
+    trail: &mut Trail,
+) -> Result<(), Refused>
+    ensures refused { IfErr result (λ r. r ≡ Refused.NoMemory) }
+    ensures added { OnOk result (Adds (IsByEntry (H.objects host.now) (unfinished finalizers.now.state)) trail.old.entries.entries trail.new.entries.entries) }
+{
+    for entry in finalizers.entries() {
+        add_root(host, entry.obj, RootOf::HeldObject(entry.seq), trail)?;
+        add_root(host, entry.cd, RootOf::HeldData(entry.seq), trail)?;
+    }
+    Ok(())
+}
+
+/// What the roots reach, each object with the way to it.
+pub(crate) fn find<H: Paths>(
+    alloc: Global,
+    finalizers: &Finalizers,
+    host: &H,
+) -> Result<Trail, Refused>
+    ensures refused { IfErr result (λ r. r ≡ Refused.NoMemory) }
+    ensures found { IfOk result (λ t. IsReachedTrail (H.objects host.now) (IsByRoot (H.objects host.now) (H.roots host.now) finalizers.now.state) t.entries.entries) }
+{
+    let mut trail = Trail::new(alloc);
+    add_host(host, &mut trail)?;
+    add_registered(finalizers, host, &mut trail)?;
+    add_entries(finalizers, host, &mut trail)?;
+    spread(finalizers, host, None, &mut trail)?;
+    Ok(trail)
+}

@@ -1,0 +1,146 @@
+//! Which unreachable objects hold an object back.
+
+ghost use Rattle.std.specs.Prelude.{◌≡◌, ◌≢◌, ℕ, false, IfErr, IfOk, MatchOption, OnOk, Some};
+ghost use Rattle.fz_model.specs.Pass.{cleared};
+ghost use Rattle.fz_pass.specs.Places.{placed};
+ghost use Rattle.fz_why.specs.Why.{kind_toward, HoldsBack, IsBackPath, IsUnfound};
+ghost use Rattle.fz_why.specs.Trail.{has, is_cut, Adds, IsByOther, IsByRing, IsByWait, IsFirstBy, IsReachedTrail, IsSound};
+
+use crate::origin::Origin;
+use crate::paths::Paths;
+use crate::reaching::path_to;
+use crate::searching::{add_first_steps, spread};
+use crate::trail::Trail;
+use fz_finalizers::{Addr, Finalizers, Refused};
+use fz_model::{RegKind, Registration};
+use std::alloc::Global;
+
+/// The kind by which first steps to another object count: all of them, if the other is of the kind `Unreachable`.
+fn kind_toward(late: bool, kind: RegKind) -> RegKind
+    ensures { result ≡ kind_toward late kind }
+{
+    if late { RegKind::Normal } else { kind }
+}
+
+/// Adds the first steps of another object, if it is unreachable.
+fn add_other<H: Paths>(
+    finalizers: &Finalizers,
+    host: &H,
+    found: &Trail,
+    object: Addr,
+    from: Addr,
+    kind: RegKind,
+    trail: &mut Trail,
+) -> Result<(), Refused>
+    ensures refused { IfErr result (λ r. r ≡ Refused.NoMemory) }
+    ensures added { OnOk result (Adds (λ o b. (from ≢ object) × (has found.now.entries.entries from ≡ false) × (o ≡ Origin.First from) × IsFirstBy (H.objects host.now) (is_cut H.link finalizers.now.state (Some found.now.entries.entries)) (H.pointers host.now from) from kind b) trail.old.entries.entries trail.new.entries.entries) }
+{
+    if from == object {
+        return Ok(());
+    }
+    if found.contains(from) {
+        return Ok(());
+    }
+    add_first_steps(finalizers, host, Some(found), from, kind, trail)?;
+    Ok(())
+}
+
+/// Adds the first steps of the unreachable registered objects, but for those of the object itself.
+fn add_others<H: Paths>(
+    finalizers: &Finalizers,
+    host: &H,
+    found: &Trail,
+    object: Addr,
+    late: bool,
+    trail: &mut Trail,
+) -> Result<(), Refused>
+    ensures refused { IfErr result (λ r. r ≡ Refused.NoMemory) }
+    ensures added { OnOk result (Adds (IsByOther H.link (H.objects host.now) finalizers.now.state found.now.entries.entries (H.pointers host.now) late object) trail.old.entries.entries trail.new.entries.entries) }
+{
+    for (from, registration) in finalizers.iter() {
+        let kind = kind_toward(late, registration.kind);
+        add_other(finalizers, host, found, object, from, kind, trail)?;
+    }
+    Ok(())
+}
+
+/// What a registered object reaches by its first steps.
+fn reach_itself<H: Paths>(
+    alloc: Global,
+    finalizers: &Finalizers,
+    host: &H,
+    found: &Trail,
+    object: Addr,
+    kind: RegKind,
+) -> Result<Trail, Refused>
+    requires { IsSound (H.objects host.now) finalizers.now.state }
+    ensures refused { IfErr result (λ r. r ≡ Refused.NoMemory) }
+    ensures reached { IfOk result (λ t. let heap = cleared (placed H.place finalizers.now.state.short) (has found.now.entries.entries) (H.objects host.now) in IsReachedTrail heap (IsByRing heap object kind) t.entries.entries) }
+{
+    let mut trail = Trail::new(alloc);
+    add_first_steps(finalizers, host, Some(found), object, kind, &mut trail)?;
+    spread(finalizers, host, Some(found), &mut trail)?;
+    Ok(trail)
+}
+
+/// What the other unreachable registered objects reach by their first steps.
+fn reach_others<H: Paths>(
+    alloc: Global,
+    finalizers: &Finalizers,
+    host: &H,
+    found: &Trail,
+    object: Addr,
+    late: bool,
+) -> Result<Trail, Refused>
+    requires { IsSound (H.objects host.now) finalizers.now.state }
+    ensures refused { IfErr result (λ r. r ≡ Refused.NoMemory) }
+    ensures reached { IfOk result (λ t. IsReachedTrail (cleared (placed H.place finalizers.now.state.short) (has found.now.entries.entries) (H.objects host.now)) (IsByWait H.place (H.objects host.now) finalizers.now.state (has found.now.entries.entries) late object) t.entries.entries) }
+{
+    let mut trail = Trail::new(alloc);
+    add_others(finalizers, host, found, object, late, &mut trail)?;
+    spread(finalizers, host, Some(found), &mut trail)?;
+    Ok(trail)
+}
+
+/// The path by which an unreachable registered object reaches itself, if it does so by a first step that its kind counts.
+pub(crate) fn ring<H: Paths>(
+    alloc: Global,
+    finalizers: &Finalizers,
+    host: &H,
+    found: &Trail,
+    object: Addr,
+    registration: Registration,
+) -> Result<Option<Vec<Addr>>, Refused>
+    requires sound { IsSound (H.objects host.now) finalizers.now.state }
+    requires unfound { IsUnfound H.place (H.objects host.now) finalizers.now.state (has found.now.entries.entries) object registration }
+    ensures refused { IfErr result (λ r. r ≡ Refused.NoMemory) }
+    ensures path { IfOk result (λ answer. MatchOption answer (HoldsBack H.place (H.objects host.now) finalizers.now.state (has found.now.entries.entries) false object object → ⊥) (λ path. IsBackPath H.place (H.objects host.now) finalizers.now.state (has found.now.entries.entries) false object path.items object)) }
+{
+    let trail = reach_itself(alloc, finalizers, host, found, object, registration.kind)?;
+    let told = path_to(alloc, &trail, object)?;
+    match told {
+        Some((_start, path)) => Ok(Some(path)),
+        None => Ok(None),
+    }
+}
+
+/// A path by which another unreachable registered object reaches it, by a first step that counts.
+pub(crate) fn wait<H: Paths>(
+    alloc: Global,
+    finalizers: &Finalizers,
+    host: &H,
+    found: &Trail,
+    object: Addr,
+    late: bool,
+) -> Result<Option<Vec<Addr>>, Refused>
+    requires { IsSound (H.objects host.now) finalizers.now.state }
+    ensures refused { IfErr result (λ r. r ≡ Refused.NoMemory) }
+    ensures path { IfOk result (λ answer. MatchOption answer ((from : ℕ) → (from ≢ object) × HoldsBack H.place (H.objects host.now) finalizers.now.state (has found.now.entries.entries) late from object → ⊥) (λ path. (from : ℕ) × (from ≢ object) × IsBackPath H.place (H.objects host.now) finalizers.now.state (has found.now.entries.entries) late from path.items object)) }
+{
+    let trail = reach_others(alloc, finalizers, host, found, object, late)?;
+    let told = path_to(alloc, &trail, object)?;
+    match told {
+        Some((_start, path)) => Ok(Some(path)),
+        None => Ok(None),
+    }
+}

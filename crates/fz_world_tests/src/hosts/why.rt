@@ -1,0 +1,568 @@
+//! Why records aren't finalized: worked rows, and random graphs whose answers a plain reading checks.
+
+use crate::hosts::beside::Random;
+use crate::hosts::equal::must_be;
+use fz_finalizers::{Finalizer, Kind, LinkKind};
+use fz_model::Addr;
+use fz_why::{Reason, RootOf};
+use own_heap::Field::{Nothing, Reference};
+use own_heap::{FIELDS, OUTSIDE, RecordId, Runtime};
+use std::alloc::Global;
+use std::process::Abort;
+use std::test::*;
+
+/// A step of a row. Records are named by their numbers.
+#[derive(Clone, Copy, Debug, PartialEq, Eq)]
+enum Step {
+    /// The field of a record refers to another.
+    Refer(usize, usize, usize),
+    /// Registers a record of a kind, with another as its client data if it has any.
+    Register(usize, Kind, Option<usize>),
+    /// The field of a record is a short link to another.
+    Link(usize, usize, usize),
+    /// A word outside of the heap is a short link to a record.
+    LinkOutside(usize),
+    /// Makes a record a root, and removes the last root.
+    Root(usize),
+    Unroot,
+    /// A collection, and how many entries it queues.
+    Collect(u64),
+    /// Takes and finishes an entry of a record.
+    Finish(usize),
+}
+
+/// What is told of a record, without its path.
+#[derive(Clone, Copy, Debug, PartialEq, Eq)]
+enum Told {
+    Unregistered,
+    Queued(u64),
+    Found(RootOf),
+    Ring,
+    Waits,
+    Ready,
+}
+
+/// A heap, and its records by number.
+#[derive(Drop)]
+struct Records {
+    runtime: Runtime,
+    ids: Vec<RecordId>,
+}
+
+/// A heap with as many records.
+fn heap_of(rt: &impl Abort, alloc: Global, count: usize) -> Records {
+    let mut made = Records {
+        runtime: Runtime::new(alloc, 16).expect(rt, "a runtime"),
+        ids: Vec::new(alloc),
+    };
+    for _ in 0..count.min(16) {
+        let id = made.runtime.make([Nothing; FIELDS]).expect(rt, "a record");
+        made.ids.push(id).expect(rt, "memory");
+    }
+    made
+}
+
+/// The name of a record.
+fn id_of(rt: &impl Abort, records: &Records, record: usize) -> RecordId {
+    records.ids.get(record).copied().expect(rt, "a record")
+}
+
+/// The number of the record with this address.
+fn number_of(records: &Records, address: Addr) -> Option<usize> {
+    records.ids.iter().position(|id| id.address() == address)
+}
+
+/// Registers a record.
+fn register(
+    rt: &impl Abort,
+    records: &mut Records,
+    record: usize,
+    kind: Kind,
+    data: Option<usize>,
+) {
+    let client_data = match data {
+        Some(other) => id_of(rt, records, other).address(),
+        None => 0,
+    };
+    let finalizer = Finalizer {
+        kind,
+        procedure: record as u64,
+        client_data,
+        rank: 0,
+    };
+    let id = id_of(rt, records, record);
+    if records.runtime.heap().stands(id) {
+        records
+            .runtime
+            .register(id, finalizer)
+            .expect(rt, "a finalizer");
+    }
+}
+
+/// Makes a word a short link to a record.
+fn link(rt: &impl Abort, records: &mut Records, word: Addr, to: usize) {
+    let target = id_of(rt, records, to);
+    if records.runtime.heap().stands(target) {
+        records
+            .runtime
+            .link(LinkKind::Short, word, target)
+            .expect(rt, "a link");
+    }
+}
+
+/// Takes and finishes the next entry, which is of a record.
+fn finish(rt: &impl Abort, records: &mut Records, record: usize) {
+    let entry = records.runtime.take().expect(rt, "an entry");
+    must_be(
+        rt,
+        number_of(records, entry.obj),
+        Some(record),
+        "its record",
+    );
+    records.runtime.finish(&entry).expect(rt, "an end");
+}
+
+/// Carries out a step.
+fn carry_out(rt: &impl Abort, records: &mut Records, step: Step) {
+    match step {
+        Step::Refer(record, field, to) => {
+            let (id, target) = (id_of(rt, records, record), id_of(rt, records, to));
+            records.runtime.set(id, field % FIELDS, Reference(target));
+        }
+        Step::Register(record, kind, data) => register(rt, records, record, kind, data),
+        Step::Link(record, field, to) => {
+            let word = id_of(rt, records, record).word(field % FIELDS);
+            link(rt, records, word, to);
+        }
+        Step::LinkOutside(to) => link(rt, records, OUTSIDE.saturating_add(to as u64), to),
+        Step::Root(record) => {
+            let id = id_of(rt, records, record);
+            records.runtime.add_root(id).expect(rt, "memory");
+        }
+        Step::Unroot => {
+            let _ = records.runtime.pop_root();
+        }
+        Step::Collect(picked) => {
+            must_be(rt, records.runtime.collect().picked, picked, "picked");
+        }
+        Step::Finish(record) => finish(rt, records, record),
+    }
+}
+
+/// What is told of a record, and the numbers of the records on its path.
+fn answer_of(
+    rt: &impl Abort,
+    alloc: Global,
+    records: &Records,
+    record: usize,
+) -> (Told, Vec<usize>) {
+    let id = id_of(rt, records, record);
+    let reason = records.runtime.why(alloc, id).expect(rt, "memory");
+    let (told, path) = match reason {
+        Reason::Unregistered => (Told::Unregistered, Vec::new(alloc)),
+        Reason::Queued(entry) => (Told::Queued(entry.seq), Vec::new(alloc)),
+        Reason::Found(root, path) => (Told::Found(root), path),
+        Reason::Ring(path) => (Told::Ring, path),
+        Reason::Waits(path) => (Told::Waits, path),
+        Reason::Ready => (Told::Ready, Vec::new(alloc)),
+    };
+    let mut numbers = Vec::new(alloc);
+    for address in path.iter() {
+        let number = number_of(records, *address).expect(rt, "a record");
+        numbers.push(number).expect(rt, "memory");
+    }
+    (told, numbers)
+}
+
+/// Checks what is told of a record.
+fn must_tell(
+    rt: &impl Abort,
+    alloc: Global,
+    records: &Records,
+    record: usize,
+    want: Told,
+    path: &[usize],
+) {
+    let (found, numbers) = answer_of(rt, alloc, records, record);
+    must_be(rt, found, want, "the answer");
+    must_be(rt, numbers.as_slice() == path, true, "its path");
+}
+
+/// Carries out steps.
+fn run(rt: &impl Abort, records: &mut Records, steps: &[Step]) {
+    for each in steps {
+        carry_out(rt, records, *each);
+    }
+}
+
+const NORMAL: Kind = Kind::Normal;
+
+#[test]
+fn a_child_waits_for_its_parent(rt: HostRuntime) {
+    let alloc = rt.alloc();
+    let mut all = heap_of(&rt, alloc, 2);
+    let steps = [
+        Step::Refer(0, 0, 1),
+        Step::Root(0),
+        Step::Register(0, NORMAL, None),
+        Step::Register(1, NORMAL, None),
+    ];
+    run(&rt, &mut all, &steps);
+    must_tell(&rt, alloc, &all, 1, Told::Found(RootOf::Host(0)), &[0, 1]);
+    carry_out(&rt, &mut all, Step::Unroot);
+    must_tell(&rt, alloc, &all, 0, Told::Ready, &[]);
+    must_tell(&rt, alloc, &all, 1, Told::Waits, &[0, 1]);
+    carry_out(&rt, &mut all, Step::Collect(1));
+    must_tell(&rt, alloc, &all, 0, Told::Queued(0), &[]);
+    let held = Told::Found(RootOf::HeldObject(0));
+    must_tell(&rt, alloc, &all, 1, held, &[0, 1]);
+    carry_out(&rt, &mut all, Step::Finish(0));
+    must_tell(&rt, alloc, &all, 0, Told::Unregistered, &[]);
+    must_tell(&rt, alloc, &all, 1, Told::Ready, &[]);
+}
+
+#[test]
+fn a_ring_of_one_is_told_and_may_be_ignored(rt: HostRuntime) {
+    let alloc = rt.alloc();
+    let mut all = heap_of(&rt, alloc, 1);
+    let steps = [Step::Refer(0, 0, 0), Step::Register(0, NORMAL, None)];
+    run(&rt, &mut all, &steps);
+    must_tell(&rt, alloc, &all, 0, Told::Ring, &[0, 0]);
+    carry_out(&rt, &mut all, Step::Collect(0));
+    must_tell(&rt, alloc, &all, 0, Told::Ring, &[0, 0]);
+    carry_out(&rt, &mut all, Step::Register(0, Kind::IgnoreSelf, None));
+    must_tell(&rt, alloc, &all, 0, Told::Ready, &[]);
+    carry_out(&rt, &mut all, Step::Collect(1));
+}
+
+#[test]
+fn own_client_data_retains(rt: HostRuntime) {
+    let alloc = rt.alloc();
+    let mut all = heap_of(&rt, alloc, 2);
+    let steps = [Step::Refer(1, 0, 0), Step::Register(0, NORMAL, Some(1))];
+    run(&rt, &mut all, &steps);
+    let data = Told::Found(RootOf::RegisteredData(0));
+    must_tell(&rt, alloc, &all, 0, data, &[1, 0]);
+    carry_out(&rt, &mut all, Step::Collect(0));
+}
+
+#[test]
+fn kinds_decide_which_first_steps_count(rt: HostRuntime) {
+    let alloc = rt.alloc();
+    let mut ring = heap_of(&rt, alloc, 2);
+    let steps = [
+        Step::Refer(0, 0, 1),
+        Step::Refer(1, 0, 0),
+        Step::Register(0, NORMAL, None),
+        Step::Register(1, Kind::NoOrder, None),
+    ];
+    run(&rt, &mut ring, &steps);
+    must_tell(&rt, alloc, &ring, 0, Told::Ring, &[0, 1, 0]);
+    must_tell(&rt, alloc, &ring, 1, Told::Waits, &[0, 1]);
+
+    let mut free = heap_of(&rt, alloc, 2);
+    let steps = [
+        Step::Refer(0, 0, 1),
+        Step::Register(0, Kind::NoOrder, None),
+        Step::Register(1, NORMAL, None),
+    ];
+    run(&rt, &mut free, &steps);
+    must_tell(&rt, alloc, &free, 0, Told::Ready, &[]);
+    must_tell(&rt, alloc, &free, 1, Told::Ready, &[]);
+    carry_out(&rt, &mut free, Step::Register(1, Kind::Unreachable, None));
+    must_tell(&rt, alloc, &free, 1, Told::Waits, &[0, 1]);
+    carry_out(&rt, &mut free, Step::Collect(1));
+}
+
+#[test]
+fn a_dead_short_link_cuts_a_ring(rt: HostRuntime) {
+    let alloc = rt.alloc();
+    let mut all = heap_of(&rt, alloc, 2);
+    let steps = [
+        Step::Refer(0, 0, 1),
+        Step::Refer(1, 0, 0),
+        Step::Register(0, NORMAL, None),
+        Step::Register(1, NORMAL, None),
+        Step::Link(0, 0, 1),
+    ];
+    run(&rt, &mut all, &steps);
+    must_tell(&rt, alloc, &all, 1, Told::Ready, &[]);
+    must_tell(&rt, alloc, &all, 0, Told::Waits, &[1, 0]);
+    carry_out(&rt, &mut all, Step::Collect(1));
+}
+
+#[test]
+fn a_link_outside_of_the_heap_cuts_no_ring(rt: HostRuntime) {
+    let alloc = rt.alloc();
+    let mut all = heap_of(&rt, alloc, 2);
+    let steps = [
+        Step::Refer(0, 0, 1),
+        Step::Refer(1, 0, 0),
+        Step::Register(0, NORMAL, None),
+        Step::LinkOutside(0),
+        Step::LinkOutside(1),
+    ];
+    run(&rt, &mut all, &steps);
+    must_tell(&rt, alloc, &all, 0, Told::Ring, &[0, 1, 0]);
+    must_tell(&rt, alloc, &all, 1, Told::Unregistered, &[]);
+    carry_out(&rt, &mut all, Step::Collect(0));
+}
+
+/// How many records a random graph has.
+const COUNT: usize = 6;
+
+/// A graph as lists, for a plain reading.
+#[derive(Drop)]
+struct Plain {
+    /// Which record refers to which, by which field.
+    words: Vec<(usize, usize, usize)>,
+    /// Of which fields short links to which records are.
+    links: Vec<(usize, usize, usize)>,
+    /// Kinds and client data of the registered records.
+    registered: Vec<(usize, Kind, Option<usize>)>,
+    roots: Vec<usize>,
+}
+
+/// Appends an element.
+fn push<T: Drop>(rt: &impl Abort, list: &mut Vec<T>, element: T) {
+    list.push(element).expect(rt, "memory");
+}
+
+/// A random graph.
+fn drawn(rt: &impl Abort, alloc: Global, random: &mut Random) -> Plain {
+    let mut plain = Plain {
+        words: Vec::new(alloc),
+        links: Vec::new(alloc),
+        registered: Vec::new(alloc),
+        roots: Vec::new(alloc),
+    };
+    let count = COUNT as u64;
+    for record in 0..COUNT {
+        for field in 0..2 {
+            let (to, target) = (random.below(count) as usize, random.below(count) as usize);
+            if random.below(2) == 0 {
+                push(rt, &mut plain.words, (record, field, to));
+            }
+            if random.below(6) == 0 {
+                push(rt, &mut plain.links, (record, field, target));
+            }
+        }
+        let kind = match random.below(6) {
+            0 => Kind::IgnoreSelf,
+            1 => Kind::NoOrder,
+            2 => Kind::Unreachable,
+            _ => Kind::Normal,
+        };
+        let other = random.below(count) as usize;
+        let data = (random.below(8) == 0).then_some(other);
+        if random.below(3) > 0 {
+            push(rt, &mut plain.registered, (record, kind, data));
+        }
+        if random.below(6) == 0 {
+            push(rt, &mut plain.roots, record);
+        }
+    }
+    plain
+}
+
+/// The heap of a graph.
+fn built(rt: &impl Abort, alloc: Global, plain: &Plain) -> Records {
+    let mut all = heap_of(rt, alloc, COUNT);
+    for (record, field, to) in plain.words.iter() {
+        carry_out(rt, &mut all, Step::Refer(*record, *field, *to));
+    }
+    for (record, field, to) in plain.links.iter() {
+        carry_out(rt, &mut all, Step::Link(*record, *field, *to));
+    }
+    for (record, kind, data) in plain.registered.iter() {
+        carry_out(rt, &mut all, Step::Register(*record, *kind, *data));
+    }
+    for record in plain.roots.iter() {
+        carry_out(rt, &mut all, Step::Root(*record));
+        carry_out(rt, &mut all, Step::LinkOutside(*record));
+    }
+    all
+}
+
+/// Whether the test has the number.
+fn has(flags: &[bool; COUNT], record: usize) -> bool {
+    flags.get(record).copied().unwrap_or(false)
+}
+
+/// Sets a flag.
+fn set(flags: &mut [bool; COUNT], record: usize) {
+    if let Some(flag) = flags.get_mut(record) {
+        *flag = true;
+    }
+}
+
+/// The target of the short link of a field.
+fn linked(plain: &Plain, record: usize, field: usize) -> Option<usize> {
+    for (other, place, target) in plain.links.iter() {
+        if (*other, *place) == (record, field) {
+            return Some(*target);
+        }
+    }
+    None
+}
+
+/// Whether a field refers to a record, once the dead short links are cleared. Before anything was found, none is dead.
+fn refers(plain: &Plain, found: Option<&[bool; COUNT]>, word: (usize, usize, usize)) -> bool {
+    let (record, field, _) = word;
+    match (found, linked(plain, record, field)) {
+        (Some(found), Some(target)) => has(found, target),
+        _ => true,
+    }
+}
+
+/// What some records reach: as often as there are records, each word of what was reached.
+fn spread(plain: &Plain, found: Option<&[bool; COUNT]>, starts: [bool; COUNT]) -> [bool; COUNT] {
+    let mut reached = starts;
+    for _ in 0..COUNT {
+        for word in plain.words.iter() {
+            if has(&reached, word.0) && refers(plain, found, *word) {
+                set(&mut reached, word.2);
+            }
+        }
+    }
+    reached
+}
+
+/// What the roots reach.
+fn reached(plain: &Plain) -> [bool; COUNT] {
+    let mut starts = [false; COUNT];
+    for record in plain.roots.iter() {
+        set(&mut starts, *record);
+    }
+    for (_, _, data) in plain.registered.iter() {
+        if let Some(record) = data {
+            set(&mut starts, *record);
+        }
+    }
+    spread(plain, None, starts)
+}
+
+/// Whether a first step of a record of a kind counts.
+fn counts(kind: Kind, record: usize, to: usize) -> bool {
+    match kind {
+        Kind::Normal | Kind::Unreachable => true,
+        Kind::IgnoreSelf => to != record,
+        Kind::NoOrder => false,
+    }
+}
+
+/// Whether a record reaches another by a first step that counts.
+fn holds(plain: &Plain, found: &[bool; COUNT], record: usize, kind: Kind, other: usize) -> bool {
+    let mut starts = [false; COUNT];
+    for word in plain.words.iter() {
+        if word.0 == record && refers(plain, Some(found), *word) && counts(kind, record, word.2) {
+            set(&mut starts, word.2);
+        }
+    }
+    has(&spread(plain, Some(found), starts), other)
+}
+
+/// What a plain reading tells of a registered record, with root 0 in place of any.
+fn read(plain: &Plain, found: &[bool; COUNT], record: usize, kind: Kind) -> Told {
+    if has(found, record) {
+        return Told::Found(RootOf::Host(0));
+    }
+    if holds(plain, found, record, kind, record) {
+        return Told::Ring;
+    }
+    for (other, their, _) in plain.registered.iter() {
+        let counted = if kind == Kind::Unreachable {
+            Kind::Normal
+        } else {
+            *their
+        };
+        if *other != record && !has(found, *other) && holds(plain, found, *other, counted, record) {
+            return Told::Waits;
+        }
+    }
+    Told::Ready
+}
+
+/// Whether each record of a path refers to the next.
+fn is_path(plain: &Plain, found: Option<&[bool; COUNT]>, path: &[usize]) -> bool {
+    let mut before = None;
+    for record in path.iter() {
+        if let Some(from) = before {
+            let mut steps = plain.words.iter();
+            if !steps.any(|word| word.0 == from
+                && word.2 == *record
+                && refers(plain, found, *word))
+            {
+                return false;
+            }
+        }
+        before = Some(*record);
+    }
+    true
+}
+
+/// Whether a path begins and ends as it is told.
+fn is_told(
+    plain: &Plain,
+    found: &[bool; COUNT],
+    record: usize,
+    told: Told,
+    path: &[usize],
+) -> bool {
+    let (first, last) = (path.first().copied(), path.last().copied());
+    match told {
+        Told::Found(RootOf::Host(index)) => {
+            first == plain.roots.get(index).copied()
+                && last == Some(record)
+                && is_path(plain, None, path)
+        }
+        Told::Found(_) => last == Some(record) && is_path(plain, None, path),
+        Told::Ring => first == Some(record)
+            && last == Some(record)
+            && path.len() > 1
+            && is_path(plain, Some(found), path),
+        Told::Waits => first != Some(record)
+            && last == Some(record)
+            && path.len() > 1
+            && is_path(plain, Some(found), path),
+        _ => path.is_empty(),
+    }
+}
+
+/// Compares what is told of each record of a graph with a plain reading, and how many are ready with how many a pass queues.
+fn compare(rt: &impl Abort, alloc: Global, plain: &Plain) {
+    let mut all = built(rt, alloc, plain);
+    let found = reached(plain);
+    let mut ready = 0_u64;
+    for (record, kind, _) in plain.registered.iter() {
+        let want = read(plain, &found, *record, *kind);
+        let (told, path) = answer_of(rt, alloc, &all, *record);
+        must_be(
+            rt,
+            is_told(plain, &found, *record, told, path.as_slice()),
+            true,
+            "a true path",
+        );
+        let sort = match told {
+            Told::Found(_) => Told::Found(RootOf::Host(0)),
+            other => other,
+        };
+        must_be(rt, sort, want, "the plain reading");
+        ready = ready.saturating_add(u64::from(want == Told::Ready));
+    }
+    must_be(
+        rt,
+        all.runtime.collect().picked,
+        ready,
+        "those that are ready",
+    );
+}
+
+#[test]
+fn random_graphs_are_told_as_a_plain_reading_does(rt: HostRuntime) {
+    let mut random = Random(7);
+    for _ in 0..300 {
+        let plain = drawn(&rt, rt.alloc(), &mut random);
+        compare(&rt, rt.alloc(), &plain);
+    }
+}

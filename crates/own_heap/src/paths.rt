@@ -1,0 +1,44 @@
+//! The heap as a host that lists its roots and words.
+
+ghost use Rattle.std.specs.Prelude.{map};
+ghost use Rattle.own_heap.specs.Records.{address_of, objects_of};
+ghost use Rattle.own_heap.specs.Outside.{place_of_link};
+ghost use Rattle.own_heap.specs.Pointing.{links_found, records_point, words_listed};
+ghost use Rattle.own_heap.specs.declared.record.RecordId.{RecordId};
+
+use crate::heap::Heap;
+use crate::record::place_of_link;
+use fz_model::{Addr, Word};
+use fz_why::{Paths, Pointer};
+
+impl Paths for Heap {
+    ghost pointers = { λ h a. words_listed (objects_of h.records.slots.items) a };
+
+    ghost roots = { λ h. map (λ (id : RecordId). address_of id.place) h.roots.items };
+
+    ghost link = { place_of_link };
+
+    fn pointer(&self, object: Addr, index: usize) -> Option<Pointer> {
+        let field = self.records.at(object)?.fields.get(index)?;
+        Some(Pointer {
+            word: object + index as u64,
+            value: field.word(),
+        })
+    }
+
+    fn root(&self, index: usize) -> Option<Word> {
+        Some(self.roots.get(index)?.address())
+    }
+
+    fn link_at(&self, word: Addr) -> Option<Addr> {
+        place_of_link(word)
+    }
+
+    fn target(&self, word: Word) -> Option<Addr> {
+        self.records.holder(word)
+    }
+
+    ghost are_pointers = { λ h a. records_point (objects_of h.records.slots.items) a };
+
+    ghost are_links = { links_found };
+}
