@@ -1,5 +1,5 @@
 -- What is told of a run of a threads file.
-use Rattle.std.proofs.Common.{◌≡◌, ℕ, ◌+◌, List, [], ◌∷◌, ◌++◌, Option, None, Result, Ok, Err, true, sym, refl, subst, append-nil, arith, inl, inr, ◌⊎◌}
+use Rattle.std.proofs.Common.{◌≡◌, ℕ, ◌+◌, List, [], ◌∷◌, ◌++◌, Option, None, Result, Ok, Err, IfOk, IfErr, true, sym, refl, subst, append-nil, arith, inl, inr, ◌⊎◌}
 use Rattle.std.proofs.KnownBytes.{Appends-nil}
 use Rattle.std.specs.Io.KnownBytes.{Consumes, IsAtEnd}
 use Rattle.fz_model.specs.declared.limits.TheConstants.{MAX_BLOCKS, MAX_FRAMES, MAX_WORKERS}
@@ -7,7 +7,9 @@ use Rattle.fz_model.specs.declared.refusal.Refusal.{Refusal}
 use Rattle.fz_model.specs.declared.refusal.Refusal.TheVariants.{BadLine, BadCount, NoMemory, Output, Input}
 use Rattle.fz_model.specs.Causes.{bad_count, first_cause, IsRefusedFor}
 use Rattle.fz_script.specs.declared.job.Job.{Job}
+use Rattle.fz_line.specs.States.{SeatState}
 use Rattle.fz_service.specs.States.{Origin}
+use Rattle.fz_service.specs.Workers.{ExtendEach}
 use Rattle.fz_runs.specs.declared.text.fault.DriveFault.{DriveFault}
 use Rattle.fz_runs.specs.declared.threads.tally.Tally.{Tally}
 use Rattle.fz_runs.specs.declared.threads.plan.Plan.{Plan}
@@ -20,7 +22,7 @@ use Rattle.fz_runs.specs.Jobs.{Asked, IsThreadsFile, OpensAt, Unreadable, IsUnre
 use Rattle.fz_runs.specs.Tallies.{summary_text}
 use Rattle.fz_runs.specs.Plans.{asked_by, PlanIsRead}
 use Rattle.fz_runs.specs.Holds.{SectionsRefused, Settles}
-use Rattle.fz_runs.specs.Threads.{Summarizes, service_causes, IsDueFor, Malformed, NotOpened, Summary, ExplainsRun, RunStopped, DrivesThreads}
+use Rattle.fz_runs.specs.Threads.{Summarizes, DrivesSections, service_causes, IsDueFor, Malformed, NotOpened, Summary, ExplainsRun, RunStopped, DrivesThreads}
 use Rattle.fz_runs.specs.Telling.{lineless, TellsFault, text_for, opening_fault, asked_from, TellsEnd, TellsSummary, IsDueAfter, Refused, Summed, StopsRun, RunsPlan}
 
 -- ---- a refused opening
@@ -145,3 +147,15 @@ unreadable_drives input left old new known fault h (inl whole) =
     subst (RunStopped input left old new) (sym whole.0) (unread_told input left old new known.refusal known.line h.0.0 h.0.1 h.0.2 h.0.3 h.1 whole.1)
 unreadable_drives input left old new known fault h (inr part) =
     subst (RunStopped input left old new) (sym part.0) (unread_broken input left old new known.refusal known.line h.0.0 h.0.1 h.0.2 h.0.3 h.1 part.1)
+
+-- ---- sections over an open service
+
+pub extend_none : (seats : List SeatState) → ExtendEach seats seats
+extend_none seats = (refl, λ i d few. record { line = refl; index = refl; since = []; took = sym (append-nil _) })
+
+-- sections of a plan that was read were carried out, or memory ran out
+pub plan_carried_out : (origin : Origin) (input left : Feed) (plan : Plan) (result : Result ℕ DriveFault) → PlanIsRead input (Ok plan) left → IfOk result (SectionsRefused origin plan.jobs.items) → IfErr result (λ fault. fault ≡ lineless NoMemory) → Settles origin plan.collections → DrivesSections origin input result left
+plan_carried_out origin input left plan (Ok refused) read sections fault settled =
+    record { bytes = read.0; asked = asked_by plan; read = read.1; whole = read.2; reads = read.5; file = read.3; sections = sections; settled = settled }
+plan_carried_out origin input left plan (Err k) read sections fault settled = inr fault
+

@@ -16,7 +16,7 @@ use Rattle.fz_service.specs.declared.ending.Final.{Final}
 use Rattle.fz_runs.specs.declared.text.fault.DriveFault.{DriveFault}
 use Rattle.fz_runs.specs.declared.threads.tally.Tally.{Tally}
 use Rattle.fz_runs.specs.Written.{text_line, malformed_words, refused_words}
-use Rattle.fz_runs.specs.Jobs.{Asked, IsThreadsFile, Unreadable, OpensAt}
+use Rattle.fz_runs.specs.Jobs.{Asked, IsThreadsFile, IsUnreadable, Unreadable, OpensAt}
 use Rattle.fz_runs.specs.Holds.{SectionsRefused, Settles}
 use Rattle.fz_runs.specs.Tallies.{summary_text}
 
@@ -86,3 +86,19 @@ RunStopped input left before after fault = StoppedFor ExplainsRun input left bef
 abbrev pub DrivesThreads : Feed → Log → Result (Unit {0}) DriveFault → Feed → Log → Type 0
 DrivesThreads input before (Ok x) left after = Summarized input left before after
 DrivesThreads input before (Err fault) left after = RunStopped input left before after fault
+
+-- the whole file was read, its sections were carried out with this many refused calls, and then what a run ends with
+pub record CarriedOut (origin : Origin) (input left : Feed) (refused : ℕ) : Type 0 where
+  pub bytes : List ℕ
+  pub asked : Asked
+  pub read : Consumes input.remaining left.remaining bytes
+  pub whole : IsAtEnd left.remaining
+  pub reads : left.failures ≡ input.failures
+  pub file : IsThreadsFile bytes asked
+  pub sections : SectionsRefused origin asked.body refused
+  pub settled : Settles origin asked.collections
+
+-- the file's sections were carried out over an open service; or the file can't be read, or memory ran out
+abbrev pub DrivesSections : Origin → Feed → Result ℕ DriveFault → Feed → Type 0
+DrivesSections origin input (Ok refused) left = CarriedOut origin input left refused
+DrivesSections origin input (Err fault) left = IsUnreadable input left fault ⊎ (fault ≡ record { refusal = NoMemory; line = 0 })

@@ -14,4 +14,4 @@ pub use text::{
     Chunk, DriveFault, Ending, Failures, MAX_LINE, ReadFailed, Sink, Source, Word, WriteFailed,
     is_kept, next_line, write_all, write_line, write_malformed, write_refused,
 };
-pub use threads::{Keep, Nothing, drive_threads};
+pub use threads::{Keep, Nothing, drive_sections, drive_threads};

@@ -12,8 +12,6 @@ mod section;
 mod stage;
 mod summary;
 mod tally;
-#[cfg(test)]
-mod tests;
 
 pub use procedures::{Keep, Nothing};
-pub use run::drive_threads;
+pub use run::{drive_sections, drive_threads};

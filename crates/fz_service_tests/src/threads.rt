@@ -2,6 +2,7 @@
 
 mod devices;
 mod files;
+mod holds;
 mod limits;
 mod malformed;
 mod procedures;

@@ -4,12 +4,13 @@ ghost use Rattle.std.specs.Prelude.{◌≡◌, ◌≤◌, None, IfErr, IfOk, len
 ghost use Rattle.std.specs.List.{All};
 ghost use Rattle.fz_model.specs.Causes.{first_cause};
 ghost use Rattle.fz_service.specs.Ends.{IsEachOnce};
+ghost use Rattle.fz_service.specs.Workers.{ExtendEach};
 ghost use Rattle.fz_runs.specs.Written.{text_line, refused_words};
 ghost use Rattle.fz_script.specs.declared.job.TheConstants.{MAX_TURNS};
 ghost use Rattle.fz_runs.specs.declared.threads.limits.TheConstants.{MAX_LINES};
 ghost use Rattle.fz_runs.specs.Plans.{asked_by};
-ghost use Rattle.fz_runs.specs.Holds.{turns_of, SectionsRefused};
-ghost use Rattle.fz_runs.specs.Threads.{DrivesThreads, tally_of, service_causes};
+ghost use Rattle.fz_runs.specs.Holds.{turns_of, SectionsRefused, Settles};
+ghost use Rattle.fz_runs.specs.Threads.{DrivesThreads, DrivesSections, tally_of, service_causes};
 ghost use Rattle.fz_runs.specs.Telling.{lineless, TellsFault, text_for, opening_fault, asked_from, TellsEnd, TellsSummary, RunsPlan};
 
 use crate::text::{DriveFault, Sink, Source, write_malformed, write_refused};
@@ -208,5 +209,58 @@ pub fn drive_threads<R: Source, W: Sink, T: Threads + Wait + Sync>(
     match read_plan(alloc, reader) {
         Ok(plan) => run_plan(alloc, writer, plan, procs, rt),
         Err(fault) => Err(tell_unreadable(writer, fault)),
+    }
+}
+
+/// Carries out the sections of a plan over an open service, and then what the run ends with. Returns the seats, and how many of the sections' calls were
+/// refused.
+fn run_over<O: Opening + Send + Sync, R: Threads + Wait + Sync>(
+    alloc: Global,
+    service: &Service<O>,
+    seats: Vec<Seat<O>>,
+    plan: Plan,
+    procs: Vec<Vec<Box<dyn Proc + Send>>>,
+    rt: &R,
+) -> (Vec<Seat<O>>, Result<u64, DriveFault>)
+    requires stand { All (λ job. turns_of job ≤ MAX_TURNS) plan.jobs.items }
+    requires few { length plan.jobs.items ≤ MAX_LINES }
+    ensures seats { ExtendEach seats.items result.0.items }
+    ensures refused { IfOk result.1 (SectionsRefused O.origin plan.jobs.items) }
+    ensures fault { IfErr result.1 (λ fault. fault ≡ lineless Refusal.NoMemory) }
+    ensures settled { Settles O.origin plan.collections }
+{
+    let Plan {
+        collections,
+        jobs,
+        ..
+    } = plan;
+    let sections = Sections::of(jobs);
+    let (seats, refused) = side_by_side(alloc, service, seats, &sections, collections, procs, rt);
+    match refused {
+        Ok(refused) => (seats, Ok(refused)),
+        Err(_) => (seats, Err(lineless(Refusal::NoMemory))),
+    }
+}
+
+/// The same over a service that is already open, whose size the file doesn't change. The workers of these seats run beside the sections; then an open cycle is
+/// ended, and the world is collected as often as the file says. The service stays open. Returns the seats, and how many of the sections' calls were refused.
+pub fn drive_sections<
+    R: Source,
+    O: Opening + Send + Sync,
+    T: Threads + Wait + Sync,
+>(
+    alloc: Global,
+    reader: &mut R,
+    service: &Service<O>,
+    seats: Vec<Seat<O>>,
+    procs: Vec<Vec<Box<dyn Proc + Send>>>,
+    rt: &T,
+) -> (Vec<Seat<O>>, Result<u64, DriveFault>)
+    ensures seats { ExtendEach seats.items result.0.items }
+    ensures driven { DrivesSections O.origin (R.feed reader.old) result.1 (R.feed reader.new) }
+{
+    match read_plan(alloc, reader) {
+        Ok(plan) => run_over(alloc, service, seats, plan, procs, rt),
+        Err(fault) => (seats, Err(fault)),
     }
 }
