@@ -115,6 +115,12 @@ typedef struct derrimas_trace {
     void *data;
 } derrimas_trace;
 
+/* How many registrations and passes there have been, for derrimas_finalizers_dump alone; and how many registrations before
+ * the pass (n + 1) * 2^thinned, in before[n]. */
+typedef struct derrimas_finalizers_ages {
+    uint64_t registrations, passes, thinned, before[8];
+} derrimas_finalizers_ages;
+
 /* The handle. Start it as {0}. There may be any number of them, each with its own memory. `waiting` is how many entries
  * wait, for derrimas_finalizers_has_waiting alone. */
 typedef struct derrimas_finalizers {
@@ -122,6 +128,7 @@ typedef struct derrimas_finalizers {
     uint64_t waiting;
     derrimas_allocator allocator;
     const derrimas_trace *trace;
+    derrimas_finalizers_ages ages;
 } derrimas_finalizers;
 
 /* The procedure and the client data of a registration that went away, and whether there was one: else both are 0. */
@@ -172,8 +179,8 @@ typedef enum derrimas_ask {
 } derrimas_ask;
 
 /* A question about `count` objects or words, 1 to DERRIMAS_FINALIZERS_BATCH, to be answered or carried out one after
- * another; what is behind them is undefined. Of IS_MARKED and HOLDER_IS_MARKED bit i of the answers, from the lowest
- * on, is the answer about what[i]; of the others answers don't count. */
+ * another; the places behind them are undefined. For IS_MARKED and HOLDER_IS_MARKED bit i of the answers, counted from
+ * the lowest, is the answer about what[i]. For the others the answers are ignored. */
 typedef struct derrimas_question {
     uint64_t what[DERRIMAS_FINALIZERS_BATCH];
     uint64_t count;
@@ -246,8 +253,8 @@ derrimas_finalizers_code derrimas_finalizers_move_link(derrimas_finalizers *fina
 
 /* ---- a pass, by questions and answers */
 
-/* Opens a pass, once the host's marking is done. Until its end entries are taken and finished, and all other changes are
- * refused PASS_OPEN. Takes time by the links.
+/* Opens a pass, once the host's marking is done. Until its end entries may be taken and finished; all other changes are
+ * refused with PASS_OPEN. Takes time by the links.
  * Refused: NOT_OPEN, PASS_OPEN. */
 derrimas_finalizers_code derrimas_finalizers_begin(derrimas_finalizers *finalizers) DERRIMAS_NONNULL(1);
 
@@ -355,8 +362,9 @@ void derrimas_finalizers_trace(derrimas_finalizers *finalizers, const derrimas_t
 
 /* Describes the handle for a person, by calls of `line` with `data` and a line of text: its counts, the kinds of its
  * registrations, the registration that was made first, and the entry that was queued first and isn't finished, with the
- * pass that queued it. "not open" where it isn't. The texts may change. Takes time by the registrations, and no memory.
- * `line` makes no call that changes the handle. */
+ * pass that queued it. Of the registration it says between which passes it was made: exactly for the first 8 passes, and
+ * later to within a quarter of all passes. "not open" where the handle isn't. The texts may change. Takes time by the
+ * registrations, and no memory. `line` makes no call that changes the handle. */
 void derrimas_finalizers_dump(const derrimas_finalizers *finalizers, void (*line)(void *data, const char *text), void *data)
     DERRIMAS_NONNULL(1, 2);
 
@@ -370,10 +378,10 @@ const char *derrimas_finalizers_strerror(derrimas_finalizers_code code);
 
 /* ---- a host's procedures, and a pass that they drive */
 
-/* A host: what it does for each question. For what is promised of a pass, there have to be a graph and a set of marked
- * objects such that is_marked tells whether the object is in the set, the three marks add to it what the questions say,
- * or more, and nothing else changes it in the pass; and the set has all that its objects reach, at the beginning and
- * after each mark. */
+/* A host: what it does for each question. `data` is what derrimas_finalizers_pass was given. What is promised of a pass
+ * holds if there are a graph and a set of marked objects such that: is_marked tells whether the object is in the set; the
+ * three marks add to the set what the questions say, or more; nothing else changes the set in the pass; and at the
+ * beginning and after each mark the set has all that its objects reach. */
 typedef struct derrimas_host {
     bool (*is_marked)(void *data, uint64_t object);
     void (*mark_children)(void *data, uint64_t object, bool but_itself);
