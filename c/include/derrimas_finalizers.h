@@ -6,9 +6,9 @@
  * and never followed. An object is any number but 0 by which the host finds it: its address, an address that is hidden by
  * a map that keeps the order, or an index. What is proved of a pass gives an object as many numbers as it has words, from
  * its own on, and no two objects share one. A link's word is any number but 0 by which the host finds it, and has one
- * number: its address, or an object's number and an offset. A host whose marker takes what looks like an address for one
- * hides them, since questions and entries lie on its stack: objects, words and targets all by the same map, and client
- * data too.
+ * number: its address, or an object's number and an offset. A host whose marker scans the stack for what looks like an
+ * address hides them, since questions and entries lie there: objects, words, targets and client data, all by the same
+ * map.
  *
  * The host has the heap. It marks what its roots reach, and what derrimas_finalizers_roots yields. Then it runs a pass, in
  * which it is asked questions: is this object marked, mark what it reaches, write zero to this word. What isn't marked at
@@ -21,8 +21,8 @@
  * - A pointer points to a value of its type, which no other thread uses meanwhile. It may be NULL only where the call's
  *   comment says so; DERRIMAS_NONNULL marks the others.
  * - A derrimas_finalizers starts as {0}, changes by these calls alone, and isn't copied.
- * - One thread at a time uses it, as behind one lock; of a collector, that of its allocator. Calls that take a const
- *   handle change nothing, and may be made by several threads at once, where no other call is made meanwhile.
+ * - One thread at a time uses it, as behind one lock: in a collector, that of the allocator. Calls that take a const
+ *   handle change nothing, and may be made by several threads at once, if no other call is made meanwhile.
  *   derrimas_finalizers_has_waiting alone may be called at any time.
  * - A signal handler calls derrimas_finalizers_has_waiting alone. A forked child has a copy of each handle: it may use one
  *   if no other thread was in a call on it at the fork, as where the fork comes under the host's lock.
