@@ -1,7 +1,7 @@
 /* derrimas.h: worlds with finalizers, disappearing links and a collector, for C99 and later, and C++17 and later.
  *
  * The interface follows bdwgc's gc.h, over a heap that is a model: a vector of words, none of which is memory of the
- * process. A runtime keeps its objects there, or stands objects there for its own.
+ * process. A runtime keeps its objects there, or lets objects there stand for its own.
  *
  * A world has a heap of blocks of 64 words, and frames of 16 slots. A word and a slot hold a uint64_t, which may be
  * any number. Where it is an address that lies inside an object, it points to that object; else it points to nothing.
@@ -251,7 +251,8 @@ derrimas_code derrimas_get(derrimas_world *world, derrimas_slot slot, uint64_t *
 derrimas_code derrimas_copy(derrimas_world *world, derrimas_slot slot, derrimas_slot to) DERRIMAS_NONNULL(1);
 
 /* Reads the word of the heap at the slot's word plus the offset, and stores it in the slot `to`, which then keeps what it
- * points to. *word, which may be NULL, is that word too. The slot's word may point anywhere into an object, and the offset is from there.
+ * points to. *word, which may be NULL, is that word too. The slot's word may point anywhere into an object, and the
+ * offset is from there.
  * Refused: DERRIMAS_NO_WORLD, DERRIMAS_BAD_SLOT, DERRIMAS_NOT_POINTER, DERRIMAS_OUTSIDE_OBJECT. */
 derrimas_code derrimas_load(derrimas_world *world, derrimas_slot slot, uint64_t offset, derrimas_slot to, uint64_t *word)
     DERRIMAS_NONNULL(1);
@@ -327,9 +328,9 @@ derrimas_code derrimas_unregister(derrimas_world *world, derrimas_slot slot, der
 /* Makes the word at the slot's word plus the offset a link to the object that starts at the word of the slot `target`.
  * The word itself stays as it is: store the address there. A pass sets it to 0 and removes the link: one of
  * DERRIMAS_SHORT when no root leads to the target, one of DERRIMAS_LONG when not even a finalizer that is still to run
- * keeps it. Put links into atomic objects, which don't keep their targets. A link whose own object goes goes with it.
- * *answer, which may be NULL, is DERRIMAS_LINKED; or DERRIMAS_LINK_DUPLICATE where the word was a link of this kind
- * already, whose target is replaced.
+ * keeps it. Put links into atomic objects, which don't keep their targets. When the object that has the word goes,
+ * the link goes too. *answer, which may be NULL, is DERRIMAS_LINKED; or DERRIMAS_LINK_DUPLICATE where the word was a link
+ * of this kind already, whose target is replaced.
  * Refused: DERRIMAS_BAD_KIND, DERRIMAS_NO_WORLD, DERRIMAS_BAD_SLOT; of the place DERRIMAS_NOT_POINTER,
  * DERRIMAS_OUTSIDE_OBJECT; of the target DERRIMAS_NOT_POINTER, DERRIMAS_NOT_START; DERRIMAS_TABLE_FULL,
  * DERRIMAS_NO_MEMORY. */
@@ -372,7 +373,7 @@ derrimas_code derrimas_pause(derrimas_world *world, derrimas_passed *passed) DER
 
 /* Takes the next entry of the queue into *entry: each entry once, in the queue's order, and none that is finished. The
  * entry holds its object, and what its client data points to, until derrimas_finish. The memory of a finalized object
- * is free after the first collection behind that, if nothing else leads to it.
+ * is free after the next collection, if nothing else leads to it.
  * Refused: DERRIMAS_NO_WORLD, DERRIMAS_EMPTY. Where it returns DERRIMAS_EMPTY, or an entry behind finished ones, it has
  * passed over the finished ones, and derrimas_counts.taken counts those too; so does derrimas_waiting. */
 DERRIMAS_CHECKED derrimas_code derrimas_take(derrimas_world *world, derrimas_entry *entry) DERRIMAS_NONNULL(1, 2);

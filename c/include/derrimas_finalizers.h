@@ -6,9 +6,9 @@
  * and never followed. An object is any number but 0 by which the host finds it: its address, an address that is hidden by
  * a map that keeps the order, or an index. What is proved of a pass gives an object as many numbers as it has words, from
  * its own on, and no two objects share one. A link's word is any number but 0 by which the host finds it, and has one
- * number: its address, or an object's number and an offset. A host whose marker takes what looks like an address for one
- * hides them, since questions and entries lie on its stack: objects, words and targets all by the same map, and client
- * data too.
+ * number: its address, or an object's number and an offset. A host whose marker scans the stack for what looks like an
+ * address hides them, since questions and entries lie there: objects, words, targets and client data, all by the same
+ * map.
  *
  * The host has the heap. It marks what its roots reach, and what derrimas_finalizers_roots yields. Then it runs a pass, in
  * which it is asked questions: is this object marked, mark what it reaches, write zero to this word. What isn't marked at
@@ -21,8 +21,8 @@
  * - A pointer points to a value of its type, which no other thread uses meanwhile. It may be NULL only where the call's
  *   comment says so; DERRIMAS_NONNULL marks the others.
  * - A derrimas_finalizers starts as {0}, changes by these calls alone, and isn't copied.
- * - One thread at a time uses it, as behind one lock; of a collector, that of its allocator. Calls that take a const
- *   handle change nothing, and may be made by several threads at once, where no other call is made meanwhile.
+ * - One thread at a time uses it, as behind one lock: in a collector, that of the allocator. Calls that take a const
+ *   handle change nothing, and may be made by several threads at once, if no other call is made meanwhile.
  *   derrimas_finalizers_has_waiting alone may be called at any time.
  * - A signal handler calls derrimas_finalizers_has_waiting alone. A forked child has a copy of each handle: it may use one
  *   if no other thread was in a call on it at the fork, as where the fork comes under the host's lock.
@@ -115,6 +115,12 @@ typedef struct derrimas_trace {
     void *data;
 } derrimas_trace;
 
+/* How many registrations and passes there have been, for derrimas_finalizers_dump alone; and how many registrations before
+ * the pass (n + 1) * 2^thinned, in before[n]. */
+typedef struct derrimas_finalizers_ages {
+    uint64_t registrations, passes, thinned, before[8];
+} derrimas_finalizers_ages;
+
 /* The handle. Start it as {0}. There may be any number of them, each with its own memory. `waiting` is how many entries
  * wait, for derrimas_finalizers_has_waiting alone. */
 typedef struct derrimas_finalizers {
@@ -122,6 +128,7 @@ typedef struct derrimas_finalizers {
     uint64_t waiting;
     derrimas_allocator allocator;
     const derrimas_trace *trace;
+    derrimas_finalizers_ages ages;
 } derrimas_finalizers;
 
 /* The procedure and the client data of a registration that went away, and whether there was one: else both are 0. */
@@ -172,8 +179,8 @@ typedef enum derrimas_ask {
 } derrimas_ask;
 
 /* A question about `count` objects or words, 1 to DERRIMAS_FINALIZERS_BATCH, to be answered or carried out one after
- * another; what is behind them is undefined. Of IS_MARKED and HOLDER_IS_MARKED bit i of the answers, from the lowest
- * on, is the answer about what[i]; of the others answers don't count. */
+ * another; the places behind them are undefined. For IS_MARKED and HOLDER_IS_MARKED bit i of the answers, counted from
+ * the lowest, is the answer about what[i]. For the others the answers are ignored. */
 typedef struct derrimas_question {
     uint64_t what[DERRIMAS_FINALIZERS_BATCH];
     uint64_t count;
@@ -246,8 +253,8 @@ derrimas_finalizers_code derrimas_finalizers_move_link(derrimas_finalizers *fina
 
 /* ---- a pass, by questions and answers */
 
-/* Opens a pass, once the host's marking is done. Until its end entries are taken and finished, and all other changes are
- * refused PASS_OPEN. Takes time by the links.
+/* Opens a pass, once the host's marking is done. Until its end entries may be taken and finished; all other changes are
+ * refused with PASS_OPEN. Takes time by the links.
  * Refused: NOT_OPEN, PASS_OPEN. */
 derrimas_finalizers_code derrimas_finalizers_begin(derrimas_finalizers *finalizers) DERRIMAS_NONNULL(1);
 
@@ -355,8 +362,9 @@ void derrimas_finalizers_trace(derrimas_finalizers *finalizers, const derrimas_t
 
 /* Describes the handle for a person, by calls of `line` with `data` and a line of text: its counts, the kinds of its
  * registrations, the registration that was made first, and the entry that was queued first and isn't finished, with the
- * pass that queued it. "not open" where it isn't. The texts may change. Takes time by the registrations, and no memory.
- * `line` makes no call that changes the handle. */
+ * pass that queued it. Of the registration it says between which passes it was made: exactly for the first 8 passes, and
+ * later to within a quarter of all passes. "not open" where the handle isn't. The texts may change. Takes time by the
+ * registrations, and no memory. `line` makes no call that changes the handle. */
 void derrimas_finalizers_dump(const derrimas_finalizers *finalizers, void (*line)(void *data, const char *text), void *data)
     DERRIMAS_NONNULL(1, 2);
 
@@ -370,10 +378,10 @@ const char *derrimas_finalizers_strerror(derrimas_finalizers_code code);
 
 /* ---- a host's procedures, and a pass that they drive */
 
-/* A host: what it does for each question. For what is promised of a pass, there have to be a graph and a set of marked
- * objects such that is_marked tells whether the object is in the set, the three marks add to it what the questions say,
- * or more, and nothing else changes it in the pass; and the set has all that its objects reach, at the beginning and
- * after each mark. */
+/* A host: what it does for each question. `data` is what derrimas_finalizers_pass was given. What is promised of a pass
+ * holds if there are a graph and a set of marked objects such that: is_marked tells whether the object is in the set; the
+ * three marks add to the set what the questions say, or more; nothing else changes the set in the pass; and at the
+ * beginning and after each mark the set has all that its objects reach. */
 typedef struct derrimas_host {
     bool (*is_marked)(void *data, uint64_t object);
     void (*mark_children)(void *data, uint64_t object, bool but_itself);

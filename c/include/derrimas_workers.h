@@ -67,7 +67,7 @@ typedef struct derrimas_workers_counts {
     uint64_t workers, published, finished, abandoned, shortages;
 } derrimas_workers_counts;
 
-/* Starts the workers: each is a thread, to which no signal comes. *started, which may be NULL, is how many there are: fewer
+/* Starts the workers: each is a thread that blocks all signals. *started, which may be NULL, is how many there are: fewer
  * than was asked for where the system starts no further thread. It takes memory by malloc.
  * Refused: BAD_OPTIONS (the size, or a function or the finalizers are NULL), BAD_COUNT, IS_OPEN, NO_MEMORY, NO_THREAD (not
  * one could be started), BAD_PROCESSOR. */

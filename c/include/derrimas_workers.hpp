@@ -1,7 +1,8 @@
 /* derrimas_workers.hpp: derrimas_workers.h for C++17 and later, in headers alone.
  *
- * The workers stop at their end of life, once they have run what was published; they can be moved but not copied. A refusal is an exception,
- * `derrimas::finalizers::refused`. Each member is the call of its name: derrimas_workers.h says what it does, and what a host owes.
+ * The workers stop at their end of life, once they have run what was published: a destructor waits for a procedure that doesn't return. They can be moved but
+ * not copied. A refusal is an exception, `derrimas::finalizers::refused`. Each member is the call of its name: derrimas_workers.h says what it does, and what a
+ * host owes.
  *
  *     std::mutex lock;
  *     derrimas::workers workers(finalizers, lock, [](const derrimas::finalizers::entry &entry) { close_file(entry.cd); }, 4);

@@ -3,7 +3,7 @@
 #include <inttypes.h>
 #include <stdio.h>
 
-enum { PART = 64, LINE = 200, KINDS = 4 };
+enum { PART = 64, LINE = 256, KINDS = 4 };
 
 /* Where the lines go. */
 typedef struct sink {
@@ -42,17 +42,35 @@ static registered registered_in(const derrimas_finalizers *finalizers)
     return all;
 }
 
-static void tell_registered(const registered *all, const sink *to)
+/* Between which passes a registration of this number was made, as far as that is noted. */
+static void describe_age(const derrimas_finalizers_ages *ages, uint64_t number, char *text, size_t size)
 {
-    char text[LINE];
+    const uint64_t notes = ages->passes >> ages->thinned;
+    uint64_t n = 0;
+
+    while (n < notes && ages->before[n] <= number)
+        n++;
+    if (n == 0)
+        snprintf(text, size, "before pass %" PRIu64, UINT64_C(1) << ages->thinned);
+    else if (n < notes)
+        snprintf(text, size, "between passes %" PRIu64 " and %" PRIu64, n << ages->thinned, (n + 1) << ages->thinned);
+    else
+        snprintf(text, size, "after pass %" PRIu64, n << ages->thinned);
+}
+
+static void tell_registered(const derrimas_finalizers_ages *ages, const registered *all, const sink *to)
+{
+    char text[LINE], age[LINE / 2];
 
     snprintf(text, sizeof text, "kinds: normal %" PRIu64 ", ignore_self %" PRIu64 ", no_order %" PRIu64 ", unreachable %" PRIu64, all->of_kind[0],
              all->of_kind[1], all->of_kind[2], all->of_kind[3]);
     to->line(to->data, text);
     if (!all->has_one)
         return;
-    snprintf(text, sizeof text, "registered longest: object %" PRIu64 ", number %" PRIu64 " (%" PRIu64 " before the newest), kind %d, rank %d, procedure %" PRIu64,
-             all->oldest.object, all->oldest.number, all->newest - all->oldest.number, (int)all->oldest.kind, all->oldest.rank, all->oldest.proc);
+    describe_age(ages, all->oldest.number, age, sizeof age);
+    snprintf(text, sizeof text,
+             "registered longest: object %" PRIu64 ", number %" PRIu64 " (%" PRIu64 " before the newest), %s, kind %d, rank %d, procedure %" PRIu64,
+             all->oldest.object, all->oldest.number, all->newest - all->oldest.number, age, (int)all->oldest.kind, all->oldest.rank, all->oldest.proc);
     to->line(to->data, text);
 }
 
@@ -91,6 +109,6 @@ void derrimas_finalizers_dump(const derrimas_finalizers *finalizers, void (*line
              counts.waiting, counts.held);
     line(data, text);
     all = registered_in(finalizers);
-    tell_registered(&all, &to);
+    tell_registered(&finalizers->ages, &all, &to);
     tell_unfinished(finalizers, &counts, &to);
 }

@@ -15,7 +15,7 @@ static bool is_root(derrimas_finalizers_root sort) { return (unsigned)sort <= DE
 /* A handle for calls that change nothing. */
 static derrimas_finalizers copied(const derrimas_finalizers *finalizers)
 {
-    derrimas_finalizers copy = {finalizers->inside, 0, {NULL, NULL, NULL, NULL}, NULL};
+    derrimas_finalizers copy = {.inside = finalizers->inside};
 
     return copy;
 }
@@ -53,6 +53,23 @@ static code finished(const derrimas_finalizers *finalizers, code it, const derri
     if (it == DERRIMAS_FINALIZERS_OK && trace && trace->finished)
         trace->finished(trace->data, entry);
     return it;
+}
+
+/* ---- how old registrations are */
+
+enum { NOTES = sizeof((derrimas_finalizers_ages){0}.before) / sizeof(uint64_t) };
+
+/* A pass has begun: notes how many registrations came before it. Where there is no place left, every second note goes. */
+static void note_pass(derrimas_finalizers_ages *ages)
+{
+    ages->passes++;
+    if (ages->passes >> ages->thinned > NOTES) {
+        for (uint64_t n = 0; n < NOTES / 2; n++)
+            ages->before[n] = ages->before[2 * n + 1];
+        ages->thinned++;
+    }
+    if (ages->passes >> ages->thinned << ages->thinned == ages->passes)
+        ages->before[(ages->passes >> ages->thinned) - 1] = ages->registrations;
 }
 
 /* ---- memory */
@@ -166,13 +183,14 @@ code derrimas_finalizers_open(derrimas_finalizers *finalizers, const derrimas_fi
 
 void derrimas_finalizers_destroy(derrimas_finalizers *finalizers)
 {
-    const derrimas_allocator none = {NULL, NULL, NULL, NULL};
+    const derrimas_finalizers none = {0};
 
     current = &finalizers->allocator;
     fz_machine_destroy(finalizers);
     current = NULL;
-    finalizers->allocator = none;
+    finalizers->allocator = none.allocator;
     finalizers->trace = NULL;
+    finalizers->ages = none.ages;
     set_waiting(finalizers, 0);
 }
 
@@ -200,6 +218,8 @@ code derrimas_finalizers_register(derrimas_finalizers *finalizers, uint64_t obje
         return DERRIMAS_FINALIZERS_BAD_KIND;
     current = &finalizers->allocator;
     it = after_memory(fz_machine_register(finalizers, object, (uint8_t)kind, proc, cd, rank, &registered));
+    if (it == DERRIMAS_FINALIZERS_OK)
+        finalizers->ages.registrations = registered.number + 1;
     if (it == DERRIMAS_FINALIZERS_OK && number)
         *number = registered.number;
     if (it == DERRIMAS_FINALIZERS_OK && old) { /* word by word, as the export wrote them: a processor waits where two are read as one */
@@ -261,7 +281,14 @@ code derrimas_finalizers_move_link(derrimas_finalizers *finalizers, derrimas_fin
 
 /* ---- a pass */
 
-code derrimas_finalizers_begin(derrimas_finalizers *finalizers) { return fz_machine_begin(finalizers); }
+code derrimas_finalizers_begin(derrimas_finalizers *finalizers)
+{
+    code it = fz_machine_begin(finalizers);
+
+    if (it == DERRIMAS_FINALIZERS_OK)
+        note_pass(&finalizers->ages);
+    return it;
+}
 
 /* The pass has ended: what it queued waits. */
 static void ended(derrimas_finalizers *finalizers, const derrimas_finalizers_passed *did, derrimas_finalizers_passed *passed)

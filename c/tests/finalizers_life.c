@@ -61,7 +61,7 @@ static void register_from(uint64_t first, uint64_t count)
     uint64_t wrong = 0;
 
     for (uint64_t n = first; n < first + count; n++) {
-        wrong += derrimas_finalizers_register(&finalizers, object_at(n), (derrimas_finalizers_kind)(n % 4), n, n, n % 256, NULL, NULL) != DERRIMAS_FINALIZERS_OK;
+        wrong += derrimas_finalizers_register(&finalizers, object_at(n), (derrimas_finalizers_kind)(n % 4), n, n, (uint8_t)n, NULL, NULL) != DERRIMAS_FINALIZERS_OK;
         wrong += derrimas_finalizers_link(&finalizers, DERRIMAS_FINALIZERS_SHORT, object_at(n) + 1, object_at(n), NULL) != DERRIMAS_FINALIZERS_OK;
         wrong += derrimas_finalizers_link(&finalizers, DERRIMAS_FINALIZERS_LONG, object_at(n) + 1, object_at(n), NULL) != DERRIMAS_FINALIZERS_OK;
     }

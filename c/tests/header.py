@@ -33,7 +33,7 @@ class Finalizers:
              **{name: f'fz_machine_some_{name.lower()}' for name in ('Registrations', 'Links')},
              **{name: f'fz_machine_{name.lower()}' for name in ('Registered', 'Question', 'Words')}}
     alone = ['rattle_tried', 'derrimas_finalizers', 'derrimas_finalizers_registration_at', 'derrimas_question', 'derrimas_host', 'derrimas_trace',
-             'derrimas_finalizers_options']
+             'derrimas_finalizers_options', 'derrimas_finalizers_ages']
 
 
 class Workers:

@@ -19,11 +19,13 @@ enum { HANDLE = 24, RESERVED = 48 }; /* bytes of a handle's memory */
 /* The processor may be another. */
 void noted_finalizers_processor(void) { seen = NOT_SEEN; }
 
-/* Procedures of a test's: a host's answers to questions, and an allocator's functions. */
+/* Procedures of a test's: a host's answers to questions, an allocator's functions, and what is told of what happens. */
 void noted_question(const char *what, uint64_t object) { noted_procedure("host.%s" N, what, object); }
 void noted_children(uint64_t object, bool but_itself) { noted_procedure("host.mark_children" N " %d", object, but_itself); }
 void noted_memory(const char *what, uint64_t size) { noted_procedure("host.%s" N, what, size); }
 void noted_finalizers_run(const derrimas_finalizers_entry *it) { noted_procedure("run" ENTRY, OF_ENTRY(it)); }
+void noted_queued(uint64_t pass, uint64_t count) { noted_procedure("host.queued" N N, pass, count); }
+void noted_finished(const derrimas_finalizers_entry *it) { noted_procedure("host.finished" ENTRY, OF_ENTRY(it)); }
 
 uint8_t fz_machine_open(derrimas_finalizers *f)
 {

@@ -1,5 +1,6 @@
 /* workers [STEPS]: derrimas_workers.h: each refusal, and workers that run what is queued, also where threads can't be started, memory is refused, a procedure
- * ends its thread or doesn't return, a pass is open, and the finalizers are destroyed too early. Then so many steps of chance beside a plain model.
+ * ends its thread or doesn't return, a pass is open, the processor is too old, and the finalizers are destroyed too early. Then so many steps of chance beside a
+ * plain model.
  */
 #define _POSIX_C_SOURCE 200809L
 #include "check.h"
@@ -20,6 +21,7 @@ static derrimas_workers workers;
 static uint64_t data[4 * ALL], next_data; /* written before an object is queued, and read by its procedure, whose client data is the place */
 static atomic_uint ran[ALL + 1], all_ran, unordered, refused;
 static atomic_bool is_held, has_no_memory;
+static bool is_old; /* the processor */
 static atomic_int threads_left = -1; /* of those that may be started; -1 is no limit */
 
 /* ---- what the linker puts in the place of calls (-Wl,--wrap) */
@@ -32,10 +34,17 @@ void *__wrap_malloc(size_t size);
 void *__wrap_calloc(size_t count, size_t size);
 void *__wrap_realloc(void *memory, size_t size);
 int __wrap_pthread_create(pthread_t *thread, const pthread_attr_t *how, void *(*start)(void *), void *with);
+derrimas_code __real_derrimas_line_open(derrimas_line *line, uint64_t seats, uint64_t first);
+derrimas_code __wrap_derrimas_line_open(derrimas_line *line, uint64_t seats, uint64_t first);
 
 void *__wrap_malloc(size_t size) { return has_no_memory ? NULL : __real_malloc(size); }
 void *__wrap_calloc(size_t count, size_t size) { return has_no_memory ? NULL : __real_calloc(count, size); }
 void *__wrap_realloc(void *memory, size_t size) { return has_no_memory ? NULL : __real_realloc(memory, size); }
+
+derrimas_code __wrap_derrimas_line_open(derrimas_line *line, uint64_t seats, uint64_t first)
+{
+    return is_old ? DERRIMAS_BAD_PROCESSOR : __real_derrimas_line_open(line, seats, first);
+}
 
 int __wrap_pthread_create(pthread_t *thread, const pthread_attr_t *how, void *(*start)(void *), void *with)
 {
@@ -170,6 +179,10 @@ static void refusals(void)
     derrimas_workers_counts counts;
 
     options_refused();
+    is_old = true;
+    IS(derrimas_workers_start(&workers, &usual, NULL), DERRIMAS_FINALIZERS_BAD_PROCESSOR);
+    is_old = false;
+    IS(workers.inside == NULL, true);
     IS(derrimas_workers_publish(&workers), DERRIMAS_FINALIZERS_NOT_OPEN);
     IS(derrimas_workers_wait(&workers, 0), DERRIMAS_FINALIZERS_NOT_OPEN);
     REFUSED(DERRIMAS_FINALIZERS_NOT_OPEN, counts, derrimas_workers_count(&workers, &counts));

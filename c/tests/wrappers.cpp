@@ -4,6 +4,7 @@
 #include "derrimas.hpp"
 #include "derrimas_finalizers.hpp"
 #include "derrimas_workers.hpp"
+#include <algorithm>
 #include <cstdio>
 #include <cstdlib>
 #include <fstream>
@@ -28,6 +29,8 @@ void noted_question(const char *what, std::uint64_t object);
 void noted_children(std::uint64_t object, bool but_itself);
 void noted_memory(const char *what, std::uint64_t size);
 void noted_finalizers_run(const derrimas_finalizers_entry *entry);
+void noted_queued(std::uint64_t pass, std::uint64_t count);
+void noted_finished(const derrimas_finalizers_entry *entry);
 void noted_lock(bool enters);
 }
 
@@ -237,6 +240,36 @@ static string abandoned(finalizers &f, bool by_scope)
     return "done";
 }
 
+/* What a member returns in an open pass, which is abandoned behind it, where the row's last word says so. */
+template <typename Member> static string in_pass(finalizers &f, const arguments &a, Member member)
+{
+    std::optional<finalizers::open_pass> pass;
+    if (!a.words.empty() && a.words.back() == "open_pass")
+        pass.emplace(f);
+    return member();
+}
+
+/* Tells from now on of all that happens, by no function, or nothing. */
+static void tell(finalizers &f, const string &how)
+{
+    static const derrimas_trace all = {[](void *, std::uint64_t pass, std::uint64_t count) { noted_queued(pass, count); },
+                                       [](void *, std::uint64_t word) { noted_question("cleared", word); },
+                                       [](void *, const derrimas_finalizers_entry *entry) { noted_finished(entry); }, nullptr},
+                                lacking = {};
+    f.trace(how == "lacking" ? &lacking : &all);
+    if (how == "none")
+        f.trace(nullptr);
+}
+
+/* The lines of a dump, with `_` in the place of spaces. */
+static string dumped(const finalizers &f)
+{
+    string text;
+    f.dump([&text](const char *line) { text += (text.empty() ? "" : "+") + string(line); });
+    std::replace(text.begin(), text.end(), ' ', '_');
+    return text;
+}
+
 /* What a walk visits. */
 template <typename Walk> static string walked(Walk walk)
 {
@@ -272,9 +305,12 @@ static string worked(finalizers &f, const std::function<string(workers &)> &memb
 using member = std::function<string(fixture &, const arguments &)>;
 #define SHOWN(call) [](fixture &f, const arguments &a) { return (void)f, (void)a, shown(call); }
 #define DONE(call) [](fixture &f, const arguments &a) { return (void)f, (void)a, (void)(call), string("done"); }
+#define SHOWN_IN_PASS(call) [](fixture &f, const arguments &a) { return in_pass(f.finalizers, a, [&] { return call; }); }
 #define WORKED(call) [](fixture &f, const arguments &a) { return (void)a, worked(f.finalizers, [&](workers &w) { return call; }); }
 #define LINKS a.kind(lengths)
 #define LINK_KIND a.kind(link_kinds)
+
+static string traced(fixture &f, const arguments &a);
 
 static const std::map<string, member> members = {
     {"open", DONE(a.words.size() > 1 ? world(a.number(0), a.number(1)) : world(a.number(0)))},
@@ -336,9 +372,9 @@ static const std::map<string, member> members = {
     {"finalizers_next", [](fixture &f, const arguments &a) { return asked(f.finalizers, a.number(0)); }},
     {"finalizers_pass", SHOWN(f.finalizers.pass(noting_host{a.is("throws")}))},
     {"finalizers_queue_all", SHOWN(f.finalizers.queue_all())},
-    {"finalizers_take", SHOWN(f.finalizers.take())},
-    {"finalizers_take_finished", SHOWN(f.finalizers.take_finished())},
-    {"finalizers_finish", DONE(f.finalizers.finish(a.finalizers_entry(0)))},
+    {"finalizers_take", SHOWN_IN_PASS(shown(f.finalizers.take()))},
+    {"finalizers_take_finished", SHOWN_IN_PASS(shown(f.finalizers.take_finished()))},
+    {"finalizers_finish", SHOWN_IN_PASS((f.finalizers.finish(a.finalizers_entry(0)), string("done")))},
     {"finalizers_has_waiting", SHOWN((f.finalizers.queue_all(), f.finalizers.has_waiting()))},
     {"finalizers_invoke", [](fixture &f, const arguments &a) { return invoked(f.finalizers, a.is("throws")); }},
     {"finalizers_roots", [](fixture &f, const arguments &a) { return walked([&](auto visit) { f.finalizers.roots(a.kind(sorts_of_roots), visit); }); }},
@@ -348,12 +384,23 @@ static const std::map<string, member> members = {
     {"finalizers_target", SHOWN(f.finalizers.target(LINK_KIND, a.number(1)))},
     {"finalizers_unfinished", SHOWN(a.is("default") ? f.finalizers.unfinished() : f.finalizers.unfinished(a.number(0)))},
     {"finalizers_count", SHOWN(f.finalizers.count())},
+    {"finalizers_trace", [](fixture &f, const arguments &a) { return traced(f, a); }},
+    {"finalizers_dump", [](fixture &f, const arguments &) { return dumped(f.finalizers); }},
     {"workers_start", WORKED(shown(w.started()))},
     {"workers_publish", WORKED((w.publish(), string("done")))},
     {"workers_wait", WORKED(shown(a.is("default") ? w.wait() : w.wait(a.number(0))))},
     {"workers_stop", WORKED(shown(a.is("default") ? w.stop() : w.stop(a.number(0))))},
     {"workers_count", WORKED(shown(w.count()))},
 };
+
+/* What a call of finalizers returns, behind one that tells of what happens. */
+static string traced(fixture &f, const arguments &a)
+{
+    arguments rest = a;
+    rest.words.erase(rest.words.begin(), rest.words.begin() + 2);
+    tell(f.finalizers, a.words.at(0));
+    return members.at("finalizers_" + a.words.at(1))(f, rest);
+}
 
 /* ---- the table */
 

@@ -42,6 +42,8 @@ LIBRARY.noted_question.argtypes, LIBRARY.noted_question.restype = [ctypes.c_char
 LIBRARY.noted_children.argtypes, LIBRARY.noted_children.restype = [ctypes.c_uint64, ctypes.c_bool], None
 LIBRARY.noted_memory.argtypes, LIBRARY.noted_memory.restype = [ctypes.c_char_p, ctypes.c_uint64], None
 LIBRARY.noted_finalizers_run.argtypes, LIBRARY.noted_finalizers_run.restype = [ctypes.POINTER(over.Entry)], None
+LIBRARY.noted_queued.argtypes, LIBRARY.noted_queued.restype = [ctypes.c_uint64, ctypes.c_uint64], None
+LIBRARY.noted_finished.argtypes, LIBRARY.noted_finished.restype = [ctypes.POINTER(over.Entry)], None
 LIBRARY.noted_lock.argtypes, LIBRARY.noted_lock.restype = [ctypes.c_bool], None
 
 
@@ -193,6 +195,45 @@ def reserved(finalizers, registrations, shorts, longs, how=None):
         return done(own.reserve(registrations, shorts, longs))
 
 
+class Hooks:
+    """What is told of what happens: it is noted, and then as a host does."""
+
+    def __init__(self, how):
+        self.how = how
+
+    def _noted(self, note, *told):
+        note(*told)
+        if self.how in ('throws', 'interrupts'):
+            raise (OSError if self.how == 'throws' else KeyboardInterrupt)(1)
+
+    def queued(self, number, count):
+        self._noted(LIBRARY.noted_queued, number, count)
+
+    def cleared(self, word):
+        self._noted(LIBRARY.noted_question, b'cleared', word)
+
+    def finished(self, entry):
+        self._noted(LIBRARY.noted_finished, ctypes.byref(entry))
+
+
+def traced(finalizers, how, call, *rest):
+    """What a call returns, behind one that tells of what happens: by no method where it is `lacking`, and nothing where it is `none`."""
+    finalizers.trace(object() if how == 'lacking' else Hooks(how))
+    if how == 'none':
+        finalizers.trace(None)
+    return MEMBERS_OF_FINALIZERS[call](finalizers, *rest)
+
+
+def in_pass(member):
+    """What a member returns, in an open pass where the row's last word says so; that is abandoned behind it."""
+    def made(finalizers, *rest):
+        if rest[-1:] != ('open_pass',):
+            return member(finalizers, *rest)
+        with finalizers.open_pass():
+            return member(finalizers, *rest[:-1])
+    return made
+
+
 def abandoned(finalizers, by_scope):
     with finalizers.open_pass() as questions:
         return 'done' if by_scope else done(questions.abandon())
@@ -280,9 +321,9 @@ MEMBERS_OF_FINALIZERS = {
     'next': asked,
     'pass': lambda it, how: shown(it.run_pass(Host(how))),
     'queue_all': lambda it: shown(it.queue_all()),
-    'take': lambda it: shown(it.take()),
-    'take_finished': lambda it: shown(it.take_finished()),
-    'finish': lambda it, first: done(it.finish(over.Entry(*range(first, first + 6)))),
+    'take': in_pass(lambda it: shown(it.take())),
+    'take_finished': in_pass(lambda it: shown(it.take_finished())),
+    'finish': in_pass(lambda it, first: done(it.finish(over.Entry(*range(first, first + 6))))),
     'has_waiting': waiting_after_all,
     'invoke': run_of_finalizers,
     'roots': lambda it, sort: walked(it.roots(sort)),
@@ -292,6 +333,8 @@ MEMBERS_OF_FINALIZERS = {
     'target': lambda *arguments: shown(with_kind(OVER.target)(*arguments)),
     'unfinished': lambda it, start: shown(it.unfinished() if start == 'default' else it.unfinished(start)),
     'count': lambda it: shown(it.counts()),
+    'trace': traced,
+    'dump': lambda it: '+'.join(it.dump()).replace(' ', '_'),
 }
 
 
