@@ -26,8 +26,7 @@ fn holds_of<O: Opening + Send + Sync, I: Ledger, R: AllocGlobal + Abort + Thread
     let alloc = rt.alloc();
     let mut reader = MemorySource::new(file, Pieces::Whole, u64::MAX, Failures::<I>::none(input));
     let (service, seats) = Service::<O>::open(prepared).expect(rt, "memory");
-    let (seats, refused) =
-        drive_sections(alloc, &mut reader, &service, seats, Vec::new(alloc), rt);
+    let (seats, refused) = drive_sections(alloc, &mut reader, &service, seats, Vec::new(alloc), rt);
     retire_all(seats);
     assert!(rt; refused.is_ok(), "the sections");
     service.enter(rt).holds().saturating_sub(1)
