@@ -7,9 +7,7 @@ use Rattle.fz_model.specs.declared.refusal.Refusal.{Refusal}
 use Rattle.fz_model.specs.declared.refusal.Refusal.TheVariants.{BadLine, BadCount, NoMemory, Output, Input}
 use Rattle.fz_model.specs.Causes.{bad_count, first_cause, IsRefusedFor}
 use Rattle.fz_script.specs.declared.job.Job.{Job}
-use Rattle.fz_line.specs.States.{SeatState}
 use Rattle.fz_service.specs.States.{Origin}
-use Rattle.fz_service.specs.Workers.{ExtendEach}
 use Rattle.fz_runs.specs.declared.text.fault.DriveFault.{DriveFault}
 use Rattle.fz_runs.specs.declared.threads.tally.Tally.{Tally}
 use Rattle.fz_runs.specs.declared.threads.plan.Plan.{Plan}
@@ -150,12 +148,8 @@ unreadable_drives input left old new known fault h (inr part) =
 
 -- ---- sections over an open service
 
-pub extend_none : (seats : List SeatState) → ExtendEach seats seats
-extend_none seats = (refl, λ i d few. record { line = refl; index = refl; since = []; took = sym (append-nil _) })
-
 -- sections of a plan that was read were carried out, or memory ran out
 pub plan_carried_out : (origin : Origin) (input left : Feed) (plan : Plan) (result : Result ℕ DriveFault) → PlanIsRead input (Ok plan) left → IfOk result (SectionsRefused origin plan.jobs.items) → IfErr result (λ fault. fault ≡ lineless NoMemory) → Settles origin plan.collections → DrivesSections origin input result left
 plan_carried_out origin input left plan (Ok refused) read sections fault settled =
     record { bytes = read.0; asked = asked_by plan; read = read.1; whole = read.2; reads = read.5; file = read.3; sections = sections; settled = settled }
 plan_carried_out origin input left plan (Err k) read sections fault settled = inr fault
-

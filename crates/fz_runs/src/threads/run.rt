@@ -244,11 +244,7 @@ fn run_over<O: Opening + Send + Sync, R: Threads + Wait + Sync>(
 
 /// The same over a service that is already open, whose size the file doesn't change. The workers of these seats run beside the sections; then an open cycle is
 /// ended, and the world is collected as often as the file says. The service stays open. Returns the seats, and how many of the sections' calls were refused.
-pub fn drive_sections<
-    R: Source,
-    O: Opening + Send + Sync,
-    T: Threads + Wait + Sync,
->(
+pub fn drive_sections<R: Source, O: Opening + Send + Sync, T: Threads + Wait + Sync>(
     alloc: Global,
     reader: &mut R,
     service: &Service<O>,
