@@ -93,7 +93,7 @@ typedef derrimas_link_answer derrimas_finalizers_linked;
 #define DERRIMAS_FINALIZERS_NOT_FOUND DERRIMAS_LINK_NOT_FOUND
 #define DERRIMAS_FINALIZERS_GC_ANSWER(answer) DERRIMAS_GC_ANSWER(answer)
 
-#define DERRIMAS_FINALIZERS_BATCH 16 /* the most objects or words of a question */
+#define DERRIMAS_FINALIZERS_BATCH 64 /* the most objects or words of a question */
 
 /* ---- types */
 

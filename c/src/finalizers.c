@@ -301,19 +301,13 @@ static void ended(derrimas_finalizers *finalizers, const derrimas_finalizers_pas
 
 code derrimas_finalizers_next(derrimas_finalizers *finalizers, uint64_t answers, derrimas_question *question, derrimas_finalizers_passed *passed)
 {
-    fz_machine_question asked;
     derrimas_finalizers_passed did;
-    code it = fz_machine_next(finalizers, answers, &asked, &did);
+    code it = fz_machine_next(finalizers, answers, question, &did);
 
     if (it == DERRIMAS_FINALIZERS_EMPTY)
         ended(finalizers, &did, passed);
-    if (it != DERRIMAS_FINALIZERS_OK)
-        return it;
-    for (uint64_t i = 0; i < asked.count; i++)
-        question->what[i] = asked.what[i];
-    question->count = asked.count;
-    question->ask = (derrimas_ask)asked.ask;
-    tell_cleared(finalizers, question);
+    if (it == DERRIMAS_FINALIZERS_OK)
+        tell_cleared(finalizers, question);
     return it;
 }
 

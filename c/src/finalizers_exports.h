@@ -13,12 +13,6 @@ typedef struct fz_machine_registered {
     derrimas_finalizers_old replaced;
 } fz_machine_registered;
 
-typedef struct fz_machine_question {
-    uint64_t what[DERRIMAS_FINALIZERS_BATCH];
-    uint64_t count;
-    uint8_t ask;
-} fz_machine_question;
-
 typedef struct fz_machine_words {
     uint64_t words[FZ_MACHINE_WORDS];
     uint64_t count, next;
@@ -50,7 +44,7 @@ uint8_t fz_machine_link(derrimas_finalizers *finalizers, bool is_long, uint64_t 
 uint8_t fz_machine_unlink(derrimas_finalizers *finalizers, bool is_long, uint64_t word, bool *was);
 uint8_t fz_machine_move_link(derrimas_finalizers *finalizers, bool is_long, uint64_t word, uint64_t to, uint8_t *answer);
 uint8_t fz_machine_begin(derrimas_finalizers *finalizers);
-uint8_t fz_machine_next(derrimas_finalizers *finalizers, uint64_t answers, fz_machine_question *question, derrimas_finalizers_passed *passed);
+uint8_t fz_machine_next(derrimas_finalizers *finalizers, uint64_t answers, derrimas_question *question, derrimas_finalizers_passed *passed);
 uint8_t fz_machine_abandon(derrimas_finalizers *finalizers);
 uint8_t fz_machine_queue_all(derrimas_finalizers *finalizers, uint64_t *queued);
 uint8_t fz_machine_take(derrimas_finalizers *finalizers, derrimas_finalizers_entry *entry);

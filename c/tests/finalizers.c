@@ -1,5 +1,6 @@
 /* Every call of derrimas_finalizers.h: each answer, each place that may be NULL, and each place that a refusal leaves as it was. */
 #include "finalizers_host.h"
+#include <stddef.h>
 #include <stdlib.h>
 
 static derrimas_finalizers finalizers;
@@ -496,6 +497,41 @@ static void open_pass(void)
     closes();
 }
 
+_Static_assert(sizeof(derrimas_question) == 8 * DERRIMAS_FINALIZERS_BATCH + 16 && offsetof(derrimas_question, ask) == 8 * DERRIMAS_FINALIZERS_BATCH + 8, "derrimas_question");
+
+static bool is_asked(const derrimas_question *question, derrimas_ask ask, uint64_t count, uint64_t first)
+{
+    return question->ask == ask && question->count == count && question->what[0] == first;
+}
+
+/* Each bit of the answers to a full question counts, and the next question is about the rest. */
+static void each_answer(void)
+{
+    derrimas_question question;
+    derrimas_finalizers_passed passed;
+
+    for (unsigned n = 0; n < DERRIMAS_FINALIZERS_BATCH; n++) {
+        opens();
+        for (unsigned i = 0; i <= DERRIMAS_FINALIZERS_BATCH; i++)
+            registers(&objects[i], DERRIMAS_FINALIZERS_NORMAL, i + 1, 0);
+        OK(derrimas_finalizers_begin(&finalizers));
+        OK(derrimas_finalizers_next(&finalizers, 0, &question, NULL));
+        IS(question.ask == DERRIMAS_ASK_IS_MARKED && question.count == DERRIMAS_FINALIZERS_BATCH, true);
+        const uint64_t unmarked = question.what[n];
+        OK(derrimas_finalizers_next(&finalizers, ~(UINT64_C(1) << n), &question, NULL));
+        IS(question.ask == DERRIMAS_ASK_IS_MARKED && question.count == 1, true);
+        OK(derrimas_finalizers_next(&finalizers, 1, &question, NULL));
+        IS(is_asked(&question, DERRIMAS_ASK_MARK_CHILDREN, 1, unmarked), true);
+        OK(derrimas_finalizers_next(&finalizers, UINT64_MAX, &question, NULL));
+        IS(is_asked(&question, DERRIMAS_ASK_IS_MARKED, 1, unmarked), true);
+        OK(derrimas_finalizers_next(&finalizers, UINT64_MAX - 1, &question, NULL));
+        IS(is_asked(&question, DERRIMAS_ASK_MARK_ALONE, 1, unmarked), true);
+        IS(derrimas_finalizers_next(&finalizers, UINT64_MAX, &question, &passed), DERRIMAS_FINALIZERS_EMPTY);
+        IS(passed.picked == 1 && counted().registrations == DERRIMAS_FINALIZERS_BATCH, true);
+        closes();
+    }
+}
+
 /* An open pass may be given up with its handle. What a pass did may go untold. */
 static void endings(void)
 {
@@ -847,6 +883,7 @@ int main(void)
     kinds();
     weak();
     open_pass();
+    each_answer();
     endings();
     abandoned();
     entries();

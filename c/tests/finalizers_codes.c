@@ -67,7 +67,7 @@ uint8_t fz_machine_move_link(derrimas_finalizers *f, bool is_long, uint64_t word
 
 uint8_t fz_machine_begin(derrimas_finalizers *f) { return noted(NULL, 0, f == &finalizers, 0, 0, 0, 0); }
 
-uint8_t fz_machine_next(derrimas_finalizers *f, uint64_t answers, fz_machine_question *question, derrimas_finalizers_passed *passed)
+uint8_t fz_machine_next(derrimas_finalizers *f, uint64_t answers, derrimas_question *question, derrimas_finalizers_passed *passed)
 {
     uint8_t code = noted(question, sizeof *question, f == &finalizers, answers, 0, 0, 0);
 

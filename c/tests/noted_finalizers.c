@@ -97,14 +97,14 @@ uint8_t fz_machine_move_link(derrimas_finalizers *f, bool is_long, uint64_t word
 uint8_t fz_machine_begin(derrimas_finalizers *f) { return (void)f, noted("begin"); }
 
 /* A question about two objects, whose kind follows from the value. At the end of a pass what it did. */
-uint8_t fz_machine_next(derrimas_finalizers *f, uint64_t answers, fz_machine_question *question, derrimas_finalizers_passed *passed)
+uint8_t fz_machine_next(derrimas_finalizers *f, uint64_t answers, derrimas_question *question, derrimas_finalizers_passed *passed)
 {
     uint8_t code = noted("next" N, answers);
 
     (void)f;
     if (code == DERRIMAS_FINALIZERS_EMPTY)
         *passed = (derrimas_finalizers_passed){V(0), V(1)};
-    return FILLED(code, question, fz_machine_question, {V(0), V(1)}, 2, (uint8_t)(V(0) % 7 + 1));
+    return FILLED(code, question, derrimas_question, {V(0), V(1)}, 2, (derrimas_ask)(V(0) % 7 + 1));
 }
 
 uint8_t fz_machine_abandon(derrimas_finalizers *f) { return (void)f, noted("abandon"); }

@@ -22,7 +22,7 @@ from typing import Any, Callable, Dict, Iterator, List, Optional
 from ._library import Error, declare, load, struct
 
 EMPTY = 10
-BATCH = 16  # the most objects or words of a question
+BATCH = 64  # the most objects or words of a question
 PART = 64  # of a walk
 
 

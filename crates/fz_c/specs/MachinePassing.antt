@@ -1,6 +1,6 @@
 -- How a pass proceeds through a handle.
 -- code: fz_c/src/machine/passing.rt
-use Rattle.std.specs.Prelude.{◌≡◌, ℕ, ◌/◌, ◌%◌, nat_eq, Bool, List, [], ◌∷◌, map, take, Option, Some, None}
+use Rattle.std.specs.Prelude.{◌≡◌, ℕ, Bool, List, take, Option, Some, None}
 use Rattle.fz_machine.specs.declared.pass.Next.{Next}
 use Rattle.fz_machine.specs.declared.pass.Next.TheVariants as next
 use Rattle.fz_machine.specs.declared.phase.Phase.{Phase}
@@ -11,13 +11,6 @@ use Rattle.fz_c.specs.declared.machine.codes.TheConstants.{OK, EMPTY}
 use Rattle.fz_c.specs.declared.machine.passing.Question.{Question}
 use Rattle.fz_c.specs.declared.machine.passing.Passed.{Passed}
 use Rattle.fz_c.specs.MachineCodes.{code_of}
-
-abbrev pub is_bit : ℕ → ℕ → Bool
-is_bit bits weight = nat_eq ((bits / weight) % 2) 1
-
--- the answers in a number, from its lowest bit on
-abbrev pub bits_of : ℕ → List Bool
-bits_of bits = map (is_bit bits) (1 ∷ 2 ∷ 4 ∷ 8 ∷ 16 ∷ 32 ∷ 64 ∷ 128 ∷ 256 ∷ 512 ∷ 1024 ∷ 2048 ∷ 4096 ∷ 8192 ∷ 16384 ∷ 32768 ∷ [])
 
 -- C gets the question, or what the pass has done; the other variable is unchanged
 abbrev pub TellsNext : Next → ℕ → Question → Question → Passed → Passed → Type 0

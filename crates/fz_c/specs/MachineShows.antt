@@ -1,6 +1,6 @@
 -- What the readers show to C.
 -- code: fz_c/src/machine/shown.rt, walks.rt
-use Rattle.std.specs.Prelude.{◌≡◌, ◌⊎◌, ℕ, ◌+◌, ◌≤◌, ◌<◌, min, zero, suc, List, drop, map, take, length, Option, Some, None}
+use Rattle.std.specs.Prelude.{◌≡◌, ◌⊎◌, ℕ, ◌≤◌, ◌<◌, min, zero, suc, List, drop, map, take, length, Option, Some, None}
 use Rattle.std.specs.FinMap.{get, len}
 use Rattle.fz_model.specs.declared.answers.Registration as answers
 use Rattle.fz_model.specs.declared.kinds.LinkKind.{LinkKind}

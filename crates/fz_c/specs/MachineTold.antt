@@ -1,6 +1,6 @@
 -- How C's structs and numbers represent results, and the meaning of C's numbers.
 -- code: fz_c/src/machine/registering.rt, linking.rt
-use Rattle.std.specs.Prelude.{◌≡◌, ℕ, zero, suc, Bool, true, false, Option, Some, None}
+use Rattle.std.specs.Prelude.{◌≡◌, ℕ, zero, suc, Bool, true, false, Option}
 use Rattle.fz_model.specs.declared.answers.Old as answers
 use Rattle.fz_model.specs.declared.answers.MoveAnswer.{MoveAnswer}
 use Rattle.fz_model.specs.declared.answers.MoveAnswer.TheVariants as moved

@@ -1,6 +1,6 @@
 -- How results are stored in C's variables, and which values of the model C's structs represent.
 -- code: fz_c/src/world/objects.rt, finalizers.rt, links.rt, entries.rt, collections.rt
-use Rattle.std.specs.Prelude.{◌≡◌, ℕ, Bool, true, false, Option, Some, None}
+use Rattle.std.specs.Prelude.{◌≡◌, ℕ, Bool, true, false}
 use Rattle.fz_model.specs.declared.kinds.ObjKind.{ObjKind}
 use Rattle.fz_model.specs.declared.kinds.ObjKind.TheVariants as objects
 use Rattle.fz_model.specs.declared.kinds.RegKind.{RegKind}

@@ -2,6 +2,7 @@ pub mod Kept
 pub mod Listed
 pub mod Numbered
 pub mod Gathered
+pub mod Counted
 pub mod Stepping
 pub mod Rooms
 pub mod Ending

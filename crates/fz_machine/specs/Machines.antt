@@ -7,6 +7,8 @@ use Rattle.fz_finalizers.specs.States.{State, View, view_code, waiting}
 use Rattle.fz_machine.specs.declared.phase.Phase.{Phase}
 use Rattle.fz_machine.specs.declared.phase.Phase.TheVariants.{ShortTargets, ShortWords, Objects, Children, Again, Picks, LateAgain, LatePicks, LongTargets, LongWords, ShortHolders, LongHolders}
 use Rattle.fz_machine.specs.declared.pass.Next.{Next}
+use Rattle.fz_machine.specs.declared.pass.Step.{Step}
+use Rattle.fz_machine.specs.declared.pass.Step.TheVariants as written
 use Rattle.fz_machine.specs.declared.pass.Next.TheVariants.{Asks, Ended}
 use Rattle.fz_finalizers.specs.Follows.{Event, Follows, Take, TakeFinished, Finish, next_pass}
 use Rattle.fz_machine.specs.Going.{going}
@@ -113,6 +115,16 @@ pub record IsBegun (old new : Machine) : Type 0 where
 abbrev pub Tells : Machine → Next → Type 0
 Tells m (Asks question) = (phase : Phase) × (m.phase ≡ Some phase) × IsQuestion phase m.walk.left question × (m.asked ≡ question.count)
 Tells m (Ended passed) = (m.phase ≡ None) × (passed.pass ≡ m.finalizers.passes) × (passed.picked ≡ length m.finalizers.queue - m.before)
+
+-- the same where the objects or words of a question are in an array
+abbrev pub next_of : Step → List ℕ → Next
+next_of (written.Asks ask count) about = Asks (record { ask = ask; about = about; count = count })
+next_of (written.Ended passed) about = Ended passed
+
+-- an array is written only for a question
+abbrev pub Writes : Step → List ℕ → List ℕ → Type 0
+Writes (written.Asks ask count) old new = Unit {0}
+Writes (written.Ended passed) old new = new ≡ old
 
 -- a pass processes answers and proceeds
 pub record GoesTo (old : Machine) (answers : List Bool) (new : Machine) (next : Next) : Type 0 where

@@ -11,7 +11,7 @@ use crate::asking::skip;
 use crate::item::Item;
 use crate::listing::begin;
 use crate::phase::Phase;
-use crate::question::{Ask, BATCH, Question};
+use crate::question::{Ask, BATCH};
 use crate::walk::Walk;
 use fz_finalizers::Finalizers;
 use fz_model::Addr;
@@ -48,34 +48,33 @@ fn asks_same(phase: Phase, item: &Item, ask: Ask) -> bool
     }
 }
 
-/// The objects or words of the first items about which a phase asks the same, and their number.
-fn gather(phase: Phase, left: &[Item], ask: Ask) -> ([Addr; BATCH], usize)
-    ensures few { (result.1 ≤ BATCH) × (result.1 ≤ length left.now) }
-    ensures alike { All (λ item. asks phase item ≡ Some ask) (take result.1 left.now) }
-    ensures about { take result.1 result.0 ≡ map (subject phase) (take result.1 left.now) }
-    ensures most { result.1 < BATCH → (item : Item) → slice_get left.now result.1 ≡ Some item → asks phase item ≡ Some ask → ⊥ }
+/// Writes the objects or words of the first items about which a phase asks the same, and returns their number.
+fn gather(phase: Phase, left: &[Item], ask: Ask, about: &mut [Addr; BATCH]) -> usize
+    ensures few { (result ≤ BATCH) × (result ≤ length left.now) }
+    ensures alike { All (λ item. asks phase item ≡ Some ask) (take result left.now) }
+    ensures about { take result about.new ≡ map (subject phase) (take result left.now) }
+    ensures most { result < BATCH → (item : Item) → slice_get left.now result ≡ Some item → asks phase item ≡ Some ask → ⊥ }
 {
-    let mut about = [0; BATCH];
     let mut count = 0;
     while count < BATCH {
         let Some(item) = left.get(count) else {
-            return (about, count);
+            return count;
         };
         if !asks_same(phase, item, ask) {
-            return (about, count);
+            return count;
         }
         about[count] = phase.subject(item);
         count += 1;
     }
-    (about, count)
+    count
 }
 
-/// What a phase asks about the first remaining items. Requires that it asks something about the first of them.
-pub(crate) fn question(phase: Phase, left: &[Item]) -> Question
+/// What a phase asks about how many of the first remaining items, whose objects or words it writes. Requires that it asks something about the first of them.
+pub(crate) fn question(phase: Phase, left: &[Item], about: &mut [Addr; BATCH]) -> (Ask, usize)
     requires { (item : Item) × (slice_get left.now 0 ≡ Some item) × IsTrue (is_some (asks phase item)) }
-    ensures { IsQuestion phase left.now result }
+    ensures { IsQuestion phase left.now (record { ask = result.0; about = about.new; count = result.1 }) }
 {
     let ask = phase.asks(left.first().unwrap()).unwrap();
-    let (about, count) = gather(phase, left, ask);
-    Question { ask, about, count }
+    let count = gather(phase, left, ask, about);
+    (ask, count)
 }

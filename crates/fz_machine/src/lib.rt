@@ -2,6 +2,7 @@
 #![tactic(auto)]
 
 mod abandoning;
+mod answers;
 mod asking;
 mod calls;
 mod going_on;
@@ -20,7 +21,7 @@ mod walk;
 pub use item::Item;
 pub use law::{passes_are_calls, passes_end, questions_may_be_asked, runs_make_the_pass};
 pub use machine::Machine;
-pub use pass::Next;
+pub use pass::{Next, Step};
 pub use phase::Phase;
 pub use question::{Ask, BATCH, Question};
 pub use refused::Refused;

@@ -2,24 +2,35 @@
 
 ghost use Rattle.std.specs.Prelude.{◌≡◌, ◌+◌, [], take, None, Some, OnOk, OnErr, IfErr, IfOk};
 ghost use Rattle.fz_finalizers.specs.Follows.{next_pass};
+ghost use Rattle.fz_machine.specs.Asks.{bits_of};
 ghost use Rattle.fz_machine.specs.Causes.{IsJudgedBy};
-ghost use Rattle.fz_machine.specs.Machines.{IsBegun, GoesTo};
+ghost use Rattle.fz_machine.specs.Machines.{IsBegun, GoesTo, Writes, next_of};
 ghost use Rattle.fz_machine.specs.declared.refused.Refused.TheVariants.{NoPass};
 
+use crate::answers::answers_in;
 use crate::asking::hear;
 use crate::going_on::{go_on, question};
 use crate::listing::begin;
 use crate::machine::Machine;
 use crate::phase::Phase;
-use crate::question::Question;
+use crate::question::{Ask, BATCH, Question};
 use crate::refused::Refused;
-use fz_finalizers::Passed;
+use fz_finalizers::{Addr, Passed};
 
 /// What a pass returns next.
 #[derive(Clone, Copy, Debug, PartialEq, Eq)]
 pub enum Next {
     /// A question. Its answers are the argument of the next call of `Machine::next`.
     Asks(Question),
+    /// The pass has ended.
+    Ended(Passed),
+}
+
+/// What a pass returns next, where the objects or words of a question are written into an array.
+#[derive(Clone, Copy, Debug, PartialEq, Eq)]
+pub enum Step {
+    /// A question about the first `count` of them.
+    Asks { ask: Ask, count: usize },
     /// The pass has ended.
     Ended(Passed),
 }
@@ -45,15 +56,12 @@ impl Machine {
         Ok(number)
     }
 
-    /// Processes the answers to the last question, and returns what comes next: another question or the end. For `IsMarked` and `IsHolderMarked` the answers
-    /// have to be what the host's marks say; commands need an answer too, whose value is ignored. Items left unanswered are asked again. Takes time
-    /// proportional to the question and its answers.
-    ///
-    /// Takes no memory. Fails with `NoPass` if no pass is open.
-    pub fn next(&mut self, answers: &[bool]) -> Result<Next, Refused>
-        ensures refused { OnErr result ((self.old.phase ≡ None) × (self.new ≡ self.old)) }
+    /// Processes the answers to the last question, and proceeds to the next one, whose objects or words it writes, or to the end.
+    fn proceed(&mut self, answers: &[bool], about: &mut [Addr; BATCH]) -> Result<Step, Refused>
+        ensures refused { OnErr result ((self.old.phase ≡ None) × (self.new ≡ self.old) × (about.new ≡ about.old)) }
         ensures cause { IfErr result (λ r. r ≡ NoPass) }
-        ensures goes { IfOk result (GoesTo self.old (take self.old.asked answers.now) self.new) }
+        ensures goes { IfOk result (λ step. GoesTo self.old (take self.old.asked answers.now) self.new (next_of step about.new)) }
+        ensures written { IfOk result (λ step. Writes step about.old about.new) }
     {
         let Some(phase) = self.phase else {
             return Err(Refused::NoPass);
@@ -68,13 +76,45 @@ impl Machine {
         self.phase = go_on(&mut self.finalizers, &mut self.walk, phase);
         self.asked = 0;
         let Some(phase) = self.phase else {
-            return Ok(Next::Ended(Passed {
+            return Ok(Step::Ended(Passed {
                 pass: self.finalizers.passes(),
                 picked: self.finalizers.queued().saturating_sub(self.before),
             }));
         };
-        let question = question(phase, self.walk.left());
-        self.asked = question.count;
-        Ok(Next::Asks(question))
+        let (ask, count) = question(phase, self.walk.left(), about);
+        self.asked = count;
+        Ok(Step::Asks { ask, count })
+    }
+
+    /// Processes the answers to the last question, and returns what comes next: another question or the end. For `IsMarked` and `IsHolderMarked` the answers
+    /// have to be what the host's marks say; commands need an answer too, whose value is ignored. Items left unanswered are asked again. Takes time
+    /// proportional to the question and its answers.
+    ///
+    /// Takes no memory. Fails with `NoPass` if no pass is open.
+    pub fn next(&mut self, answers: &[bool]) -> Result<Next, Refused>
+        ensures refused { OnErr result ((self.old.phase ≡ None) × (self.new ≡ self.old)) }
+        ensures cause { IfErr result (λ r. r ≡ NoPass) }
+        ensures goes { IfOk result (GoesTo self.old (take self.old.asked answers.now) self.new) }
+    {
+        let mut about = [0; BATCH];
+        match self.proceed(answers, &mut about) {
+            Ok(Step::Asks { ask, count }) => Ok(Next::Asks(Question { ask, about, count })),
+            Ok(Step::Ended(passed)) => Ok(Next::Ended(passed)),
+            Err(refused) => Err(refused),
+        }
+    }
+
+    /// `next` with the answers in a word, from its lowest bit on: as many as the last question has items. The objects or words of a question are written into
+    /// the array, from its start; the rest of it is undefined. If the pass has ended, or the call fails, the array is unchanged.
+    ///
+    /// Takes no memory. Fails with `NoPass` if no pass is open.
+    pub fn next_bits(&mut self, answers: u64, about: &mut [Addr; BATCH]) -> Result<Step, Refused>
+        ensures refused { OnErr result ((self.old.phase ≡ None) × (self.new ≡ self.old) × (about.new ≡ about.old)) }
+        ensures cause { IfErr result (λ r. r ≡ NoPass) }
+        ensures goes { IfOk result (λ step. GoesTo self.old (take self.old.asked (bits_of answers)) self.new (next_of step about.new)) }
+        ensures written { IfOk result (λ step. Writes step about.old about.new) }
+    {
+        let answers = answers_in(answers, self.asked);
+        self.proceed(&answers, about)
     }
 }

@@ -6,7 +6,7 @@ ghost use Rattle.fz_machine.specs.Asks.{number_of};
 use fz_model::Addr;
 
 /// The largest number of objects or words of one question.
-pub const BATCH: usize = 16;
+pub const BATCH: usize = 64;
 
 /// What is asked about each object or word of a question.
 #[derive(Clone, Copy, Debug, PartialEq, Eq)]

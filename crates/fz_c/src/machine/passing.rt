@@ -1,16 +1,17 @@
 //! Passes.
 
-ghost use Rattle.std.specs.Prelude.{◌≡◌, ◌<◌, ◌/◌, ◌%◌, [], nat_eq};
+ghost use Rattle.std.specs.Prelude.{◌≡◌, []};
+ghost use Rattle.fz_machine.specs.Asks.{bits_of};
 ghost use Rattle.fz_machine.specs.Causes.{first_of};
 ghost use Rattle.fz_machine.specs.Machines.{IsBegun};
 ghost use Rattle.fz_c.specs.MachineChanges.{QueuesAll};
 ghost use Rattle.fz_c.specs.MachineCodes.{Answers, Behind};
-ghost use Rattle.fz_c.specs.MachinePassing.{Abandons, AsksNext, bits_of, is_bit};
+ghost use Rattle.fz_c.specs.MachinePassing.{Abandons, AsksNext};
 
 use crate::handle::behind;
 use crate::machine::codes::{Code, EMPTY, NOT_OPEN, OK, code_of};
 use crate::machine::handle::MachineHandle;
-use fz_machine::{BATCH, Next};
+use fz_machine::{BATCH, Step};
 use std::alloc::Global;
 
 /// A question, as C represents it.
@@ -19,7 +20,7 @@ use std::alloc::Global;
 pub struct Question {
     pub what: [u64; BATCH],
     pub count: u64,
-    pub ask: u8,
+    pub ask: u32,
 }
 
 /// What a pass has done.
@@ -28,38 +29,6 @@ pub struct Question {
 pub struct Passed {
     pub pass: u64,
     pub picked: u64,
-}
-
-/// Whether the bit with this weight is set.
-fn is_bit(bits: u64, weight: u64) -> bool
-    requires { 0 < weight }
-    ensures { result ≡ is_bit bits weight }
-{
-    bits / weight % 2 == 1
-}
-
-/// The answers in a number, from its lowest bit on.
-fn bits_of(bits: u64) -> [bool; BATCH]
-    ensures { result ≡ bits_of bits }
-{
-    [
-        is_bit(bits, 1),
-        is_bit(bits, 2),
-        is_bit(bits, 4),
-        is_bit(bits, 8),
-        is_bit(bits, 16),
-        is_bit(bits, 32),
-        is_bit(bits, 64),
-        is_bit(bits, 128),
-        is_bit(bits, 256),
-        is_bit(bits, 512),
-        is_bit(bits, 1_024),
-        is_bit(bits, 2_048),
-        is_bit(bits, 4_096),
-        is_bit(bits, 8_192),
-        is_bit(bits, 16_384),
-        is_bit(bits, 32_768),
-    ]
 }
 
 /// `Machine::begin`.
@@ -86,7 +55,7 @@ pub extern "C" fn fz_machine_abandon(alloc: Global, finalizers: &mut MachineHand
     }
 }
 
-/// `Machine::next`.
+/// `Machine::next_bits`.
 #[unsafe(no_mangle)]
 pub extern "C" fn fz_machine_next(
     alloc: Global,
@@ -101,19 +70,15 @@ pub extern "C" fn fz_machine_next(
         alloc,
         finalizers,
         NOT_OPEN,
-        |it| it.machine.next(&bits_of(answers))
+        |it| it.machine.next_bits(answers, &mut question.what)
     );
     match reply {
-        Ok(Next::Asks(asked)) => {
-            let what = asked.about;
-            *question = Question {
-                what,
-                count: asked.count as u64,
-                ask: asked.ask.number(),
-            };
+        Ok(Step::Asks { ask, count }) => {
+            question.count = count as u64;
+            question.ask = u32::from(ask.number());
             OK
         }
-        Ok(Next::Ended(ended)) => {
+        Ok(Step::Ended(ended)) => {
             *passed = Passed {
                 pass: ended.pass,
                 picked: ended.picked,

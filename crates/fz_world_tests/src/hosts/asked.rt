@@ -318,10 +318,10 @@ fn take_of(rt: &impl Abort, machine: &mut Machine, object: u64) {
     machine.finish(&entry).expect(rt, "the end");
 }
 
-/// Forty objects, one in four of kind unreachable, are queued in turn, whatever number of answers comes at a time.
-fn forty_are_picked(rt: &impl Abort, alloc: Global, answers: &[bool]) {
+/// Two hundred objects, one in four of kind unreachable, are queued in turn, whatever number of answers comes at a time.
+fn two_hundred_are_picked(rt: &impl Abort, alloc: Global, answers: &[bool]) {
     let mut machine = Machine::new(alloc).expect(rt, "memory");
-    for object in 1..=40 {
+    for object in 1..=200 {
         let finalizer = Finalizer {
             kind: if object % 4 == 0 {
                 Kind::Unreachable
@@ -335,13 +335,13 @@ fn forty_are_picked(rt: &impl Abort, alloc: Global, answers: &[bool]) {
         machine.register(object, finalizer).expect(rt, "memory");
     }
     let passed = pass_of_unmarked(rt, &mut machine, answers);
-    must_be(rt, passed.picked, 40, "all are picked");
-    for object in 1..=40 {
+    must_be(rt, passed.picked, 200, "all are picked");
+    for object in 1..=200 {
         if object % 4 != 0 {
             take_of(rt, &mut machine, object);
         }
     }
-    for fourth in 1..=10 {
+    for fourth in 1..=50 {
         take_of(rt, &mut machine, fourth * 4);
     }
 }
@@ -349,8 +349,8 @@ fn forty_are_picked(rt: &impl Abort, alloc: Global, answers: &[bool]) {
 #[test]
 fn lists_are_longer_than_questions(rt: HostRuntime) {
     let answers = [false; BATCH];
-    for count in [1, 7, BATCH].iter() {
-        forty_are_picked(&rt, rt.alloc(), &answers[..*count]);
+    for count in [1, 7, BATCH - 1, BATCH].iter() {
+        two_hundred_are_picked(&rt, rt.alloc(), &answers[..*count]);
     }
 }
 
@@ -410,10 +410,10 @@ fn a_worker_works_in_an_open_pass(rt: HostRuntime) {
     must_be(&rt, held.len() > 10, true, "most are taken before the end");
 }
 
-/// Twenty objects, whose pass is abandoned after this many questions: what it has queued waits, and the next pass queues the others.
-fn twenty_are_picked_by_two_passes(rt: &impl Abort, alloc: Global, questions: u64) {
+/// Eighty objects, whose pass is abandoned after this many questions: what it has queued waits, and the next pass queues the others.
+fn eighty_are_picked_by_two_passes(rt: &impl Abort, alloc: Global, questions: u64) {
     let mut machine = Machine::new(alloc).expect(rt, "memory");
-    for object in 1..=20 {
+    for object in 1..=80 {
         let finalizer = Finalizer {
             kind: Kind::Normal,
             procedure: object,
@@ -431,10 +431,10 @@ fn twenty_are_picked_by_two_passes(rt: &impl Abort, alloc: Global, questions: u6
     must_be(rt, machine.abandon().is_err(), true, "none is open");
     let left = machine.finalizers().registrations();
     let all = machine.finalizers().waiting().saturating_add(left);
-    must_be(rt, all, 20, "all stay");
+    must_be(rt, all, 80, "all stay");
     let passed = pass_of_unmarked(rt, &mut machine, &[false; BATCH]);
     must_be(rt, passed.picked, left, "the others are picked");
-    for object in 1..=20 {
+    for object in 1..=80 {
         take_of(rt, &mut machine, object);
     }
 }
@@ -442,6 +442,6 @@ fn twenty_are_picked_by_two_passes(rt: &impl Abort, alloc: Global, questions: u6
 #[test]
 fn a_pass_is_abandoned_at_each_question(rt: HostRuntime) {
     for questions in 0..=8 {
-        twenty_are_picked_by_two_passes(&rt, rt.alloc(), questions);
+        eighty_are_picked_by_two_passes(&rt, rt.alloc(), questions);
     }
 }

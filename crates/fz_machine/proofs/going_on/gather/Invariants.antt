@@ -5,11 +5,11 @@ use Rattle.fz_machine.proofs.going_on.gather.Given as goal
 
 abbrev pub invariant-loop-count : goal.invariant-loop-count
 invariant-loop-count l = record {
-  few : (l.count ≤ 16) × (l.count ≤ length l.left);
+  few : (l.count ≤ 64) × (l.count ≤ length l.left);
   alike : All (λ item. asks l.phase item ≡ Some l.ask) (take l.count l.left);
-  long : length l.about ≡ 16;
+  long : length l.about ≡ 64;
   about : take l.count l.about ≡ map (subject l.phase) (take l.count l.left);
 }
 
 abbrev pub decreases-loop-count : goal.decreases-loop-count
-decreases-loop-count l = 16 - l.count
+decreases-loop-count l = 64 - l.count
