@@ -101,7 +101,7 @@ def refusals():
 def an_open_pass():
     finalizers, lock, ran = Finalizers(), threading.Lock(), []
     with Workers(finalizers, lock, lambda entry: ran.append(entry.obj), 2) as workers, lock:
-        for number in range(1, 41):
+        for number in range(1, 141):
             finalizers.register(number, proc=0)
         with finalizers.open_pass() as questions:
             while questions.next() and finalizers.counts().waiting < 10:
@@ -113,8 +113,8 @@ def an_open_pass():
             check((len(ran) >= 10, finalizers.counts().held, questions.is_open), (True, 0, True), 'and finished')
             while questions.next():
                 continue
-        check(questions.did.picked, 40, 'the pass goes on')
-    check((len(ran), finalizers.counts().waiting), (len(ran), 40 - len(ran)), 'what waits stays')
+        check(questions.did.picked, 140, 'the pass goes on')
+    check((len(ran), finalizers.counts().waiting), (len(ran), 140 - len(ran)), 'what waits stays')
 
 
 FORGOTTEN = """import threading
