@@ -10,7 +10,7 @@ use Rattle.fz_why.specs.declared.origin.Origin.{Origin}
 use Rattle.fz_why.specs.declared.origin.Origin.TheVariants.{Root, First, After}
 use Rattle.fz_why.specs.declared.reason.RootOf.{RootOf}
 use Rattle.fz_why.specs.Why.{IsReached, IsRooted, IsRootPath}
-use Rattle.fz_why.specs.Trail.{Trail, has, IsByRoot, IsNext, IsOrdered, IsReachedTrail, IsStart, IsTrailPath}
+use Rattle.fz_why.specs.Trail.{Trail, has, IsByRoot, IsNext, IsOfRoots, IsOrdered, IsReachedTrail, IsStart, IsTrailPath}
 use Rattle.fz_why.proofs.Reached.{ordered, has_led, led_has, next_child, path_as, start_of}
 
 -- the flag of a kind
@@ -25,9 +25,24 @@ root_of d (Root r) = r
 root_of d (First f) = d
 root_of d (After k) = d
 
+-- a first step is no root
+abbrev IsNoRoot : Origin → Type 0
+IsNoRoot (Root r) = ⊥
+IsNoRoot (First f) = Unit {0}
+IsNoRoot (After k) = Unit {0}
+
+none_root : (r : RootOf) (from : ℕ) → First from ≡ Root r → ⊥
+none_root r from same = subst IsNoRoot same tt
+
 module _ (objects : Map Object) (roots : List ℕ) (s : State) (es : Trail) (t : IsReachedTrail objects (IsByRoot objects roots s) es) where
   begins : (o : Origin) (b : ℕ) → IsByRoot objects roots s o b → IsStart o
   begins o b h = subst IsStart (sym h.1) tt
+
+  -- a path along it begins at a root
+  pub root_begins : IsOfRoots es
+  root_begins k first from at =
+      let st = start_of objects (IsByRoot objects roots s) es t begins k first (First from) at tt in
+      none_root st.0 from st.1
 
   pub root_ordered : IsOrdered es
   root_ordered = ordered objects (IsByRoot objects roots s) es t begins

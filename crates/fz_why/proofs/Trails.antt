@@ -28,8 +28,8 @@ at_some (e ∷ es) a h = one (nat_eq a e.0) refl (at_some es a) h
     one true is rest on = (0, (e.1, ap (λ n. Some (n, e.1)) (sym (eqb-true a e.0 is))))
     one false is rest on = let r = rest on in (suc r.0, r.1)
 
--- an object is added
-appended : (es : Trail) (a : ℕ) (o : Origin) → has es a ≡ false → insert_entry nat_eq es a o ≡ es ++ (a, o) ∷ []
+-- an object that is new comes at the end
+pub appended : (es : Trail) (a : ℕ) (o : Origin) → has es a ≡ false → insert_entry nat_eq es a o ≡ es ++ (a, o) ∷ []
 appended [] a o absent = refl
 appended (e ∷ es) a o absent = one (nat_eq a e.0) refl (appended es a o) absent
   where
@@ -37,8 +37,8 @@ appended (e ∷ es) a o absent = one (nat_eq a e.0) refl (appended es a o) absen
     one true is rest absent = absurd (both_ways true absent refl)
     one false is rest absent = ap (λ xs. e ∷ xs) (rest absent)
 
-pub added_new : (es : Trail) (a : ℕ) (o : Origin) → has es a ≡ false → insert_entry nat_eq es a o ≡ added es a o
-added_new es a o absent = appended es a o absent ∙ sym (ap (λ b. cond b es (es ++ (a, o) ∷ [])) absent)
+pub added_new : (es : Trail) (a : ℕ) (o : Origin) → has es a ≡ false → es ++ (a, o) ∷ [] ≡ added es a o
+added_new es a o absent = sym (ap (λ b. cond b es (es ++ (a, o) ∷ [])) absent)
 
 pub added_known : (es : Trail) (a : ℕ) (o : Origin) → has es a ≡ true → es ≡ added es a o
 added_known es a o known = sym (ap (λ b. cond b es (es ++ (a, o) ∷ [])) known)

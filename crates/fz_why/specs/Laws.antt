@@ -57,3 +57,7 @@ pub record RingStays (place : ℕ → Option ℕ) (objects later : Map Object) (
   pub ring : IsRing place objects s found path o
   pub registered : get t.registrations o ≡ get s.registrations o
   pub words : (a b : ℕ) → Contains path a → Child (cleared (placed place s.short) found objects) a b → Child (cleared (placed place t.short) later_found later) a b
+
+-- no pass of the later state queues an object on a ring that stays, whatever it marks
+abbrev pub KeepsRings : (ℕ → Option ℕ) → Map Object → Map Object → State → State → Type 0
+KeepsRings place objects later s t = (found later_found : ℕ → Bool) (path : List ℕ) (o : ℕ) → RingStays place objects later s t found later_found path o → IsNotQueuedBy place later t later_found o

@@ -1,6 +1,6 @@
 -- How a search goes: what it adds to a trail, and which objects it comes to. Means only: no public contract cites this.
 -- code: fz_why/src/trail.rt, searching.rt, reaching.rt
-use Rattle.std.specs.Prelude.{◌≡◌, ◌≢◌, ◌↔◌, ℕ, ◌<◌, ◌⊎◌, ◌++◌, Bool, true, false, not, if◌then◌else◌, is_some, nat_eq, List, [], ◌∷◌, slice_get, Option, Some, None, Contains, IsTrue}
+use Rattle.std.specs.Prelude.{◌≡◌, ◌≢◌, ◌↔◌, ℕ, ◌<◌, ◌⊎◌, ◌++◌, Bool, true, false, not, if◌then◌else◌, is_some, nat_eq, List, [], ◌∷◌, slice_get, Option, Some, None, Contains, IsTrue, MatchOption}
 use Rattle.std.specs.FinMap.{get}
 use Rattle.std.specs.Map.{lookup}
 use Rattle.std.specs.Option.{option_map_or}
@@ -21,7 +21,7 @@ use Rattle.fz_why.specs.declared.paths.Pointer.{Pointer}
 use Rattle.fz_why.specs.declared.reason.RootOf.{RootOf}
 use Rattle.fz_why.specs.declared.reason.RootOf.TheVariants.{Host, RegisteredData, HeldObject, HeldData}
 use Rattle.fz_why.specs.Paths.{IsPath}
-use Rattle.fz_why.specs.Why.{kind_toward, IsRooted, IsUnfound}
+use Rattle.fz_why.specs.Why.{kind_toward, HoldsBack, IsBackPath, IsRooted, IsUnfound}
 
 abbrev pub Trail : Type 0
 Trail = List (ℕ × Origin)
@@ -109,9 +109,27 @@ pub record IsTrailPath (es : Trail) (o : ℕ) (start : Origin) (path : List ℕ)
 abbrev pub IsOrdered : Trail → Type 0
 IsOrdered es = (k before : ℕ) (x : ℕ × Origin) → slice_get es k ≡ Some x → x.1 ≡ After before → before < k
 
+-- each path along the trail begins at a root
+abbrev pub IsOfRoots : Trail → Type 0
+IsOfRoots es = (k first from : ℕ) → slice_get es k ≡ Some (first, First from) → ⊥
+
 -- a step by one of these words, but to the excepted object
 abbrev pub IsStepBut : Map Object → (ℕ → Bool) → List Pointer → Option ℕ → ℕ → Type 0
 IsStepBut objects cut pointers except b = IsStepBy objects cut pointers b × (except ≢ Some b)
+
+-- what comes by one word, by the words of an object, and by its first steps
+abbrev pub IsByPointer : Map Object → (ℕ → Bool) → Pointer → Option ℕ → Origin → Origin → ℕ → Type 0
+IsByPointer objects cut pointer except origin o b = (o ≡ origin) × (cut pointer.word ≡ false) × (points objects pointer.value ≡ Some b) × (except ≢ Some b)
+
+abbrev pub IsBySteps : Map Object → (ℕ → Bool) → List Pointer → Option ℕ → Origin → Origin → ℕ → Type 0
+IsBySteps objects cut pointers except origin o b = (o ≡ origin) × IsStepBut objects cut pointers except b
+
+abbrev pub IsByFirst : Map Object → (ℕ → Bool) → List Pointer → ℕ → RegKind → Origin → ℕ → Type 0
+IsByFirst objects cut pointers from kind o b = (o ≡ First from) × IsFirstBy objects cut pointers from kind b
+
+-- the same of another object than this one, if it isn't on the trail of what was found
+abbrev pub IsByUnfound : Map Object → (ℕ → Bool) → List Pointer → Trail → ℕ → ℕ → RegKind → Origin → ℕ → Type 0
+IsByUnfound objects cut pointers found object from kind o b = (from ≢ object) × (has found from ≡ false) × (o ≡ First from) × IsFirstBy objects cut pointers from kind b
 
 -- the objects to which roots of one sort point
 abbrev pub IsByHost : Map Object → List ℕ → Origin → ℕ → Type 0
@@ -147,6 +165,15 @@ IsByRing heap object kind origin b = (origin ≡ First object) × LeadsFirst hea
 abbrev pub IsByWait : (ℕ → Option ℕ) → Map Object → State → (ℕ → Bool) → Bool → ℕ → Origin → ℕ → Type 0
 IsByWait place objects s found late object origin b =
     (from : ℕ) × (by : Registration) × IsUnfound place objects s found from by × (from ≢ object) × (origin ≡ First from) × LeadsFirst (cleared (placed place s.short) found objects) from (kind_toward late by.kind) b
+
+-- the path by which an object holds itself back, or that it doesn't
+abbrev pub TellsRing : (ℕ → Option ℕ) → Map Object → State → (ℕ → Bool) → ℕ → Option (List ℕ) → Type 0
+TellsRing place objects s found o told = MatchOption told (HoldsBack place objects s found false o o → ⊥) (λ path. IsBackPath place objects s found false o path o)
+
+-- the path by which another object holds it back, or that none does
+abbrev pub TellsWait : (ℕ → Option ℕ) → Map Object → State → (ℕ → Bool) → Bool → ℕ → Option (List ℕ) → Type 0
+TellsWait place objects s found late o told =
+    MatchOption told ((from : ℕ) → (from ≢ o) × HoldsBack place objects s found late from o → ⊥) (λ path. (from : ℕ) × (from ≢ o) × IsBackPath place objects s found late from path o)
 
 -- what a pass of this state requires of a host's objects, long links aside
 pub record IsSound (objects : Map Object) (s : State) : Type 0 where

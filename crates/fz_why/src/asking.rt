@@ -1,6 +1,6 @@
 //! Why an object isn't finalized.
 
-ghost use Rattle.std.specs.Prelude.{◌≡◌, ◌≢◌, ℕ, List, false, Contains, IfOk, IfErr, MatchOption, Option, None, Some};
+ghost use Rattle.std.specs.Prelude.{◌≡◌, ◌≢◌, ℕ, List, false, Contains, IfOk, MatchOption, Option, None, Some};
 ghost use Rattle.std.specs.FinMap.{get};
 ghost use Rattle.std.specs.FinSet.{contains};
 ghost use Rattle.fz_model.specs.declared.answers.Entry.{Entry};
@@ -12,17 +12,18 @@ ghost use Rattle.fz_pass.specs.Marks.{AreRegistered, AreTargets};
 ghost use Rattle.fz_finalizers.specs.Kinds.{is_late};
 ghost use Rattle.fz_finalizers.specs.States.{unfinished};
 ghost use Rattle.fz_why.specs.Why.{IsReached, IsToldOf, IsUnfound};
-ghost use Rattle.fz_why.specs.Trail.{has, IsOrdered, IsSound, IsTrailPath};
+ghost use Rattle.fz_why.specs.Trail.{has, IsOfRoots, IsOrdered, IsSound, IsTrailPath};
 
 use crate::origin::Origin;
 use crate::paths::Paths;
 use crate::reaching::path_to;
 use crate::reason::{Reason, RootOf};
+use crate::room::NoMemory;
 use crate::rooting::find;
 use crate::trail::Trail;
 use crate::waiting::{ring, wait};
-use fz_finalizers::{Addr, Entry, Finalizers, Kind, Refused};
-use fz_model::Registration;
+use fz_finalizers::{Entry, Finalizers, Kind};
+use fz_model::{Addr, Registration};
 use std::alloc::Global;
 
 /// An unfinished entry of an object.
@@ -42,10 +43,10 @@ fn root_path(
     alloc: Global,
     found: &Trail,
     object: Addr,
-) -> Result<Option<(RootOf, Vec<Addr>)>, Refused>
-    requires { IsOrdered found.now.entries.entries }
-    ensures refused { IfErr result (λ r. r ≡ Refused.NoMemory) }
-    ensures path { IfOk result (λ answer. MatchOption answer (has found.now.entries.entries object ≡ false) (λ p. IsTrailPath found.now.entries.entries object (Origin.Root p.0) p.1.items)) }
+) -> Result<Option<(RootOf, Vec<Addr>)>, NoMemory>
+    requires ordered { IsOrdered found.now }
+    requires rooted { IsOfRoots found.now }
+    ensures path { IfOk result (λ answer. MatchOption answer (has found.now object ≡ false) (λ p. IsTrailPath found.now object (Origin.Root p.0) p.1.items)) }
 {
     let told = path_to(alloc, found, object)?;
     let Some((origin, path)) = told else {
@@ -53,7 +54,8 @@ fn root_path(
     };
     match origin {
         Origin::Root(root) => Ok(Some((root, path))),
-        Origin::First(_) | Origin::After(_) => Err(Refused::NoMemory),
+        Origin::First(_) => unreachable!(),
+        Origin::After(_) => unreachable!(),
     }
 }
 
@@ -86,11 +88,10 @@ fn why_unreachable<H: Paths>(
     found: &Trail,
     object: Addr,
     registration: Registration,
-) -> Result<Reason, Refused>
+) -> Result<Reason, NoMemory>
     requires sound { IsSound (H.objects host.now) finalizers.now.state }
-    requires unfound { IsUnfound H.place (H.objects host.now) finalizers.now.state (has found.now.entries.entries) object registration }
-    requires reached { Computes (has found.now.entries.entries) (IsReached (H.objects host.now) (H.roots host.now) finalizers.now.state) }
-    ensures refused { IfErr result (λ r. r ≡ Refused.NoMemory) }
+    requires unfound { IsUnfound H.place (H.objects host.now) finalizers.now.state (has found.now) object registration }
+    requires reached { Computes (has found.now) (IsReached (H.objects host.now) (H.roots host.now) finalizers.now.state) }
     ensures told { IfOk result (λ reason. IsToldOf H.place (H.objects host.now) (H.roots host.now) finalizers.now.state reason object) }
 {
     let circle = ring(alloc, finalizers, host, found, object, registration)?;
@@ -112,10 +113,9 @@ fn why_registered<H: Paths>(
     host: &H,
     object: Addr,
     registration: Registration,
-) -> Result<Reason, Refused>
+) -> Result<Reason, NoMemory>
     requires sound { IsSound (H.objects host.now) finalizers.now.state }
     requires registered { get finalizers.now.state.registrations object ≡ Some registration }
-    ensures refused { IfErr result (λ r. r ≡ Refused.NoMemory) }
     ensures told { IfOk result (λ reason. IsToldOf H.place (H.objects host.now) (H.roots host.now) finalizers.now.state reason object) }
 {
     let found = find(alloc, finalizers, host)?;
@@ -149,12 +149,11 @@ pub fn why<H: Paths>(
     finalizers: &Finalizers,
     host: &H,
     object: Addr,
-) -> Result<Reason, Refused>
+) -> Result<Reason, NoMemory>
     requires registered { AreRegistered (H.objects host.now) finalizers.now.state.registrations }
     requires short { AreTargets (H.objects host.now) finalizers.now.state.short }
     // A cleared word points to nothing.
     requires zero { points (H.objects host.now) 0 ≡ None }
-    ensures refused { IfErr result (λ r. r ≡ Refused.NoMemory) }
     ensures told { IfOk result (λ reason. IsToldOf H.place (H.objects host.now) (H.roots host.now) finalizers.now.state reason object) }
 {
     match finalizers.registration(object) {

@@ -5,7 +5,7 @@ ghost use Rattle.fz_model.specs.State.{Map, Object};
 ghost use Rattle.fz_model.specs.Reachability.{Computes};
 ghost use Rattle.fz_finalizers.specs.States.{State};
 ghost use Rattle.fz_why.specs.Why.{IsReached};
-ghost use Rattle.fz_why.specs.Laws.{IsApart, IsJudgedByPasses, IsNotQueuedBy, RingStays};
+ghost use Rattle.fz_why.specs.Laws.{IsApart, IsJudgedByPasses, KeepsRings};
 
 /// Does nothing. Its contract says that no two of found, ring or waits, and ready hold of a registered object. A pass of the state that is told of queues an
 /// object that is ready, if its host's marks are exact, and no other.
@@ -17,5 +17,5 @@ pub fn answers()
 /// Does nothing. Its contract says that no later pass queues an object on a ring, whatever it finds, as long as its registration and the words of the ring
 /// stay.
 pub fn rings()
-    ensures { (place : ℕ → Option ℕ) (objects later : Map Object) (s t : State) (found later_found : ℕ → Bool) (path : List ℕ) (o : ℕ) → RingStays place objects later s t found later_found path o → IsNotQueuedBy place later t later_found o }
+    ensures { (place : ℕ → Option ℕ) (objects later : Map Object) (s t : State) → KeepsRings place objects later s t }
 {}

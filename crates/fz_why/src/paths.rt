@@ -1,6 +1,6 @@
 //! A host that can list its roots and the words of its objects.
 
-ghost use Rattle.std.specs.Prelude.{◌≡◌, ℕ, List, Option, slice_get};
+ghost use Rattle.std.specs.Prelude.{◌≡◌, ◌^◌, ◌<◌, ℕ, List, Option, slice_get, IsSome};
 ghost use Rattle.fz_model.specs.Memory.{points};
 ghost use Rattle.fz_why.specs.declared.paths.Pointer.{Pointer};
 ghost use Rattle.fz_why.specs.Paths.{ArePointers, AreLinks};
@@ -31,11 +31,13 @@ pub trait Paths: Host {
 
     /// A word of an object by its index, counted from 0. `None` after the last.
     fn pointer(&self, object: Addr, index: usize) -> Option<Pointer>
-        ensures { result ≡ slice_get (pointers self.now object) index };
+        ensures pointer { result ≡ slice_get (pointers self.now object) index }
+        ensures few { IsSome result → index < 2 ^ 63 };
 
     /// A root by its index, counted from 0: a word from which the host marks. `None` after the last.
     fn root(&self, index: usize) -> Option<Word>
-        ensures { result ≡ slice_get (roots self.now) index };
+        ensures root { result ≡ slice_get (roots self.now) index }
+        ensures few { IsSome result → index < 2 ^ 63 };
 
     /// The number of the link that denotes a word of an object (`Host::place`), whether or not it is registered. `None` if no number does.
     fn link_at(&self, word: Addr) -> Option<Addr>

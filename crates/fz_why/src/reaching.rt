@@ -1,33 +1,22 @@
 //! The path along a trail.
 
-ghost use Rattle.std.specs.Prelude.{◌≡◌, ◌++◌, ◌∷◌, [], false, IfErr, IfOk, MatchOption, OnOk};
+ghost use Rattle.std.specs.Prelude.{◌≡◌, false, IfOk, MatchOption};
 ghost use Rattle.fz_why.specs.Trail.{has, IsOrdered, IsTrailPath};
 
 use crate::origin::Origin;
+use crate::room::{NoMemory, push};
 use crate::trail::Trail;
-use fz_finalizers::{Addr, Refused};
+use fz_model::Addr;
 use std::alloc::Global;
-
-/// Appends an object to a path.
-fn push(path: &mut Vec<Addr>, object: Addr) -> Result<(), Refused>
-    ensures refused { IfErr result (λ r. r ≡ Refused.NoMemory) }
-    ensures pushed { OnOk result (path.new.items ≡ path.old.items ++ object ∷ []) }
-{
-    match path.push(object) {
-        Ok(()) => Ok(()),
-        Err(_) => Err(Refused::NoMemory),
-    }
-}
 
 /// The path along the trail to an object, and how it begins. `None` if the search didn't come to the object.
 pub(crate) fn path_to(
     alloc: Global,
     trail: &Trail,
     object: Addr,
-) -> Result<Option<(Origin, Vec<Addr>)>, Refused>
-    requires { IsOrdered trail.now.entries.entries }
-    ensures refused { IfErr result (λ r. r ≡ Refused.NoMemory) }
-    ensures path { IfOk result (λ answer. MatchOption answer (has trail.now.entries.entries object ≡ false) (λ p. IsTrailPath trail.now.entries.entries object p.0 p.1.items)) }
+) -> Result<Option<(Origin, Vec<Addr>)>, NoMemory>
+    requires { IsOrdered trail.now }
+    ensures path { IfOk result (λ answer. MatchOption answer (has trail.now object ≡ false) (λ p. IsTrailPath trail.now object p.0 p.1.items)) }
 {
     let Some(end) = trail.place_of(object) else {
         return Ok(None);

@@ -1,6 +1,6 @@
 //! What the roots reach.
 
-ghost use Rattle.std.specs.Prelude.{◌≡◌, ℕ, Contains, IfErr, IfOk, OnOk, Some, take, slice_get};
+ghost use Rattle.std.specs.Prelude.{◌≡◌, IfOk, OnOk, Some};
 ghost use Rattle.std.specs.FinMap.{get};
 ghost use Rattle.fz_model.specs.declared.answers.Entry.{Entry};
 ghost use Rattle.fz_model.specs.declared.answers.Registration.{Registration};
@@ -11,16 +11,16 @@ ghost use Rattle.fz_why.specs.Trail.{Adds, IsReachedTrail, IsByRoot, IsByHost, I
 use crate::origin::Origin;
 use crate::paths::Paths;
 use crate::reason::RootOf;
+use crate::room::NoMemory;
 use crate::searching::spread;
 use crate::trail::Trail;
-use fz_finalizers::{Finalizers, Refused};
+use fz_finalizers::Finalizers;
 use fz_model::Word;
 use std::alloc::Global;
 
 /// Adds the object to which the word of a root points.
-fn add_root<H: Paths>(host: &H, word: Word, root: RootOf, trail: &mut Trail) -> Result<(), Refused>
-    ensures refused { IfErr result (λ r. r ≡ Refused.NoMemory) }
-    ensures added { OnOk result (Adds (λ o b. (o ≡ Origin.Root root) × (points (H.objects host.now) word ≡ Some b)) trail.old.entries.entries trail.new.entries.entries) }
+fn add_root<H: Paths>(host: &H, word: Word, root: RootOf, trail: &mut Trail) -> Result<(), NoMemory>
+    ensures added { OnOk result (Adds (λ o b. (o ≡ Origin.Root root) × (points (H.objects host.now) word ≡ Some b)) trail.old trail.new) }
 {
     match host.target(word) {
         Some(object) => {
@@ -32,9 +32,8 @@ fn add_root<H: Paths>(host: &H, word: Word, root: RootOf, trail: &mut Trail) -> 
 }
 
 /// Adds the objects to which the host's own roots point.
-fn add_host<H: Paths>(host: &H, trail: &mut Trail) -> Result<(), Refused>
-    ensures refused { IfErr result (λ r. r ≡ Refused.NoMemory) }
-    ensures added { OnOk result (Adds (IsByHost (H.objects host.now) (H.roots host.now)) trail.old.entries.entries trail.new.entries.entries) }
+fn add_host<H: Paths>(host: &H, trail: &mut Trail) -> Result<(), NoMemory>
+    ensures added { OnOk result (Adds (IsByHost (H.objects host.now) (H.roots host.now)) trail.old trail.new) }
 {
     for index in 0..usize::MAX {
         match host.root(index) {
@@ -42,7 +41,7 @@ fn add_host<H: Paths>(host: &H, trail: &mut Trail) -> Result<(), Refused>
             None => return Ok(()),
         }
     }
-    Err(Refused::NoMemory)
+    unreachable!()
 }
 
 /// Adds the objects to which client data of registrations points.
@@ -50,9 +49,8 @@ fn add_registered<H: Paths>(
     finalizers: &Finalizers,
     host: &H,
     trail: &mut Trail,
-) -> Result<(), Refused>
-    ensures refused { IfErr result (λ r. r ≡ Refused.NoMemory) }
-    ensures added { OnOk result (Adds (IsByRegistration (H.objects host.now) finalizers.now.state.registrations) trail.old.entries.entries trail.new.entries.entries) }
+) -> Result<(), NoMemory>
+    ensures added { OnOk result (Adds (IsByRegistration (H.objects host.now) finalizers.now.state.registrations) trail.old trail.new) }
 {
     for each in finalizers.iter() {
         let root = RootOf::RegisteredData(each.1.number);
@@ -66,9 +64,8 @@ fn add_entries<H: Paths>(
     finalizers: &Finalizers,
     host: &H,
     trail: &mut Trail,
-) -> Result<(), Refused>
-    ensures refused { IfErr result (λ r. r ≡ Refused.NoMemory) }
-    ensures added { OnOk result (Adds (IsByEntry (H.objects host.now) (unfinished finalizers.now.state)) trail.old.entries.entries trail.new.entries.entries) }
+) -> Result<(), NoMemory>
+    ensures added { OnOk result (Adds (IsByEntry (H.objects host.now) (unfinished finalizers.now.state)) trail.old trail.new) }
 {
     for entry in finalizers.entries() {
         add_root(host, entry.obj, RootOf::HeldObject(entry.seq), trail)?;
@@ -82,9 +79,8 @@ pub(crate) fn find<H: Paths>(
     alloc: Global,
     finalizers: &Finalizers,
     host: &H,
-) -> Result<Trail, Refused>
-    ensures refused { IfErr result (λ r. r ≡ Refused.NoMemory) }
-    ensures found { IfOk result (λ t. IsReachedTrail (H.objects host.now) (IsByRoot (H.objects host.now) (H.roots host.now) finalizers.now.state) t.entries.entries) }
+) -> Result<Trail, NoMemory>
+    ensures found { IfOk result (λ t. IsReachedTrail (H.objects host.now) (IsByRoot (H.objects host.now) (H.roots host.now) finalizers.now.state) t) }
 {
     let mut trail = Trail::new(alloc);
     add_host(host, &mut trail)?;

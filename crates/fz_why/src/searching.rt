@@ -1,18 +1,19 @@
 //! Searching along the words of objects.
 
-ghost use Rattle.std.specs.Prelude.{◌≡◌, ◌≢◌, false, option_map, IfErr, None, OnOk, Some};
-ghost use Rattle.fz_model.specs.Memory.{points};
-ghost use Rattle.fz_why.specs.Trail.{is_cut, Adds, IsFirstBy, IsStepBut, IsStepBy, SpreadsAll};
+ghost use Rattle.std.specs.Prelude.{◌≡◌, ◌≢◌, OnOk};
+ghost use Rattle.std.specs.Option.{option_copied};
+ghost use Rattle.fz_why.specs.Trail.{is_cut, Adds, IsByFirst, IsByPointer, IsBySteps, IsStepBy, SpreadsAll};
 
 use crate::origin::Origin;
 use crate::paths::{Paths, Pointer};
+use crate::room::NoMemory;
 use crate::trail::Trail;
-use fz_finalizers::{Addr, Finalizers, LinkKind, Refused};
-use fz_model::RegKind;
+use fz_finalizers::{Finalizers, LinkKind};
+use fz_model::{Addr, RegKind};
 
 /// Whether a word doesn't count, since it is a short link's whose target wasn't found. Where nothing was looked for yet, each word counts.
 fn is_cut<H: Paths>(finalizers: &Finalizers, host: &H, found: Option<&Trail>, word: Addr) -> bool
-    ensures { result ≡ is_cut H.link finalizers.now.state (option_map (λ t. t.now.entries.entries) found.entry) word }
+    ensures { result ≡ is_cut H.link finalizers.now.state (option_copied found.entry) word }
 {
     let Some(found) = found else {
         return false;
@@ -27,9 +28,8 @@ fn is_cut<H: Paths>(finalizers: &Finalizers, host: &H, found: Option<&Trail>, wo
 }
 
 /// Adds an object, unless it is another.
-fn add_unless(object: Addr, other: Addr, origin: Origin, trail: &mut Trail) -> Result<(), Refused>
-    ensures refused { IfErr result (λ r. r ≡ Refused.NoMemory) }
-    ensures added { OnOk result (Adds (λ o b. (o ≡ origin) × (b ≡ object) × (b ≢ other)) trail.old.entries.entries trail.new.entries.entries) }
+fn add_unless(object: Addr, other: Addr, origin: Origin, trail: &mut Trail) -> Result<(), NoMemory>
+    ensures added { OnOk result (Adds (λ o b. (o ≡ origin) × (b ≡ object) × (b ≢ other)) trail.old trail.new) }
 {
     if object == other {
         return Ok(());
@@ -44,9 +44,8 @@ fn add_but(
     except: Option<Addr>,
     origin: Origin,
     trail: &mut Trail,
-) -> Result<(), Refused>
-    ensures refused { IfErr result (λ r. r ≡ Refused.NoMemory) }
-    ensures added { OnOk result (Adds (λ o b. (o ≡ origin) × (b ≡ object) × (except ≢ Some b)) trail.old.entries.entries trail.new.entries.entries) }
+) -> Result<(), NoMemory>
+    ensures added { OnOk result (Adds (λ o b. (o ≡ origin) × (b ≡ object) × (except ≢ Some b)) trail.old trail.new) }
 {
     match except {
         Some(other) => {
@@ -69,9 +68,8 @@ fn add_step<H: Paths>(
     except: Option<Addr>,
     origin: Origin,
     trail: &mut Trail,
-) -> Result<(), Refused>
-    ensures refused { IfErr result (λ r. r ≡ Refused.NoMemory) }
-    ensures added { OnOk result (Adds (λ o b. (o ≡ origin) × (is_cut H.link finalizers.now.state (option_map (λ t. t.now.entries.entries) found.entry) pointer.word ≡ false) × (points (H.objects host.now) pointer.value ≡ Some b) × (except ≢ Some b)) trail.old.entries.entries trail.new.entries.entries) }
+) -> Result<(), NoMemory>
+    ensures added { OnOk result (Adds (IsByPointer (H.objects host.now) (is_cut H.link finalizers.now.state (option_copied found.entry)) pointer except origin) trail.old trail.new) }
 {
     if is_cut(finalizers, host, found, pointer.word) {
         return Ok(());
@@ -94,9 +92,8 @@ fn add_steps<H: Paths>(
     except: Option<Addr>,
     origin: Origin,
     trail: &mut Trail,
-) -> Result<(), Refused>
-    ensures refused { IfErr result (λ r. r ≡ Refused.NoMemory) }
-    ensures added { OnOk result (Adds (λ o b. (o ≡ origin) × IsStepBut (H.objects host.now) (is_cut H.link finalizers.now.state (option_map (λ t. t.now.entries.entries) found.entry)) (H.pointers host.now from) except b) trail.old.entries.entries trail.new.entries.entries) }
+) -> Result<(), NoMemory>
+    ensures added { OnOk result (Adds (IsBySteps (H.objects host.now) (is_cut H.link finalizers.now.state (option_copied found.entry)) (H.pointers host.now from) except origin) trail.old trail.new) }
 {
     for index in 0..usize::MAX {
         match host.pointer(from, index) {
@@ -104,7 +101,7 @@ fn add_steps<H: Paths>(
             None => return Ok(()),
         }
     }
-    Err(Refused::NoMemory)
+    unreachable!()
 }
 
 /// Adds the first steps of a registered object, by its kind.
@@ -115,9 +112,8 @@ pub(crate) fn add_first_steps<H: Paths>(
     from: Addr,
     kind: RegKind,
     trail: &mut Trail,
-) -> Result<(), Refused>
-    ensures refused { IfErr result (λ r. r ≡ Refused.NoMemory) }
-    ensures added { OnOk result (Adds (λ o b. (o ≡ Origin.First from) × IsFirstBy (H.objects host.now) (is_cut H.link finalizers.now.state (option_map (λ t. t.now.entries.entries) found.entry)) (H.pointers host.now from) from kind b) trail.old.entries.entries trail.new.entries.entries) }
+) -> Result<(), NoMemory>
+    ensures added { OnOk result (Adds (IsByFirst (H.objects host.now) (is_cut H.link finalizers.now.state (option_copied found.entry)) (H.pointers host.now from) from kind) trail.old trail.new) }
 {
     let origin = Origin::First(from);
     match kind {
@@ -139,9 +135,8 @@ pub(crate) fn spread<H: Paths>(
     host: &H,
     found: Option<&Trail>,
     trail: &mut Trail,
-) -> Result<(), Refused>
-    ensures refused { IfErr result (λ r. r ≡ Refused.NoMemory) }
-    ensures spread { OnOk result (SpreadsAll (λ a b. IsStepBy (H.objects host.now) (is_cut H.link finalizers.now.state (option_map (λ t. t.now.entries.entries) found.entry)) (H.pointers host.now a) b) trail.old.entries.entries trail.new.entries.entries) }
+) -> Result<(), NoMemory>
+    ensures spread { OnOk result (SpreadsAll (λ a b. IsStepBy (H.objects host.now) (is_cut H.link finalizers.now.state (option_copied found.entry)) (H.pointers host.now a) b) trail.old trail.new) }
 {
     for place in 0..usize::MAX {
         match trail.at(place) {
@@ -152,5 +147,5 @@ pub(crate) fn spread<H: Paths>(
             None => return Ok(()),
         }
     }
-    Err(Refused::NoMemory)
+    unreachable!()
 }

@@ -1,18 +1,18 @@
 //! Which unreachable objects hold an object back.
 
-ghost use Rattle.std.specs.Prelude.{◌≡◌, ◌≢◌, ℕ, false, IfErr, IfOk, MatchOption, OnOk, Some};
+ghost use Rattle.std.specs.Prelude.{◌≡◌, option_map, IfOk, OnOk, Some};
 ghost use Rattle.fz_model.specs.Pass.{cleared};
 ghost use Rattle.fz_pass.specs.Places.{placed};
-ghost use Rattle.fz_why.specs.Why.{kind_toward, HoldsBack, IsBackPath, IsUnfound};
-ghost use Rattle.fz_why.specs.Trail.{has, is_cut, Adds, IsByOther, IsByRing, IsByWait, IsFirstBy, IsReachedTrail, IsSound};
+ghost use Rattle.fz_why.specs.Why.{kind_toward, IsUnfound};
+ghost use Rattle.fz_why.specs.Trail.{has, is_cut, Adds, IsByOther, IsByRing, IsByUnfound, IsByWait, IsReachedTrail, IsSound, TellsRing, TellsWait};
 
-use crate::origin::Origin;
 use crate::paths::Paths;
 use crate::reaching::path_to;
+use crate::room::NoMemory;
 use crate::searching::{add_first_steps, spread};
 use crate::trail::Trail;
-use fz_finalizers::{Addr, Finalizers, Refused};
-use fz_model::{RegKind, Registration};
+use fz_finalizers::Finalizers;
+use fz_model::{Addr, RegKind, Registration};
 use std::alloc::Global;
 
 /// The kind by which first steps to another object count: all of them, if the other is of the kind `Unreachable`.
@@ -31,9 +31,8 @@ fn add_other<H: Paths>(
     from: Addr,
     kind: RegKind,
     trail: &mut Trail,
-) -> Result<(), Refused>
-    ensures refused { IfErr result (λ r. r ≡ Refused.NoMemory) }
-    ensures added { OnOk result (Adds (λ o b. (from ≢ object) × (has found.now.entries.entries from ≡ false) × (o ≡ Origin.First from) × IsFirstBy (H.objects host.now) (is_cut H.link finalizers.now.state (Some found.now.entries.entries)) (H.pointers host.now from) from kind b) trail.old.entries.entries trail.new.entries.entries) }
+) -> Result<(), NoMemory>
+    ensures added { OnOk result (Adds (IsByUnfound (H.objects host.now) (is_cut H.link finalizers.now.state (Some found.now)) (H.pointers host.now from) found.now object from kind) trail.old trail.new) }
 {
     if from == object {
         return Ok(());
@@ -53,9 +52,8 @@ fn add_others<H: Paths>(
     object: Addr,
     late: bool,
     trail: &mut Trail,
-) -> Result<(), Refused>
-    ensures refused { IfErr result (λ r. r ≡ Refused.NoMemory) }
-    ensures added { OnOk result (Adds (IsByOther H.link (H.objects host.now) finalizers.now.state found.now.entries.entries (H.pointers host.now) late object) trail.old.entries.entries trail.new.entries.entries) }
+) -> Result<(), NoMemory>
+    ensures added { OnOk result (Adds (IsByOther H.link (H.objects host.now) finalizers.now.state found.now (H.pointers host.now) late object) trail.old trail.new) }
 {
     for (from, registration) in finalizers.iter() {
         let kind = kind_toward(late, registration.kind);
@@ -72,10 +70,9 @@ fn reach_itself<H: Paths>(
     found: &Trail,
     object: Addr,
     kind: RegKind,
-) -> Result<Trail, Refused>
+) -> Result<Trail, NoMemory>
     requires { IsSound (H.objects host.now) finalizers.now.state }
-    ensures refused { IfErr result (λ r. r ≡ Refused.NoMemory) }
-    ensures reached { IfOk result (λ t. let heap = cleared (placed H.place finalizers.now.state.short) (has found.now.entries.entries) (H.objects host.now) in IsReachedTrail heap (IsByRing heap object kind) t.entries.entries) }
+    ensures reached { IfOk result (λ t. let heap = cleared (placed H.place finalizers.now.state.short) (has found.now) (H.objects host.now) in IsReachedTrail heap (IsByRing heap object kind) t) }
 {
     let mut trail = Trail::new(alloc);
     add_first_steps(finalizers, host, Some(found), object, kind, &mut trail)?;
@@ -91,10 +88,9 @@ fn reach_others<H: Paths>(
     found: &Trail,
     object: Addr,
     late: bool,
-) -> Result<Trail, Refused>
+) -> Result<Trail, NoMemory>
     requires { IsSound (H.objects host.now) finalizers.now.state }
-    ensures refused { IfErr result (λ r. r ≡ Refused.NoMemory) }
-    ensures reached { IfOk result (λ t. IsReachedTrail (cleared (placed H.place finalizers.now.state.short) (has found.now.entries.entries) (H.objects host.now)) (IsByWait H.place (H.objects host.now) finalizers.now.state (has found.now.entries.entries) late object) t.entries.entries) }
+    ensures reached { IfOk result (λ t. IsReachedTrail (cleared (placed H.place finalizers.now.state.short) (has found.now) (H.objects host.now)) (IsByWait H.place (H.objects host.now) finalizers.now.state (has found.now) late object) t) }
 {
     let mut trail = Trail::new(alloc);
     add_others(finalizers, host, found, object, late, &mut trail)?;
@@ -110,11 +106,10 @@ pub(crate) fn ring<H: Paths>(
     found: &Trail,
     object: Addr,
     registration: Registration,
-) -> Result<Option<Vec<Addr>>, Refused>
+) -> Result<Option<Vec<Addr>>, NoMemory>
     requires sound { IsSound (H.objects host.now) finalizers.now.state }
-    requires unfound { IsUnfound H.place (H.objects host.now) finalizers.now.state (has found.now.entries.entries) object registration }
-    ensures refused { IfErr result (λ r. r ≡ Refused.NoMemory) }
-    ensures path { IfOk result (λ answer. MatchOption answer (HoldsBack H.place (H.objects host.now) finalizers.now.state (has found.now.entries.entries) false object object → ⊥) (λ path. IsBackPath H.place (H.objects host.now) finalizers.now.state (has found.now.entries.entries) false object path.items object)) }
+    requires unfound { IsUnfound H.place (H.objects host.now) finalizers.now.state (has found.now) object registration }
+    ensures path { IfOk result (λ told. TellsRing H.place (H.objects host.now) finalizers.now.state (has found.now) object (option_map (λ path. path.items) told)) }
 {
     let trail = reach_itself(alloc, finalizers, host, found, object, registration.kind)?;
     let told = path_to(alloc, &trail, object)?;
@@ -132,10 +127,9 @@ pub(crate) fn wait<H: Paths>(
     found: &Trail,
     object: Addr,
     late: bool,
-) -> Result<Option<Vec<Addr>>, Refused>
+) -> Result<Option<Vec<Addr>>, NoMemory>
     requires { IsSound (H.objects host.now) finalizers.now.state }
-    ensures refused { IfErr result (λ r. r ≡ Refused.NoMemory) }
-    ensures path { IfOk result (λ answer. MatchOption answer ((from : ℕ) → (from ≢ object) × HoldsBack H.place (H.objects host.now) finalizers.now.state (has found.now.entries.entries) late from object → ⊥) (λ path. (from : ℕ) × (from ≢ object) × IsBackPath H.place (H.objects host.now) finalizers.now.state (has found.now.entries.entries) late from path.items object)) }
+    ensures path { IfOk result (λ told. TellsWait H.place (H.objects host.now) finalizers.now.state (has found.now) late object (option_map (λ path. path.items) told)) }
 {
     let trail = reach_others(alloc, finalizers, host, found, object, late)?;
     let told = path_to(alloc, &trail, object)?;

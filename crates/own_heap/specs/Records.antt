@@ -36,6 +36,10 @@ words_of r = map (λ k. word_of (slice_index_or r.fields k Nothing)) (range_with
 abbrev pub object_of : Record → Object
 object_of r = record { kind = Scanned; birth = r.birth; words = words_of r }
 
+-- the words of these roots
+abbrev pub addresses_of : List RecordId → List ℕ
+addresses_of roots = map (λ (id : RecordId). address_of id.place) roots
+
 -- the records from an index on, by address
 abbrev pub object_entries : ℕ → List (Option Record) → List (ℕ × Object)
 object_entries place [] = []

@@ -1,10 +1,8 @@
 //! The heap as a host that lists its roots and words.
 
-ghost use Rattle.std.specs.Prelude.{map};
-ghost use Rattle.own_heap.specs.Records.{address_of, objects_of};
+ghost use Rattle.own_heap.specs.Records.{addresses_of, objects_of};
 ghost use Rattle.own_heap.specs.Outside.{place_of_link};
 ghost use Rattle.own_heap.specs.Pointing.{links_found, records_point, words_listed};
-ghost use Rattle.own_heap.specs.declared.record.RecordId.{RecordId};
 
 use crate::heap::Heap;
 use crate::record::place_of_link;
@@ -14,7 +12,7 @@ use fz_why::{Paths, Pointer};
 impl Paths for Heap {
     ghost pointers = { λ h a. words_listed (objects_of h.records.slots.items) a };
 
-    ghost roots = { λ h. map (λ (id : RecordId). address_of id.place) h.roots.items };
+    ghost roots = { λ h. addresses_of h.roots.items };
 
     ghost link = { place_of_link };
 

@@ -1,16 +1,15 @@
 //! A heap with finalizers.
 
-ghost use Rattle.std.specs.Prelude.{◌≡◌, ◌+◌, ◌++◌, ◌∷◌, ◌⊎◌, ◌^◌, [], ◌<◌, if◌then◌else◌, is_some, length, map, option_map, replicate, slice_set, IfErr, IfOk, IfSome, IsTrue, MatchOption, OnErr, OnOk, None};
+ghost use Rattle.std.specs.Prelude.{◌≡◌, ◌+◌, ◌++◌, ◌∷◌, ◌⊎◌, ◌^◌, [], ◌<◌, if◌then◌else◌, is_some, length, option_map, replicate, slice_set, IfErr, IfOk, IfSome, IsTrue, MatchOption, OnErr, OnOk, None};
 ghost use Rattle.std.specs.FinMap.{contains_key, get};
 ghost use Rattle.fz_model.specs.Steps.{old_of};
 ghost use Rattle.fz_finalizers.specs.Causes.{IsJudgedBy, IsJudgedOrLacks, finish_causes, link_causes, register_causes};
 ghost use Rattle.fz_finalizers.specs.States.{HasRooms, links_of, opening, room_of, waiting};
 ghost use Rattle.fz_finalizers.specs.Follows.{Follows, Register, Link, Take, Finish, next_pass};
 ghost use Rattle.own_heap.specs.Outside.{place_of_link};
-ghost use Rattle.own_heap.specs.Records.{address_of, objects_of, slot, with_field, IsFull, IsMade};
+ghost use Rattle.own_heap.specs.Records.{address_of, addresses_of, objects_of, slot, with_field, IsFull, IsMade};
 ghost use Rattle.fz_pass.specs.Marks.{IsClosed};
 ghost use Rattle.fz_why.specs.Why.{IsToldOf};
-ghost use Rattle.own_heap.specs.declared.record.RecordId.{RecordId};
 ghost use Rattle.own_heap.specs.Sound.{HeldStand, IsSound};
 ghost use Rattle.own_heap.specs.Marking.{is_marked};
 ghost use Rattle.own_heap.specs.Collected.{Collects, MarksKept};
@@ -21,7 +20,7 @@ use fz_finalizers::{
     Entry, Finalizer, Finalizers, LinkAnswer, LinkKind, Old, Passed, Refused, Root,
 };
 use fz_model::Addr;
-use fz_why::{Reason, why};
+use fz_why::{NoMemory, Reason, why};
 use std::alloc::{AllocError, Global};
 
 /// Marks everything that one kind of the finalizers' roots reaches.
@@ -181,9 +180,8 @@ impl Runtime {
     }
 
     /// Why a record isn't finalized, as `fz_why::why` says.
-    pub fn why(&self, alloc: Global, id: RecordId) -> Result<Reason, Refused>
-        ensures refused { IfErr result (λ r. r ≡ Refused.NoMemory) }
-        ensures told { IfOk result (λ reason. IsToldOf place_of_link (objects_of self.now.heap.records.slots.items) (map (λ (root : RecordId). address_of root.place) self.now.heap.roots.items) self.now.finalizers.state reason (address_of id.place)) }
+    pub fn why(&self, alloc: Global, id: RecordId) -> Result<Reason, NoMemory>
+        ensures told { IfOk result (λ reason. IsToldOf place_of_link (objects_of self.now.heap.records.slots.items) (addresses_of self.now.heap.roots.items) self.now.finalizers.state reason (address_of id.place)) }
     {
         why(alloc, &self.finalizers, &self.heap, id.address())
     }

@@ -1,9 +1,21 @@
-use Rattle.std.proofs.Common.{subst}
+use Rattle.std.proofs.Common.{◌∙◌, Some, ap, subst}
 use Rattle.fz_why.specs.declared.origin.Origin.{Origin}
-use Rattle.fz_why.specs.Trail.{IsTrailPath}
+use Rattle.fz_why.specs.Trail.{IsStart, IsTrailPath}
 use Rattle.fz_why.proofs.asking.root_path.Goals as goal
 
-pub returns-in-Root-clause-path : goal.returns-in-Root-clause-path
-returns-in-Root-clause-path c =
+pub returns : goal.returns
+returns c = record {
+  path =
+      let p = rw c.in-Some.is at c.in_ok-told.ensures.path in
+      subst (λ (o : Origin). IsTrailPath c.args.found.now c.args.object o c.in-Some.path.items) c.in-Root.is p;
+}
+
+pub unreachable-requires : goal.unreachable-requires
+unreachable-requires c =
     let p = rw c.in-Some.is at c.in_ok-told.ensures.path in
-    subst (λ (o : Origin). IsTrailPath c.args.found.now.entries.entries c.args.object o c.in-Some.path.items) c.in-Root.is p
+    absurd (c.requires.rooted p.place p.first _ (p.starts ∙ ap (λ (o : Origin). Some (p.first, o)) c.in-First.is))
+
+pub unreachable-requires-in-After : goal.unreachable-requires-in-After
+unreachable-requires-in-After c =
+    let p = rw c.in-Some.is at c.in_ok-told.ensures.path in
+    absurd (subst IsStart c.in-After.is p.begins)

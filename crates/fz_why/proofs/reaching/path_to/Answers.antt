@@ -5,5 +5,5 @@ use Rattle.fz_why.proofs.reaching.path_to.Goals as goal
 
 pub back-preserved : goal.back-preserved
 back-preserved c =
-    back_goes c.args.trail.now.entries.entries c.args.object c.back.place c.in-Some-at.here.0 c.in-After.before c.back.path.items c.push.new.path.items c.requires c.back.invariant
-    (sym c.in-Some-at.ensures ∙ ap (λ (o : Origin). Some (c.in-Some-at.here.0, o)) c.in-After.is) c.in_ok-push.ensures.pushed
+    back_goes c.args.trail.now c.args.object c.back.place c.in-Some-at.here.0 c.in-After.before c.back.path.items c.push.new.path.items c.requires c.back.invariant
+    (sym c.in-Some-at.ensures.here ∙ ap (λ (o : Origin). Some (c.in-Some-at.here.0, o)) c.in-After.is) c.in_ok-push.ensures.pushed

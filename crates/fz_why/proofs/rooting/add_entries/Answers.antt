@@ -22,9 +22,11 @@ loop-entry-preserved g c =
       rest = one_on c.loop-entry.yielded (somes c.loop-entry.entry-iterator) _ (somes c.next.new.self) c.in-Some.entry inv.rest c.in-Some.ensures.steps;
     }
 
-pub returns-clause-added : goal.returns-clause-added
-returns-clause-added g c =
-    let objects = g.H.Host.objects c.args.host.now in
-    let words = somes c.entries-entry-items.result in
-    let all : c.loop-entry.yielded ≡ words = all_of c.loop-entry.yielded _ words (c.loop-entry.invariant.rest ∙ ap somes c.into_iter-entry-iterator.ensures.into_iter_gives) c.in-None.ensures.steps.0 in
-    subst (λ (ys : List Entry). Adds (ByAny ys (ByHeld objects)) c.args.trail.now.entries.entries c.loop-entry.trail.entries.entries) (all ∙ c.entries-entry-items.ensures.all) c.loop-entry.invariant.added
+pub returns : goal.returns
+returns g c = record {
+  added =
+      let objects = g.H.Host.objects c.args.host.now in
+      let words = somes c.entries-entry-items.result in
+      let all : c.loop-entry.yielded ≡ words = all_of c.loop-entry.yielded _ words (c.loop-entry.invariant.rest ∙ ap somes c.into_iter-entry-iterator.ensures.into_iter_gives) c.in-None.ensures.steps.0 in
+      subst (λ (ys : List Entry). Adds (ByAny ys (ByHeld objects)) c.args.trail.now c.loop-entry.trail) (all ∙ c.entries-entry-items.ensures.all) c.loop-entry.invariant.added;
+}

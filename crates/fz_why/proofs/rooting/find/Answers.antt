@@ -9,14 +9,16 @@ use Rattle.fz_why.proofs.Rooted.{Comes, comes_by_root}
 use Rattle.fz_why.proofs.Stepping.{step_child}
 use Rattle.fz_why.proofs.rooting.find.Goals as goal
 
-pub returns-clause-found : goal.returns-clause-found
-returns-clause-found g c =
-    let objects = g.H.Host.objects c.args.host.now in
-    let roots = g.H.Paths.roots c.args.host.now in
-    let s = c.args.finalizers.now.state in
-    let pointers = g.H.Paths.pointers c.args.host.now in
-    let first = subst (λ es. Adds (IsByHost objects roots) es c.add_host.new.trail.entries.entries) c.new-trail.ensures c.in_ok-add_host.ensures.added in
-    let two = adds_on (λ (o : Origin) (b : ℕ). IsByHost objects roots o b ⊎ IsByRegistration objects s.registrations o b) first c.in_ok-add_registered.ensures.added (λ o b. (λ h. h, λ h. h)) in
-    let all = adds_on (Comes objects roots s) two c.in_ok-add_entries.ensures.added (λ o b. (λ h. h, λ h. h)) in
-    reached_trail objects (λ a b. IsStepBy objects (λ w. false) (pointers a) b) (Comes objects roots s) (IsByRoot objects roots s) _ _ all c.in_ok-spread.ensures.spread
-    (λ a b. step_child objects a (pointers a) (g.met.H.Paths.are_pointers c.args.host.now a) b) (comes_by_root objects roots s)
+pub returns : goal.returns
+returns g c = record {
+  found =
+      let objects = g.H.Host.objects c.args.host.now in
+      let roots = g.H.Paths.roots c.args.host.now in
+      let s = c.args.finalizers.now.state in
+      let pointers = g.H.Paths.pointers c.args.host.now in
+      let first = subst (λ es. Adds (IsByHost objects roots) es c.add_host.new.trail) c.new-trail.ensures c.in_ok-add_host.ensures.added in
+      let two = adds_on (λ (o : Origin) (b : ℕ). IsByHost objects roots o b ⊎ IsByRegistration objects s.registrations o b) first c.in_ok-add_registered.ensures.added (λ o b. (λ h. h, λ h. h)) in
+      let all = adds_on (Comes objects roots s) two c.in_ok-add_entries.ensures.added (λ o b. (λ h. h, λ h. h)) in
+      reached_trail objects (λ a b. IsStepBy objects (λ w. false) (pointers a) b) (Comes objects roots s) (IsByRoot objects roots s) _ _ all c.in_ok-spread.ensures.spread
+      (λ a b. step_child objects a (pointers a) (g.met.H.Paths.are_pointers c.args.host.now a) b) (comes_by_root objects roots s);
+}

@@ -9,14 +9,18 @@ pub path_to-requires : goal.path_to-requires
 path_to-requires g c =
     let objects = g.H.Host.objects c.args.host.now in
     let s = c.args.finalizers.now.state in
-    let found = has c.args.found.now.entries.entries in
+    let found = has c.args.found.now in
     ordered (cleared (placed g.H.Host.place s.short) found objects) (IsByWait g.H.Host.place objects s found c.args.late c.args.object) _ c.in_ok-trail.ensures.reached (wait_begins g.H.Host.place objects s found c.args.late c.args.object)
 
-pub returns-in-Some-clause-path : goal.returns-in-Some-clause-path
-returns-in-Some-clause-path g c =
-    wait_told g.H.Host.place (g.H.Host.objects c.args.host.now) c.args.finalizers.now.state (has c.args.found.now.entries.entries) c.args.object _ c.args.late c.in_ok-trail.ensures.reached c.in-Some._start c.in-Some.path.items
-    (rw c.in-Some.is at c.in_ok-told.ensures.path)
+pub returns-in-Some : goal.returns-in-Some
+returns-in-Some g c = record {
+  path =
+      wait_told g.H.Host.place (g.H.Host.objects c.args.host.now) c.args.finalizers.now.state (has c.args.found.now) c.args.object _ c.args.late c.in_ok-trail.ensures.reached c.in-Some._start c.in-Some.path.items
+      (rw c.in-Some.is at c.in_ok-told.ensures.path);
+}
 
-pub returns-clause-path : goal.returns-clause-path
-returns-clause-path g c =
-    wait_none g.H.Host.place (g.H.Host.objects c.args.host.now) c.args.finalizers.now.state (has c.args.found.now.entries.entries) c.args.object _ c.args.late c.in_ok-trail.ensures.reached (rw c.in-None.is at c.in_ok-told.ensures.path)
+pub returns : goal.returns
+returns g c = record {
+  path =
+      wait_none g.H.Host.place (g.H.Host.objects c.args.host.now) c.args.finalizers.now.state (has c.args.found.now) c.args.object _ c.args.late c.in_ok-trail.ensures.reached (rw c.in-None.is at c.in_ok-told.ensures.path);
+}

@@ -1,9 +1,17 @@
-use Rattle.std.proofs.Common.{◌≡◌, ◌∙◌, false, sym}
-use Rattle.fz_why.specs.Trail.{has}
+use Rattle.std.proofs.Common.{◌≡◌, ◌∙◌, false, sym, ap}
+use Rattle.fz_why.specs.Trail.{added, has}
 use Rattle.fz_why.proofs.Trails.{added_new}
 use Rattle.fz_why.proofs.trail.Trail.add.Goals as goal
 
-pub returns-in-Ok-clause-added : goal.returns-in-Ok-clause-added
-returns-in-Ok-clause-added c =
-    let absent : has c.args.self.now.entries.entries c.args.object ≡ false = sym c.contains_key.ensures ∙ c.if-contains_key.false in
-    c.in-Ok.ensures.entries ∙ added_new c.args.self.now.entries.entries c.args.object c.args.origin absent
+pub insert-requires : goal.insert-requires
+insert-requires c = record {
+  new = sym c.contains_key.ensures ∙ c.if-contains_key.false;
+}
+
+pub returns : goal.returns
+returns c = record {
+  added =
+      let was = c.self.inside.entries.entries in
+      let absent : has was c.args.object ≡ false = sym c.contains_key.ensures ∙ c.if-contains_key.false in
+      c.in_ok-insert.ensures.added ∙ added_new was c.args.object c.args.origin absent ∙ ap (λ es. added es c.args.object c.args.origin) c.self.view_is;
+}
