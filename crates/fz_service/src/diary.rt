@@ -32,7 +32,7 @@ impl Model for Diary {
 /// Whether a worker has served its seat to the end. Only `Diary::served` makes one that says so.
 #[derive(Clone, Copy)]
 pub(crate) struct Served {
-    is_over: bool,
+    pub(crate) is_over: bool,
 }
 
 impl Served {
