@@ -31,15 +31,9 @@ class Finalizers:
     types = {'MachineHandle': 'derrimas_finalizers', 'HostEntry': 'derrimas_finalizers_entry', 'Linked': 'derrimas_finalizers_link_at',
              'RegistrationAt': 'fz_machine_registration_at', 'Question': 'derrimas_question', 'u32': 'derrimas_ask',
              **{name: f'fz_machine_some_{name.lower()}' for name in ('Registrations', 'Links')},
-<<<<<<< HEAD
-             **{name: f'fz_machine_{name.lower()}' for name in ('Registered', 'Question', 'Words')}}
-    alone = ['rattle_tried', 'derrimas_finalizers', 'derrimas_finalizers_registration_at', 'derrimas_question', 'derrimas_host', 'derrimas_trace',
-             'derrimas_finalizers_options', 'derrimas_finalizers_ages']
-=======
              **{name: f'fz_machine_{name.lower()}' for name in ('Registered', 'Words')}}
     alone = ['rattle_tried', 'derrimas_finalizers', 'derrimas_finalizers_registration_at', 'derrimas_host', 'derrimas_trace',
-             'derrimas_finalizers_options']
->>>>>>> afafc620b9a542e62dd7328612ec87fc5ddda5d8
+             'derrimas_finalizers_options', 'derrimas_finalizers_ages']
 
 
 class Workers:
