@@ -1,5 +1,5 @@
 -- What is registered has room for its entry, as registrations come and go.
-use Rattle.std.proofs.Common.{◌≡◌, ◌≤◌, ◌<◌, ℕ, ◌+◌, Bool, true, false, cond, ◌==◌, nat_le, nat_cmp, is_some, Some, None, Result, Ok, Err, OnOk, OnErr, [], length, refl, sym, ap, subst, arith, ◌^◌, List}
+use Rattle.std.proofs.Common.{◌≡◌, ◌≤◌, ◌<◌, ℕ, ◌+◌, Bool, true, false, cond, ◌==◌, nat_le, nat_cmp, is_some, Some, None, Result, Ok, Err, OnOk, OnErr, [], length, refl, sym, ap, subst, ◌∙◌, arith, ◌^◌, List}
 use Rattle.std.proofs.lemmas.Bool.Decides.{nat_tests}
 use Rattle.std.proofs.lemmas.Option.{none-some}
 use Rattle.std.specs.FinMap.{get, len, insert, remove, empty, len-empty}
@@ -17,7 +17,9 @@ use Rattle.fz_finalizers.specs.declared.refused.Refused.{Refused}
 use Rattle.fz_finalizers.specs.declared.refused.Refused.TheVariants.{Zero, Exhausted, Full}
 use Rattle.fz_finalizers.specs.declared.kinds.Finalizer.{Finalizer}
 use Rattle.fz_finalizers.specs.Kinds.{is_late, table_finalizer}
-use Rattle.fz_finalizers.specs.Causes.{IsJudgedOrLacks, first_cause, register_causes}
+use Rattle.fz_table.specs.declared.limits.TheConstants.{MOST_ENTRIES}
+use Rattle.fz_finalizers.specs.declared.cleanups.Attached.{Attached}
+use Rattle.fz_finalizers.specs.Causes.{IsJudgedOrLacks, add_causes, first_cause, register_causes}
 use Rattle.fz_finalizers.specs.Fits.{Fits}
 use Rattle.fz_finalizers.specs.Ready.{Ready, HasSameEntries}
 use Rattle.fz_finalizers.specs.States.{AreFlags}
@@ -42,23 +44,27 @@ zero_long = len-empty nat_cmp Registration
 abbrev nothing : Content
 nothing = record { registered = record { registrations = empty; next_number = 0 }; late = sets.empty }
 
-pub none_fits : (table : Content) (ready : Ready) → table ≡ nothing → ready.queue ≡ [] → Fits table ready
-none_fits table ready is none =
-    subst (λ t. Fits t ready) (sym is)
-    (record { room = omega (arith, zero_long); numbers = let none_queued = ap length none in omega (arith, zero_long, none_queued); few = omega arith; flags = no_flags })
+none_attached : len (empty {K = ℕ} {X = Attached} {R = nat_cmp}) ≡ 0
+none_attached = len-empty nat_cmp Attached
 
-module _ (table : Content) (ready : Ready) (fits : Fits table ready) where
+pub none_fits : (table : Content) (cleanups : Map Attached) (ready : Ready) → table ≡ nothing → cleanups ≡ empty → ready.queue ≡ [] → Fits table cleanups ready
+none_fits table cleanups ready is without none =
+    subst (λ t. Fits t cleanups ready) (sym is)
+    (let no_cleanups = ap len without ∙ none_attached in
+    record { room = omega (arith, zero_long, no_cleanups); numbers = let none_queued = ap length none in omega (arith, zero_long, none_queued, no_cleanups); few = omega arith; flags = no_flags })
+
+module _ (table : Content) (cleanups : Map Attached) (ready : Ready) (fits : Fits table cleanups ready) where
   -- an object is registered no more
-  pub removed_fits : (new_table : Content) (object : ℕ) → new_table ≡ left_by table object → Fits new_table ready
+  pub removed_fits : (new_table : Content) (object : ℕ) → new_table ≡ left_by table object → Fits new_table cleanups ready
   removed_fits new_table object is =
-      subst (λ t. Fits t ready) (sym is)
+      subst (λ t. Fits t cleanups ready) (sym is)
       (let less = len_less table.registrations object in
       let room = fits.room in
       let numbers = fits.numbers in
       record { room = omega (arith, less, room); numbers = omega (arith, less, numbers); few = fits.few; flags = flags_removed table.registrations table.late fits.flags object })
 
   -- there is more room
-  pub roomier_fits : (new_ready : Ready) → HasSameEntries ready new_ready → ready.room ≤ new_ready.room → Fits table new_ready
+  pub roomier_fits : (new_ready : Ready) → HasSameEntries ready new_ready → ready.room ≤ new_ready.room → Fits table cleanups new_ready
   roomier_fits new_ready same kept =
       let room = fits.room in
       let numbers = fits.numbers in
@@ -67,13 +73,14 @@ module _ (table : Content) (ready : Ready) (fits : Fits table ready) where
 
   -- some are registered no more, and have their entries
   pub queued_fits : (new_table : Content) (new_ready : Ready) (picks : List Pick) → new_table ≡ left_in table picks → length new_ready.queue + len new_table.registrations ≡ length ready.queue + len table.registrations
-      → len new_table.registrations ≤ new_ready.room → Fits new_table new_ready
+      → ready.room + len new_table.registrations ≤ new_ready.room + len table.registrations → Fits new_table cleanups new_ready
   queued_fits new_table new_ready picks is count room =
+      let was = fits.room in
       let numbers = fits.numbers in
       let few = fits.few in
       let next = ap (λ (t : Content). t.next_number) is in
       record {
-        room = room;
+        room = omega (arith, was, room);
         numbers = omega (arith, numbers, count, next);
         few = omega (arith, few, next);
         flags = subst (λ (t : Content). AreFlags t.registrations t.late) (sym is) (flags_left table.registrations table.late fits.flags picks);
@@ -90,9 +97,9 @@ module _ (table : Content) (ready : Ready) (fits : Fits table ready) where
     pub has_number : length ready.queue + 1 < 2 ^ 64
     has_number = let less = count_less in let numbers = fits.numbers in let few = fits.few in omega (arith, less, numbers, few)
 
-    pub taken_fits : (new_table : Content) (new_ready : Ready) → new_table ≡ left_by table object → length new_ready.queue ≡ length ready.queue + 1 → ready.room ≤ new_ready.room + 1 → Fits new_table new_ready
+    pub taken_fits : (new_table : Content) (new_ready : Ready) → new_table ≡ left_by table object → length new_ready.queue ≡ length ready.queue + 1 → ready.room ≤ new_ready.room + 1 → Fits new_table cleanups new_ready
     taken_fits new_table new_ready is queued room =
-        subst (λ t. Fits t new_ready) (sym is)
+        subst (λ t. Fits t cleanups new_ready) (sym is)
         (let less = count_less in
         let was = fits.room in
         let numbers = fits.numbers in
@@ -104,9 +111,9 @@ module _ (table : Content) (ready : Ready) (fits : Fits table ready) where
 
     pub registered_fits : {A : Type 0} (result : Result A Refused) → IsJudgedOrLacks (register_causes table.registrations table.next_number object) result
         → OnErr result ((new_table.registered ≡ table.registered) × (new_table.late ≡ table.late)) → OnOk result (new_table.registered ≡ entered)
-        → OnOk result (new_table.late ≡ with_flag table.late object (is_late f.kind)) → len new_table.registrations ≤ new_ready.room → Fits new_table new_ready
+        → OnOk result (new_table.late ≡ with_flag table.late object (is_late f.kind)) → len new_table.registrations + len cleanups ≤ new_ready.room → Fits new_table cleanups new_ready
     registered_fits (Err r) judged unchanged enters flags room =
-        subst (λ t. Fits t new_ready) (λ i. record { registered = sym unchanged.0 i; late = sym unchanged.1 i }) (roomier_fits new_ready same kept)
+        subst (λ t. Fits t cleanups new_ready) (λ i. record { registered = sym unchanged.0 i; late = sym unchanged.1 i }) (roomier_fits new_ready same kept)
     registered_fits (Ok x) judged unchanged enters flags room =
         let more = len_grown table.registrations object (registration_of table.next_number (table_finalizer f)) in
         let numbers = fits.numbers in
@@ -121,3 +128,47 @@ module _ (table : Content) (ready : Ready) (fits : Fits table ready) where
           flags = subst (λ (t : Content). AreFlags t.registrations t.late) (λ i. record { registered = sym enters i; late = sym flags i })
               (flags_entered table.registrations table.late fits.flags object (registration_of table.next_number (table_finalizer f)) (is_late f.kind) (late_is_normal f.kind));
         }
+
+-- cleanups come and go
+module _ (table : Content) (cleanups : Map Attached) (ready : Ready) (fits : Fits table cleanups ready) where
+  pub cancelled_fits : (new_cleanups : Map Attached) (number : ℕ) → new_cleanups ≡ remove cleanups number → Fits table new_cleanups ready
+  cancelled_fits new_cleanups number is =
+      let less = len_less cleanups number in
+      let count = ap len is in
+      let room = fits.room in
+      let numbers = fits.numbers in
+      record { room = omega (arith, less, count, room); numbers = omega (arith, less, count, numbers); few = fits.few; flags = fits.flags }
+
+  -- some go, and have their entries
+  pub cleaned_fits : (new_cleanups : Map Attached) (new_ready : Ready) → length new_ready.queue + len new_cleanups ≡ length ready.queue + len cleanups → ready.room + len new_cleanups ≤ new_ready.room + len cleanups → Fits table new_cleanups new_ready
+  cleaned_fits new_cleanups new_ready count room =
+      let was = fits.room in
+      let numbers = fits.numbers in
+      record { room = omega (arith, was, room); numbers = omega (arith, numbers, count); few = fits.few; flags = fits.flags }
+
+  -- one comes
+  pub added_fits : (new_table : Content) (new_cleanups : Map Attached) (new_ready : Ready) (number : ℕ) (c : Attached) → new_table ≡ record table { registered = record table.registered { next_number = table.next_number + 1 } } → new_cleanups ≡ insert cleanups number c
+      → new_ready.queue ≡ ready.queue → len table.registrations + len cleanups + 1 ≤ new_ready.room → table.next_number < COUNT_LIMIT → Fits new_table new_cleanups new_ready
+  added_fits new_table new_cleanups new_ready number c is added same room below =
+      subst (λ t. Fits t new_cleanups new_ready) (sym is)
+      (let more = len_grown cleanups number c in
+      let count = ap len added in
+      let queued = ap length same in
+      let numbers = fits.numbers in
+      record { room = omega (arith, more, count, room); numbers = omega (arith, more, count, queued, numbers); few = omega (arith, below); flags = fits.flags })
+
+-- where no cause stands, a cleanup has a number and a place
+pub can_add : (cleanups : Map Attached) (next object : ℕ) → first_cause (add_causes cleanups next object) ≡ None → (next < COUNT_LIMIT) × (len cleanups < MOST_ENTRIES)
+can_add cleanups next object none = first (object == 0) none
+  where
+    third : (next < COUNT_LIMIT) → (b : Bool) → nat_le MOST_ENTRIES (len cleanups) ≡ b → cond b (Some Full) None ≡ None → (next < COUNT_LIMIT) × (len cleanups < MOST_ENTRIES)
+    third below true is h = absurd (none-some Full (sym h))
+    third below false is h = (below, grind (arith, nat_tests))
+
+    second : (b : Bool) → nat_le COUNT_LIMIT next ≡ b → cond b (Some Exhausted) (cond (nat_le MOST_ENTRIES (len cleanups)) (Some Full) None) ≡ None → (next < COUNT_LIMIT) × (len cleanups < MOST_ENTRIES)
+    second true is h = absurd (none-some Exhausted (sym h))
+    second false is h = third (grind (arith, nat_tests)) (nat_le MOST_ENTRIES (len cleanups)) refl h
+
+    first : (b : Bool) → cond b (Some Zero) (cond (nat_le COUNT_LIMIT next) (Some Exhausted) (cond (nat_le MOST_ENTRIES (len cleanups)) (Some Full) None)) ≡ None → (next < COUNT_LIMIT) × (len cleanups < MOST_ENTRIES)
+    first true h = absurd (none-some Zero (sym h))
+    first false h = second (nat_le COUNT_LIMIT next) refl h

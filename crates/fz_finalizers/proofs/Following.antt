@@ -27,8 +27,8 @@ of_pick : (old : Parts) (short : Map ℕ) (found : ℕ → Bool) (p : Pick) → 
 of_pick old short found p is = (is.registration, is.unreachable.registered, ap (λ (q : Pick). q.reg) is.is, ap (λ (q : Pick). q.proc) is.is, ap (λ (q : Pick). q.cd) is.is)
 
 pub decided_queues : (Exact : Type 0) (place : ℕ → Option ℕ) (pass : ℕ) (objects left : Map Object) (found : ℕ → Bool) (old new : State) → Decides Exact place pass old.late new.late (parts_in objects old) found (parts_in left new) old.queue new.queue
-    → new.taken ≡ old.taken → new.held ≡ old.held → new.next_number ≡ old.next_number → Queues pass old new
-decided_queues Exact place pass objects left found old new d taken held next_number = record {
+    → new.taken ≡ old.taken → new.held ≡ old.held → new.next_number ≡ old.next_number → new.cleanups ≡ old.cleanups → Queues pass old new
+decided_queues Exact place pass objects left found old new d taken held next_number cleanups = record {
   picks = d.0.picks;
   picked = record {
     each = λ i x h. of_pick (parts_in objects old) (placed place old.short) found (get_or d.0.picks i x) (d.0.picked.each i x h).0;
@@ -40,11 +40,12 @@ decided_queues Exact place pass objects left found old new d taken held next_num
   left_late = d.1;
   held = held;
   next_number = next_number;
+  cleanups = cleanups;
 }
 
 pub all_queues : (old new : State) (q : QueuesAll (length old.queue) old.registrations (contains old.late) old.queue new.queue) → new.late ≡ without_flags old.late q.picks → new.registrations ≡ empty
-    → new.taken ≡ old.taken → new.held ≡ old.held → new.next_number ≡ old.next_number → Queues 0 old new
-all_queues old new q flags none taken held next_number = record {
+    → new.taken ≡ old.taken → new.held ≡ old.held → new.next_number ≡ old.next_number → new.cleanups ≡ old.cleanups → Queues 0 old new
+all_queues old new q flags none taken held next_number cleanups = record {
   picks = q.picks;
   picked = record {
     each = λ i x h. let of = q.each i x h in (of.0, of.1, ap (λ (p : Pick). p.reg) of.2, ap (λ (p : Pick). p.proc) of.2, ap (λ (p : Pick). p.cd) of.2);
@@ -56,4 +57,5 @@ all_queues old new q flags none taken held next_number = record {
   left_late = flags;
   held = held;
   next_number = next_number;
+  cleanups = cleanups;
 }

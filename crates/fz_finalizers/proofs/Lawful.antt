@@ -1,5 +1,5 @@
 -- What events do to links, and to the numbers of passes.
-use Rattle.std.proofs.Common.{◌≡◌, ◌≢◌, ℕ, ◌+◌, ◌-◌, ◌^◌, ◌<◌, ◌≤◌, ◌⊎◌, inl, inr, Bool, true, false, List, length, Option, None, Some, is_some, if◌then◌else◌, slice_get, refl, sym, ap, subst, ◌∙◌, arith}
+use Rattle.std.proofs.Common.{◌≡◌, ◌≢◌, ℕ, ◌+◌, ◌-◌, ◌^◌, ◌<◌, ◌≤◌, ◌⊎◌, inl, inr, Bool, true, false, List, ◌++◌, length, map, Option, None, Some, is_some, if◌then◌else◌, slice_get, refl, sym, ap, subst, ◌∙◌, arith}
 use Rattle.std.proofs.lemmas.Option.{none-some}
 use Rattle.std.specs.Option.{option_map_or}
 use Rattle.std.specs.FinMap.{get, insert, remove, contains_key}
@@ -12,8 +12,10 @@ use Rattle.fz_model.specs.State.{Map}
 use Rattle.fz_model.specs.Steps.{moved_to}
 use Rattle.fz_model.proofs.Lists.{slice_get-right}
 use Rattle.fz_model.proofs.Maps.{get-insert_same, get-insert_other, get-remove_same, get-remove_other}
+use Rattle.fz_model.specs.declared.answers.Pick.{Pick}
+use Rattle.fz_finalizers.specs.Cleanups.{pick_of}
 use Rattle.fz_finalizers.specs.States.{State, links_of, with_links}
-use Rattle.fz_finalizers.specs.Follows.{Event, Follows, Queues, next_pass, queued_one, queued_object, with_registration, Register, Unregister, Link, Unlink, Move, Pass, Begin, Queue, QueueAll, Take, TakeFinished, TakeAll, Finish}
+use Rattle.fz_finalizers.specs.Follows.{Event, Follows, Queues, next_pass, queued_one, queued_object, with_registration, Register, Unregister, Link, Unlink, Move, AddCleanup, Cancel, Clean, Pass, Begin, Queue, QueueAll, Take, TakeFinished, TakeAll, Finish}
 use Rattle.fz_finalizers.specs.Laws.{SameLinks, SameLinksBut, ChangesLinks, IsNextPass, AddsOfPass, NumbersPasses}
 use Rattle.fz_finalizers.proofs.OneQueued.{queued_queues}
 use Rattle.fz_finalizers.proofs.Recorded.{entry_has}
@@ -118,6 +120,9 @@ changes_links old new (Unregister object) does = unlinked old new _ does refl re
 changes_links old new (Link kind word target) does = subst (ChangesLinks old (Link kind word target)) (sym does) (put old kind word target)
 changes_links old new (Unlink kind word) does = subst (ChangesLinks old (Unlink kind word)) (sym does) (cut old kind word)
 changes_links old new (Move kind word to) does = subst (ChangesLinks old (Move kind word to)) (sym does) (moved old kind word to)
+changes_links old new (AddCleanup object cleanup) does = unlinked old new _ does refl refl
+changes_links old new (Cancel number) does = unlinked old new _ does refl refl
+changes_links old new (Clean pass is_due) does = unlinked old new _ does.2 refl refl
 changes_links old new Pass does = tt
 changes_links old new Begin does = unlinked old new _ does refl refl
 changes_links old new (Queue object) does = unlinked old new _ does (queued_short old object) (queued_long old object)
@@ -129,11 +134,14 @@ changes_links old new (Finish entry) does = unlinked old new _ does.1 refl refl
 
 -- ---- passes
 
+adds_picks : (pass : ℕ) (old new : State) (picks : List Pick) → new.queue ≡ old.queue ++ entries_of pass (length old.queue) picks → AddsOfPass pass old new
+adds_picks pass old new picks queued k e at =
+    let entries = entries_of pass (length old.queue) picks in
+    let here : slice_get entries k ≡ Some e = sym (slice_get-right old.queue entries k) ∙ ap (λ es. slice_get es (length old.queue + k)) (sym queued) ∙ at in
+    (entry_has pass (length old.queue) picks k e here).6
+
 adds : (pass : ℕ) (old new : State) → Queues pass old new → AddsOfPass pass old new
-adds pass old new queues k e at =
-    let entries = entries_of pass (length old.queue) queues.picks in
-    let here : slice_get entries k ≡ Some e = sym (slice_get-right old.queue entries k) ∙ ap (λ es. slice_get es (length old.queue + k)) (sym queues.queue) ∙ at in
-    (entry_has pass (length old.queue) queues.picks k e here).6
+adds pass old new queues = adds_picks pass old new queues.picks queues.queue
 
 next_is : (old new : ℕ) → new ≡ next_pass old → IsNextPass old new
 next_is old new is = (λ low. omega (arith, is, low), λ high. omega (arith, is, high))
@@ -151,6 +159,9 @@ numbers_passes old new (Unregister object) does = kept old new _ does refl refl
 numbers_passes old new (Link kind word target) does = let same = linked old kind _ in kept old new _ does same.0 same.1
 numbers_passes old new (Unlink kind word) does = let same = linked old kind _ in kept old new _ does same.0 same.1
 numbers_passes old new (Move kind word to) does = let same = linked old kind _ in kept old new _ does same.0 same.1
+numbers_passes old new (AddCleanup object cleanup) does = kept old new _ does refl refl
+numbers_passes old new (Cancel number) does = kept old new _ does refl refl
+numbers_passes old new (Clean pass is_due) does = (ap (λ (s : State). s.passes) does.2, adds_picks pass old new (map pick_of does.0) (ap (λ (s : State). s.queue) does.2))
 numbers_passes old new Pass does = (next_is old.passes new.passes does.1, λ k e at. adds _ old new does.0 k e at ∙ sym does.1)
 numbers_passes old new Begin does = (next_is old.passes new.passes (ap (λ (s : State). s.passes) does), ap (λ (s : State). s.queue) does)
 numbers_passes old new (Queue object) does = (ap (λ (s : State). s.passes) does ∙ queued_passes old object, adds old.passes old new (queued_queues old new object does))

@@ -15,3 +15,5 @@ pub mod Queues
 pub mod Taking
 pub mod Coming
 pub mod Shown
+pub mod Cleaned
+pub mod Alike

@@ -31,7 +31,7 @@ pub one_queues : (s : State) (object : ℕ) → Queues s.passes s (queued_object
 one_queues s object = by (get s.registrations object) refl
   where
     by : (o : Option Registration) → get s.registrations object ≡ o → Queues s.passes s (option_map_or (queued_one s object) o s)
-    by (Some r) here = record { picks = pick_of r object unknown ∷ []; picked = one_pick s.registrations object r here; queue = refl; taken = refl; left = refl; left_late = refl; held = refl; next_number = refl }
+    by (Some r) here = record { picks = pick_of r object unknown ∷ []; picked = one_pick s.registrations object r here; queue = refl; taken = refl; left = refl; left_late = refl; held = refl; next_number = refl; cleanups = refl }
     by None none = record {
       picks = [];
       picked = record { each = λ i d h. absurd (omega (arith, h)); apart = λ i j d lt h. absurd (omega (arith, h)) };
@@ -41,6 +41,7 @@ one_queues s object = by (get s.registrations object) refl
       left_late = refl;
       held = refl;
       next_number = refl;
+      cleanups = refl;
     }
 
 -- where the object isn't registered, nothing is queued

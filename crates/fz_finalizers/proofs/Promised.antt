@@ -1,5 +1,5 @@
 -- What every sequence of calls keeps.
-use Rattle.std.proofs.Common.{◌≡◌, ◌≢◌, ◌<◌, ◌⊎◌, inl, inr, ◌↔◌, ℕ, zero, suc, ◌+◌, Bool, true, false, true≢false, cond, List, [], ◌∷◌, ◌++◌, drop, take, filter, not, length, Some, slice_get, get_or, All, AllPairs, Contains, nat_cmp, refl, sym, ap, subst, ◌∙◌, ⊎_elim, append_assoc, append-nil, arith}
+use Rattle.std.proofs.Common.{◌≡◌, ◌≢◌, ◌<◌, ◌⊎◌, inl, inr, ◌↔◌, ℕ, zero, suc, ◌+◌, Bool, true, false, true≢false, cond, List, [], ◌∷◌, ◌++◌, drop, take, filter, map, not, length, Some, slice_get, get_or, All, AllPairs, Contains, nat_cmp, refl, sym, ap, subst, ◌∙◌, ⊎_elim, append_assoc, append-nil, arith}
 use Rattle.std.proofs.lemmas.Bool.{cases_eq}
 use Rattle.std.proofs.lemmas.List.{length-append, take-append-le, drop-append-le, take_more, take-append-drop, length-take-le}
 use Rattle.std.proofs.lemmas.List.Kept.{AllPairs-filter}
@@ -17,14 +17,18 @@ use Rattle.fz_model.specs.State.{Map}
 use Rattle.fz_model.specs.Events.{same_entry}
 use Rattle.fz_model.proofs.Events.{one_entry, same_itself}
 use Rattle.fz_model.specs.Steps.{registration_of}
-use Rattle.fz_model.proofs.Lists.{slice_get-left, slice_get-cases, place_of, contains_at, any_at, filter_at, AllPairs-append}
+use Rattle.fz_model.proofs.Lists.{slice_get-left, slice_get-cases, place_of, contains_at, any_at, filter_at, map_at, AllPairs-append}
 use Rattle.fz_model.proofs.Maps.{get-insert_same, get-insert_other, get-remove_same, get-remove_other}
 use Rattle.fz_model.proofs.Sound.{entry_at}
 use Rattle.fz_finalizers.specs.declared.kinds.Finalizer.{Finalizer}
 use Rattle.fz_finalizers.specs.Kinds.{is_late, table_finalizer}
 use Rattle.fz_finalizers.specs.States.{State, opening, unfinished, waiting, with_links}
-use Rattle.fz_finalizers.specs.Follows.{Event, Follows, Queues, with_registration, without_registration, Register, Unregister, Link, Unlink, Move, Pass, Begin, Queue, QueueAll, Take, TakeFinished, TakeAll, Finish}
-use Rattle.fz_finalizers.specs.Promises.{Past, with_event, IsReached, Opened, Then, Promises}
+use Rattle.fz_finalizers.specs.Follows.{Event, Follows, Queues, with_registration, without_registration, with_cleanup, without_cleanup, Register, Unregister, Link, Unlink, Move, AddCleanup, Cancel, Clean, Pass, Begin, Queue, QueueAll, Take, TakeFinished, TakeAll, Finish}
+use Rattle.fz_finalizers.specs.declared.cleanups.Attached as cleanups
+use Rattle.fz_finalizers.specs.declared.cleanups.Cleanup.{Cleanup}
+use Rattle.fz_finalizers.specs.Cleanups.{AreDue, ComesFirst, pick_of, without}
+use Rattle.fz_finalizers.proofs.Cleaned.{without_back}
+use Rattle.fz_finalizers.specs.Promises.{Past, Registered, Attached, with_event, IsReached, Opened, Then, Promises}
 use Rattle.fz_finalizers.proofs.Flags.{flags_entered, flags_removed, late_is_normal, no_flags}
 use Rattle.fz_finalizers.proofs.Queueing as queueing
 use Rattle.fz_finalizers.proofs.OneQueued.{queued_queues}
@@ -54,6 +58,9 @@ opened = record {
   gone = λ a r here. absurd (nothing a r here);
   below = λ a r here. absurd (nothing a r here);
   queued_below = λ k d within. absurd (omega (arith, within));
+  other = λ n c here. absurd (no_cleanup n c here);
+  uncleaned = λ n c here. absurd (no_cleanup n c here);
+  cleanups_below = λ n c here. absurd (no_cleanup n c here);
   held = λ e. (λ here. absurd (none_among e here), λ here. absurd (none_among e here.0));
   in_order = λ i j d lt within. absurd (omega (arith, within));
   finished_taken = λ e here. here;
@@ -62,6 +69,9 @@ opened = record {
   where
     nothing : (a : ℕ) (r : Registration) → get opening.registrations a ≡ Some r → ⊥
     nothing a r here = none-some r (sym (get-empty nat_cmp a) ∙ here)
+
+    no_cleanup : (n : ℕ) (c : cleanups.Attached) → get opening.cleanups n ≡ Some c → ⊥
+    no_cleanup n c here = none-some c (sym (get-empty nat_cmp n) ∙ here)
 
 -- ---- links come and go, and a pass begins: of these no promise speaks
 
@@ -76,6 +86,9 @@ beside s past short long passes p = record {
   gone = p.gone;
   below = p.below;
   queued_below = p.queued_below;
+  other = p.other;
+  uncleaned = p.uncleaned;
+  cleanups_below = p.cleanups_below;
   held = p.held;
   in_order = p.in_order;
   finished_taken = p.finished_taken;
@@ -102,6 +115,9 @@ unregistered s past object p = record {
   gone = λ a r here. p.gone a r (was a r here);
   below = λ a r here. p.below a r (was a r here);
   queued_below = p.queued_below;
+  other = λ n c here a r at. p.other n c here a r (was a r at);
+  uncleaned = p.uncleaned;
+  cleanups_below = p.cleanups_below;
   held = p.held;
   in_order = p.in_order;
   finished_taken = p.finished_taken;
@@ -154,7 +170,14 @@ module _ (s : State) (past : Past) (object : ℕ) (f : Finalizer) (p : Promises 
       (λ (x : (a ≢ object) × (get s.registrations a ≡ Some q)). let lt = p.below a q x.1 in omega (arith, lt))
       (cases_of a q here)
 
-  remade : Promises (with_registration s object f) (record past { made = past.made ++ (object, f) ∷ [] })
+  other : (n : ℕ) (c : cleanups.Attached) → get s.cleanups n ≡ Some c → (a : ℕ) (q : Registration) → get table a ≡ Some q → q.number ≢ n
+  other n c at a q here same =
+      ⊎_elim
+      (λ (x : (a ≡ object) × (q.number ≡ s.next_number)). absurd (let lt = p.cleanups_below n c at in let m = x.1 in omega (arith, lt, m, same)))
+      (λ (x : (a ≢ object) × (get s.registrations a ≡ Some q)). p.other n c at a q x.1 same)
+      (cases_of a q here)
+
+  remade : Promises (with_registration s object f) (record past { made = past.made ++ (object, Registered f) ∷ [] })
   remade = record {
     takes = p.takes;
     within = p.within;
@@ -165,6 +188,9 @@ module _ (s : State) (past : Past) (object : ℕ) (f : Finalizer) (p : Promises 
     gone = gone;
     below = below;
     queued_below = λ k d within. let lt = p.queued_below k d within in omega (arith, lt);
+    other = other;
+    uncleaned = p.uncleaned;
+    cleanups_below = λ n c at. let lt = p.cleanups_below n c at in omega (arith, lt);
     held = p.held;
     in_order = p.in_order;
     finished_taken = p.finished_taken;
@@ -210,6 +236,12 @@ module _ (pass : ℕ) (s t : State) (past : Past) (p : Promises s past) (queues 
       let y = reg_of j d within in
       queueing.differ pass s t queues i j x.0 y.0 lt x.2 y.2 (p.one x.0.obj y.0.obj x.1 y.1 x.3 y.3 (sym x.4 ∙ same ∙ y.4))
 
+  was_cleanup : (n : ℕ) (c : cleanups.Attached) → get t.cleanups n ≡ Some c → get s.cleanups n ≡ Some c
+  was_cleanup n c here = ap (λ (m : Map cleanups.Attached). get m n) (sym queues.cleanups) ∙ here
+
+  came_uncleaned : (n : ℕ) (c : cleanups.Attached) → get t.cleanups n ≡ Some c → All (λ (e : Entry). e.reg ≢ n) entries
+  came_uncleaned n c here k d within same = let of = reg_of k d within in p.other n c (was_cleanup n c here) of.0.obj of.1 of.3 (sym of.4 ∙ same)
+
   across : (i j : ℕ) (d : Entry) → i < length s.queue → j < length entries → (get_or s.queue i d).reg ≢ (get_or entries j d).reg
   across i j d within there same = let y = reg_of j d there in p.gone y.0.obj y.1 y.3 i d within (same ∙ y.4)
 
@@ -236,6 +268,9 @@ module _ (pass : ℕ) (s t : State) (past : Past) (p : Promises s past) (queues 
     gone = λ a r here. subst (All (λ (e : Entry). e.reg ≢ r.number)) (sym queues.queue) (All-append (λ (e : Entry). e.reg ≢ r.number) s.queue entries (p.gone a r (queueing.still_registered pass s t queues a r here).0) (came_gone a r here));
     below = λ a r here. let lt = p.below a r (queueing.still_registered pass s t queues a r here).0 in let same = queues.next_number in omega (arith, lt, same);
     queued_below = subst (All (λ (e : Entry). e.reg < t.next_number)) (sym queues.queue) (All-append (λ (e : Entry). e.reg < t.next_number) s.queue entries (λ k d within. let lt = p.queued_below k d within in let same = queues.next_number in omega (arith, lt, same)) came_below);
+    other = λ n c here a r at. p.other n c (was_cleanup n c here) a r (queueing.still_registered pass s t queues a r at).0;
+    uncleaned = λ n c here. subst (All (λ (e : Entry). e.reg ≢ n)) (sym queues.queue) (All-append (λ (e : Entry). e.reg ≢ n) s.queue entries (p.uncleaned n c (was_cleanup n c here)) (came_uncleaned n c here));
+    cleanups_below = λ n c here. let lt = p.cleanups_below n c (was_cleanup n c here) in let same = queues.next_number in omega (arith, lt, same);
     held = λ e. (λ here. (p.held e).0 (subst (λ es. Contains es e) queues.held here), λ was. subst (λ es. Contains es e) (sym queues.held) ((p.held e).1 was));
     in_order = subst (AllPairs (λ (d e : Entry). d.seq < e.seq)) (sym queues.held) p.in_order;
     finished_taken = p.finished_taken;
@@ -245,6 +280,142 @@ module _ (pass : ℕ) (s t : State) (past : Past) (p : Promises s past) (queues 
         (λ (old : Contains s.queue e). Contains-append_left (unfinished s) entries e (p.kept e old alive))
         (λ (fresh : Contains entries e). Contains-append_right (unfinished s) entries e fresh)
         (Contains-append_cases s.queue entries e (subst (λ es. Contains es e) queues.queue here)));
+  }
+
+-- ---- a cleanup comes, or is cancelled
+
+cancelled : (s : State) (past : Past) (number : ℕ) → Promises s past → Promises (without_cleanup s number) past
+cancelled s past number p = record {
+  takes = p.takes;
+  within = p.within;
+  numbered = p.numbered;
+  flags = p.flags;
+  one = p.one;
+  once = p.once;
+  gone = p.gone;
+  below = p.below;
+  queued_below = p.queued_below;
+  other = λ n c here. p.other n c (was n c here);
+  uncleaned = λ n c here. p.uncleaned n c (was n c here);
+  cleanups_below = λ n c here. p.cleanups_below n c (was n c here);
+  held = p.held;
+  in_order = p.in_order;
+  finished_taken = p.finished_taken;
+  kept = p.kept;
+}
+  where
+    was : (n : ℕ) (c : cleanups.Attached) → get (remove s.cleanups number) n ≡ Some c → get s.cleanups n ≡ Some c
+    was n c here =
+        ⊎_elim (λ (is : n ≡ number). absurd (none-some c (sym (ap (get (remove s.cleanups number)) is ∙ get-remove_same s.cleanups number) ∙ here))) (λ (ne : n ≢ number). sym (get-remove_other s.cleanups number n ne) ∙ here)
+        (cases_eq n number)
+
+module _ (s : State) (past : Past) (object : ℕ) (cleanup : Cleanup) (p : Promises s past) where
+  abbrev table_with : Map cleanups.Attached
+  table_with = insert s.cleanups s.next_number (record { object = object; cleanup = cleanup })
+
+  cleanup_cases : (n : ℕ) (c : cleanups.Attached) → get table_with n ≡ Some c → (n ≡ s.next_number) ⊎ (get s.cleanups n ≡ Some c)
+  cleanup_cases n c at = ⊎_elim inl (λ (ne : n ≢ s.next_number). inr (sym (get-insert_other s.cleanups s.next_number (record { object = object; cleanup = cleanup }) n ne) ∙ at)) (cases_eq n s.next_number)
+
+  added : Promises (with_cleanup s object cleanup) (record past { made = past.made ++ (object, Attached cleanup) ∷ [] })
+  added = record {
+    takes = p.takes;
+    within = p.within;
+    numbered = p.numbered;
+    flags = p.flags;
+    one = p.one;
+    once = p.once;
+    gone = p.gone;
+    below = λ a r here. let lt = p.below a r here in omega (arith, lt);
+    queued_below = λ k d within. let lt = p.queued_below k d within in omega (arith, lt);
+    other = λ n c here a r at same.
+        ⊎_elim (λ (is : n ≡ s.next_number). absurd (let lt = p.below a r at in omega (arith, lt, same, is))) (λ (was : get s.cleanups n ≡ Some c). p.other n c was a r at same) (cleanup_cases n c here);
+    uncleaned = λ n c here k d within same.
+        ⊎_elim (λ (is : n ≡ s.next_number). absurd (let lt = p.queued_below k d within in omega (arith, lt, same, is))) (λ (was : get s.cleanups n ≡ Some c). p.uncleaned n c was k d within same) (cleanup_cases n c here);
+    cleanups_below = λ n c here.
+        ⊎_elim (λ (is : n ≡ s.next_number). let e = is in omega (arith, e)) (λ (was : get s.cleanups n ≡ Some c). let lt = p.cleanups_below n c was in omega (arith, lt)) (cleanup_cases n c here);
+    held = p.held;
+    in_order = p.in_order;
+    finished_taken = p.finished_taken;
+    kept = p.kept;
+  }
+
+-- ---- entries of cleanups come
+
+module _ (pass : ℕ) (s : State) (past : Past) (p : Promises s past) (test : cleanups.Attached → Bool) (due : List (ℕ × cleanups.Attached)) (are : AreDue test s.cleanups due) where
+  abbrev clean_entries : List Entry
+  clean_entries = entries_of pass (length s.queue) (map pick_of due)
+
+  abbrev cleaned_state : State
+  cleaned_state = record s { queue = s.queue ++ clean_entries; cleanups = without s.cleanups due }
+
+  clean_at : (k : ℕ) (e : Entry) → slice_get clean_entries k ≡ Some e → (x : ℕ × cleanups.Attached) × (slice_get due k ≡ Some x) × (e.seq ≡ length s.queue + k) × (e.reg ≡ x.0) × (get s.cleanups x.0 ≡ Some x.1)
+  clean_at k e at =
+      let is = entry_at pass (length s.queue) (map pick_of due) k e at in
+      let from = map_at pick_of due k is.0 is.1 in
+      let x = from.0 in
+      let each = are.each k x (slice_get_within due k x from.1) in
+      let here = subst (λ (y : ℕ × cleanups.Attached). get s.cleanups y.0 ≡ Some y.1) (get_or_from_slice_get due k x x from.1) each.0 in
+      (x, from.1, is.2, is.3 ∙ ap (λ (q : Pick). q.reg) (sym from.2), here)
+
+  number_of : (k : ℕ) (d : Entry) → k < length clean_entries → (x : ℕ × cleanups.Attached) × (slice_get due k ≡ Some x) × ((get_or clean_entries k d).reg ≡ x.0) × (get s.cleanups x.0 ≡ Some x.1)
+  number_of k d within = let of = clean_at k (get_or clean_entries k d) (slice_get-get_or clean_entries k d within) in (of.0, of.1, of.3, of.4)
+
+  numbers_below : All (λ (e : Entry). e.reg < s.next_number) clean_entries
+  numbers_below k d within = let of = number_of k d within in let lt = p.cleanups_below of.0.0 of.0.1 of.3 in let n = of.2 in omega (arith, lt, n)
+
+  numbers_once : AllPairs (λ (d e : Entry). d.reg ≢ e.reg) clean_entries
+  numbers_once i j d lt within same =
+      let x = number_of i d (omega (arith, lt, within)) in
+      let y = number_of j d within in
+      let number : x.0.0 ≡ y.0.0 = sym x.2 ∙ same ∙ y.2 in
+      let one : x.0.1 ≡ y.0.1 = same_Some x.0.1 y.0.1 (sym x.3 ∙ ap (get s.cleanups) number ∙ y.3) in
+      let rank : x.0.1.cleanup.rank ≡ y.0.1.cleanup.rank = ap (λ (c : cleanups.Attached). c.cleanup.rank) one in
+      let before : ComesFirst x.0 y.0 =
+      subst (λ (z : ℕ × cleanups.Attached). ComesFirst z y.0) (get_or_from_slice_get due i x.0 x.0 x.1)
+      (subst (λ (z : ℕ × cleanups.Attached). ComesFirst (get_or due i x.0) z) (get_or_from_slice_get due j y.0 x.0 y.1) (are.ordered i j x.0 lt (slice_get_within due j y.0 y.1))) in
+      ⊎_elim (λ less. absurd (omega (arith, less, rank))) (λ less. absurd (omega (arith, less.1, number))) before
+
+  numbers_gone : (a : ℕ) (r : Registration) → get s.registrations a ≡ Some r → All (λ (e : Entry). e.reg ≢ r.number) clean_entries
+  numbers_gone a r here k d within same = let of = number_of k d within in p.other of.0.0 of.0.1 of.3 a r here (sym same ∙ of.2)
+
+  numbers_left : (n : ℕ) (c : cleanups.Attached) → get (without s.cleanups due) n ≡ Some c → All (λ (e : Entry). e.reg ≢ n) clean_entries
+  numbers_left n c here k d within same =
+      let of = number_of k d within in
+      let back = without_back s.cleanups due n c here in
+      back.1 k of.0 (slice_get_within due k of.0 of.1) (ap (λ (x : ℕ × cleanups.Attached). x.0) (get_or_from_slice_get due k of.0 of.0 of.1) ∙ sym of.2 ∙ same)
+
+  still_cleanup : (n : ℕ) (c : cleanups.Attached) → get (without s.cleanups due) n ≡ Some c → get s.cleanups n ≡ Some c
+  still_cleanup n c here = (without_back s.cleanups due n c here).0
+
+  cleans_grown : unfinished cleaned_state ≡ unfinished s ++ clean_entries
+  cleans_grown = ap (λ es. s.held ++ es) (drop-append-le s.taken s.queue clean_entries p.within) ∙ sym (append_assoc s.held (drop s.taken s.queue) clean_entries)
+
+  cleaned : Promises cleaned_state past
+  cleaned = record {
+    takes = p.takes ∙ sym (take-append-le s.taken s.queue clean_entries p.within);
+    within = let all = length-append s.queue clean_entries in let was = p.within in omega (arith, all, was);
+    numbered = λ k e at.
+        ⊎_elim (p.numbered k e)
+        (λ (x : (i : ℕ) × (k ≡ length s.queue + i) × (slice_get clean_entries i ≡ Some e)). let is = clean_at x.0 e x.2 in let n = is.2 in let k_is = x.1 in omega (arith, n, k_is))
+        (slice_get-cases s.queue clean_entries k e at);
+    flags = p.flags;
+    one = p.one;
+    once = AllPairs-append (λ (d e : Entry). d.reg ≢ e.reg) s.queue clean_entries p.once numbers_once (λ i j d within there same. let of = number_of j d there in p.uncleaned of.0.0 of.0.1 of.3 i d within (same ∙ of.2));
+    gone = λ a r here. All-append (λ (e : Entry). e.reg ≢ r.number) s.queue clean_entries (p.gone a r here) (numbers_gone a r here);
+    below = p.below;
+    queued_below = All-append (λ (e : Entry). e.reg < s.next_number) s.queue clean_entries p.queued_below numbers_below;
+    other = λ n c here. p.other n c (still_cleanup n c here);
+    uncleaned = λ n c here. All-append (λ (e : Entry). e.reg ≢ n) s.queue clean_entries (p.uncleaned n c (still_cleanup n c here)) (numbers_left n c here);
+    cleanups_below = λ n c here. p.cleanups_below n c (still_cleanup n c here);
+    held = p.held;
+    in_order = p.in_order;
+    finished_taken = p.finished_taken;
+    kept = λ e here alive.
+        subst (λ es. Contains es e) (sym cleans_grown)
+        (⊎_elim
+        (λ (old : Contains s.queue e). Contains-append_left (unfinished s) clean_entries e (p.kept e old alive))
+        (λ (fresh : Contains clean_entries e). Contains-append_right (unfinished s) clean_entries e fresh)
+        (Contains-append_cases s.queue clean_entries e here));
   }
 
 -- ---- an entry is taken
@@ -293,6 +464,9 @@ module _ (s : State) (past : Past) (e : Entry) (p : Promises s past) (at : slice
     gone = p.gone;
     below = p.below;
     queued_below = p.queued_below;
+    other = p.other;
+    uncleaned = p.uncleaned;
+    cleanups_below = p.cleanups_below;
     held = λ d. (
       λ here.
           ⊎_elim (λ (old : Contains s.held d). let was = (p.held d).0 old in (Contains-append_left past.taken (e ∷ []) d was.0, was.1))
@@ -323,6 +497,9 @@ module _ (s : State) (past : Past) (e : Entry) (p : Promises s past) (at : slice
     gone = p.gone;
     below = p.below;
     queued_below = p.queued_below;
+    other = p.other;
+    uncleaned = p.uncleaned;
+    cleanups_below = p.cleanups_below;
     held = λ d. (
       λ here. let was = (p.held d).0 here in (Contains-append_left past.taken (e ∷ []) d was.0, λ f. ⊎_elim was.1 (λ (same : e ≡ d). fresh (subst (Contains past.taken) (sym same) was.0)) (Contains-push_cases past.finished e d f)),
       λ here.
@@ -437,6 +614,9 @@ module _ (s : State) (past : Past) (e : Entry) (p : Promises s past) (here : lis
     gone = p.gone;
     below = p.below;
     queued_below = p.queued_below;
+    other = p.other;
+    uncleaned = p.uncleaned;
+    cleanups_below = p.cleanups_below;
     held = left_held;
     in_order = AllPairs-filter (λ (d x : Entry). d.seq < x.seq) stays s.held p.in_order;
     finished_taken = λ d f. ⊎_elim (p.finished_taken d) (λ (same : e ≡ d). subst (Contains past.taken) same ((p.held e).0 is_there).0) (Contains-push_cases past.finished e d f);
@@ -450,7 +630,10 @@ module _ (s : State) (past : Past) (e : Entry) (p : Promises s past) (here : lis
 -- ---- each event
 
 step : (old now : State) (past : Past) (event : Event) → Promises old past → Follows old event now → Promises now (with_event past event)
-step old now past (Register object finalizer) p does = subst (λ s. Promises s (record past { made = past.made ++ (object, finalizer) ∷ [] })) (sym does) (remade old past object finalizer p)
+step old now past (Register object finalizer) p does = subst (λ s. Promises s (record past { made = past.made ++ (object, Registered finalizer) ∷ [] })) (sym does) (remade old past object finalizer p)
+step old now past (AddCleanup object cleanup) p does = subst (λ s. Promises s (record past { made = past.made ++ (object, Attached cleanup) ∷ [] })) (sym does) (added old past object cleanup p)
+step old now past (Cancel number) p does = subst (λ s. Promises s past) (sym does) (cancelled old past number p)
+step old now past (Clean pass is_due) p does = subst (λ s. Promises s past) (sym does.2) (cleaned pass old past p is_due does.0 does.1)
 step old now past (Unregister object) p does = subst (λ s. Promises s past) (sym does) (unregistered old past object p)
 step old now past (Link kind word target) p does = subst (λ s. Promises s past) (sym does) (linked old past kind _ p)
 step old now past (Unlink kind word) p does = subst (λ s. Promises s past) (sym does) (linked old past kind _ p)

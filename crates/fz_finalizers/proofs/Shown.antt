@@ -6,7 +6,6 @@ use Rattle.std.proofs.lemmas.Bool.{cases_lt}
 use Rattle.std.specs.FinSet.{contains}
 use Rattle.fz_bits.specs.Flags.{Set, IsNext}
 use Rattle.fz_model.specs.declared.answers.Entry.{Entry}
-use Rattle.fz_model.specs.declared.answers.Registration.{Registration}
 use Rattle.fz_finalizers.specs.Queue.{placed_in, shown_in}
 use Rattle.fz_finalizers.specs.Walks.{IsRest, Steps, somes, words_left, words_of}
 use Rattle.fz_finalizers.specs.declared.roots.Root.{Root}
@@ -132,7 +131,21 @@ steps_all f x old new is = (
 pub none_all : {X Y : Type 0} (f : X → Y) (old : List X) → old ≡ [] → somes (map (λ y. Some (f y)) old) ≡ []
 none_all f old none = somes-all f old ∙ ap (map f) none
 
-pub somes_words : (root : Root) (entries : List (Option Entry)) (registrations : List (ℕ × Registration)) → somes (words_left root entries registrations) ≡ words_of root (somes entries) registrations
-somes_words HeldObject entries registrations = somes-map (λ (e : Entry). e.obj) entries
-somes_words HeldData entries registrations = somes-map (λ (e : Entry). e.cd) entries
-somes_words RegisteredData entries registrations = somes-all (λ (e : ℕ × Registration). e.1.cd) registrations
+somes_same : (xs : List ℕ) → somes (map Some xs) ≡ xs
+somes_same [] = refl
+somes_same (x ∷ xs) = ap (λ ys. x ∷ ys) (somes_same xs)
+
+pub somes_words : (root : Root) (entries : List (Option Entry)) (registered : List ℕ) → somes (words_left root entries registered) ≡ words_of root (somes entries) registered
+somes_words HeldObject entries registered = somes-map (λ (e : Entry). e.obj) entries
+somes_words HeldData entries registered = somes-map (λ (e : Entry). e.cd) entries
+somes_words RegisteredData entries registered = somes_same registered
+
+-- a step of a walk over words
+pub step_data : (word : ℕ) (old new : List ℕ) → old ≡ word ∷ new → Steps (Some word) (map Some old) (map Some new)
+step_data word old new is = (
+  somes_same old ∙ is ∙ ap (λ ys. word ∷ ys) (sym (somes_same new)),
+  rest-map Some old new (subst (λ xs. IsRest xs new) (sym is) (ap (λ n. drop n (word ∷ new)) {x = 1} {y = length (word ∷ new) - length new} (omega arith))),
+)
+
+pub none_data : (old : List ℕ) → old ≡ [] → somes (map Some old) ≡ []
+none_data old none = somes_same old ∙ none

@@ -1,11 +1,14 @@
 -- Why calls are refused. Each call has a list of causes in a fixed order. It returns the first cause that applies.
--- code: fz_finalizers/src/registering.rt, linking.rt, entries.rt
+-- code: fz_finalizers/src/registering.rt, linking.rt, adding.rt, entries.rt
 use Rattle.std.specs.Prelude.{◌≡◌, ℕ, Bool, not, ◌||◌, ◌==◌, nat_le, if◌then◌else◌, ◌⊎◌, List, [], ◌∷◌, Option, Some, None, Result, Ok, Err}
 use Rattle.fz_model.specs.declared.limits.TheConstants.{COUNT_LIMIT}
 use Rattle.fz_model.specs.declared.answers.Entry.{Entry}
 use Rattle.fz_model.specs.declared.answers.Registration.{Registration}
 use Rattle.fz_model.specs.State.{Map}
+use Rattle.std.specs.FinMap.{len}
+use Rattle.fz_table.specs.declared.limits.TheConstants.{MOST_ENTRIES}
 use Rattle.fz_table.specs.Places.{lacks_place}
+use Rattle.fz_finalizers.specs.declared.cleanups.Attached.{Attached}
 use Rattle.fz_finalizers.specs.declared.refused.Refused.{Refused}
 use Rattle.fz_finalizers.specs.declared.refused.Refused.TheVariants.{Zero, Exhausted, Full, NoMemory, NotHeld}
 use Rattle.fz_finalizers.specs.States.{is_held}
@@ -33,6 +36,10 @@ IsJudgedOrLacks causes (Err r) = (first_cause causes ≡ Some r) ⊎ ((first_cau
 abbrev pub register_causes : Map Registration → ℕ → ℕ → Causes
 register_causes table next_number object =
     (object == 0, Zero) ∷ (nat_le COUNT_LIMIT next_number, Exhausted) ∷ (lacks_place table object, Full) ∷ []
+
+-- the causes of adding a cleanup to an object
+abbrev pub add_causes : Map Attached → ℕ → ℕ → Causes
+add_causes cleanups next_number object = (object == 0, Zero) ∷ (nat_le COUNT_LIMIT next_number, Exhausted) ∷ (nat_le MOST_ENTRIES (len cleanups), Full) ∷ []
 
 -- the causes of linking a word to a target
 abbrev pub link_causes : Map ℕ → ℕ → ℕ → Causes

@@ -1,6 +1,6 @@
 -- What the calls do, whatever the host does: each is an event, which leads from one state to another.
--- code: fz_finalizers/src/registrations.rt, links.rt, passes.rt, entries.rt, stepwise.rt, whole.rt
-use Rattle.std.specs.Prelude.{◌≡◌, ◌≢◌, ℕ, ◌+◌, ◌-◌, ◌^◌, min, not, List, [], ◌++◌, ◌∷◌, filter, length, slice_get, Some, All, AllPairs, IsTrue}
+-- code: fz_finalizers/src/registrations.rt, links.rt, adding.rt, passes.rt, entries.rt, stepwise.rt, whole.rt
+use Rattle.std.specs.Prelude.{◌≡◌, ◌≢◌, ℕ, ◌+◌, ◌-◌, ◌^◌, min, not, Bool, List, [], ◌++◌, ◌∷◌, filter, length, map, slice_get, Some, All, AllPairs, IsTrue}
 use Rattle.std.specs.FinMap.{get, insert, remove, empty}
 use Rattle.std.specs.FinSet as sets
 use Rattle.std.specs.Option.{option_map_or}
@@ -16,6 +16,10 @@ use Rattle.fz_pass.specs.All.{unknown}
 use Rattle.fz_pass.specs.Picking.{pick_of, without_flags}
 use Rattle.fz_table.specs.Tabled.{with_flag}
 use Rattle.fz_finalizers.specs.declared.kinds.Finalizer.{Finalizer}
+use Rattle.fz_finalizers.specs.declared.cleanups.Attached.{Attached}
+use Rattle.fz_finalizers.specs.declared.cleanups.Cleanup.{Cleanup}
+use Rattle.fz_finalizers.specs.Cleanups.{AreDue, without}
+use Rattle.fz_finalizers.specs.Cleanups as cleanups
 use Rattle.fz_finalizers.specs.Kinds.{is_late, table_finalizer}
 use Rattle.fz_finalizers.specs.States.{State, is_held, links_of, unfinished, waiting, with_links}
 
@@ -42,6 +46,13 @@ pub record Queues (pass : ℕ) (old new : State) : Type 0 where
   pub left_late : new.late ≡ without_flags old.late picks
   pub held : new.held ≡ old.held
   pub next_number : new.next_number ≡ old.next_number
+  pub cleanups : new.cleanups ≡ old.cleanups
+
+-- the due cleanups leave, and their entries are appended to the queue, with successive numbers
+abbrev pub Cleans : ℕ → (Attached → Bool) → State → State → Type 0
+Cleans pass is_due old new =
+    (due : List (ℕ × Attached)) × AreDue is_due old.cleanups due
+    × (new ≡ record old { queue = old.queue ++ entries_of pass (length old.queue) (map cleanups.pick_of due); cleanups = without old.cleanups due })
 
 pub data Event : Type 0 where
   Register : ℕ → Finalizer → Event
@@ -49,6 +60,9 @@ pub data Event : Type 0 where
   Link : LinkKind → ℕ → ℕ → Event
   Unlink : LinkKind → ℕ → Event
   Move : LinkKind → ℕ → ℕ → Event
+  AddCleanup : ℕ → Cleanup → Event
+  Cancel : ℕ → Event
+  Clean : ℕ → (Attached → Bool) → Event
   Pass : Event
   Begin : Event
   Queue : ℕ → Event
@@ -70,6 +84,14 @@ with_registration s object finalizer = record s {
 abbrev pub without_registration : State → ℕ → State
 without_registration s object = record s { registrations = remove s.registrations object; late = sets.remove s.late object }
 
+-- the object has another cleanup, under the next number
+abbrev pub with_cleanup : State → ℕ → Cleanup → State
+with_cleanup s object cleanup = record s { cleanups = insert s.cleanups s.next_number (record { object = object; cleanup = cleanup }); next_number = s.next_number + 1 }
+
+-- the cleanup with this number is gone
+abbrev pub without_cleanup : State → ℕ → State
+without_cleanup s number = record s { cleanups = remove s.cleanups number }
+
 -- the object's registration is appended to the queue, as an entry of the last pass begun
 abbrev pub queued_one : State → ℕ → Registration → State
 queued_one s object r = record (without_registration s object) { queue = s.queue ++ entry_of s.passes (length s.queue) (pick_of r object unknown) ∷ [] }
@@ -84,6 +106,9 @@ Follows old (Unregister object) new = new ≡ without_registration old object
 Follows old (Link kind word target) new = new ≡ with_links old kind (insert (links_of old kind) word target)
 Follows old (Unlink kind word) new = new ≡ with_links old kind (remove (links_of old kind) word)
 Follows old (Move kind word to) new = new ≡ with_links old kind (moved_to (links_of old kind) word to (get (links_of old kind) word))
+Follows old (AddCleanup object cleanup) new = new ≡ with_cleanup old object cleanup
+Follows old (Cancel number) new = new ≡ without_cleanup old number
+Follows old (Clean pass is_due) new = Cleans pass is_due old new
 Follows old Pass new = Queues (next_pass old.passes) old new × (new.passes ≡ next_pass old.passes)
 Follows old Begin new = new ≡ record old { passes = next_pass old.passes }
 Follows old (Queue object) new = new ≡ queued_object old object

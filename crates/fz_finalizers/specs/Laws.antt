@@ -1,15 +1,22 @@
 -- What each event does to links and to the numbers of passes, and what iterators yield, said of each key. These laws test the definitions.
 -- code: fz_finalizers/src/law.rt
-use Rattle.std.specs.Prelude.{◌≡◌, ◌↔◌, ℕ, ◌+◌, ◌-◌, ◌^◌, ◌<◌, ◌≤◌, ◌⊎◌, List, Contains, length, slice_get, None, Some}
+use Rattle.std.specs.Prelude.{◌≡◌, ◌↔◌, ℕ, ◌+◌, ◌-◌, ◌^◌, ◌++◌, ◌<◌, ◌≤◌, ◌⊎◌, Bool, List, Contains, length, slice_get, Option, None, Some, IsTrue}
 use Rattle.std.specs.FinMap.{get}
 use Rattle.fz_model.specs.declared.answers.Entry.{Entry}
 use Rattle.fz_model.specs.declared.answers.Registration.{Registration}
 use Rattle.fz_model.specs.declared.kinds.LinkKind.{LinkKind}
+use Rattle.fz_model.specs.declared.kinds.LinkKind.TheVariants.{Short, Long}
+use Rattle.fz_model.specs.declared.answers.Pick.{Pick}
+use Rattle.fz_model.specs.Pass.{entries_of}
+use Rattle.fz_model.specs.State.{Map, Object}
 use Rattle.fz_finalizers.specs.declared.roots.Root.{Root}
 use Rattle.fz_finalizers.specs.declared.roots.Root.TheVariants.{HeldObject, HeldData, RegisteredData}
 use Rattle.fz_finalizers.specs.States.{State, links_of, unfinished}
-use Rattle.fz_finalizers.specs.Follows.{Event, Link, Unlink, Move, Pass, Begin, Queue, QueueAll}
-use Rattle.fz_finalizers.specs.Walks.{AreRegistrations, AreLinks, YieldsRoots}
+use Rattle.fz_finalizers.specs.declared.cleanups.Attached.{Attached}
+use Rattle.fz_finalizers.specs.Cleanups.{is_due}
+use Rattle.fz_finalizers.specs.Follows.{Event, Link, Unlink, Move, Clean, Pass, Begin, Queue, QueueAll, next_pass}
+use Rattle.fz_finalizers.specs.Passed.{DecidesFor, PassesFor}
+use Rattle.fz_finalizers.specs.Walks.{AreRegistrations, AreCleanups, AreLinks, YieldsRoots}
 
 -- each link is the same, except those of which this holds
 abbrev pub SameLinksBut : (LinkKind → ℕ → Type 0) → State → State → Type 0
@@ -42,6 +49,7 @@ AddsOfPass pass old new = (k : ℕ) (e : Entry) → slice_get new.queue (length 
 -- what a pass queues has its number; what is queued otherwise has that of the last pass begun, or none
 abbrev pub NumbersPasses : State → Event → State → Type 0
 NumbersPasses old Pass new = IsNextPass old.passes new.passes × AddsOfPass new.passes old new
+NumbersPasses old (Clean pass is_due) new = (new.passes ≡ old.passes) × AddsOfPass pass old new
 NumbersPasses old Begin new = IsNextPass old.passes new.passes × (new.queue ≡ old.queue)
 NumbersPasses old (Queue object) new = (new.passes ≡ old.passes) × AddsOfPass old.passes old new
 NumbersPasses old QueueAll new = (new.passes ≡ old.passes) × AddsOfPass 0 old new
@@ -51,10 +59,25 @@ NumbersPasses old event new = (new.passes ≡ old.passes) × (new.queue ≡ old.
 abbrev pub IsRootWord : Root → State → ℕ → Type 0
 IsRootWord HeldObject s word = (e : Entry) × Contains (unfinished s) e × (e.obj ≡ word)
 IsRootWord HeldData s word = (e : Entry) × Contains (unfinished s) e × (e.cd ≡ word)
-IsRootWord RegisteredData s word = (object : ℕ) × (r : Registration) × (get s.registrations object ≡ Some r) × (r.cd ≡ word)
+IsRootWord RegisteredData s word =
+    ((object : ℕ) × (r : Registration) × (get s.registrations object ≡ Some r) × (r.cd ≡ word))
+    ⊎ ((number : ℕ) × (c : Attached) × (get s.cleanups number ≡ Some c) × (c.cleanup.client_data ≡ word))
 
 -- iterators yield all that there is, and nothing else
 pub record YieldAll (s : State) : Type 0 where
   pub roots : (root : Root) (words : List ℕ) → YieldsRoots root s words → (word : ℕ) → Contains words word ↔ IsRootWord root s word
   pub registrations : (list : List (ℕ × Registration)) → AreRegistrations s list → (object : ℕ) (r : Registration) → Contains list (object, r) ↔ (get s.registrations object ≡ Some r)
+  pub cleanups : (list : List (ℕ × Attached)) → AreCleanups s list → (number : ℕ) (c : Attached) → Contains list (number, c) ↔ (get s.cleanups number ≡ Some c)
   pub links : (kind : LinkKind) (list : List (ℕ × ℕ)) → AreLinks s kind list → (word target : ℕ) → Contains list (word, target) ↔ (get (links_of s kind) word ≡ Some target)
+
+-- with the same marks, a pass picks, clears, retains and reclaims exactly what it does without cleanups; and afterwards no due cleanup is left
+pub record IsAsWithoutCleanups (Exact : Type 0) (place : ℕ → Option ℕ) (old : State) (objects : Map Object) (found : ℕ → Bool) (new : State) (new_objects : Map Object) (marked : ℕ → Bool) : Type 0 where
+  pub picks : List Pick
+  pub same : DecidesFor Exact place (next_pass old.passes) old objects found (record new { queue = old.queue ++ entries_of (next_pass old.passes) (length old.queue) picks; cleanups = old.cleanups }) new_objects marked
+  pub short : (number : ℕ) (c : Attached) → get new.cleanups number ≡ Some c → c.cleanup.when ≡ Short → IsTrue (found c.object)
+  pub long : (number : ℕ) (c : Attached) → get new.cleanups number ≡ Some c → c.cleanup.when ≡ Long → IsTrue (marked c.object)
+
+abbrev pub PassesAlike : Type 0 → (ℕ → Option ℕ) → State → State → Type 0
+PassesAlike Exact place old new =
+    (objects new_objects : Map Object) (found marked : ℕ → Bool)
+    → PassesFor Exact place old objects found new new_objects marked → IsAsWithoutCleanups Exact place old objects found new new_objects marked

@@ -1,4 +1,5 @@
 pub mod Kinds
+pub mod Cleanups
 pub mod Queue
 pub mod Ready
 pub mod Causes

@@ -1,11 +1,14 @@
 -- The input and the result of a pass.
 -- code: fz_finalizers/src/passes.rt
-use Rattle.std.specs.Prelude.{ℕ, Bool, Option, length}
+use Rattle.std.specs.Prelude.{ℕ, Bool, false, Option, length}
+use Rattle.fz_model.specs.declared.kinds.LinkKind.TheVariants.{Short, Long}
 use Rattle.std.specs.FinMap.{retain_keys}
 use Rattle.std.specs.FinSet.{contains}
 use Rattle.fz_model.specs.State.{Map, Object}
 use Rattle.fz_pass.specs.Decides.{Parts}
 use Rattle.fz_pass.specs.Flagged.{DecidesFlagged}
+use Rattle.fz_finalizers.specs.Cleanups.{is_due}
+use Rattle.fz_finalizers.specs.Follows.{Follows, Cleans, Pass, next_pass}
 use Rattle.fz_finalizers.specs.States.{State}
 
 -- the host's objects, with the registrations and the links
@@ -20,3 +23,16 @@ parts_left_in objects marked s = parts_in (retain_keys objects marked) s
 abbrev pub DecidesFor : Type 0 → (ℕ → Option ℕ) → ℕ → State → Map Object → (ℕ → Bool) → State → Map Object → (ℕ → Bool) → Type 0
 DecidesFor Exact place pass old objects found new new_objects marked =
     DecidesFlagged Exact place (contains old.late) pass (length old.queue) (parts_in objects old) found (parts_left_in new_objects marked new) old.queue new.queue
+
+-- a pass with cleanups: the short ones whose objects aren't found come before what the pass itself queues, the long ones whose objects aren't retained after it
+pub record PassesFor (Exact : Type 0) (place : ℕ → Option ℕ) (old : State) (objects : Map Object) (found : ℕ → Bool) (new : State) (new_objects : Map Object) (marked : ℕ → Bool) : Type 0 where
+  pub begun : State
+  pub passed : State
+  pub short : Cleans (next_pass old.passes) (is_due Short found) old begun
+  pub decided : DecidesFor Exact place (next_pass old.passes) begun objects found passed new_objects marked
+  pub follows : Follows begun Pass passed
+  pub long : Cleans (next_pass old.passes) (is_due Long marked) passed new
+
+-- every cleanup is queued, as if nothing were marked
+abbrev pub CleansAll : State → State → Type 0
+CleansAll old new = (mid : State) × Cleans 0 (is_due Short (λ _. false)) old mid × Cleans 0 (is_due Long (λ _. false)) mid new

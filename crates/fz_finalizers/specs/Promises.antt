@@ -6,13 +6,20 @@ use Rattle.fz_model.specs.declared.answers.Entry.{Entry}
 use Rattle.fz_model.specs.declared.answers.Registration.{Registration}
 use Rattle.fz_finalizers.specs.declared.kinds.Finalizer.{Finalizer}
 use Rattle.fz_finalizers.specs.declared.roots.Root.TheVariants.{HeldObject, HeldData}
+use Rattle.fz_finalizers.specs.declared.cleanups.Attached as cleanups
+use Rattle.fz_finalizers.specs.declared.cleanups.Cleanup.{Cleanup}
 use Rattle.fz_finalizers.specs.States.{State, AreFlags, opening, unfinished, kind_at}
-use Rattle.fz_finalizers.specs.Follows.{Event, Follows, Register, Unregister, Link, Unlink, Move, Pass, Begin, Queue, QueueAll, Take, TakeFinished, TakeAll, Finish}
+use Rattle.fz_finalizers.specs.Follows.{Event, Follows, Register, Unregister, Link, Unlink, Move, AddCleanup, Cancel, Clean, Pass, Begin, Queue, QueueAll, Take, TakeFinished, TakeAll, Finish}
 use Rattle.fz_finalizers.specs.Walks.{YieldsRoots}
 
--- the registrations that were made, each an object and its finalizer; the taken entries; and the finished ones; each in order
+-- what a number was given for
+pub data Made : Type 0 where
+  Registered : Finalizer → Made
+  Attached : Cleanup → Made
+
+-- the registrations and cleanups that were made, each with its object; the taken entries; and the finished ones; each in order
 pub record Past : Type 0 where
-  pub made : List (ℕ × Finalizer)
+  pub made : List (ℕ × Made)
   pub taken : List Entry
   pub finished : List Entry
 
@@ -25,7 +32,10 @@ with_event past (Finish entry) = record past { finished = past.finished ++ entry
 with_event past Pass = past
 with_event past (Queue object) = past
 with_event past QueueAll = past
-with_event past (Register object finalizer) = record past { made = past.made ++ (object, finalizer) ∷ [] }
+with_event past (Register object finalizer) = record past { made = past.made ++ (object, Registered finalizer) ∷ [] }
+with_event past (AddCleanup object cleanup) = record past { made = past.made ++ (object, Attached cleanup) ∷ [] }
+with_event past (Cancel number) = past
+with_event past (Clean pass is_due) = past
 with_event past (Unregister object) = past
 with_event past (Link kind word target) = past
 with_event past (Unlink kind word) = past
@@ -42,13 +52,16 @@ pub record Promises (s : State) (past : Past) : Type 0 where
   pub takes : past.taken ≡ take s.taken s.queue
   pub within : s.taken ≤ length s.queue
   pub numbered : (k : ℕ) (e : Entry) → slice_get s.queue k ≡ Some e → e.seq ≡ k
-  -- a number belongs to one registration: of one object, or of one entry that waits, is held or is finished
+  -- a number belongs to one registration or one cleanup: of one object, or of one entry that waits, is held or is finished
   pub flags : AreFlags s.registrations s.late
   pub one : (a b : ℕ) (r q : Registration) → get s.registrations a ≡ Some r → get s.registrations b ≡ Some q → r.number ≡ q.number → a ≡ b
   pub once : AllPairs (λ (d e : Entry). d.reg ≢ e.reg) s.queue
   pub gone : (a : ℕ) (r : Registration) → get s.registrations a ≡ Some r → All (λ (e : Entry). e.reg ≢ r.number) s.queue
   pub below : (a : ℕ) (r : Registration) → get s.registrations a ≡ Some r → r.number < s.next_number
   pub queued_below : All (λ (e : Entry). e.reg < s.next_number) s.queue
+  pub other : (number : ℕ) (c : cleanups.Attached) → get s.cleanups number ≡ Some c → (a : ℕ) (r : Registration) → get s.registrations a ≡ Some r → r.number ≢ number
+  pub uncleaned : (number : ℕ) (c : cleanups.Attached) → get s.cleanups number ≡ Some c → All (λ (e : Entry). e.reg ≢ number) s.queue
+  pub cleanups_below : (number : ℕ) (c : cleanups.Attached) → get s.cleanups number ≡ Some c → number < s.next_number
   -- exactly the entries that were taken and aren't finished are held, in queue order, each once
   pub held : (e : Entry) → Contains s.held e ↔ (Contains past.taken e × (Contains past.finished e → ⊥))
   pub in_order : AllPairs (λ (d e : Entry). d.seq < e.seq) s.held
@@ -56,12 +69,18 @@ pub record Promises (s : State) (past : Past) : Type 0 where
   -- so an entry that isn't finished waits or is held
   pub kept : (e : Entry) → Contains s.queue e → (Contains past.finished e → ⊥) → Contains (unfinished s) e
 
--- a registration has the number of registrations that were made before it, and what was registered; and so has its entry
+-- what an entry has of what was made under its number: the entry of a cleanup has no object
+abbrev pub IsEntryOf : ℕ × Made → Entry → Type 0
+IsEntryOf (object, Registered f) e = (e.obj ≡ object) × (e.proc ≡ f.procedure) × (e.cd ≡ f.client_data)
+IsEntryOf (object, Attached c) e = (e.obj ≡ 0) × (e.birth ≡ 0) × (e.proc ≡ c.procedure) × (e.cd ≡ c.client_data)
+
+-- a registration or cleanup has the number of those that were made before it, and what was passed; and so has its entry
 pub record Records (s : State) (past : Past) : Type 0 where
   pub numbers : s.next_number ≡ length past.made
   pub registered : (object : ℕ) (r : Registration) → get s.registrations object ≡ Some r
-      → (f : Finalizer) × (slice_get past.made r.number ≡ Some (object, f)) × (kind_at s object ≡ Some f.kind) × (r.proc ≡ f.procedure) × (r.cd ≡ f.client_data) × (r.rank ≡ f.rank)
-  pub queued : (e : Entry) → Contains s.queue e → (f : Finalizer) × (slice_get past.made e.reg ≡ Some (e.obj, f)) × (e.proc ≡ f.procedure) × (e.cd ≡ f.client_data)
+      → (f : Finalizer) × (slice_get past.made r.number ≡ Some (object, Registered f)) × (kind_at s object ≡ Some f.kind) × (r.proc ≡ f.procedure) × (r.cd ≡ f.client_data) × (r.rank ≡ f.rank)
+  pub attached : (number : ℕ) (c : cleanups.Attached) → get s.cleanups number ≡ Some c → slice_get past.made number ≡ Some (c.object, Attached c.cleanup)
+  pub queued : (e : Entry) → Contains s.queue e → (made : ℕ × Made) × (slice_get past.made e.reg ≡ Some made) × IsEntryOf made e
 
 -- the iterations over held objects and over their data contain every entry that was queued and isn't finished
 abbrev pub AreWalked : State → Past → Type 0

@@ -1,14 +1,18 @@
 -- The model of the queue: every entry ever queued; the held ones, which aren't finished, waiting or taken; from which number on it is in memory; how many
 -- entries are in memory; for how many more there is room; and the places of the held ones.
 -- code: fz_finalizers/src/queue.rt, stored.rt, past.rt, unfinished.rt
-use Rattle.std.specs.Prelude.{◌≡◌, ◌≢◌, ℕ, ◌+◌, ◌^◌, ◌<◌, ◌≤◌, ◌⊎◌, ◌++◌, ◌&&◌, nat_le, nat_lt, if◌then◌else◌, Bool, List, [], ◌∷◌, length, drop, slice_get, Option, None, Some, Contains, IsTrue, MatchOption, refl}
+use Rattle.std.specs.Prelude.{◌≡◌, ◌≢◌, ℕ, ◌+◌, ◌^◌, ◌<◌, ◌≤◌, ◌⊎◌, ◌++◌, ◌&&◌, nat_le, nat_lt, if◌then◌else◌, Bool, List, [], ◌∷◌, length, drop, map, slice_get, Option, None, Some, All, Contains, IsTrue, MatchOption, refl}
 use Rattle.std.specs.Coded.{Coded, code_by, coded×, coded_ℕ, coded_list, coded_option}
 use Rattle.std.specs.FinSet.{contains}
 use Rattle.fz_model.specs.declared.answers.Entry.{Entry}
 use Rattle.fz_model.specs.declared.answers.Pick.{Pick}
 use Rattle.fz_model.specs.Codes.{entry_code}
 use Rattle.fz_model.specs.Pass.{entries_of}
+use Rattle.std.specs.FinMap.{get}
 use Rattle.fz_bits.specs.Flags.{Set}
+use Rattle.fz_model.specs.State.{Map}
+use Rattle.fz_finalizers.specs.declared.cleanups.Attached.{Attached}
+use Rattle.fz_finalizers.specs.Cleanups.{AreDue, pick_of, ranked, without}
 
 pub record Queue : Type 0 where
   pub queue : List Entry
@@ -39,6 +43,11 @@ pub record GainsPicks (pass : ℕ) (picks : List Pick) (old new : Queue) : Type 
 abbrev pub Gains : ℕ → Queue → Queue → Type 0
 Gains pass old new = (picks : List Pick) × GainsPicks pass picks old new
 
+-- the due cleanups leave the table, and their entries are appended
+abbrev pub CleansOut : ℕ → (Attached → Bool) → Map Attached → Map Attached → List Entry → List Entry → Type 0
+CleansOut pass is_due old new queue new_queue =
+    (due : List (ℕ × Attached)) × AreDue is_due old due × (new ≡ without old due) × (new_queue ≡ queue ++ entries_of pass (length queue) (map pick_of due))
+
 -- the unfinished entries: some early ones, and then all from this number on
 abbrev pub AreOpenFrom : ℕ → List Entry → List Entry → Type 0
 AreOpenFrom taken queue held = (early : List Entry) × (held ≡ early ++ drop taken queue)
@@ -57,7 +66,15 @@ IsFoundIn held number found = MatchOption found ((e : Entry) → Contains held e
 abbrev pub IsFirstHeldFrom : List Entry → ℕ → Option Entry → Type 0
 IsFirstHeldFrom held from found = MatchOption found ((e : Entry) → Contains held e → e.seq < from) (IsNextHeld held from)
 
--- The rest is for proofs alone: which entries are in memory, and at which index.
+-- The rest is for proofs alone: how listed cleanups are queued, which entries are in memory, and at which index.
+
+-- the listed cleanups leave the table, and their entries are appended
+pub record TakesListed (pass : ℕ) (listed : List (ℕ × ℕ)) (old new : Map Attached) (queue new_queue : Queue) : Type 0 where
+  pub due : List (ℕ × Attached)
+  pub ranks : map ranked due ≡ listed
+  pub each : All (λ (x : ℕ × Attached). get old x.0 ≡ Some x.1) due
+  pub left : new ≡ without old due
+  pub gained : GainsPicks pass (map pick_of due) queue new_queue
 
 -- the entries at the indices in the set; the first entry has the index `first`
 abbrev pub placed_in : Set → ℕ → List Entry → List Entry

@@ -1,4 +1,4 @@
--- The model of finalizers: registrations, links, entries, the room that is reserved, and the order of iterators.
+-- The model of finalizers: registrations, links, cleanups, entries, the room that is reserved, and the order of iterators.
 -- code: fz_finalizers/src/finalizers.rt
 use Rattle.std.specs.Prelude.{◌≡◌, ℕ, ◌≤◌, min, Bool, List, [], ◌++◌, drop, Option, option_map, refl, Some, IsTrue}
 use Rattle.std.specs.Coded.{Coded, code_by, coded×, coded_ℕ, coded_list, coded_option, coded_bool}
@@ -19,12 +19,15 @@ use Rattle.fz_finalizers.specs.declared.kinds.Kind.{Kind}
 use Rattle.fz_table.specs.declared.limits.TheConstants.{MOST_ENTRIES}
 use Rattle.fz_table.specs.declared.stored.Stored.{Stored}
 use Rattle.fz_table.specs.Tabled.{Set, stored_code}
+use Rattle.fz_finalizers.specs.declared.cleanups.Attached.{Attached}
+use Rattle.fz_finalizers.specs.Cleanups.{attached_code}
 use Rattle.fz_finalizers.specs.Kinds.{of_table}
 
 pub record State : Type 0 where
   pub registrations : Map Registration  -- by object
   pub late : Set  -- the objects whose registrations are of kind `Unreachable`
-  pub next_number : ℕ  -- the next registration number
+  pub next_number : ℕ  -- the number of the next registration or cleanup
+  pub cleanups : Map Attached  -- by number
   pub short : Map ℕ  -- the short links: from the word of a link to its target
   pub long : Map ℕ  -- the long links
   pub queue : List Entry  -- every entry ever queued, in order
@@ -37,12 +40,14 @@ pub record Rooms : Type 0 where
   pub registrations : ℕ
   pub short : ℕ
   pub long : ℕ
+  pub cleanups : ℕ
 
 -- the order of iterators over what is unordered
 pub record Order : Type 0 where
   pub registrations : List (ℕ × Stored)
   pub short : List (ℕ × ℕ)
   pub long : List (ℕ × ℕ)
+  pub cleanups : List (ℕ × Attached)
   pub entries : List (Option Entry)  -- the unfinished entries in order, with none for each finished one in memory
 
 -- which entries are in memory: those from the number `forgotten` on, and of earlier ones those that aren't finished
@@ -55,7 +60,7 @@ pub record Memory : Type 0 where
 abbrev pub KeepsWindow : Memory → Memory → Type 0
 KeepsWindow old new = new ≡ record old { remembered = new.remembered }
 
--- iterators over registrations and over links are unchanged
+-- iterators over registrations, over links and over cleanups are unchanged
 abbrev pub KeepsTables : Order → Order → Type 0
 KeepsTables old new = new ≡ record old { entries = new.entries }
 
@@ -68,13 +73,14 @@ pub record View : Type 0 where
 
 abbrev state_code : Coded State
 state_code =
-    code_by ((Map Registration × (Set × ℕ)) × ((Map ℕ × Map ℕ) × (List Entry × (ℕ × (List Entry × ℕ)))))
-    (coded× (coded× (map.code coded_ℕ registration_code) (coded× (sets.code coded_ℕ) coded_ℕ)) (coded× (coded× (map.code coded_ℕ coded_ℕ) (map.code coded_ℕ coded_ℕ)) (coded× (coded_list entry_code) (coded× coded_ℕ (coded× (coded_list entry_code) coded_ℕ)))))
-    (λ s. ((s.registrations, (s.late, s.next_number)), ((s.short, s.long), (s.queue, (s.taken, (s.held, s.passes))))))
+    code_by ((Map Registration × (Set × (ℕ × Map Attached))) × ((Map ℕ × Map ℕ) × (List Entry × (ℕ × (List Entry × ℕ)))))
+    (coded× (coded× (map.code coded_ℕ registration_code) (coded× (sets.code coded_ℕ) (coded× coded_ℕ (map.code coded_ℕ attached_code)))) (coded× (coded× (map.code coded_ℕ coded_ℕ) (map.code coded_ℕ coded_ℕ)) (coded× (coded_list entry_code) (coded× coded_ℕ (coded× (coded_list entry_code) coded_ℕ)))))
+    (λ s. ((s.registrations, (s.late, (s.next_number, s.cleanups))), ((s.short, s.long), (s.queue, (s.taken, (s.held, s.passes))))))
     (λ p. record {
       registrations = p.0.0;
       late = p.0.1.0;
-      next_number = p.0.1.1;
+      next_number = p.0.1.1.0;
+      cleanups = p.0.1.1.1;
       short = p.1.0.0;
       long = p.1.0.1;
       queue = p.1.1.0;
@@ -86,14 +92,15 @@ state_code =
 
 abbrev rooms_code : Coded Rooms
 rooms_code =
-    code_by (ℕ × (ℕ × ℕ)) (coded× coded_ℕ (coded× coded_ℕ coded_ℕ)) (λ r. (r.registrations, (r.short, r.long)))
-    (λ p. record { registrations = p.0; short = p.1.0; long = p.1.1 }) (λ _. refl)
+    code_by (ℕ × (ℕ × (ℕ × ℕ))) (coded× coded_ℕ (coded× coded_ℕ (coded× coded_ℕ coded_ℕ))) (λ r. (r.registrations, (r.short, (r.long, r.cleanups))))
+    (λ p. record { registrations = p.0; short = p.1.0; long = p.1.1.0; cleanups = p.1.1.1 }) (λ _. refl)
 
 abbrev order_code : Coded Order
 order_code =
-    code_by (List (ℕ × Stored) × ((List (ℕ × ℕ) × List (ℕ × ℕ)) × List (Option Entry)))
-    (coded× (coded_list (coded× coded_ℕ stored_code)) (coded× (coded× (coded_list (coded× coded_ℕ coded_ℕ)) (coded_list (coded× coded_ℕ coded_ℕ))) (coded_list (coded_option entry_code))))
-    (λ o. (o.registrations, ((o.short, o.long), o.entries))) (λ p. record { registrations = p.0; short = p.1.0.0; long = p.1.0.1; entries = p.1.1 }) (λ _. refl)
+    code_by ((List (ℕ × Stored) × List (ℕ × Attached)) × ((List (ℕ × ℕ) × List (ℕ × ℕ)) × List (Option Entry)))
+    (coded× (coded× (coded_list (coded× coded_ℕ stored_code)) (coded_list (coded× coded_ℕ attached_code)))
+    (coded× (coded× (coded_list (coded× coded_ℕ coded_ℕ)) (coded_list (coded× coded_ℕ coded_ℕ))) (coded_list (coded_option entry_code))))
+    (λ o. ((o.registrations, o.cleanups), ((o.short, o.long), o.entries))) (λ p. record { registrations = p.0.0; short = p.1.0.0; long = p.1.0.1; cleanups = p.0.1; entries = p.1.1 }) (λ _. refl)
 
 abbrev pub memory_code : Coded Memory
 memory_code =
@@ -107,7 +114,7 @@ view_code =
 
 -- nothing is registered or queued
 abbrev pub opening : State
-opening = record { registrations = empty; late = sets.empty; next_number = 0; short = empty; long = empty; queue = []; taken = 0; held = []; passes = 0 }
+opening = record { registrations = empty; late = sets.empty; next_number = 0; cleanups = empty; short = empty; long = empty; queue = []; taken = 0; held = []; passes = 0 }
 
 -- the entries that wait to be taken
 abbrev pub waiting : State → List Entry

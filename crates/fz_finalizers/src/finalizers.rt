@@ -3,6 +3,7 @@
 ghost use Rattle.std.specs.Prelude.{◌≡◌, ◌≤◌, ◌<◌, ◌+◌, false, IfOk, IfErr, OnOk, OnErr};
 ghost use Rattle.fz_finalizers.specs.States.{opening};
 
+use crate::cleanups::Cleanups;
 use crate::ready::Ready;
 use crate::refused::Refused;
 use fz_links::Links;
@@ -11,18 +12,20 @@ use fz_table::Table;
 use std::alloc::Global;
 use std::marker::Model;
 
-/// The finalizers of a host with a heap of its own: registrations, links, and the queue of entries.
+/// The finalizers of a host with a heap of its own: registrations, links, cleanups, and the queue of entries.
 ///
 /// Objects, words, procedures and client data are numbers that are only compared and passed back, never dereferenced. Zero is neither an object nor a word.
 ///
 /// Its model is a state, the room that is reserved, and the order of iterators. If several refusals of a call apply, it returns the first in the documented
-/// order. A refused call leaves the state unchanged. Only `new`, `reserve`, `shrink`, a new registration and a new link allocate, and `shrink` can't fail.
-/// Each registration has room reserved for its entry, and each link for its moves, so a pass, a take and a move of a link can't run out of memory. A
-/// registration without reserved room first reuses the memory of finished entries, and so does a pass, except in finalizers that `whole` made.
+/// order. A refused call leaves the state unchanged. Only `new`, `reserve`, `shrink`, a new registration, a new
+/// link and a cleanup allocate, and `shrink` can't fail. Each registration and each cleanup has room reserved for its entry, and each link for its moves, so a
+/// pass, a take and a move of a link can't run out of memory. A registration or a cleanup without reserved room first reuses the memory of finished entries,
+/// and so does a pass, except in finalizers that `whole` made.
 pub struct Finalizers {
     pub(crate) table: Table,
     pub(crate) short: Links,
     pub(crate) long: Links,
+    pub(crate) cleanups: Cleanups,
     /// Empty, except while a link is moved: a move may put half of the links here temporarily.
     pub(crate) moves: Vec<(Addr, Addr)>,
     pub(crate) ready: Ready,
@@ -36,6 +39,7 @@ impl Drop for Finalizers {
             table: _,
             short: _,
             long: _,
+            cleanups: _,
             moves: _,
             ready: _,
             passes: _,
@@ -53,13 +57,13 @@ impl Model for Finalizers {
     ghost coded = { view_code };
 
     ghost view = { λ f. record {
-      state = state_of f.table.content f.short f.long f.ready f.passes;
-      rooms = rooms_of f.table f.short f.long f.ready (2 * vec_capacity f.moves);
-      order = order_of f.table f.short f.long f.ready;
+      state = state_of f.table.content f.short f.long f.cleanups.cleanups f.ready f.passes;
+      rooms = rooms_of f.table f.short f.long f.cleanups f.ready (2 * vec_capacity f.moves);
+      order = order_of f.table f.short f.long f.cleanups.order f.ready;
       memory = f.ready.memory;
     } };
 
-    ghost invariant = { λ f. Fits f.table.content f.ready × HasMoves f.short f.long f.moves.items (2 * vec_capacity f.moves) };
+    ghost invariant = { λ f. Fits f.table.content f.cleanups.cleanups f.ready × HasMoves f.short f.long f.moves.items (2 * vec_capacity f.moves) };
 }
 
 impl Finalizers {
@@ -74,6 +78,7 @@ impl Finalizers {
             table: Table::new(alloc),
             short: Links::new(alloc),
             long: Links::new(alloc),
+            cleanups: Cleanups::new(alloc),
             moves: Vec::new(alloc),
             ready,
             passes: 0,

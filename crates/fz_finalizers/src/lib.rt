@@ -1,6 +1,10 @@
 //! Finalizers for a host with a heap of its own: registrations, links, and a queue of entries.
 #![tactic(auto)]
 
+mod adding;
+mod cleaning;
+mod cleanups;
+mod data;
 mod entries;
 mod finalizers;
 mod kinds;
@@ -22,6 +26,7 @@ mod unfinished;
 mod walks;
 mod whole;
 
+pub use cleanups::{Attached, Cleanup};
 pub use finalizers::Finalizers;
 pub use fz_model::{Addr, Entry, LinkAnswer, LinkKind, MoveAnswer, Old};
 pub use fz_table::{Registrations, Stored};

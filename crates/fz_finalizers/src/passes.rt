@@ -5,14 +5,17 @@ ghost use Rattle.fz_model.specs.Memory.{points};
 ghost use Rattle.std.specs.FinSet.{contains};
 ghost use Rattle.fz_pass.specs.All.{QueuesAll};
 ghost use Rattle.fz_pass.specs.Marks.{IsClosed, AreRegistered, AreTargets};
-ghost use Rattle.fz_finalizers.specs.Follows.{Follows, Pass, QueueAll, next_pass};
-ghost use Rattle.fz_finalizers.specs.Passed.{DecidesFor};
+ghost use Rattle.std.specs.FinMap.{empty};
+ghost use Rattle.fz_finalizers.specs.Cleanups.{is_due};
+ghost use Rattle.fz_finalizers.specs.Follows.{Cleans, Follows, Pass, QueueAll, next_pass};
+ghost use Rattle.fz_finalizers.specs.Passed.{CleansAll, DecidesFor, PassesFor};
 ghost use Rattle.fz_finalizers.specs.States.{HasRooms, IsRoomier, KeepsWindow, limited};
 
 use crate::finalizers::Finalizers;
 use crate::linking::reserve_moves;
 use crate::refused::Refused;
-use fz_pass::Host;
+use fz_model::LinkKind;
+use fz_pass::{Host, Nothing};
 use fz_table::MOST_ENTRIES;
 
 /// What a pass has done.
@@ -51,7 +54,8 @@ impl Finalizers {
     {
         let more = limited(registrations);
         self.table.reserve(more).map_err(|_| Refused::NoMemory)?;
-        self.ready.reserve(self.table.len() + more)?;
+        self.ready
+            .reserve(self.table.len() + self.cleanups.len() + more)?;
         let (more_short, more_long) = (limited(shorts), limited(longs));
         self.short
             .reserve(more_short)
@@ -61,7 +65,7 @@ impl Finalizers {
         reserve_moves(&mut self.moves, self.long.len() + more_long)
     }
 
-    /// Carries out a pass over the host's heap. Requires that its marking is complete. The host may reclaim what is unmarked afterwards. Takes time
+    /// Carries out a pass over the host's heap, and queues the cleanups that are due. Requires that its marking is complete. The host may reclaim what is unmarked afterwards. Takes time
     /// proportional to the registrations and the links, and the time that the host takes.
     ///
     /// First the words of short links to unmarked objects are cleared. Then an unmarked registered object is queued if no path leads to it from an unmarked
@@ -69,8 +73,48 @@ impl Finalizers {
     /// are queued. All that unmarked registered objects reach is marked, and they are too. Then the words of long links to objects that are still unmarked are
     /// cleared. Links that were cleared, and links that denote a word which doesn't lie in a marked object, are removed.
     ///
+    /// Before anything else the short cleanups whose objects aren't marked are queued, and after everything else the long ones: each by rank, then number.
+    /// Cleanups change nothing else in a pass, and ask for the marks of their objects alone.
+    ///
     /// The host has to ensure that registered objects and the targets of links are its objects.
     pub fn pass<H: Host>(&mut self, host: &mut H) -> Passed
+        requires registered { AreRegistered (H.objects host.old) self.old.registrations }
+        requires short { AreTargets (H.objects host.old) self.old.short }
+        requires long { AreTargets (H.objects host.old) self.old.long }
+        // A cleared word points to nothing.
+        requires zero { points (H.objects host.old) 0 ≡ None }
+        requires closed { IsClosed (H.objects host.old) (H.marked host.old) }
+        ensures passes { PassesFor H.is_exact H.place self.old.state (H.objects host.old) (H.marked host.old) self.new.state (H.objects host.new) (H.marked host.new) }
+        ensures pass { result.pass ≡ next_pass self.old.passes }
+        ensures picked { length self.new.queue ≡ length self.old.queue + result.picked }
+        ensures memory { IsTrue self.old.memory.whole → KeepsWindow self.old.memory self.new.memory }
+        // Marked objects stay marked, and everything that they reach is marked.
+        ensures marks { (a : ℕ) → IsTrue (H.marked host.old a) → IsTrue (H.marked host.new a) }
+        ensures closed { IsClosed (H.objects host.new) (H.marked host.new) }
+        // Everything else in the host is unchanged.
+        ensures same { H.is_same host.old host.new }
+    {
+        let before = self.ready.queued();
+        let pass = self.passes.saturating_add(1);
+        self.clean(pass, LinkKind::Short, host);
+        self.pass_without_cleanups(host);
+        self.clean(pass, LinkKind::Long, host);
+        Passed {
+            pass,
+            picked: self.ready.queued() - before,
+        }
+    }
+
+    /// Queues the cleanups of this moment whose objects aren't marked, with this pass.
+    fn clean<H: Host>(&mut self, pass: u64, when: LinkKind, host: &H)
+        ensures cleaned { Cleans pass (is_due when (H.marked host.now)) self.old.state self.new.state }
+        ensures memory { KeepsWindow self.old.memory self.new.memory }
+    {
+        self.ready.clean(pass, when, host, &mut self.cleanups);
+    }
+
+    /// Carries out a pass as `pass` does, but leaves all cleanups as they are: for a host that adds none.
+    pub fn pass_without_cleanups<H: Host>(&mut self, host: &mut H) -> Passed
         requires registered { AreRegistered (H.objects host.old) self.old.registrations }
         requires short { AreTargets (H.objects host.old) self.old.short }
         requires long { AreTargets (H.objects host.old) self.old.long }
@@ -100,8 +144,8 @@ impl Finalizers {
     }
 
     /// Queues every registration, whatever is marked, and returns how many there were: `GC_finalize_all`. The order is by rank, then address, with those of
-    /// kind `Unreachable` after the others. The entries' pass is 0, and so are their births. Links are unchanged. Takes time proportional to the
-    /// registrations.
+    /// kind `Unreachable` after the others. The entries' pass is 0, and so are their births. Links and cleanups are unchanged. Takes time proportional
+    /// to the registrations.
     pub fn queue_all(&mut self) -> u64
         ensures queued { QueuesAll (length self.old.queue) self.old.registrations (contains self.old.late) self.old.queue self.new.queue }
         ensures follows { Follows self.old.state QueueAll self.new.state }
@@ -109,6 +153,19 @@ impl Finalizers {
     {
         let before = self.ready.queued();
         self.ready.queue_all(&mut self.table);
+        self.ready.queued() - before
+    }
+
+    /// Queues every cleanup, whatever is marked, and returns how many there were: first the short ones, then the long ones, each by rank, then number. The
+    /// entries' pass is 0. Takes time proportional to the cleanups.
+    pub fn queue_cleanups(&mut self) -> u64
+        ensures queued { CleansAll self.old.state self.new.state }
+        ensures none { self.new.cleanups ≡ empty }
+        ensures count { length self.new.queue ≡ length self.old.queue + result }
+    {
+        let before = self.ready.queued();
+        self.clean(0, LinkKind::Short, &Nothing);
+        self.clean(0, LinkKind::Long, &Nothing);
         self.ready.queued() - before
     }
 }

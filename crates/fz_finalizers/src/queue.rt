@@ -7,8 +7,6 @@ ghost use Rattle.std.specs.List.{list_any};
 ghost use Rattle.fz_model.specs.declared.answers.Entry.{Entry};
 ghost use Rattle.fz_model.specs.Events.{same_entry};
 ghost use Rattle.fz_model.specs.Memory.{points};
-ghost use Rattle.fz_pass.specs.All.{unknown};
-ghost use Rattle.fz_pass.specs.Picking.{pick_of};
 ghost use Rattle.fz_pass.specs.Marks.{IsClosed, AreRegistered, AreTargets};
 ghost use Rattle.fz_pass.specs.Decides.{parts_of, parts_left};
 ghost use Rattle.fz_pass.specs.Flagged.{AreNormal};
@@ -22,7 +20,7 @@ use crate::stored::{gather, give_back, hold, is_held_at, place_of};
 use crate::unfinished::Entries;
 use fz_bits::SparseFlags;
 use fz_links::Links;
-use fz_model::{Addr, Entry, Registration};
+use fz_model::{Entry, Pick};
 use fz_pass::{Host, ReadyList, Terms, decide, queue_all};
 use fz_table::Table;
 use std::alloc::Global;
@@ -228,7 +226,8 @@ impl Queue {
         ensures gained { Gains number self.old self.new }
         ensures count { length self.new.queue + len table.new.registrations ≡ length self.old.queue + len table.old.registrations }
         ensures list { list.old.room ≤ list.new.room }
-        ensures room { len table.new.registrations ≤ self.new.room }
+        ensures room { self.old.room + len table.new.registrations ≤ self.new.room + len table.old.registrations }
+        ensures fewer { len table.new.registrations ≤ len table.old.registrations }
         ensures marks { (a : ℕ) → IsTrue (H.marked host.old a) → IsTrue (H.marked host.new a) }
         ensures closed { IsClosed (H.objects host.new) (H.marked host.new) }
         ensures same { H.is_same host.old host.new }
@@ -254,6 +253,7 @@ impl Queue {
         ensures queued { QueuesTable table.old.content table.new.late self.old.queue self.new.queue }
         ensures gained { Gains 0 self.old self.new }
         ensures count { length self.new.queue ≡ length self.old.queue + len table.old.registrations }
+        ensures room { self.old.room ≤ self.new.room + len table.old.registrations }
         ensures list { list.old.room ≤ list.new.room }
         ensures table { table.new.registered ≡ record table.old.registered { registrations = empty } }
     {
@@ -265,11 +265,11 @@ impl Queue {
         self.outstanding += end - first;
     }
 
-    /// Appends the entry of an object's registration, with this pass. Requires room for it.
-    pub(crate) fn push(&mut self, pass: u64, object: Addr, registration: Registration)
+    /// Appends the entry of a pick, with this pass. Requires room for it.
+    pub(crate) fn push(&mut self, pass: u64, pick: Pick)
         requires room { 0 < self.old.room }
         requires number { length self.old.queue + 1 < 2 ^ 64 }
-        ensures pushed { GainsPicks pass (pick_of registration object unknown ∷ []) self.old self.new }
+        ensures pushed { GainsPicks pass (pick ∷ []) self.old self.new }
         ensures room { self.old.room ≤ self.new.room + 1 }
     {
         let seq = self.queued();
@@ -277,11 +277,11 @@ impl Queue {
         let _ = self.entries.push(Entry {
             seq,
             pass,
-            reg: registration.number,
-            obj: object,
-            birth: 0,
-            proc: registration.proc,
-            cd: registration.cd,
+            reg: pick.reg,
+            obj: pick.obj,
+            birth: pick.birth,
+            proc: pick.proc,
+            cd: pick.cd,
         });
         let end = self.entries.len() as u64;
         hold(&mut self.held, first, end);

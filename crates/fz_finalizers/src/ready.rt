@@ -12,16 +12,19 @@ ghost use Rattle.fz_pass.specs.Marks.{IsClosed, AreRegistered, AreTargets};
 ghost use Rattle.fz_pass.specs.Decides.{parts_of, parts_left};
 ghost use Rattle.fz_pass.specs.Flagged.{AreNormal};
 ghost use Rattle.fz_finalizers.specs.Ready.{Decides, HasSameEntries, QueuesTable, Takes, TakesFinished};
-ghost use Rattle.fz_finalizers.specs.Queue.{IsFoundIn, IsFirstHeldFrom};
+ghost use Rattle.fz_finalizers.specs.Cleanups.{is_due};
+ghost use Rattle.fz_finalizers.specs.Queue.{CleansOut, IsFoundIn, IsFirstHeldFrom};
 ghost use Rattle.fz_finalizers.specs.States.{KeepsWindow, is_held};
 ghost use Rattle.fz_model.specs.declared.answers.Entry.{Entry};
 ghost use Rattle.fz_finalizers.specs.Walks.{somes};
 
+use crate::cleaning::{queue_listed, rank_due};
+use crate::cleanups::Cleanups;
 use crate::queue::Queue;
 use crate::refused::Refused;
 use crate::unfinished::Entries;
 use fz_links::Links;
-use fz_model::{Addr, Entry, Registration};
+use fz_model::{Addr, Entry, LinkKind, Pick, Registration};
 use fz_pass::{Host, ReadyList};
 use fz_table::Table;
 use std::alloc::Global;
@@ -216,7 +219,7 @@ impl Ready {
         ensures held { self.new.held ≡ self.old.held }
         ensures memory { KeepsWindow self.old.memory self.new.memory }
         ensures count { length self.new.queue + len table.new.registrations ≡ length self.old.queue + len table.old.registrations }
-        ensures room { len table.new.registrations ≤ self.new.room }
+        ensures room { self.old.room + len table.new.registrations ≤ self.new.room + len table.old.registrations }
         ensures marks { (a : ℕ) → IsTrue (H.marked host.old a) → IsTrue (H.marked host.new a) }
         ensures closed { IsClosed (H.objects host.new) (H.marked host.new) }
         ensures same { H.is_same host.old host.new }
@@ -224,6 +227,27 @@ impl Ready {
     {
         let list = &mut self.list;
         self.queue.pass(number, host, table, short, long, list);
+    }
+
+    /// Queues the due cleanups of this moment, with this pass.
+    pub(crate) fn clean<H: Host>(
+        &mut self,
+        pass: u64,
+        when: LinkKind,
+        host: &H,
+        cleanups: &mut Cleanups,
+    )
+        requires room { len cleanups.old.cleanups ≤ self.old.room }
+        requires numbers { length self.old.queue + len cleanups.old.cleanups < 2 ^ 64 }
+        ensures cleaned { CleansOut pass (is_due when (H.marked host.now)) cleanups.old.cleanups cleanups.new.cleanups self.old.queue self.new.queue }
+        ensures taken { self.new.taken ≡ self.old.taken }
+        ensures held { self.new.held ≡ self.old.held }
+        ensures memory { KeepsWindow self.old.memory self.new.memory }
+        ensures count { length self.new.queue + len cleanups.new.cleanups ≡ length self.old.queue + len cleanups.old.cleanups }
+        ensures room { self.old.room + len cleanups.new.cleanups ≤ self.new.room + len cleanups.old.cleanups }
+    {
+        rank_due(host, when, cleanups, &mut self.list);
+        queue_listed(&mut self.queue, pass, self.list.as_slice(), cleanups);
     }
 
     /// Queues every registration of the table.
@@ -234,6 +258,7 @@ impl Ready {
         ensures taken { self.new.taken ≡ self.old.taken }
         ensures held { self.new.held ≡ self.old.held }
         ensures count { length self.new.queue ≡ length self.old.queue + len table.old.registrations }
+        ensures room { self.old.room ≤ self.new.room + len table.old.registrations }
         ensures table { table.new.registered ≡ record table.old.registered { registrations = empty } }
     {
         self.queue.queue_all(table, &mut self.list);
@@ -248,7 +273,14 @@ impl Ready {
         ensures held { self.new.held ≡ self.old.held }
         ensures room { self.old.room ≤ self.new.room + 1 }
     {
-        self.queue.push(pass, object, registration);
+        let pick = Pick {
+            reg: registration.number,
+            obj: object,
+            birth: 0,
+            proc: registration.proc,
+            cd: registration.cd,
+        };
+        self.queue.push(pass, pick);
     }
 
     /// Takes the next entry of the queue, and holds it.

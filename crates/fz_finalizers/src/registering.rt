@@ -34,18 +34,18 @@ pub(crate) fn check(table: &Table, object: Addr) -> Result<(), Refused>
 
 /// Reserves room for the entry of an object's registration, unless the object is registered.
 #[tactic(auto, using(crate::proofs::Counting::len_grown, crate::proofs::Counting::len_known))]
-fn make_room(table: &Table, ready: &mut Ready, object: Addr) -> Result<(), Refused>
-    requires room { len table.now.registrations ≤ ready.old.room }
-    requires few { len table.now.registrations < 2 ^ 50 }
+fn make_room(table: &Table, cleanups: usize, ready: &mut Ready, object: Addr) -> Result<(), Refused>
+    requires room { len table.now.registrations + cleanups ≤ ready.old.room }
+    requires few { len table.now.registrations + cleanups < 2 ^ 50 }
     ensures refused { IfErr result (λ r. r ≡ Refused.NoMemory) }
     ensures fresh { OnErr result (get table.now.registrations object ≡ None) }
-    ensures wanting { OnErr result (ready.old.room ≤ len table.now.registrations) }
+    ensures wanting { OnErr result (ready.old.room ≤ len table.now.registrations + cleanups) }
     ensures same { HasSameEntries ready.old ready.new }
     ensures memory { IsTrue ready.old.memory.whole → ready.new.memory ≡ ready.old.memory }
     ensures kept { ready.old.room ≤ ready.new.room }
-    ensures room { OnOk result ((r : Registration) → len (insert table.now.registrations object r) ≤ ready.new.room) }
+    ensures room { OnOk result ((r : Registration) → len (insert table.now.registrations object r) + cleanups ≤ ready.new.room) }
 {
-    let Err(refused) = ready.reserve(table.len() + 1) else {
+    let Err(refused) = ready.reserve(table.len() + cleanups + 1) else {
         return Ok(());
     };
     if table.get(object).is_some() {
@@ -54,19 +54,20 @@ fn make_room(table: &Table, ready: &mut Ready, object: Addr) -> Result<(), Refus
     Err(refused)
 }
 
-/// Registers an object's finalizer. Returns the number and what was replaced.
+/// Registers an object's finalizer, beside so many cleanups. Returns the number and what was replaced.
 pub(crate) fn register(
     table: &mut Table,
+    cleanups: usize,
     ready: &mut Ready,
     object: Addr,
     finalizer: Finalizer,
 ) -> Result<(u64, Option<Old>), Refused>
-    requires room { len table.old.registrations ≤ ready.old.room }
-    requires numbers { length ready.old.queue + len table.old.registrations ≤ table.old.next_number }
+    requires room { len table.old.registrations + cleanups ≤ ready.old.room }
+    requires numbers { length ready.old.queue + len table.old.registrations + cleanups ≤ table.old.next_number }
     requires few { table.old.next_number ≤ COUNT_LIMIT }
     ensures judged { IsJudgedOrLacks (register_causes table.old.registrations table.old.next_number object) result }
     ensures fresh { IfErr result (λ r. r ≡ Refused.NoMemory → get table.old.registrations object ≡ None) }
-    ensures wanting { IfErr result (λ r. r ≡ Refused.NoMemory → (table.old.room ≡ 0) ⊎ (ready.old.room ≤ len table.old.registrations)) }
+    ensures wanting { IfErr result (λ r. r ≡ Refused.NoMemory → (table.old.room ≡ 0) ⊎ (ready.old.room ≤ len table.old.registrations + cleanups)) }
     ensures unchanged { OnErr result ((table.new.registered ≡ table.old.registered) × (table.new.late ≡ table.old.late)) }
     ensures number { IfOk result (λ answer. answer.0 ≡ table.old.next_number) }
     ensures replaced { IfOk result (λ answer. answer.1 ≡ old_of table.old.registrations object) }
@@ -75,11 +76,11 @@ pub(crate) fn register(
     ensures same { HasSameEntries ready.old ready.new }
     ensures memory { IsTrue ready.old.memory.whole → ready.new.memory ≡ ready.old.memory }
     ensures kept { ready.old.room ≤ ready.new.room }
-    ensures room { len table.new.registrations ≤ ready.new.room }
+    ensures room { len table.new.registrations + cleanups ≤ ready.new.room }
     ensures roomier { table.old.room ≤ table.new.room + 1 }
 {
     check(table, object)?;
-    make_room(table, ready, object)?;
+    make_room(table, cleanups, ready, object)?;
     table
         .register_checked(object, finalizer.in_table(), finalizer.kind.is_late())
         .map_err(|_| Refused::NoMemory)

@@ -17,7 +17,7 @@ impl Finalizers {
     /// Registers a finalizer for an object, in place of the registration that it may have, and returns the registration number and what was replaced.
     ///
     /// Fails with, in this order: `Zero` if the object is 0, `Exhausted` after 2^48 numbers, `Full` if 2^32 others are registered, `NoMemory`. A replacement
-    /// takes no memory and no room, also one by another kind.
+    /// takes no memory and no room, also one by another kind. A new registration uses the room of one entry, as a cleanup does.
     pub fn register(
         &mut self,
         object: Addr,
@@ -33,7 +33,14 @@ impl Finalizers {
         ensures follows { OnOk result (Follows self.old.state (Register object finalizer) self.new.state) }
         ensures memory { IsTrue self.old.memory.whole → self.new.memory ≡ self.old.memory }
     {
-        registering::register(&mut self.table, &mut self.ready, object, finalizer)
+        let cleanups = self.cleanups.len();
+        registering::register(
+            &mut self.table,
+            cleanups,
+            &mut self.ready,
+            object,
+            finalizer,
+        )
     }
 
     /// Checks an object as `register` does, apart from memory.

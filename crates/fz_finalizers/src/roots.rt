@@ -7,9 +7,9 @@ ghost use Rattle.fz_model.specs.declared.answers.Entry.{Entry};
 ghost use Rattle.fz_model.specs.declared.answers.Registration.{Registration};
 ghost use Rattle.fz_finalizers.specs.Walks.{IsRest, Steps, YieldsRoots, roots_of, somes};
 
+use crate::data::Data;
 use crate::finalizers::Finalizers;
 use crate::unfinished::Entries;
-use fz_table::Registrations;
 use std::marker::Model;
 
 /// A kind of roots.
@@ -19,7 +19,7 @@ pub enum Root {
     HeldObject,
     /// The client data of entries that wait or are held. It is a root if it points to an object.
     HeldData,
-    /// The client data of registrations, for hosts that treat it as a root: in bdwgc this is a build option.
+    /// The client data of registrations, for hosts that treat it as a root: in bdwgc this is a build option. And the client data of cleanups.
     RegisteredData,
 }
 
@@ -28,7 +28,7 @@ pub enum Root {
 pub struct Roots<'a> {
     root: Root,
     entries: Entries<'a>,
-    registrations: Registrations<'a>,
+    registered: Data<'a>,
 }
 
 impl<'a> Model for Roots<'a> {
@@ -37,7 +37,7 @@ impl<'a> Model for Roots<'a> {
 
     ghost Value = { List (Option ℕ) };
 
-    ghost view = { λ r. words_left r.root r.entries r.registrations };
+    ghost view = { λ r. words_left r.root r.entries r.registered };
 }
 
 impl<'a> Iterator for Roots<'a> {
@@ -60,7 +60,7 @@ impl<'a> Roots<'a> {
         Roots {
             root: self.root,
             entries: self.entries.from_place(place),
-            registrations: self.registrations.from_place(place),
+            registered: self.registered.from_place(place),
         }
     }
 
@@ -70,7 +70,7 @@ impl<'a> Roots<'a> {
     {
         match self.root {
             Root::HeldObject | Root::HeldData => self.entries.places(),
-            Root::RegisteredData => self.registrations.len(),
+            Root::RegisteredData => self.registered.places(),
         }
     }
 
@@ -81,7 +81,7 @@ impl<'a> Roots<'a> {
         match self.root {
             Root::HeldObject => Some(self.entries.step()?.obj),
             Root::HeldData => Some(self.entries.step()?.cd),
-            Root::RegisteredData => Some(self.registrations.next()?.1.cd),
+            Root::RegisteredData => Some(self.registered.step()?),
         }
     }
 
@@ -118,7 +118,7 @@ impl Finalizers {
         Roots {
             root,
             entries: self.entries(),
-            registrations: self.iter(),
+            registered: Data::of(self.iter(), self.iter_cleanups()),
         }
     }
 }

@@ -6,6 +6,7 @@ ghost use Rattle.std.specs.FinSet.{contains};
 ghost use Rattle.std.specs.List.{IsDistinct};
 ghost use Rattle.std.specs.Map.{keys_of};
 ghost use Rattle.fz_table.specs.Tabled.{plain};
+ghost use Rattle.fz_table.specs.declared.limits.TheConstants.{MOST_ENTRIES};
 ghost use Rattle.fz_finalizers.specs.States.{links_of, unfinished};
 ghost use Rattle.fz_finalizers.specs.Walks.{AreRegistrations, links_in_order, registrations_in_order, somes};
 
@@ -20,6 +21,7 @@ impl Finalizers {
     pub fn iter(&self) -> Registrations<'_>
         ensures all { AreRegistrations self.now.state result }
         ensures count { length result ≡ len self.now.registrations }
+        ensures limit { length result ≤ MOST_ENTRIES }
         ensures order { result ≡ registrations_in_order self.now }
     {
         self.table.iter()

@@ -34,7 +34,7 @@ impl Finalizers {
     }
 
     /// Forgets finished entries, if there are more than 1 for each 16 unfinished ones, and returns how many it forgot. Frees their memory, except the room for
-    /// the entries of `room` registrations, and at least of those that there are. Takes no memory. Takes time proportional to the entries in memory.
+    /// the entries of `room` registrations, and at least of the registrations and cleanups that there are. Takes no memory. Takes time proportional to the entries in memory.
     pub fn forget(&mut self, room: usize) -> u64
         ensures state { self.new.state ≡ self.old.state }
         ensures whole { self.new.memory.whole ≡ self.old.memory.whole }
@@ -42,8 +42,8 @@ impl Finalizers {
         ensures few { 16 * self.new.memory.remembered ≤ 17 * length (unfinished self.old.state) }
         ensures freed { result + self.new.memory.remembered ≡ self.old.memory.remembered }
     {
-        let registered = self.table.len();
-        self.ready.forget_to(room.max(registered))
+        let wanted = self.table.len() + self.cleanups.len();
+        self.ready.forget_to(room.max(wanted))
     }
 
     /// The entries from number `forgotten` on, in order: all entries ever queued, if none was forgotten.

@@ -16,7 +16,7 @@ pub mod Tiers
 pub mod Led
 pub mod Flags
 pub mod Unflagged
-pub mod Nothing
+pub mod Absent
 pub mod Emptied
 pub mod Safe
 pub mod Passing

@@ -21,7 +21,7 @@ use fz_table::Table;
 use std::mem;
 
 /// A host without objects or marks.
-struct Nothing;
+pub struct Nothing;
 
 impl Host for Nothing {
     ghost objects = { λ _. empty };

@@ -15,7 +15,7 @@ mod picking;
 mod ready_list;
 mod terms;
 
-pub use all::queue_all;
+pub use all::{Nothing, queue_all};
 pub use host::Host;
 pub use law::{decisions_pass, late_decisions_decide, passes_are_safe};
 pub use pass::decide;

@@ -7,7 +7,6 @@ ghost use Rattle.std.specs.FinMap.{from_entries, len};
 ghost use Rattle.fz_pass.specs.Listing.{AreUnmarked, AreApart, AreRanked};
 ghost use Rattle.fz_pass.specs.Tiers.{is_other, skips, tiered};
 
-use crate::by_rank::{is_of_one_rank, order_by_rank};
 use crate::host::Host;
 use crate::ready_list::ReadyList;
 use fz_model::Addr;
@@ -78,8 +77,5 @@ pub(crate) fn rank_unmarked<H: Host>(host: &H, table: &Table, round: Round, read
 {
     ready.listed.clear();
     list_unmarked(host, table, round, &mut ready.listed);
-    ready.listed.sort_unstable_by_key(|entry| entry.1);
-    if !is_of_one_rank(ready.listed.as_slice()) {
-        order_by_rank(&mut ready.listed, &mut ready.spare);
-    }
+    ready.sort();
 }

@@ -257,6 +257,20 @@ impl Table {
         self.next_number
     }
 
+    /// Uses up the number that the next registration would get, for something else, and returns it.
+    pub fn take_number(&mut self) -> u64
+        requires few { self.old.next_number < COUNT_LIMIT }
+        ensures number { result ≡ self.old.next_number }
+        ensures taken { self.new.registered ≡ record self.old.registered { next_number = self.old.next_number + 1 } }
+        ensures late { self.new.late ≡ self.old.late }
+        ensures order { self.new.order ≡ self.old.order }
+        ensures room { self.new.room ≡ self.old.room }
+    {
+        let number = self.next_number;
+        self.next_number = number + 1;
+        number
+    }
+
     /// Whether the table has as many registrations as it can have, and none for the object.
     pub fn lacks_place(&self, object: Addr) -> bool
         ensures { result ≡ lacks_place self.now.registrations object }

@@ -13,13 +13,14 @@ use Rattle.fz_model.specs.Memory.{points}
 use Rattle.fz_model.proofs.Lists.{place_of, contains_at}
 use Rattle.fz_model.proofs.KeyedEntries.{got, listed}
 use Rattle.fz_finalizers.specs.States.{State}
-use Rattle.fz_finalizers.specs.Walks.{AreRegistrations}
+use Rattle.fz_finalizers.specs.Walks.{AreCleanups, AreRegistrations}
+use Rattle.fz_finalizers.specs.declared.cleanups.Attached.{Attached}
 use Rattle.fz_why.specs.declared.paths.Pointer.{Pointer}
 use Rattle.fz_why.specs.declared.origin.Origin.{Origin}
 use Rattle.fz_why.specs.declared.origin.Origin.TheVariants.{Root, First}
-use Rattle.fz_why.specs.declared.reason.RootOf.TheVariants.{Host, RegisteredData, HeldObject, HeldData}
+use Rattle.fz_why.specs.declared.reason.RootOf.TheVariants.{Host, RegisteredData, CleanupData, HeldObject, HeldData}
 use Rattle.fz_why.specs.Why.{kind_toward}
-use Rattle.fz_why.specs.Trail.{Trail, has, is_cut, IsStepBut, IsFirstBy, IsByHost, IsByRegistration, IsByEntry, IsByOther}
+use Rattle.fz_why.specs.Trail.{Trail, has, is_cut, IsStepBut, IsFirstBy, IsByHost, IsByRegistration, IsByCleanup, IsByEntry, IsByOther}
 use Rattle.fz_why.proofs.Spreading.{past_end}
 
 -- by one of the first elements of a list, and by one of all
@@ -86,6 +87,15 @@ pub registered_all : (objects : Map Object) (s : State) (es : List (ℕ × Regis
 registered_all objects s es are o b = (
   λ h. let e : ℕ × Registration = (h.0, h.1) in (e, listed es h.0 h.1 (ap (λ (m : Map Registration). get m h.0) are.0 ∙ h.2), (h.3, h.4)),
   λ h. (h.0.0, h.0.1, ap (λ (m : Map Registration). get m h.0.0) (sym are.0) ∙ got es h.0.0 h.0.1 are.1 h.1, h.2.0, h.2.1),
+)
+
+abbrev pub ByAttached : Map Object → ℕ × Attached → Origin → ℕ → Type 0
+ByAttached objects e o b = (o ≡ Root (CleanupData e.0)) × (points objects e.1.cleanup.client_data ≡ Some b)
+
+pub attached_all : (objects : Map Object) (s : State) (es : List (ℕ × Attached)) → AreCleanups s es → (o : Origin) (b : ℕ) → IsByCleanup objects s.cleanups o b ↔ ByAny es (ByAttached objects) o b
+attached_all objects s es are o b = (
+  λ h. let e : ℕ × Attached = (h.0, h.1) in (e, listed es h.0 h.1 (ap (λ (m : Map Attached). get m h.0) are.0 ∙ h.2), (h.3, h.4)),
+  λ h. (h.0.0, h.0.1, ap (λ (m : Map Attached). get m h.0.0) (sym are.0) ∙ got es h.0.0 h.0.1 are.1 h.1, h.2.0, h.2.1),
 )
 
 abbrev pub ByHeld : Map Object → Entry → Origin → ℕ → Type 0

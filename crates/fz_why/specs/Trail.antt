@@ -14,12 +14,13 @@ use Rattle.fz_model.specs.Reachability.{Child}
 use Rattle.fz_model.specs.Pass.{cleared, LeadsFirst}
 use Rattle.fz_pass.specs.Marks.{AreRegistered, AreTargets}
 use Rattle.fz_pass.specs.Places.{placed}
+use Rattle.fz_finalizers.specs.declared.cleanups.Attached.{Attached}
 use Rattle.fz_finalizers.specs.States.{State}
 use Rattle.fz_why.specs.declared.origin.Origin.{Origin}
 use Rattle.fz_why.specs.declared.origin.Origin.TheVariants.{Root, First, After}
 use Rattle.fz_why.specs.declared.paths.Pointer.{Pointer}
 use Rattle.fz_why.specs.declared.reason.RootOf.{RootOf}
-use Rattle.fz_why.specs.declared.reason.RootOf.TheVariants.{Host, RegisteredData, HeldObject, HeldData}
+use Rattle.fz_why.specs.declared.reason.RootOf.TheVariants.{Host, RegisteredData, CleanupData, HeldObject, HeldData}
 use Rattle.fz_why.specs.Paths.{IsPath}
 use Rattle.fz_why.specs.Why.{kind_toward, HoldsBack, IsBackPath, IsRooted, IsUnfound}
 
@@ -137,6 +138,10 @@ IsByHost objects roots o b = (index : ℕ) × (word : ℕ) × (slice_get roots i
 
 abbrev pub IsByRegistration : Map Object → Map Registration → Origin → ℕ → Type 0
 IsByRegistration objects registrations o b = (a : ℕ) × (r : Registration) × (get registrations a ≡ Some r) × (o ≡ Root (RegisteredData r.number)) × (points objects r.cd ≡ Some b)
+
+abbrev pub IsByCleanup : Map Object → Map Attached → Origin → ℕ → Type 0
+IsByCleanup objects cleanups o b =
+    (number : ℕ) × (c : Attached) × (get cleanups number ≡ Some c) × (o ≡ Root (CleanupData number)) × (points objects c.cleanup.client_data ≡ Some b)
 
 abbrev pub IsByEntry : Map Object → List Entry → Origin → ℕ → Type 0
 IsByEntry objects entries o b =

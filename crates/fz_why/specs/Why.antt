@@ -12,17 +12,19 @@ use Rattle.fz_model.specs.Memory.{points}
 use Rattle.fz_model.specs.Reachability.{Child, Leads, Computes}
 use Rattle.fz_model.specs.Pass.{IsUnreachable, LeadsFirst, cleared}
 use Rattle.fz_pass.specs.Places.{placed}
+use Rattle.fz_finalizers.specs.declared.cleanups.Attached.{Attached}
 use Rattle.fz_finalizers.specs.States.{State, unfinished}
 use Rattle.fz_why.specs.declared.reason.RootOf.{RootOf}
-use Rattle.fz_why.specs.declared.reason.RootOf.TheVariants.{Host, RegisteredData, HeldObject, HeldData}
+use Rattle.fz_why.specs.declared.reason.RootOf.TheVariants.{Host, RegisteredData, CleanupData, HeldObject, HeldData}
 use Rattle.fz_why.specs.declared.reason.Reason.{Reason}
 use Rattle.fz_why.specs.declared.reason.Reason.TheVariants.{Unregistered, Queued, Found, Ring, Waits, Ready}
 use Rattle.fz_why.specs.Paths.{IsPath}
 
--- the word of a root: one of the host's own, the client data of a registration, or the object or the client data of an entry that isn't finished
+-- the word of a root: one of the host's own, the client data of a registration or of a cleanup, or the object or the client data of an entry that isn't finished
 abbrev pub IsRootWord : List ℕ → State → RootOf → ℕ → Type 0
 IsRootWord roots s (Host index) word = slice_get roots index ≡ Some word
 IsRootWord roots s (RegisteredData number) word = (o : ℕ) × (r : Registration) × (get s.registrations o ≡ Some r) × (r.number ≡ number) × (r.cd ≡ word)
+IsRootWord roots s (CleanupData number) word = (c : Attached) × (get s.cleanups number ≡ Some c) × (c.cleanup.client_data ≡ word)
 IsRootWord roots s (HeldObject seq) word = (e : Entry) × Contains (unfinished s) e × (e.seq ≡ seq) × (e.obj ≡ word)
 IsRootWord roots s (HeldData seq) word = (e : Entry) × Contains (unfinished s) e × (e.seq ≡ seq) × (e.cd ≡ word)
 

@@ -9,6 +9,8 @@ pub enum RootOf {
     Host(usize),
     /// The client data of the registration with this number.
     RegisteredData(u64),
+    /// The client data of the cleanup with this number.
+    CleanupData(u64),
     /// The object of the entry with this number, which waits or is held.
     HeldObject(u64),
     /// The client data of the entry with this number, which waits or is held.

@@ -6,7 +6,7 @@ ghost use Rattle.fz_model.specs.declared.answers.Entry.{Entry};
 ghost use Rattle.fz_model.specs.declared.answers.Registration.{Registration};
 ghost use Rattle.fz_model.specs.Memory.{points};
 ghost use Rattle.fz_finalizers.specs.States.{unfinished};
-ghost use Rattle.fz_why.specs.Trail.{Adds, IsReachedTrail, IsByRoot, IsByHost, IsByRegistration, IsByEntry};
+ghost use Rattle.fz_why.specs.Trail.{Adds, IsReachedTrail, IsByRoot, IsByHost, IsByRegistration, IsByCleanup, IsByEntry};
 
 use crate::origin::Origin;
 use crate::paths::Paths;
@@ -59,6 +59,21 @@ fn add_registered<H: Paths>(
     Ok(())
 }
 
+/// Adds the objects to which client data of cleanups points.
+fn add_attached<H: Paths>(
+    finalizers: &Finalizers,
+    host: &H,
+    trail: &mut Trail,
+) -> Result<(), NoMemory>
+    ensures added { OnOk result (Adds (IsByCleanup (H.objects host.now) finalizers.now.state.cleanups) trail.old trail.new) }
+{
+    for each in finalizers.iter_cleanups() {
+        let root = RootOf::CleanupData(each.0);
+        add_root(host, each.1.cleanup.client_data, root, trail)?;
+    }
+    Ok(())
+}
+
 /// Adds the objects of entries that aren't finished, and those to which their client data points.
 fn add_entries<H: Paths>(
     finalizers: &Finalizers,
@@ -85,6 +100,7 @@ pub(crate) fn find<H: Paths>(
     let mut trail = Trail::new(alloc);
     add_host(host, &mut trail)?;
     add_registered(finalizers, host, &mut trail)?;
+    add_attached(finalizers, host, &mut trail)?;
     add_entries(finalizers, host, &mut trail)?;
     spread(finalizers, host, None, &mut trail)?;
     Ok(trail)

@@ -180,7 +180,7 @@ impl World {
         ensures marks { KeepsMarks self.old self.new }
     {
         self.marked.trace_found();
-        let passed = self.finalizers.pass(&mut self.marked);
+        let passed = self.finalizers.pass_without_cleanups(&mut self.marked);
         self.finalizers.take_all();
         Passed {
             pass: passed.pass,

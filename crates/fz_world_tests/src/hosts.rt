@@ -1,7 +1,9 @@
 //! Tests of finalizers over other heaps: a heap of records, and a graph that answers questions. Both are compared with a world, and queue the same objects.
+//! What a world hasn't, cleanups and reasons, has worked rows, and a plain reading of random graphs.
 
 mod asked;
 mod beside;
+mod cleanups;
 mod equal;
 mod runtime;
 mod why;

@@ -1,5 +1,5 @@
 -- What an entry has that isn't finished is found.
-use Rattle.std.proofs.Common.{◌≡◌, ℕ, zero, suc, ◌∷◌, [], Bool, false, List, map, Option, Some, None, is_some, option_map, refl, sym, ap, ◌∙◌, subst, inr, arith, IsTrue, Contains}
+use Rattle.std.proofs.Common.{◌≡◌, ◌≢◌, ℕ, zero, suc, ◌∷◌, [], Bool, false, List, map, Option, Some, None, is_some, option_map, refl, sym, ap, ◌∙◌, subst, inr, arith, IsTrue, Contains}
 use Rattle.std.proofs.lemmas.Bool.{both_ways}
 use Rattle.std.specs.FinMap.{get, contains_key}
 use Rattle.fz_model.specs.declared.answers.Entry.{Entry}
@@ -32,6 +32,6 @@ mapped_within f (y ∷ xs) x (zero, low, is) = (0, omega arith, ap f is)
 mapped_within f (y ∷ xs) x (suc k, low, is) = let rest = mapped_within f xs x (k, omega arith, is) in (suc rest.0, omega (arith, rest.1), rest.2)
 
 module _ (slots : List (Option Record)) (s : State) (sound : IsSound (objects_of slots) s) (old new : ℕ → Bool) (kept : MarksKept (objects_of slots) HeldObject s old new) where
-  pub held_found : (e : Entry) → Contains (unfinished s) e → IsTrue (new e.obj)
-  held_found e here =
-      kept.marked.least e.obj (inr (e.obj, subst (λ ws. Contains ws e.obj) (sym kept.yielded.2) (mapped_within (λ (x : Entry). x.obj) (unfinished s) e here), (e.obj, object_points slots e.obj (sound.held e here), Itself)))
+  pub held_found : (e : Entry) → Contains (unfinished s) e → e.obj ≢ 0 → IsTrue (new e.obj)
+  held_found e here some =
+      kept.marked.least e.obj (inr (e.obj, subst (λ ws. Contains ws e.obj) (sym kept.yielded.4) (mapped_within (λ (x : Entry). x.obj) (unfinished s) e here), (e.obj, object_points slots e.obj (sound.held e here some), Itself)))

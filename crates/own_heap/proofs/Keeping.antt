@@ -1,5 +1,5 @@
 -- What is registered stays there.
-use Rattle.std.proofs.Common.{◌≡◌, ℕ, ◌+◌, ◌<◌, length, set, get_or, Result, Ok, Err, OnOk, OnErr, MatchOption, get_or-set_same, get_or-set_other, ◌&&◌, not, Bool, true, false, cond, List, Option, Some, None, is_some, option_map, refl, sym, ap, ◌∙◌, subst, ⊎_elim, IsTrue, arith, ◌∷◌, [], Contains, ◌++◌, ◌⊎◌, inr, append_assoc, drop, take, filter, slice_get, zero, suc}
+use Rattle.std.proofs.Common.{◌≡◌, ◌≢◌, ℕ, ◌+◌, ◌<◌, length, map, set, get_or, Result, Ok, Err, OnOk, OnErr, MatchOption, get_or-set_same, get_or-set_other, ◌&&◌, not, Bool, true, false, cond, List, Option, Some, None, is_some, option_map, refl, sym, ap, ◌∙◌, subst, ⊎_elim, IsTrue, arith, ◌∷◌, [], Contains, ◌++◌, ◌⊎◌, inr, append_assoc, drop, take, filter, slice_get, zero, suc}
 use Rattle.std.proofs.lemmas.Bool.{both_ways, cases_eq, and_parts, and_from}
 use Rattle.std.proofs.lemmas.Option.{same_Some, none-some}
 use Rattle.std.specs.Option.{option_map_or}
@@ -32,7 +32,10 @@ use Rattle.fz_model.proofs.Maps.{get-mapped, filling}
 use Rattle.fz_finalizers.specs.declared.kinds.Finalizer.{Finalizer}
 use Rattle.fz_finalizers.specs.Kinds.{table_finalizer}
 use Rattle.fz_finalizers.specs.States.{State, opening, links_of, unfinished, waiting, with_links}
-use Rattle.fz_finalizers.specs.Follows.{Follows, Register, Link, Take, Finish, with_registration}
+use Rattle.fz_finalizers.specs.declared.cleanups.Attached.{Attached}
+use Rattle.fz_finalizers.specs.declared.cleanups.Cleanup.{Cleanup}
+use Rattle.fz_finalizers.specs.Cleanups as cleanups
+use Rattle.fz_finalizers.specs.Follows.{Cleans, Follows, Register, Link, Take, Finish, AddCleanup, Cancel, with_registration, with_cleanup, without_cleanup}
 use Rattle.fz_model.specs.declared.answers.Pick.{Pick}
 use Rattle.fz_model.specs.Pass.{entries_of, IsPicked}
 use Rattle.std.proofs.lemmas.List.Elements.{All-contains, Contains-append_cases, Contains-append_left, Contains-append_right}
@@ -64,7 +67,7 @@ sound_kept old new s kept sound = record {
   registered = λ a r is. kept a (sound.registered a r is);
   short = λ link target is. kept target (sound.short link target is);
   long = λ link target is. kept target (sound.long link target is);
-  held = λ e here. kept e.obj (sound.held e here);
+  held = λ e here some. kept e.obj (sound.held e here some);
 }
 
 insert_keeps : (m : Map Object) (k : ℕ) (o : Object) → AreKept m (insert m k o)
@@ -107,7 +110,7 @@ sound_opening objects = record {
   registered = λ a r is. absurd (none-some r (sym (get-empty nat_cmp a) ∙ is));
   short = λ a r is. absurd (none-some r (sym (get-empty nat_cmp a) ∙ is));
   long = λ a r is. absurd (none-some r (sym (get-empty nat_cmp a) ∙ is));
-  held = λ e within. absurd (omega (arith, within.1));
+  held = λ e within some. absurd (omega (arith, within.1));
 }
 
 with_registration_sound : (objects : Map Object) (s : State) (o : ℕ) (f : Finalizer) → IsTrue (contains_key objects o) → IsSound objects s → IsSound objects (with_registration s o f)
@@ -136,7 +139,7 @@ take_sound objects old new (Some entry) follows sound = subst (IsSound objects) 
   registered = sound.registered;
   short = sound.short;
   long = sound.long;
-  held = λ e here. sound.held e (subst (λ es. Contains es e) (sym (taken_unfinished old entry follows.0)) here);
+  held = λ e here some. sound.held e (subst (λ es. Contains es e) (sym (taken_unfinished old entry follows.0)) here) some;
 })
 
 with_finished_sound : (objects : Map Object) (s : State) (entry : Entry) → IsSound objects s → IsSound objects (record s { held = filter (λ h. not (same_entry entry h)) s.held })
@@ -144,18 +147,31 @@ with_finished_sound objects s entry sound = record {
   registered = sound.registered;
   short = sound.short;
   long = sound.long;
-  held = λ e here.
+  held = λ e here some.
       ⊎_elim
       (λ (left : Contains (filter stays s.held) e).
       let found = lists.place_of (filter stays s.held) e left in
       let kept = filter_at stays s.held found.0 e found.1 in
-      sound.held e (Contains-append_left s.held (drop s.taken s.queue) e (contains_at s.held kept.0 e kept.1)))
-      (λ (waits : Contains (drop s.taken s.queue) e). sound.held e (Contains-append_right s.held (drop s.taken s.queue) e waits))
+      sound.held e (Contains-append_left s.held (drop s.taken s.queue) e (contains_at s.held kept.0 e kept.1)) some)
+      (λ (waits : Contains (drop s.taken s.queue) e). sound.held e (Contains-append_right s.held (drop s.taken s.queue) e waits) some)
       (Contains-append_cases (filter stays s.held) (drop s.taken s.queue) e here);
 }
   where
     stays : Entry → Bool
     stays h = not (same_entry entry h)
+
+with_cleanup_sound : (objects : Map Object) (s : State) (o : ℕ) (c : Cleanup) → IsSound objects s → IsSound objects (with_cleanup s o c)
+with_cleanup_sound objects s o c sound = record { registered = sound.registered; short = sound.short; long = sound.long; held = sound.held }
+
+pub add_sound : {A E : Type 0} (objects : Map Object) (old new : State) (o : ℕ) (c : Cleanup) (r : Result A E) → OnErr r (new ≡ old) → OnOk r (Follows old (AddCleanup o c) new) → IsSound objects old → IsSound objects new
+add_sound objects old new o c (Ok x) refused follows sound = subst (IsSound objects) (sym follows) (with_cleanup_sound objects old o c sound)
+add_sound objects old new o c (Err e) refused follows sound = subst (IsSound objects) (sym refused) sound
+
+without_cleanup_sound : (objects : Map Object) (s : State) (number : ℕ) → IsSound objects s → IsSound objects (without_cleanup s number)
+without_cleanup_sound objects s number sound = record { registered = sound.registered; short = sound.short; long = sound.long; held = sound.held }
+
+pub cancel_sound : (objects : Map Object) (old new : State) (number : ℕ) → Follows old (Cancel number) new → IsSound objects old → IsSound objects new
+cancel_sound objects old new number follows sound = subst (IsSound objects) (sym follows) (without_cleanup_sound objects old number sound)
 
 pub finish_sound : {A E : Type 0} (objects : Map Object) (old new : State) (entry : Entry) (r : Result A E) → OnErr r (new ≡ old) → OnOk r (Follows old (Finish entry) new) → IsSound objects old → IsSound objects new
 finish_sound objects old new entry (Ok x) refused follows sound = subst (IsSound objects) (sym follows.1) (with_finished_sound objects old entry sound)
@@ -176,6 +192,37 @@ entries_have pass seq (p ∷ ps) e (zero, low, is) = (p, (0, omega arith, refl),
 entries_have pass seq (p ∷ ps) e (suc k, low, is) =
     let rest = entries_have pass (seq + 1) ps e (k, omega arith, is) in
     (rest.0, (suc rest.1.0, omega (arith, rest.1.1), rest.1.2), rest.2)
+
+-- ---- cleanups are queued
+
+-- an entry with an object isn't a cleanup's
+no_object : (pass seq : ℕ) (due : List (ℕ × Attached)) (e : Entry) → Contains (entries_of pass seq (map cleanups.pick_of due)) e → e.obj ≡ 0
+no_object pass seq due e here =
+    let from = entries_have pass seq (map cleanups.pick_of due) e here in
+    let at = lists.place_of (map cleanups.pick_of due) from.0 from.1 in
+    let of = lists.map_at cleanups.pick_of due at.0 from.0 at.1 in
+    sym from.2 ∙ ap (λ (p : Pick). p.obj) (sym of.2)
+
+module _ (objects : Map Object) (pass : ℕ) (test : Attached → Bool) (s t : State) (cleans : Cleans pass test s t) where
+  abbrev clean_entries : List Entry
+  clean_entries = entries_of pass (length s.queue) (map cleanups.pick_of cleans.0)
+
+  -- so it was unfinished before
+  pub cleans_back : (e : Entry) → Contains (unfinished t) e → e.obj ≢ 0 → Contains (unfinished s) e
+  cleans_back e here some =
+      ⊎_elim (λ (h : Contains s.held e). Contains-append_left s.held (drop s.taken s.queue) e h)
+      (λ (w : Contains (drop s.taken (s.queue ++ clean_entries)) e).
+      ⊎_elim (λ (before : Contains (drop s.taken s.queue) e). Contains-append_right s.held (drop s.taken s.queue) e before)
+      (λ (came : Contains clean_entries e). absurd (some (no_object pass (length s.queue) cleans.0 e came))) (drop_cases s.taken s.queue clean_entries e w))
+      (Contains-append_cases s.held (drop s.taken (s.queue ++ clean_entries)) e (subst (λ (u : State). Contains (unfinished u) e) cleans.2 here))
+
+  pub cleans_sound : IsSound objects s → IsSound objects t
+  cleans_sound sound = record {
+    registered = subst (λ (u : State). AreRegistered objects u.registrations) (sym cleans.2) sound.registered;
+    short = subst (λ (u : State). AreTargets objects u.short) (sym cleans.2) sound.short;
+    long = subst (λ (u : State). AreTargets objects u.long) (sym cleans.2) sound.long;
+    held = λ e here some. sound.held e (cleans_back e here some) some;
+  }
 
 -- a link that is left was one, and its target is in the set
 within_back : (place : ℕ → Option ℕ) (objects : Map Object) (links : Map ℕ) (targets containers : ℕ → Bool) (link target : ℕ) → get (links_held place objects links targets containers) link ≡ Some target → (get links link ≡ Some target) × IsTrue (targets target)
@@ -245,11 +292,11 @@ module _ (E : Type 0) (place : ℕ → Option ℕ) (late : ℕ → Bool) (pass f
   came_stands e came = let from = entries_have pass first d.picks e came in subst (λ a. IsTrue (contains_key new.objects a)) from.2 (picked_kept from.0 from.1)
 
   -- what isn't finished stands then, where what wasn't before was found
-  pub passed_held : (s t : State) → queue ≡ s.queue → t.queue ≡ new_queue → t.taken ≡ s.taken → t.held ≡ s.held → ((e : Entry) → Contains (unfinished s) e → IsTrue (found e.obj) × IsTrue (contains_key old.objects e.obj)) → (e : Entry) → Contains (unfinished t) e → IsTrue (contains_key new.objects e.obj)
-  passed_held s t was is taken held all e here =
+  pub passed_held : (s t : State) → queue ≡ s.queue → t.queue ≡ new_queue → t.taken ≡ s.taken → t.held ≡ s.held → ((e : Entry) → Contains (unfinished s) e → e.obj ≢ 0 → IsTrue (found e.obj) × IsTrue (contains_key old.objects e.obj)) → (e : Entry) → Contains (unfinished t) e → e.obj ≢ 0 → IsTrue (contains_key new.objects e.obj)
+  passed_held s t was is taken held all e here some =
       let come = entries_of pass first d.picks in
       let grown : unfinished t ≡ s.held ++ drop s.taken (s.queue ++ come) = (λ i. held i ++ drop (taken i) ((is ∙ d.queued ∙ ap (λ es. es ++ come) was) i)) in
-      let stood = λ (old_one : Contains (unfinished s) e). let found_it = all e old_one in kept_stands e.obj (found_kept e.obj found_it.0) found_it.1 in
+      let stood = λ (old_one : Contains (unfinished s) e). let found_it = all e old_one some in kept_stands e.obj (found_kept e.obj found_it.0) found_it.1 in
       ⊎_elim
       (λ (h : Contains s.held e). stood (Contains-append_left s.held (drop s.taken s.queue) e h))
       (λ (w : Contains (drop s.taken (s.queue ++ come)) e).

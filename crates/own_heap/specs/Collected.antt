@@ -8,7 +8,9 @@ use Rattle.fz_pass.specs.Flagged.{DecidesFlagged}
 use Rattle.fz_finalizers.specs.declared.roots.Root.{Root}
 use Rattle.fz_finalizers.specs.declared.roots.Root.TheVariants.{HeldObject, HeldData, RegisteredData}
 use Rattle.fz_finalizers.specs.States.{State}
-use Rattle.fz_finalizers.specs.Follows.{next_pass}
+use Rattle.fz_model.specs.declared.kinds.LinkKind.TheVariants.{Short, Long}
+use Rattle.fz_finalizers.specs.Cleanups.{is_due}
+use Rattle.fz_finalizers.specs.Follows.{Cleans, Follows, Pass, next_pass}
 use Rattle.fz_finalizers.specs.Passed.{parts_in}
 use Rattle.fz_finalizers.specs.Walks.{YieldsRoots}
 use Rattle.own_heap.specs.declared.record.RecordId.{RecordId}
@@ -25,7 +27,8 @@ pub record MarksKept (objects : Map Object) (root : Root) (s : State) (old new :
   pub yielded : YieldsRoots root s words
   pub marked : Marks (Unit {0}) objects old new (IsLedByAny objects words)
 
--- first what the roots reach was marked, then what the finalizers retain; the rest is the decision of a pass, whose retained objects remain
+-- first what the roots reach was marked, then what the finalizers retain; the rest is a pass, whose retained objects remain: before its decision the short
+-- cleanups of objects that weren't found are queued, and after it the long ones of objects that aren't retained
 pub record Collects (objects : Map Object) (roots : List RecordId) (old : State) (left : Map Object) (new : State) : Type 0 where
   pub rooted : ℕ → Bool
   pub held : ℕ → Bool
@@ -35,4 +38,10 @@ pub record Collects (objects : Map Object) (roots : List RecordId) (old : State)
   pub by_objects : MarksKept objects HeldObject old rooted held
   pub by_data : MarksKept objects HeldData old held handed
   pub by_registered : MarksKept objects RegisteredData old handed found
-  pub decided : DecidesFlagged (Unit {0}) place_of_link (contains old.late) (next_pass old.passes) (length old.queue) (parts_in objects old) found (parts_in left new) old.queue new.queue
+  pub begun : State
+  pub passed : State
+  pub marked : ℕ → Bool
+  pub short : Cleans (next_pass old.passes) (is_due Short found) old begun
+  pub decided : DecidesFlagged (Unit {0}) place_of_link (contains begun.late) (next_pass old.passes) (length begun.queue) (parts_in objects begun) found (parts_in left passed) begun.queue passed.queue
+  pub follows : Follows begun Pass passed
+  pub long : Cleans (next_pass old.passes) (is_due Long marked) passed new

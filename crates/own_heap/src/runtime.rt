@@ -3,9 +3,9 @@
 ghost use Rattle.std.specs.Prelude.{◌≡◌, ◌+◌, ◌++◌, ◌∷◌, ◌⊎◌, ◌^◌, [], ◌<◌, if◌then◌else◌, is_some, length, option_map, replicate, slice_set, IfErr, IfOk, IfSome, IsTrue, MatchOption, OnErr, OnOk, None};
 ghost use Rattle.std.specs.FinMap.{contains_key, get};
 ghost use Rattle.fz_model.specs.Steps.{old_of};
-ghost use Rattle.fz_finalizers.specs.Causes.{IsJudgedBy, IsJudgedOrLacks, finish_causes, link_causes, register_causes};
+ghost use Rattle.fz_finalizers.specs.Causes.{IsJudgedBy, IsJudgedOrLacks, add_causes, finish_causes, link_causes, register_causes};
 ghost use Rattle.fz_finalizers.specs.States.{HasRooms, links_of, opening, room_of, waiting};
-ghost use Rattle.fz_finalizers.specs.Follows.{Follows, Register, Link, Take, Finish, next_pass};
+ghost use Rattle.fz_finalizers.specs.Follows.{Follows, Register, Link, AddCleanup, Cancel, Take, Finish, next_pass};
 ghost use Rattle.own_heap.specs.Outside.{place_of_link};
 ghost use Rattle.own_heap.specs.Records.{address_of, addresses_of, objects_of, slot, with_field, IsFull, IsMade};
 ghost use Rattle.fz_pass.specs.Marks.{IsClosed};
@@ -17,7 +17,8 @@ ghost use Rattle.own_heap.specs.Collected.{Collects, MarksKept};
 use crate::heap::Heap;
 use crate::record::{FIELDS, Field, RecordId};
 use fz_finalizers::{
-    Entry, Finalizer, Finalizers, LinkAnswer, LinkKind, Old, Passed, Refused, Root,
+    Attached, Cleanup, Entry, Finalizer, Finalizers, LinkAnswer, LinkKind, Old, Passed, Refused,
+    Root,
 };
 use fz_model::Addr;
 use fz_why::{NoMemory, Reason, why};
@@ -154,6 +155,27 @@ impl Runtime {
         self.finalizers.link(kind, word, target.address())
     }
 
+    /// Adds a cleanup to an existing record.
+    pub fn add_cleanup(&mut self, id: RecordId, cleanup: Cleanup) -> Result<u64, Refused>
+        requires { IsTrue (is_some (slot self.old.heap.records.slots.items id.place)) }
+        ensures heap { self.new.heap ≡ self.old.heap }
+        ensures judged { IsJudgedOrLacks (add_causes self.old.finalizers.cleanups self.old.finalizers.next_number (address_of id.place)) result }
+        ensures refused { OnErr result (self.new.finalizers.state ≡ self.old.finalizers.state) }
+        ensures number { IfOk result (λ number. number ≡ self.old.finalizers.next_number) }
+        ensures follows { OnOk result (Follows self.old.finalizers.state (AddCleanup (address_of id.place) cleanup) self.new.finalizers.state) }
+    {
+        self.finalizers.add_cleanup(id.address(), cleanup)
+    }
+
+    /// Removes a cleanup, and returns it, unless it was queued or cancelled, or never added.
+    pub fn cancel(&mut self, number: u64) -> Option<Attached>
+        ensures heap { self.new.heap ≡ self.old.heap }
+        ensures answer { result ≡ get self.old.finalizers.cleanups number }
+        ensures follows { Follows self.old.finalizers.state (Cancel number) self.new.finalizers.state }
+    {
+        self.finalizers.cancel(number)
+    }
+
     /// The address of the record to which a link leads.
     pub fn target(&self, kind: LinkKind, word: Addr) -> Option<Addr>
         ensures { result ≡ get (links_of self.now.finalizers.state kind) word }
@@ -186,7 +208,8 @@ impl Runtime {
         why(alloc, &self.finalizers, &self.heap, id.address())
     }
 
-    /// A collection: marks what the roots, the unfinished entries and the client data reach, runs the finalizers' pass, and frees all other records.
+    /// A collection: marks what the roots, the unfinished entries and the client data reach, runs the finalizers' pass, and frees all other records, those
+    /// among them whose cleanups were queued.
     pub fn collect(&mut self) -> Passed
         ensures collected { Collects (objects_of self.old.heap.records.slots.items) self.old.heap.roots.items self.old.finalizers.state (objects_of self.new.heap.records.slots.items) self.new.finalizers.state }
         ensures pass { result.pass ≡ next_pass self.old.finalizers.passes }

@@ -309,7 +309,7 @@ fn a_link_outside_of_the_heap_cuts_no_ring(rt: HostRuntime) {
 }
 
 /// How many records a random graph has.
-const COUNT: usize = 6;
+pub(crate) const COUNT: usize = 6;
 
 /// A graph as lists, for a plain reading.
 #[derive(Drop)]
@@ -324,7 +324,7 @@ struct Plain {
 }
 
 /// Appends an element.
-fn push<T: Drop>(rt: &impl Abort, list: &mut Vec<T>, element: T) {
+pub(crate) fn push<T: Drop>(rt: &impl Abort, list: &mut Vec<T>, element: T) {
     list.push(element).expect(rt, "memory");
 }
 
@@ -385,12 +385,12 @@ fn built(rt: &impl Abort, alloc: Global, plain: &Plain) -> Records {
 }
 
 /// Whether the test has the number.
-fn has(flags: &[bool; COUNT], record: usize) -> bool {
+pub(crate) fn has(flags: &[bool; COUNT], record: usize) -> bool {
     flags.get(record).copied().unwrap_or(false)
 }
 
 /// Sets a flag.
-fn set(flags: &mut [bool; COUNT], record: usize) {
+pub(crate) fn set(flags: &mut [bool; COUNT], record: usize) {
     if let Some(flag) = flags.get_mut(record) {
         *flag = true;
     }

@@ -1,3 +1,4 @@
+use Rattle.fz_finalizers.proofs.Alike.{passes_alike}
 use Rattle.fz_finalizers.proofs.Promised.{promised}
 use Rattle.fz_finalizers.proofs.Walked.{walked, yield_all}
 use Rattle.fz_finalizers.proofs.Recorded.{recorded}
@@ -21,3 +22,6 @@ returns-clause-passes c = numbers_passes
 
 pub returns-clause-walks : goal.returns-clause-walks
 returns-clause-walks c = yield_all
+
+pub returns-clause-cleanups : goal.returns-clause-cleanups
+returns-clause-cleanups c = λ place old new. (passes_alike (Unit {0}) place old new, passes_alike ⊥ place old new)

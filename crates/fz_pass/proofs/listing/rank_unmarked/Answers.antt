@@ -1,25 +1,17 @@
-use Rattle.std.proofs.Common.{◌≡◌, ℕ, Bool, All, rules, sym, subst}
-use Rattle.std.proofs.lemmas.List.Sorted.{IsNonDecreasingBy-from_sort_by_key}
-use Rattle.fz_pass.specs.Listing.{AreUnmarked, AreRanked}
+use Rattle.std.proofs.Common.{ℕ, Bool}
+use Rattle.fz_pass.specs.Listing.{IsUnmarked}
 use Rattle.fz_pass.specs.Tiers.{skips, tiered}
-use Rattle.fz_pass.proofs.Ranking.{by_address, of_one_rank, by_rank}
+use Rattle.fz_pass.proofs.Ranking.{same_all}
 use Rattle.fz_pass.proofs.listing.rank_unmarked.Goals as goal
 
-pub returns-then-not-is_of_one_rank-clause-listed : goal.returns-then-not-is_of_one_rank-clause-listed
-returns-then-not-is_of_one_rank-clause-listed g c =
+pub returns-clause-listed : goal.returns-clause-listed
+returns-clause-listed g c =
     let registrations = c.args.table.now.registered.registrations in
-    let marked : ℕ → Bool = skips c.args.round.second (tiered c.args.round.tiers c.args.table.now.late) (g.H.Host.marked c.args.host.now) in
-    let sorted = c.sort_unstable_by_key.ensures in
-    let up = IsNonDecreasingBy-from_sort_by_key (λ (x : ℕ × ℕ). x.1) _ sorted.sorted (λ a r q k. search rules) in
-    subst (AreUnmarked registrations marked AreRanked) (sym c.order_by_rank.ensures.ordered)
-    (by_rank registrations marked 256 _ c.order_by_rank.ensures.bytes (by_address registrations marked _ _ c.list_unmarked.ensures.listed sorted.permutation up))
-
-pub returns-else-not-is_of_one_rank-clause-listed : goal.returns-else-not-is_of_one_rank-clause-listed
-returns-else-not-is_of_one_rank-clause-listed g c =
-    let registrations = c.args.table.now.registered.registrations in
-    let marked : ℕ → Bool = skips c.args.round.second (tiered c.args.round.tiers c.args.table.now.late) (g.H.Host.marked c.args.host.now) in
-    let sorted = c.sort_unstable_by_key.ensures in
-    let up = IsNonDecreasingBy-from_sort_by_key (λ (x : ℕ × ℕ). x.1) _ sorted.sorted (λ a r q k. search rules) in
-    let one = c.is_of_one_rank.ensures c.if-not-is_of_one_rank.false in
-    let same = subst (All (λ (x : ℕ × ℕ). x.0 ≡ one.0)) c.as_slice.ensures.value one.1 in
-    of_one_rank registrations marked one.0 _ same (by_address registrations marked _ _ c.list_unmarked.ensures.listed sorted.permutation up)
+    let skip : ℕ → Bool = skips c.args.round.second (tiered c.args.round.tiers c.args.table.now.late) (g.H.Host.marked c.args.host.now) in
+    let u = c.list_unmarked.ensures.listed in
+    let s = c.sort.ensures in
+    record {
+      ordered = s.ordered u.ordered;
+      each = same_all (IsUnmarked registrations skip) c.list_unmarked.new.ready.items c.sort.new.self.listed s.same u.each;
+      whole = λ a on. let x = u.whole a on in (x.0, (s.same x.0).1 x.1, x.2);
+    }

@@ -1,6 +1,6 @@
 use Rattle.std.proofs.Common.{◌⊎◌, subst}
 use Rattle.fz_finalizers.specs.States.{unfinished}
-use Rattle.fz_why.specs.Trail.{Adds, IsByHost, IsByRegistration, IsByRoot, IsStepBy}
+use Rattle.fz_why.specs.Trail.{Adds, IsByHost, IsByRegistration, IsByCleanup, IsByRoot, IsStepBy}
 use Rattle.fz_why.specs.declared.origin.Origin.{Origin}
 use Rattle.std.proofs.Common.{ℕ, false}
 use Rattle.fz_why.proofs.Adding.{adds_on}
@@ -18,7 +18,8 @@ returns g c = record {
       let pointers = g.H.Paths.pointers c.args.host.now in
       let first = subst (λ es. Adds (IsByHost objects roots) es c.add_host.new.trail) c.new-trail.ensures c.in_ok-add_host.ensures.added in
       let two = adds_on (λ (o : Origin) (b : ℕ). IsByHost objects roots o b ⊎ IsByRegistration objects s.registrations o b) first c.in_ok-add_registered.ensures.added (λ o b. (λ h. h, λ h. h)) in
-      let all = adds_on (Comes objects roots s) two c.in_ok-add_entries.ensures.added (λ o b. (λ h. h, λ h. h)) in
+      let three = adds_on (λ (o : Origin) (b : ℕ). (IsByHost objects roots o b ⊎ IsByRegistration objects s.registrations o b) ⊎ IsByCleanup objects s.cleanups o b) two c.in_ok-add_attached.ensures.added (λ o b. (λ h. h, λ h. h)) in
+      let all = adds_on (Comes objects roots s) three c.in_ok-add_entries.ensures.added (λ o b. (λ h. h, λ h. h)) in
       reached_trail objects (λ a b. IsStepBy objects (λ w. false) (pointers a) b) (Comes objects roots s) (IsByRoot objects roots s) _ _ all c.in_ok-spread.ensures.spread
       (λ a b. step_child objects a (pointers a) (g.met.H.Paths.are_pointers c.args.host.now a) b) (comes_by_root objects roots s);
 }

@@ -8,20 +8,20 @@ use Rattle.fz_finalizers.proofs.finalizers.Finalizers.queue.Goals as goal
 
 pub invariant_of-self : goal.invariant_of-self
 invariant_of-self c =
-    (removed_fits c.self.inside.table.content c.self.inside.ready c.self.invariant.0 _ c.args.object (λ i. record { registered = c.take.ensures.removed i; late = c.take.ensures.late i }), c.self.invariant.1)
+    (removed_fits c.self.inside.table.content c.self.inside.cleanups.cleanups c.self.inside.ready c.self.invariant.0 _ c.args.object (λ i. record { registered = c.take.ensures.removed i; late = c.take.ensures.late i }), c.self.invariant.1)
 
 pub returns-in_default-clause-follows : goal.returns-in_default-clause-follows
 returns-in_default-clause-follows c =
-    let s = state_of c.self.inside.table.content c.self.inside.short c.self.inside.long c.self.inside.ready c.self.inside.passes in
+    let s = state_of c.self.inside.table.content c.self.inside.short c.self.inside.long c.self.inside.cleanups.cleanups c.self.inside.ready c.self.inside.passes in
     (λ i. record s { registrations = (c.take.ensures.removed i).registrations; next_number = (c.take.ensures.removed i).next_number; late = c.take.ensures.late i })
     ∙ none_queued s c.args.object c.self.invariant.0.flags (sym c.take.ensures.answer ∙ c.in_default.is) ∙ ap (λ (v : View). queued_object v.state c.args.object) c.self.view_is
 
 pub push-requires-clause-room : goal.push-requires-clause-room
-push-requires-clause-room c = has_room c.self.inside.table.content c.self.inside.ready c.self.invariant.0 c.args.object c.in-Some.registration (sym c.take.ensures.answer ∙ c.in-Some.is)
+push-requires-clause-room c = has_room c.self.inside.table.content c.self.inside.cleanups.cleanups c.self.inside.ready c.self.invariant.0 c.args.object c.in-Some.registration (sym c.take.ensures.answer ∙ c.in-Some.is)
 
 pub invariant_of-self-2 : goal.invariant_of-self-2
 invariant_of-self-2 c = (
-  taken_fits c.self.inside.table.content c.self.inside.ready c.self.invariant.0 c.args.object c.in-Some.registration (sym c.take.ensures.answer ∙ c.in-Some.is) _ c.push.new.self (λ i. record { registered = c.take.ensures.removed i; late = c.take.ensures.late i })
+  taken_fits c.self.inside.table.content c.self.inside.cleanups.cleanups c.self.inside.ready c.self.invariant.0 c.args.object c.in-Some.registration (sym c.take.ensures.answer ∙ c.in-Some.is) _ c.push.new.self (λ i. record { registered = c.take.ensures.removed i; late = c.take.ensures.late i })
       (ap length c.push.ensures.queue ∙ length-append c.self.inside.ready.queue _) c.push.ensures.room,
   c.self.invariant.1,
 )

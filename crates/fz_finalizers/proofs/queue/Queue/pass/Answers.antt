@@ -47,3 +47,9 @@ returns-clause-decided g c =
     decided_there (take i.first i.past.entries) i.entries.items c.decide.new.queue.items c.args.self.now.queue i.kept c.queued.result (length c.args.self.now.queue) c.args.table.now.late c.decide.new.table.late c.self.invariant.stored.few
     (ap (λ (r : Queue). r.queue) c.self.view_is) c.queued.ensures t.is_exact t.place c.args.number (parts_of (t.objects c.args.host.now) c.args.table.now c.args.short.now c.args.long.now)
     (parts_left (t.objects c.decide.new.host) (t.marked c.decide.new.host) c.decide.new.table c.decide.new.short c.decide.new.long) (t.marked c.args.host.now) d.0 d.1
+
+pub returns-clause-fewer : goal.returns-clause-fewer
+returns-clause-fewer g c =
+    let d = c.decide.ensures.decided.0 in
+    let longer = ap length d.queued ∙ length-append c.self.inside.entries.items _ in
+    omega (arith, longer, c.decide.ensures.count, c.self.inside.entries.ok, c.decide.new.queue.ok)

@@ -1,8 +1,6 @@
 use Rattle.std.proofs.Common.{◌≡◌, ◌<◌, ◌^◌, ◌+◌, ◌++◌, [], ◌∷◌, take, length, refl, sym, ap, ◌∙◌, arith}
 use Rattle.fz_model.specs.Pass.{entries_of}
 use Rattle.fz_pass.proofs.Gathering.{pushed}
-use Rattle.fz_pass.specs.All.{unknown}
-use Rattle.fz_pass.specs.Picking.{pick_of}
 use Rattle.fz_finalizers.specs.Queue.{Queue}
 use Rattle.fz_finalizers.proofs.Gathered.{few_placed}
 use Rattle.fz_finalizers.proofs.Coming.{come_ready, come_gained}
@@ -17,7 +15,7 @@ pub invariant_of-self : goal.invariant_of-self
 invariant_of-self c =
     let i = c.self.inside in
     let seq = c.queued-seq.result in
-    let picks = pick_of c.args.registration c.args.object unknown ∷ [] in
+    let picks = c.args.pick ∷ [] in
     let room = ap (λ (r : Queue). r.room) c.self.view_is in
     let come : c.push.new.self.items ≡ i.entries.items ++ entries_of c.args.pass seq picks = pushed _ _ _ _ (c.push.ensures.succeeds (omega (arith, room, c.requires.room, i.entries.ok))) c.push.ensures.items in
     let next_is = c.queued-seq.ensures ∙ ap (λ (r : Queue). length r.queue) (sym c.self.view_is) in
@@ -30,7 +28,7 @@ pub returns-clause-pushed : goal.returns-clause-pushed
 returns-clause-pushed c =
     let i = c.self.inside in
     let seq = c.queued-seq.result in
-    let picks = pick_of c.args.registration c.args.object unknown ∷ [] in
+    let picks = c.args.pick ∷ [] in
     let room = ap (λ (r : Queue). r.room) c.self.view_is in
     let come : c.push.new.self.items ≡ i.entries.items ++ entries_of c.args.pass seq picks = pushed _ _ _ _ (c.push.ensures.succeeds (omega (arith, room, c.requires.room, i.entries.ok))) c.push.ensures.items in
     let next_is = c.queued-seq.ensures ∙ ap (λ (r : Queue). length r.queue) (sym c.self.view_is) in

@@ -1,4 +1,4 @@
-use Rattle.fz_pass.proofs.Nothing.{not_there}
+use Rattle.fz_pass.proofs.Absent.{not_there}
 use Rattle.fz_pass.proofs.all.NothingHost.birth.Goals as goal
 
 pub returns : goal.returns

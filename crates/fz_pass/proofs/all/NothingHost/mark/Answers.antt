@@ -1,4 +1,4 @@
-use Rattle.fz_pass.proofs.Nothing.{no_object}
+use Rattle.fz_pass.proofs.Absent.{no_object}
 use Rattle.fz_pass.proofs.all.NothingHost.mark.Goals as goal
 
 pub returns-clause-marked : goal.returns-clause-marked

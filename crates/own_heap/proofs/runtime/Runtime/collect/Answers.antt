@@ -4,8 +4,11 @@ use Rattle.fz_pass.specs.Marks.{IsClosed}
 use Rattle.std.specs.FinSet.{contains}
 use Rattle.fz_pass.specs.Flagged.{DecidesFlagged}
 use Rattle.fz_finalizers.specs.declared.roots.Root.TheVariants.{HeldObject, HeldData, RegisteredData}
+use Rattle.std.specs.FinMap.{retain_keys}
+use Rattle.fz_model.specs.declared.kinds.LinkKind.TheVariants.{Short, Long}
+use Rattle.fz_finalizers.specs.Cleanups.{is_due}
 use Rattle.fz_finalizers.specs.Follows.{next_pass}
-use Rattle.fz_finalizers.specs.Passed.{parts_in, parts_left_in}
+use Rattle.fz_finalizers.specs.Passed.{PassesFor, parts_in}
 use Rattle.own_heap.specs.declared.records.Records.{Records}
 use Rattle.own_heap.specs.Outside.{place_of_link}
 use Rattle.own_heap.specs.Records.{objects_of}
@@ -13,7 +16,7 @@ use Rattle.own_heap.specs.Marking.{is_marked}
 use Rattle.own_heap.specs.Sound.{IsSound}
 use Rattle.own_heap.specs.Collected.{MarksKept}
 use Rattle.own_heap.proofs.Collected.{zero_nowhere}
-use Rattle.own_heap.proofs.Keeping.{passed_registered, passed_short, passed_long, passed_held}
+use Rattle.own_heap.proofs.Keeping.{cleans_back, cleans_sound, passed_registered, passed_short, passed_long, passed_held}
 use Rattle.own_heap.proofs.Holding.{held_found}
 use Rattle.own_heap.proofs.runtime.Runtime.collect.Goals as goal
 
@@ -48,15 +51,21 @@ invariant_of-self c =
     let last = c.mark_kept-3.ensures.rest.0 ∙ third in
     let by_objects = subst (λ (r : Records). MarksKept (objects_of r.slots.items) HeldObject state (is_marked c.mark_roots.new.self.marks) (is_marked c.mark_kept.new.heap.marks)) first c.mark_kept.ensures.marked in
     let still = λ (a : ℕ) (h : IsTrue (is_marked c.mark_kept.new.heap.marks a)). c.mark_kept-3.ensures.marked.marked.least a (inl (c.mark_kept-2.ensures.marked.marked.least a (inl h))) in
-    let d = subst (λ (r : Records). DecidesFlagged (Unit {0}) place_of_link (contains state.late) (next_pass state.passes) (length state.queue) (parts_in (objects_of r.slots.items) state) (is_marked c.mark_kept-3.new.heap.marks) (parts_left_in (objects_of c.pass-passed.new.host.records.slots.items) (is_marked c.pass-passed.new.host.marks) c.pass-passed.new.self.state) state.queue c.pass-passed.new.self.state.queue) last c.pass-passed.ensures.decided in
+    let host = c.pass-passed.new.host in
+    let left = retain_keys (objects_of host.records.slots.items) (is_marked host.marks) in
+    let found = is_marked c.mark_kept-3.new.heap.marks in
+    let new = c.pass-passed.new.self.state in
+    let p = subst (λ (r : Records). PassesFor (Unit {0}) place_of_link state (objects_of r.slots.items) found new (objects_of host.records.slots.items) (is_marked host.marks)) last c.pass-passed.ensures.passes in
+    let begun = cleans_sound objects (next_pass state.passes) (is_due Short found) state p.begun p.short old.sound in
+    let queues = p.follows.0 in
+    let passed : IsSound left p.passed = record {
+      registered = passed_registered _ _ _ _ _ _ _ _ _ _ p.decided begun.registered;
+      short = passed_short _ _ _ _ _ _ _ _ _ _ p.decided begun.short;
+      long = passed_long _ _ _ _ _ _ _ _ _ _ p.decided begun.long;
+      held = passed_held _ _ _ _ _ _ _ _ _ _ p.decided p.begun p.passed refl refl queues.taken queues.held (λ e here some. (still e.obj (held_found slots state old.sound _ _ by_objects e (cleans_back objects (next_pass state.passes) (is_due Short found) state p.begun p.short e here some) some), begun.held e here some));
+    } in
     record {
-      sound = subst (λ m. IsSound m c.pass-passed.new.self.state) (sym c.sweep.ensures.objects) (record {
-        registered = passed_registered _ _ _ _ _ _ _ _ _ _ d old.sound.registered;
-        short = passed_short _ _ _ _ _ _ _ _ _ _ d old.sound.short;
-        long = passed_long _ _ _ _ _ _ _ _ _ _ d old.sound.long;
-        held = let queues = c.pass-passed.ensures.follows.0 in
-            passed_held _ _ _ _ _ _ _ _ _ _ d state c.pass-passed.new.self.state refl refl queues.taken queues.held (λ e here. (still e.obj (held_found slots state old.sound _ _ by_objects e here), old.sound.held e here));
-      });
+      sound = subst (λ m. IsSound m new) (sym c.sweep.ensures.objects) (cleans_sound left (next_pass state.passes) (is_due Long (is_marked host.marks)) p.passed new p.long passed);
     }
 
 pub returns-clause-collected : goal.returns-clause-collected
@@ -68,6 +77,9 @@ returns-clause-collected c =
     let second = c.mark_kept.ensures.rest.0 ∙ first in
     let third = c.mark_kept-2.ensures.rest.0 ∙ second in
     let last = c.mark_kept-3.ensures.rest.0 ∙ third in
+    let host = c.pass-passed.new.host in
+    let found = is_marked c.mark_kept-3.new.heap.marks in
+    let p = subst (λ (r : Records). PassesFor (Unit {0}) place_of_link state (objects_of r.slots.items) found new.state (objects_of host.records.slots.items) (is_marked host.marks)) last c.pass-passed.ensures.passes in
     record {
       rooted = is_marked c.mark_roots.new.self.marks;
       held = is_marked c.mark_kept.new.heap.marks;
@@ -77,8 +89,12 @@ returns-clause-collected c =
       by_objects = subst (λ (r : Records). MarksKept (objects_of r.slots.items) HeldObject state (is_marked c.mark_roots.new.self.marks) (is_marked c.mark_kept.new.heap.marks)) first c.mark_kept.ensures.marked;
       by_data = subst (λ (r : Records). MarksKept (objects_of r.slots.items) HeldData state (is_marked c.mark_kept.new.heap.marks) (is_marked c.mark_kept-2.new.heap.marks)) second c.mark_kept-2.ensures.marked;
       by_registered = subst (λ (r : Records). MarksKept (objects_of r.slots.items) RegisteredData state (is_marked c.mark_kept-2.new.heap.marks) (is_marked c.mark_kept-3.new.heap.marks)) third c.mark_kept-3.ensures.marked;
-      decided = subst (λ (left : Map Object). DecidesFlagged (Unit {0}) place_of_link (contains state.late) (next_pass state.passes) (length state.queue) (parts_in (objects_of old.heap.records.slots.items) state) (is_marked c.mark_kept-3.new.heap.marks) (parts_in left new.state) state.queue new.queue)
-          (sym c.sweep.ensures.objects)
-          (subst (λ (r : Records). DecidesFlagged (Unit {0}) place_of_link (contains state.late) (next_pass state.passes) (length state.queue) (parts_in (objects_of r.slots.items) state) (is_marked c.mark_kept-3.new.heap.marks) (parts_left_in (objects_of c.pass-passed.new.host.records.slots.items) (is_marked c.pass-passed.new.host.marks) new.state) state.queue new.queue)
-          last c.pass-passed.ensures.decided);
+      begun = p.begun;
+      passed = p.passed;
+      marked = is_marked host.marks;
+      short = p.short;
+      decided = subst (λ (left : Map Object). DecidesFlagged (Unit {0}) place_of_link (contains p.begun.late) (next_pass state.passes) (length p.begun.queue) (parts_in (objects_of old.heap.records.slots.items) p.begun) found (parts_in left p.passed) p.begun.queue p.passed.queue)
+          (sym c.sweep.ensures.objects) p.decided;
+      follows = p.follows;
+      long = p.long;
     }

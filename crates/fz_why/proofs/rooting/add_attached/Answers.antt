@@ -1,0 +1,29 @@
+use Rattle.std.proofs.Common.{◌≡◌, ◌++◌, ◌∷◌, [], ◌∙◌, ℕ, List, refl, subst}
+use Rattle.fz_finalizers.specs.declared.cleanups.Attached.{Attached}
+use Rattle.fz_pass.proofs.Walking.{one_on, all_of}
+use Rattle.fz_why.specs.Trail.{Adds}
+use Rattle.fz_why.proofs.Adding.{adds_nothing, adds_on, adds_as}
+use Rattle.fz_why.proofs.Looping.{ByAny, ByAttached, any_none, any_more, attached_all}
+use Rattle.fz_why.proofs.rooting.add_attached.Goals as goal
+
+pub loop-each-init : goal.loop-each-init
+loop-each-init g c =
+    let R = ByAttached (g.H.Host.objects c.args.host.now) in
+    record { added = adds_nothing (ByAny [] R) _ (any_none R); rest = refl }
+
+pub loop-each-preserved : goal.loop-each-preserved
+loop-each-preserved g c =
+    let R = ByAttached (g.H.Host.objects c.args.host.now) in
+    let inv = c.loop-each.invariant in
+    record {
+      added = adds_on (ByAny (c.loop-each.yielded ++ c.in-Some.each ∷ []) R) inv.added c.in_ok-add_root.ensures.added (any_more R c.loop-each.yielded c.in-Some.each);
+      rest = one_on c.loop-each.yielded c.loop-each.each-iterator _ c.next.new.self c.in-Some.each inv.rest c.in-Some.ensures.steps;
+    }
+
+pub returns-clause-added : goal.returns-clause-added
+returns-clause-added g c =
+    let objects = g.H.Host.objects c.args.host.now in
+    let es = c.iter_cleanups-each-items.result in
+    let all : c.loop-each.yielded ≡ es = all_of c.loop-each.yielded _ es (c.loop-each.invariant.rest ∙ c.into_iter-each-iterator.ensures.into_iter_gives) c.in-None.ensures.steps.0 in
+    adds_as _ (subst (λ (ys : List (ℕ × Attached)). Adds (ByAny ys (ByAttached objects)) c.args.trail.now.entries.entries c.loop-each.trail.entries.entries) all c.loop-each.invariant.added)
+    (attached_all objects c.args.finalizers.now.state es c.iter_cleanups-each-items.ensures.all)

@@ -1,0 +1,441 @@
+//! Cleanups of records: worked rows, and random graphs whose queues a plain reading checks.
+
+use crate::hosts::beside::Random;
+use crate::hosts::equal::must_be;
+use crate::hosts::why::{COUNT, has, push, set};
+use fz_finalizers::{Cleanup, Entry, Finalizer, Kind, LinkKind};
+use fz_model::LinkKind::{Long, Short};
+use own_heap::Field::{Nothing, Reference};
+use own_heap::{FIELDS, RecordId, Runtime};
+use std::alloc::Global;
+use std::process::Abort;
+use std::test::*;
+
+/// A step of a row. Records are named by their numbers, in the order in which they were made.
+#[derive(Clone, Copy, Debug, PartialEq, Eq)]
+enum Step {
+    /// Makes a record.
+    Make,
+    /// The first field of a record refers to another.
+    Refer(usize, usize),
+    /// Registers a record with a procedure.
+    Register(usize, u64),
+    /// Adds a cleanup to a record: when it is due, its procedure, the record that is its client data if any, and its rank.
+    Attach(usize, LinkKind, u64, Option<usize>, u8),
+    /// Cancels the cleanup with a number, and whether there was one.
+    Cancel(u64, bool),
+    /// Makes a record a root, and removes the last root.
+    Root(usize),
+    Unroot,
+    /// A collection, and how many entries it queues.
+    Collect(u64),
+    /// Takes the next entry: its procedure, its number, and its record if it has one.
+    Take(u64, u64, Option<usize>),
+    /// Finishes the entry that was taken last.
+    Finish,
+    /// Whether a record stands.
+    Stands(usize, bool),
+}
+
+/// A heap, its records by number, and the entries that were taken and not finished.
+#[derive(Drop)]
+struct Records {
+    runtime: Runtime,
+    ids: Vec<RecordId>,
+    taken: Vec<Entry>,
+}
+
+/// A heap without records.
+fn heap_of(rt: &impl Abort, alloc: Global) -> Records {
+    Records {
+        runtime: Runtime::new(alloc, 16).expect(rt, "a runtime"),
+        ids: Vec::new(alloc),
+        taken: Vec::new(alloc),
+    }
+}
+
+/// Makes a record.
+fn make(rt: &impl Abort, records: &mut Records) {
+    let id = records.runtime.make([Nothing; FIELDS]);
+    push(rt, &mut records.ids, id.expect(rt, "a record"));
+}
+
+/// The name of a record.
+fn id_of(rt: &impl Abort, records: &Records, record: usize) -> RecordId {
+    records.ids.get(record).copied().expect(rt, "a record")
+}
+
+/// The address of a record, or 0 of none.
+fn address_of(rt: &impl Abort, records: &Records, record: Option<usize>) -> u64 {
+    match record {
+        Some(record) => id_of(rt, records, record).address(),
+        None => 0,
+    }
+}
+
+/// Registers a record.
+fn register(rt: &impl Abort, records: &mut Records, record: usize, procedure: u64) {
+    let finalizer = Finalizer {
+        kind: Kind::Normal,
+        procedure,
+        client_data: 0,
+        rank: 0,
+    };
+    let id = id_of(rt, records, record);
+    if records.runtime.heap().stands(id) {
+        records
+            .runtime
+            .register(id, finalizer)
+            .expect(rt, "a finalizer");
+    }
+}
+
+/// Adds a cleanup to a record.
+fn attach(rt: &impl Abort, records: &mut Records, record: usize, cleanup: Cleanup) {
+    let id = id_of(rt, records, record);
+    if records.runtime.heap().stands(id) {
+        records
+            .runtime
+            .add_cleanup(id, cleanup)
+            .expect(rt, "a cleanup");
+    }
+}
+
+/// Takes the next entry.
+fn take(rt: &impl Abort, records: &mut Records) -> Entry {
+    let entry = records.runtime.take().expect(rt, "an entry");
+    push(rt, &mut records.taken, entry);
+    entry
+}
+
+/// Finishes the entry that was taken last.
+fn finish(rt: &impl Abort, records: &mut Records) {
+    let entry = records.taken.pop().expect(rt, "an entry");
+    records.runtime.finish(&entry).expect(rt, "an end");
+}
+
+/// Carries out a step.
+fn carry_out(rt: &impl Abort, records: &mut Records, step: Step) {
+    match step {
+        Step::Make => make(rt, records),
+        Step::Refer(record, to) => {
+            let (id, target) = (id_of(rt, records, record), id_of(rt, records, to));
+            records.runtime.set(id, 0, Reference(target));
+        }
+        Step::Register(record, procedure) => register(rt, records, record, procedure),
+        Step::Attach(record, when, procedure, data, rank) => {
+            let cleanup = Cleanup {
+                when,
+                procedure,
+                client_data: address_of(rt, records, data),
+                rank,
+            };
+            attach(rt, records, record, cleanup);
+        }
+        Step::Cancel(number, was) => {
+            let cancelled = records.runtime.cancel(number).is_some();
+            must_be(rt, cancelled, was, "whether it was cancelled");
+        }
+        Step::Root(record) => {
+            let id = id_of(rt, records, record);
+            records.runtime.add_root(id).expect(rt, "memory");
+        }
+        Step::Unroot => {
+            let _ = records.runtime.pop_root();
+        }
+        Step::Collect(picked) => {
+            must_be(rt, records.runtime.collect().picked, picked, "picked");
+        }
+        Step::Take(procedure, number, record) => {
+            let entry = take(rt, records);
+            let object = address_of(rt, records, record);
+            let found = (entry.proc, entry.reg, entry.obj);
+            must_be(rt, found, (procedure, number, object), "the entry");
+        }
+        Step::Finish => finish(rt, records),
+        Step::Stands(record, stands) => {
+            let id = id_of(rt, records, record);
+            let found = records.runtime.heap().stands(id);
+            must_be(rt, found, stands, "whether it stands");
+        }
+    }
+}
+
+/// Carries out a row in a new heap.
+fn run(rt: &impl Abort, alloc: Global, steps: &[Step]) {
+    let mut records = heap_of(rt, alloc);
+    for each in steps {
+        carry_out(rt, &mut records, *each);
+    }
+}
+
+/// An object has two cleanups, and is reclaimed in their pass. A new object at its address has none.
+const TWO_OF_ONE_OBJECT: [Step; 13] = [
+    Step::Make,
+    Step::Attach(0, Long, 1, None, 0),
+    Step::Attach(0, Long, 2, None, 0),
+    Step::Collect(2),
+    Step::Stands(0, false),
+    Step::Take(1, 0, None),
+    Step::Finish,
+    Step::Take(2, 1, None),
+    Step::Finish,
+    Step::Make,
+    Step::Collect(0),
+    Step::Stands(1, false),
+    Step::Cancel(0, false),
+];
+
+/// A short one comes before the finalizer, and a long one once the object is gone.
+const SHORT_BEFORE_AND_LONG_AFTER_A_FINALIZER: [Step; 15] = [
+    Step::Make,
+    Step::Register(0, 7),
+    Step::Attach(0, Short, 1, None, 0),
+    Step::Attach(0, Long, 2, None, 0),
+    Step::Collect(2),
+    Step::Stands(0, true),
+    Step::Take(1, 1, None),
+    Step::Finish,
+    Step::Take(7, 0, Some(0)),
+    Step::Collect(0),
+    Step::Finish,
+    Step::Stands(0, true),
+    Step::Collect(1),
+    Step::Stands(0, false),
+    Step::Take(2, 2, None),
+];
+
+/// Client data that leads to the object retains it, until the cleanup is cancelled.
+const DATA_LEADS_TO_THE_OBJECT: [Step; 12] = [
+    Step::Make,
+    Step::Make,
+    Step::Refer(1, 0),
+    Step::Attach(0, Long, 1, Some(1), 0),
+    Step::Collect(0),
+    Step::Collect(0),
+    Step::Stands(0, true),
+    Step::Cancel(0, true),
+    Step::Cancel(0, false),
+    Step::Collect(0),
+    Step::Stands(0, false),
+    Step::Stands(1, false),
+];
+
+/// A finalizer brings the object back: the short one came, and the long one comes at last.
+const BROUGHT_BACK: [Step; 16] = [
+    Step::Make,
+    Step::Register(0, 7),
+    Step::Attach(0, Long, 2, None, 0),
+    Step::Attach(0, Short, 1, None, 0),
+    Step::Collect(2),
+    Step::Take(1, 2, None),
+    Step::Finish,
+    Step::Take(7, 0, Some(0)),
+    Step::Root(0),
+    Step::Finish,
+    Step::Collect(0),
+    Step::Stands(0, true),
+    Step::Unroot,
+    Step::Collect(1),
+    Step::Stands(0, false),
+    Step::Take(2, 1, None),
+];
+
+/// The order is by rank, then number, whichever the objects.
+const NUMBERS_AND_RANKS: [Step; 12] = [
+    Step::Make,
+    Step::Make,
+    Step::Attach(1, Long, 1, None, 0),
+    Step::Attach(0, Long, 2, None, 0),
+    Step::Attach(0, Long, 4, None, 9),
+    Step::Attach(1, Long, 3, None, 0),
+    Step::Collect(4),
+    Step::Take(1, 0, None),
+    Step::Take(2, 1, None),
+    Step::Take(3, 3, None),
+    Step::Take(4, 2, None),
+    Step::Stands(1, false),
+];
+
+#[test]
+fn an_object_has_two_cleanups(rt: HostRuntime) {
+    run(&rt, rt.alloc(), &TWO_OF_ONE_OBJECT);
+}
+
+#[test]
+fn a_finalizer_comes_between_cleanups(rt: HostRuntime) {
+    run(&rt, rt.alloc(), &SHORT_BEFORE_AND_LONG_AFTER_A_FINALIZER);
+}
+
+#[test]
+fn client_data_of_a_cleanup_retains(rt: HostRuntime) {
+    run(&rt, rt.alloc(), &DATA_LEADS_TO_THE_OBJECT);
+}
+
+#[test]
+fn a_long_cleanup_waits_for_an_object_that_is_brought_back(rt: HostRuntime) {
+    run(&rt, rt.alloc(), &BROUGHT_BACK);
+}
+
+#[test]
+fn cleanups_come_by_rank_then_number(rt: HostRuntime) {
+    run(&rt, rt.alloc(), &NUMBERS_AND_RANKS);
+}
+
+/// How many ranks a random graph has.
+const RANKS: u8 = 3;
+
+/// A cleanup of a graph: its number, its record, when it is due, its rank, and the record that is its client data, if any.
+type Attached = (u64, usize, LinkKind, u8, Option<usize>);
+
+/// A graph as lists, for a plain reading.
+#[derive(Drop)]
+struct Plain {
+    words: Vec<(usize, usize)>,
+    roots: Vec<usize>,
+    registered: Vec<usize>,
+    cleanups: Vec<Attached>,
+}
+
+/// A random graph. Numbers are given to registrations and cleanups in the order of the records.
+fn drawn(rt: &impl Abort, alloc: Global, random: &mut Random) -> (Plain, Records) {
+    let mut plain = Plain {
+        words: Vec::new(alloc),
+        roots: Vec::new(alloc),
+        registered: Vec::new(alloc),
+        cleanups: Vec::new(alloc),
+    };
+    let mut records = heap_of(rt, alloc);
+    for _ in 0..COUNT {
+        make(rt, &mut records);
+    }
+    let mut number = 0_u64;
+    for record in 0..COUNT {
+        number = furnish(rt, &mut plain, &mut records, (record, number), random);
+    }
+    (plain, records)
+}
+
+/// Gives a record a word, a root, a finalizer and cleanups, each or not. Returns the next number.
+fn furnish(
+    rt: &impl Abort,
+    plain: &mut Plain,
+    records: &mut Records,
+    (record, first): (usize, u64),
+    random: &mut Random,
+) -> u64 {
+    let mut number = first;
+    if random.below(2) == 0 {
+        let to = random.below(COUNT as u64) as usize;
+        push(rt, &mut plain.words, (record, to));
+        carry_out(rt, records, Step::Refer(record, to));
+    }
+    if random.below(4) == 0 {
+        push(rt, &mut plain.roots, record);
+        carry_out(rt, records, Step::Root(record));
+    }
+    if random.below(3) == 0 {
+        push(rt, &mut plain.registered, record);
+        carry_out(rt, records, Step::Register(record, 7));
+        number = number.saturating_add(1);
+    }
+    for _ in 0..random.below(3) {
+        let when = if random.below(2) == 0 { Short } else { Long };
+        let rank = random.below(u64::from(RANKS)) as u8;
+        let other = random.below(COUNT as u64) as usize;
+        let data = (random.below(6) == 0).then_some(other);
+        push(rt, &mut plain.cleanups, (number, record, when, rank, data));
+        carry_out(rt, records, Step::Attach(record, when, number, data, rank));
+        number = number.saturating_add(1);
+    }
+    number
+}
+
+/// What some records reach: as often as there are records, each word of what was reached.
+fn spread(plain: &Plain, starts: [bool; COUNT]) -> [bool; COUNT] {
+    let mut reached = starts;
+    for _ in 0..COUNT {
+        for (from, to) in plain.words.iter() {
+            if has(&reached, *from) {
+                set(&mut reached, *to);
+            }
+        }
+    }
+    reached
+}
+
+/// What the roots and the client data of cleanups reach.
+fn found(plain: &Plain) -> [bool; COUNT] {
+    let mut starts = [false; COUNT];
+    for record in plain.roots.iter() {
+        set(&mut starts, *record);
+    }
+    for (_, _, _, _, data) in plain.cleanups.iter() {
+        if let Some(record) = data {
+            set(&mut starts, *record);
+        }
+    }
+    spread(plain, starts)
+}
+
+/// What is found, and what the registered records reach, found or not.
+fn retained(plain: &Plain, found: &[bool; COUNT]) -> [bool; COUNT] {
+    let mut starts = *found;
+    for record in plain.registered.iter() {
+        set(&mut starts, *record);
+    }
+    spread(plain, starts)
+}
+
+/// The numbers of the due cleanups of a moment, by rank, then number.
+fn due(rt: &impl Abort, plain: &Plain, when: LinkKind, kept: &[bool; COUNT], out: &mut Vec<u64>) {
+    for rank in 0..RANKS {
+        for (number, record, moment, its_rank, _) in plain.cleanups.iter() {
+            if *moment == when && *its_rank == rank && !has(kept, *record) {
+                push(rt, out, *number);
+            }
+        }
+    }
+}
+
+/// Compares a collection of a graph with a plain reading: which cleanups are queued before and after the finalizers, and which records stand.
+fn compare(rt: &impl Abort, alloc: Global, random: &mut Random) -> u64 {
+    let (plain, mut records) = drawn(rt, alloc, random);
+    let found = found(&plain);
+    let retained = retained(&plain, &found);
+    let mut want = Vec::new(alloc);
+    due(rt, &plain, Short, &found, &mut want);
+    let short = want.len() as u64;
+    due(rt, &plain, Long, &retained, &mut want);
+    let all = want.len() as u64;
+    let picked = records.runtime.collect().picked;
+    let picks = picked.saturating_sub(all);
+    let mut place = 0;
+    for taken in 0..picked {
+        let entry = take(rt, &mut records);
+        let is_pick = taken >= short && taken < short.saturating_add(picks);
+        must_be(rt, entry.obj != 0, is_pick, "whether it has an object");
+        if !is_pick {
+            must_be(rt, Some(entry.reg), want.get(place).copied(), "the cleanup");
+            place = place.saturating_add(1);
+        }
+    }
+    for record in 0..COUNT {
+        carry_out(
+            rt,
+            &mut records,
+            Step::Stands(record, has(&retained, record)),
+        );
+    }
+    all
+}
+
+#[test]
+fn random_graphs_are_cleaned_up_as_a_plain_reading_does(rt: HostRuntime) {
+    let mut random = Random(11);
+    let mut cleaned = 0_u64;
+    for _ in 0..2_000 {
+        cleaned = cleaned.saturating_add(compare(&rt, rt.alloc(), &mut random));
+    }
+    must_be(&rt, cleaned > 1_000, true, "many cleanups came");
+}
