@@ -9,6 +9,7 @@ pub mod Walking
 pub mod Picked
 pub mod Ranking
 pub mod Spreading
+pub mod Bytes
 pub mod Listed
 pub mod Decided
 pub mod Passed

@@ -2,7 +2,6 @@
 #![tactic(auto)]
 
 mod all;
-mod by_rank;
 mod clearing;
 mod dropping;
 mod gathered;
@@ -12,6 +11,7 @@ mod leading;
 mod listing;
 mod pass;
 mod picking;
+mod radix;
 mod ready_list;
 mod terms;
 
