@@ -101,6 +101,10 @@ get-without_other m (x ∷ xs) k apart =
     get-without_other (remove m x.0) xs k (All-tail (λ (y : ℕ × Attached). y.0 ≢ k) x xs apart)
     ∙ get-remove_other m x.0 k (λ same. All-head (λ (y : ℕ × Attached). y.0 ≢ k) x xs apart (sym same))
 
+-- one that is there by itself
+pub one_there : (m : Map Attached) (number : ℕ) (c : Attached) → get m number ≡ Some c → All (λ (x : ℕ × Attached). get m x.0 ≡ Some x.1) ((number, c) ∷ [])
+one_there m number c here = All-cons (λ (x : ℕ × Attached). get m x.0 ≡ Some x.1) (number, c) [] here (All-nil (λ (x : ℕ × Attached). get m x.0 ≡ Some x.1))
+
 pub without-push : (m : Map Attached) (xs : List (ℕ × Attached)) (x : ℕ × Attached) → without m (xs ++ x ∷ []) ≡ remove (without m xs) x.0
 without-push m [] x = refl
 without-push m (y ∷ ys) x = without-push (remove m y.0) ys x

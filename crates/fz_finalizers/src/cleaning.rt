@@ -69,6 +69,19 @@ pub(crate) fn rank_due<H: Host>(host: &H, when: LinkKind, cleanups: &Cleanups, l
     list.sort();
 }
 
+/// What the entry of a cleanup has: no object.
+pub(crate) fn pick_of(number: u64, attached: Attached) -> Pick
+    ensures { result ≡ pick_of (number, attached) }
+{
+    Pick {
+        reg: number,
+        obj: 0,
+        birth: 0,
+        proc: attached.cleanup.procedure,
+        cd: attached.cleanup.client_data,
+    }
+}
+
 /// Removes a cleanup from the table, and returns what its entry has.
 fn take(cleanups: &mut Cleanups, number: u64) -> Pick
     requires there { IsTrue (contains_key cleanups.old.cleanups number) }
@@ -77,13 +90,7 @@ fn take(cleanups: &mut Cleanups, number: u64) -> Pick
     ensures count { len cleanups.new.cleanups + 1 ≡ len cleanups.old.cleanups }
 {
     let attached = cleanups.remove(number).unwrap();
-    Pick {
-        reg: number,
-        obj: 0,
-        birth: 0,
-        proc: attached.cleanup.procedure,
-        cd: attached.cleanup.client_data,
-    }
+    pick_of(number, attached)
 }
 
 /// Removes the listed cleanups from the table, and appends their entries to the queue, with this pass. Requires room for them.
