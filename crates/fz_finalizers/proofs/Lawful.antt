@@ -1,9 +1,8 @@
 -- What events do to links, and to the numbers of passes.
-use Rattle.std.proofs.Common.{◌≡◌, ◌≢◌, ℕ, ◌+◌, ◌-◌, ◌^◌, ◌<◌, ◌≤◌, ◌⊎◌, inl, inr, Bool, true, false, List, [], ◌∷◌, ◌++◌, append-nil, length, map, Option, None, Some, is_some, if◌then◌else◌, slice_get, refl, sym, ap, subst, ◌∙◌, arith}
+use Rattle.std.proofs.Common.{◌≡◌, ◌≢◌, ℕ, ◌+◌, ◌⊎◌, inl, inr, List, [], ◌∷◌, ◌++◌, append-nil, length, map, Option, None, Some, is_some, if◌then◌else◌, slice_get, refl, sym, ap, subst, ◌∙◌, arith}
 use Rattle.std.proofs.lemmas.Option.{none-some}
 use Rattle.std.specs.Option.{option_map_or}
-use Rattle.std.specs.FinMap.{get, insert, remove, contains_key}
-use Rattle.fz_model.specs.declared.answers.Entry.{Entry}
+use Rattle.std.specs.FinMap.{get, insert, remove}
 use Rattle.fz_model.specs.declared.answers.Registration.{Registration}
 use Rattle.fz_model.specs.declared.kinds.LinkKind.{LinkKind}
 use Rattle.fz_model.specs.declared.kinds.LinkKind.TheVariants.{Short, Long}
@@ -16,7 +15,7 @@ use Rattle.fz_model.specs.declared.answers.Pick.{Pick}
 use Rattle.fz_finalizers.specs.declared.cleanups.Attached.{Attached}
 use Rattle.fz_finalizers.specs.Cleanups.{pick_of}
 use Rattle.fz_finalizers.specs.States.{State, links_of, with_links}
-use Rattle.fz_finalizers.specs.Follows.{Event, Follows, Queues, next_pass, queued_one, queued_object, queued_attached, queued_cleanup, with_registration, Register, Unregister, Link, Unlink, Move, AddCleanup, Cancel, Clean, Pass, Begin, Queue, QueueCleanup, QueueAll, Take, TakeFinished, TakeAll, Finish}
+use Rattle.fz_finalizers.specs.Follows.{Event, Follows, Queues, next_pass, queued_one, queued_object, queued_attached, queued_cleanup, Register, Unregister, Link, Unlink, Move, AddCleanup, Cancel, Clean, Pass, Begin, Queue, QueueCleanup, QueueAll, Take, TakeFinished, TakeAll, Finish}
 use Rattle.fz_finalizers.specs.Laws.{SameLinks, SameLinksBut, ChangesLinks, IsNextPass, AddsOfPass, NumbersPasses}
 use Rattle.fz_finalizers.proofs.OneQueued.{queued_queues}
 use Rattle.fz_finalizers.proofs.Recorded.{entry_has}

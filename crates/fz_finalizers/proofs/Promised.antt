@@ -573,7 +573,7 @@ taken_all s past p = subst (λ n. Promises (record s { taken = n; held = unfinis
 -- ---- an entry is finished
 
 -- what a test keeps stands among what is left
-kept_in : (q : Entry → Bool) (xs : List Entry) (k : ℕ) (x : Entry) → slice_get xs k ≡ Some x → q x ≡ true → (i : ℕ) × (slice_get (filter q xs) i ≡ Some x)
+pub kept_in : {X : Type 0} (q : X → Bool) (xs : List X) (k : ℕ) (x : X) → slice_get xs k ≡ Some x → q x ≡ true → (i : ℕ) × (slice_get (filter q xs) i ≡ Some x)
 kept_in q [] k x at on = absurd (none-some x at)
 kept_in q (y ∷ ys) zero x at on = (0, ap (λ b. slice_get (cond b (y ∷ filter q ys) (filter q ys)) 0) (ap q (same_Some y x at) ∙ on) ∙ at)
 kept_in q (y ∷ ys) (suc k) x at on = further (q y) (kept_in q ys k x at on)

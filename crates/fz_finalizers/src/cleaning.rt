@@ -4,7 +4,7 @@ ghost use Rattle.std.specs.Prelude.{◌≡◌, ◌≤◌, ◌<◌, ◌+◌, ◌^
 ghost use Rattle.std.specs.FinMap.{get, remove, len, contains_key};
 ghost use Rattle.fz_pass.specs.Listing.{AreApart, AreRanked};
 ghost use Rattle.fz_finalizers.specs.declared.cleanups.Attached.{Attached};
-ghost use Rattle.fz_finalizers.specs.Cleanups.{AreListed, IsListed, is_due, is_when, pick_of};
+ghost use Rattle.fz_finalizers.specs.Cleanups.{AreListed, IsListed, is_due, pick_of};
 ghost use Rattle.fz_finalizers.specs.Queue.{TakesListed};
 
 use crate::cleanups::{Attached, Cleanups};
@@ -12,21 +12,11 @@ use crate::queue::Queue;
 use fz_model::{Addr, LinkKind, Pick};
 use fz_pass::{Host, ReadyList};
 
-/// Whether two moments are the same.
-fn is_when(when: LinkKind, other: LinkKind) -> bool
-    ensures { result ≡ is_when when other }
-{
-    match (when, other) {
-        (LinkKind::Short, LinkKind::Short) | (LinkKind::Long, LinkKind::Long) => true,
-        (LinkKind::Short, LinkKind::Long) | (LinkKind::Long, LinkKind::Short) => false,
-    }
-}
-
 /// Whether a cleanup is due at this moment.
 fn is_due<H: Host>(host: &H, when: LinkKind, attached: Attached) -> bool
     ensures { result ≡ is_due when (H.marked host.now) attached }
 {
-    is_when(when, attached.cleanup.when) && !host.is_marked(attached.object)
+    attached.cleanup.is_when(when) && !host.is_marked(attached.object)
 }
 
 /// Appends a cleanup's number with its rank to the list, which has room for it, if the cleanup is due.
