@@ -8,47 +8,55 @@ use Rattle.fz_model.specs.declared.answers.Registration.{Registration}
 use Rattle.fz_model.specs.State.{Map}
 use Rattle.fz_model.proofs.KeyedEntries.{len_made}
 use Rattle.fz_table.specs.Tabled.{Set, plain}
+use Rattle.fz_model.specs.declared.kinds.LinkKind.{LinkKind}
+use Rattle.fz_model.specs.declared.kinds.LinkKind.TheVariants.{Short, Long}
+use Rattle.fz_finalizers.specs.declared.cleanups.Attached.{Attached}
+use Rattle.fz_finalizers.specs.Cleanups.{is_when}
 use Rattle.fz_finalizers.specs.Follows.{Event, Follows}
 use Rattle.fz_finalizers.specs.States.{State}
 use Rattle.fz_machine.specs.declared.item.Item.{Item}
 use Rattle.fz_machine.specs.declared.pass.Next.{Next}
 use Rattle.fz_machine.specs.declared.pass.Next.TheVariants as told
 use Rattle.fz_machine.specs.declared.phase.Phase.{Phase}
-use Rattle.fz_machine.specs.declared.phase.Phase.TheVariants.{ShortTargets, ShortWords, Objects, Children, Again, Picks, LateAgain, LatePicks, LongTargets, LongWords, ShortHolders, LongHolders}
+use Rattle.fz_machine.specs.declared.phase.Phase.TheVariants.{ShortCleanups, ShortTargets, ShortWords, Objects, Children, Again, Picks, LateAgain, LatePicks, LongTargets, LongWords, ShortHolders, LongHolders, LongCleanups}
 use Rattle.fz_machine.specs.Going.{going}
 use Rattle.fz_machine.specs.Heard.{Begun, Goes, Hears, Meanwhile, PassesEnd}
-use Rattle.fz_machine.specs.Items.{AreEntriesOf, AreLinks, AreObjects, of_link, of_stored}
+use Rattle.fz_machine.specs.Items.{AreCleanups, AreEntriesOf, AreLinks, AreObjects, of_cleanup, of_link, of_stored}
 use Rattle.fz_machine.specs.Machines.{IsWork, Machine, Tells}
 use Rattle.fz_machine.specs.Phases.{Lists, after, asks, keeps, next_phase}
 use Rattle.fz_machine.specs.Steps.{Asks, Ends, Going, GoesOn, Turns, skip, skipped, steps}
 use Rattle.fz_machine.proofs.Phasing.{kept_on}
+use Rattle.fz_machine.proofs.Due.{due_few}
 use Rattle.fz_machine.proofs.Within.{IsWithin, still}
 use Rattle.fz_machine.proofs.Working.{work_apart}
 
 abbrev at : State → List Item → List Item → Going
 at s kept left = record { finalizers = s; kept = kept; left = left }
 
-module _ (r s g : ℕ) where
+module _ (r s g c : ℕ) where
   -- how often a phase and those behind it may go over an item, by how many are kept and left
   abbrev to_come : Option Phase → ℕ → ℕ → ℕ
   to_come None kept left = 0
-  to_come (Some ShortTargets) kept left = 2 * left + kept + (6 * r + 3 * g + s)
-  to_come (Some ShortWords) kept left = left + (6 * r + 3 * g + s)
-  to_come (Some Objects) kept left = 6 * left + 5 * kept + (3 * g + s)
-  to_come (Some Children) kept left = 5 * left + 4 * kept + (3 * g + s)
-  to_come (Some Again) kept left = 4 * left + 3 * kept + (3 * g + s)
-  to_come (Some Picks) kept left = 3 * left + 2 * kept + (3 * g + s)
-  to_come (Some LateAgain) kept left = 2 * left + kept + (3 * g + s)
-  to_come (Some LatePicks) kept left = left + (3 * g + s)
-  to_come (Some LongTargets) kept left = 2 * left + kept + (g + s)
-  to_come (Some LongWords) kept left = left + (g + s)
-  to_come (Some ShortHolders) kept left = left + g
-  to_come (Some LongHolders) kept left = left
+  to_come (Some ShortCleanups) kept left = left + (6 * r + 3 * (s + g) + c)
+  to_come (Some ShortTargets) kept left = 2 * left + kept + (6 * r + 3 * g + s + c)
+  to_come (Some ShortWords) kept left = left + (6 * r + 3 * g + s + c)
+  to_come (Some Objects) kept left = 6 * left + 5 * kept + (3 * g + s + c)
+  to_come (Some Children) kept left = 5 * left + 4 * kept + (3 * g + s + c)
+  to_come (Some Again) kept left = 4 * left + 3 * kept + (3 * g + s + c)
+  to_come (Some Picks) kept left = 3 * left + 2 * kept + (3 * g + s + c)
+  to_come (Some LateAgain) kept left = 2 * left + kept + (3 * g + s + c)
+  to_come (Some LatePicks) kept left = left + (3 * g + s + c)
+  to_come (Some LongTargets) kept left = 2 * left + kept + (g + s + c)
+  to_come (Some LongWords) kept left = left + (g + s + c)
+  to_come (Some ShortHolders) kept left = left + (g + c)
+  to_come (Some LongHolders) kept left = left + c
+  to_come (Some LongCleanups) kept left = left
 
   abbrev to_come_in : Option Phase → Going → ℕ
   to_come_in phase k = to_come phase (length k.kept) (length k.left)
 
   fewer : (phase : Phase) (kept new left : ℕ) → new ≤ kept + 1 → to_come (Some phase) new left + 1 ≤ to_come (Some phase) kept (suc left)
+  fewer ShortCleanups kept new left le = omega (arith, le)
   fewer ShortTargets kept new left le = omega (arith, le)
   fewer ShortWords kept new left le = omega (arith, le)
   fewer Objects kept new left le = omega (arith, le)
@@ -61,6 +69,7 @@ module _ (r s g : ℕ) where
   fewer LongWords kept new left le = omega (arith, le)
   fewer ShortHolders kept new left le = omega (arith, le)
   fewer LongHolders kept new left le = omega (arith, le)
+  fewer LongCleanups kept new left le = omega (arith, le)
 
   one_kept : (keeps : Bool) (kept : List Item) (item : Item) → length (kept_on keeps kept item) ≤ length kept + 1
   one_kept true kept item = let long = length-append kept (item ∷ []) in omega (arith, long)
@@ -69,24 +78,24 @@ module _ (r s g : ℕ) where
   -- ---- answers
 
   module _ (phase : Phase) where
-    steps_fewer : (answers : List Bool) (t : State) (kept left : List Item) → IsWithin r s g t → length answers ≤ length left
-        → IsWithin r s g (steps phase answers (at t kept left)).finalizers × (length answers + to_come_in (Some phase) (steps phase answers (at t kept left)) ≤ to_come (Some phase) (length kept) (length left))
+    steps_fewer : (answers : List Bool) (t : State) (kept left : List Item) → IsWithin r s g c t → length answers ≤ length left
+        → IsWithin r s g c (steps phase answers (at t kept left)).finalizers × (length answers + to_come_in (Some phase) (steps phase answers (at t kept left)) ≤ to_come (Some phase) (length kept) (length left))
     steps_fewer [] t kept left h few = (h, omega arith)
     steps_fewer (answer ∷ answers) t kept [] h few = absurd (omega (arith, few))
     steps_fewer (answer ∷ answers) t kept (item ∷ left) h few =
-        let rest = steps_fewer answers (after phase item answer t) (kept_on (keeps phase item answer) kept item) left (still r s g t h phase item answer) (omega (arith, few)) in
+        let rest = steps_fewer answers (after phase item answer t) (kept_on (keeps phase item answer) kept item) left (still r s g c t h phase item answer) (omega (arith, few)) in
         let one = fewer phase (length kept) (length (kept_on (keeps phase item answer) kept item)) (length left) (one_kept (keeps phase item answer) kept item) in
         let all = rest.1 in
         (rest.0, omega (arith, all, one))
 
-    skips_fewer : (left : List Item) (t : State) (kept : List Item) → IsWithin r s g t
-        → IsWithin r s g (skipped phase left (at t kept left)).finalizers × (to_come_in (Some phase) (skipped phase left (at t kept left)) ≤ to_come (Some phase) (length kept) (length left))
+    skips_fewer : (left : List Item) (t : State) (kept : List Item) → IsWithin r s g c t
+        → IsWithin r s g c (skipped phase left (at t kept left)).finalizers × (to_come_in (Some phase) (skipped phase left (at t kept left)) ≤ to_come (Some phase) (length kept) (length left))
     skips_fewer [] t kept h = (h, omega arith)
-    skips_fewer (item ∷ left) t kept h = by (is_some (asks phase item)) (skips_fewer left (after phase item false t) (kept_on (keeps phase item false) kept item) (still r s g t h phase item false))
+    skips_fewer (item ∷ left) t kept h = by (is_some (asks phase item)) (skips_fewer left (after phase item false t) (kept_on (keeps phase item false) kept item) (still r s g c t h phase item false))
       where
-        by : (b : Bool) → IsWithin r s g (skipped phase left (at (after phase item false t) (kept_on (keeps phase item false) kept item) left)).finalizers
+        by : (b : Bool) → IsWithin r s g c (skipped phase left (at (after phase item false t) (kept_on (keeps phase item false) kept item) left)).finalizers
             × (to_come_in (Some phase) (skipped phase left (at (after phase item false t) (kept_on (keeps phase item false) kept item) left)) ≤ to_come (Some phase) (length (kept_on (keeps phase item false) kept item)) (length left))
-            → IsWithin r s g (cond b (at t kept (item ∷ left)) (skipped phase left (at (after phase item false t) (kept_on (keeps phase item false) kept item) left))).finalizers
+            → IsWithin r s g c (cond b (at t kept (item ∷ left)) (skipped phase left (at (after phase item false t) (kept_on (keeps phase item false) kept item) left))).finalizers
             × (to_come_in (Some phase) (cond b (at t kept (item ∷ left)) (skipped phase left (at (after phase item false t) (kept_on (keeps phase item false) kept item) left))) ≤ to_come (Some phase) (length kept) (suc (length left)))
         by true rest = (h, omega arith)
         by false rest =
@@ -105,12 +114,19 @@ module _ (r s g : ℕ) where
   objects_few : (registrations : Map Registration) (late : Set) (items : List Item) → AreObjects registrations late items → length items ≡ len registrations
   objects_few registrations late items are = ap length are.3 ∙ length-map are.0 of_stored ∙ sym (length-map are.0 plain) ∙ entries registrations (map plain are.0) are.1
 
-  module _ (t : State) (h : IsWithin r s g t) (kept : List Item) where
+  cleanups_few : (when : LinkKind) (cleanups : Map Attached) (items : List Item) → AreCleanups when cleanups items → length items ≤ len cleanups
+  cleanups_few when cleanups items are =
+      let same = ap length are.2 ∙ length-map are.0 of_cleanup in
+      let few = due_few (λ (a : Attached). is_when when a.cleanup.when) cleanups are.0 are.1 in
+      omega (arith, same, few)
+
+  module _ (t : State) (h : IsWithin r s g c t) (kept : List Item) where
     abbrev IsFewer : Phase → Option Phase → Type 0
     IsFewer phase None = Unit {0}
     IsFewer phase (Some next) = (items : List Item) → Lists next t kept items → to_come (Some next) 0 (length items) ≤ to_come (Some phase) (length kept) 0
 
     turns_fewer : (phase : Phase) → IsFewer phase (next_phase phase)
+    turns_fewer ShortCleanups = λ items are. let many = links_few t.short items are in let few = h.short in omega (arith, many, few)
     turns_fewer ShortTargets = λ items is. let same = ap length is in omega (arith, same)
     turns_fewer ShortWords = λ items are. let many = objects_few t.registrations t.late items are in let few = h.registered in omega (arith, many, few)
     turns_fewer Objects = λ items is. let same = ap length is in omega (arith, same)
@@ -122,13 +138,14 @@ module _ (r s g : ℕ) where
     turns_fewer LongTargets = λ items is. let same = ap length is in omega (arith, same)
     turns_fewer LongWords = λ items are. let many = links_few t.short items are in let few = h.short in omega (arith, many, few)
     turns_fewer ShortHolders = λ items are. let many = links_few t.long items are in let few = h.long in omega (arith, many, few)
-    turns_fewer LongHolders = tt
+    turns_fewer LongHolders = λ items are. let many = cleanups_few Long t.cleanups items are in let few = h.attached in omega (arith, many, few)
+    turns_fewer LongCleanups = tt
 
-  goes_fewer : (phase : Phase) (k : Going) (last : Option Phase) (m : Going) → GoesOn phase k last m → IsWithin r s g k.finalizers → IsWithin r s g m.finalizers × (to_come_in last m ≤ to_come_in (Some phase) k)
+  goes_fewer : (phase : Phase) (k : Going) (last : Option Phase) (m : Going) → GoesOn phase k last m → IsWithin r s g c k.finalizers → IsWithin r s g c m.finalizers × (to_come_in last m ≤ to_come_in (Some phase) k)
   goes_fewer phase k last m (Asks item left some) h = skips_fewer phase k.left k.finalizers k.kept h
   goes_fewer phase k last m (Turns {next = next} {h = n} none turns begins rest) h =
       let past = skips_fewer phase k.left k.finalizers k.kept h in
-      let on = goes_fewer next n last m rest (subst (IsWithin r s g) (sym begins.same) past.0) in
+      let on = goes_fewer next n last m rest (subst (IsWithin r s g c) (sym begins.same) past.0) in
       let turn : to_come (Some next) 0 (length n.left) ≤ to_come (Some phase) (length (skip phase k).kept) 0 =
       subst (IsFewer (skip phase k).finalizers past.0 (skip phase k).kept phase) turns (turns_fewer (skip phase k).finalizers past.0 (skip phase k).kept phase) n.left begins.lists in
       let here : to_come_in (Some next) n ≤ to_come (Some phase) (length (skip phase k).kept) 0 = subst (λ (xs : List Item). to_come (Some next) (length xs) (length n.left) ≤ to_come (Some phase) (length (skip phase k).kept) 0) (sym begins.none) turn in
@@ -140,18 +157,18 @@ module _ (r s g : ℕ) where
   -- ---- a run
 
   record IsHearing (n : ℕ) (m : Machine) : Type 0 where
-    within : IsWithin r s g m.finalizers.state
-    few : n + to_come m.phase (length m.walk.kept) (length m.walk.left) ≤ 6 * r + 3 * (s + g)
+    within : IsWithin r s g c m.finalizers.state
+    few : n + to_come m.phase (length m.walk.kept) (length m.walk.left) ≤ 6 * r + 3 * (s + g) + 2 * c
     asked : (p : Phase) → m.phase ≡ Some p → m.asked ≤ length m.walk.left
 
   asked_for : (m : Machine) (next : Next) → Tells m next → (p : Phase) → m.phase ≡ Some p → m.asked ≤ length m.walk.left
   asked_for m (told.Asks question) (phase, was, is, count) p at = let within = is.within in omega (arith, within, count)
   asked_for m (told.Ended passed) (none, same, picked) p at = absurd (none-some p (sym none ∙ at))
 
-  worked_within : (t u : State) (event : Event) → IsWork event → Follows t event u → IsWithin r s g t → IsWithin r s g u
+  worked_within : (t u : State) (event : Event) → IsWork event → Follows t event u → IsWithin r s g c t → IsWithin r s g c u
   worked_within t u event work follows h =
-      let there = subst (IsWithin r s g) (sym (work_apart 0 [] t u event work follows)) (record { registered = h.registered; short = h.short; long = h.long }) in
-      record { registered = there.registered; short = there.short; long = there.long }
+      let there = subst (IsWithin r s g c) (sym (work_apart 0 [] t u event work follows)) (record { registered = h.registered; short = h.short; long = h.long; attached = h.attached }) in
+      record { registered = there.registered; short = there.short; long = there.long; attached = there.attached }
 
   heard : (begun m : Machine) (n : ℕ) → IsHearing 0 begun → Hears begun m n → IsHearing n m
   heard begun m n h Begun = h
@@ -160,7 +177,7 @@ module _ (r s g : ℕ) where
       let asked = was.asked goes.phase goes.was in
       let stepped = steps_fewer goes.phase answers old.finalizers.state old.walk.kept old.walk.left was.within (omega (arith, few, asked)) in
       let on = goes_fewer goes.phase (steps goes.phase answers (going old.finalizers old.walk)) m.phase (going m.finalizers m.walk) goes.goes stepped.0 in
-      let so_far = subst (λ o. before + to_come o (length old.walk.kept) (length old.walk.left) ≤ 6 * r + 3 * (s + g)) goes.was was.few in
+      let so_far = subst (λ o. before + to_come o (length old.walk.kept) (length old.walk.left) ≤ 6 * r + 3 * (s + g) + 2 * c) goes.was was.few in
       let here = stepped.1 in
       let there = on.1 in
       record { within = on.0; few = omega (arith, so_far, here, there); asked = asked_for m next goes.tells }
@@ -169,7 +186,7 @@ module _ (r s g : ℕ) where
       let now = worked_within old.finalizers.state m.finalizers.state worked.event worked.work worked.follows was.within in
       record {
         within = now;
-        few = subst (λ (k : Machine). n + to_come k.phase (length k.walk.kept) (length k.walk.left) ≤ 6 * r + 3 * (s + g)) (sym worked.keeps) was.few;
+        few = subst (λ (k : Machine). n + to_come k.phase (length k.walk.kept) (length k.walk.left) ≤ 6 * r + 3 * (s + g) + 2 * c) (sym worked.keeps) was.few;
         asked = subst (λ (k : Machine). (p : Phase) → k.phase ≡ Some p → k.asked ≤ length k.walk.left) (sym worked.keeps) was.asked;
       }
 
@@ -178,12 +195,12 @@ passes_end old begun m n is hears =
     let t = old.finalizers.state in
     let r = len t.registrations in
     let same = is.finalizers in
-    let many : length begun.walk.left ≡ len t.short = links_few r (len t.short) (len t.long) t.short begun.walk.left (subst (λ (u : State). AreLinks u.short begun.walk.left) same is.begins.lists) in
+    let many : length begun.walk.left ≤ len t.cleanups = cleanups_few r (len t.short) (len t.long) (len t.cleanups) Short t.cleanups begun.walk.left (subst (λ (u : State). AreCleanups Short u.cleanups begun.walk.left) same is.begins.lists) in
     let kept = ap length is.begins.none in
-    let start : IsHearing r (len t.short) (len t.long) 0 begun = record {
-      within = subst (IsWithin r (len t.short) (len t.long)) (sym same) (record { registered = omega arith; short = omega arith; long = omega arith });
-      few = subst (λ o. 0 + to_come r (len t.short) (len t.long) o (length begun.walk.kept) (length begun.walk.left) ≤ 6 * r + 3 * (len t.short + len t.long)) (sym is.phase) (omega (arith, many, kept));
+    let start : IsHearing r (len t.short) (len t.long) (len t.cleanups) 0 begun = record {
+      within = subst (IsWithin r (len t.short) (len t.long) (len t.cleanups)) (sym same) (record { registered = omega arith; short = omega arith; long = omega arith; attached = omega arith });
+      few = subst (λ o. 0 + to_come r (len t.short) (len t.long) (len t.cleanups) o (length begun.walk.kept) (length begun.walk.left) ≤ 6 * r + 3 * (len t.short + len t.long) + 2 * len t.cleanups) (sym is.phase) (omega (arith, many, kept));
       asked = λ p at. let none = is.asked in omega (arith, none);
     } in
-    let end = (heard r (len t.short) (len t.long) begun m n start hears).few in
+    let end = (heard r (len t.short) (len t.long) (len t.cleanups) begun m n start hears).few in
     omega (arith, end)
