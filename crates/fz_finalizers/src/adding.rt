@@ -54,6 +54,13 @@ impl Finalizers {
         Ok(self.table.take_number())
     }
 
+    /// Checks an object as `add_cleanup` does, apart from memory.
+    pub fn check_cleanup(&self, object: Addr) -> Result<(), Refused>
+        ensures judged { IsJudgedBy (add_causes self.now.cleanups self.now.next_number object) result }
+    {
+        check(&self.table, &self.cleanups, object)
+    }
+
     /// Removes a cleanup, and returns it with its object. Returns none if it was queued or cancelled, or never added.
     pub fn cancel(&mut self, number: u64) -> Option<Attached>
         ensures answer { result ≡ get self.old.cleanups number }

@@ -28,7 +28,7 @@ use Rattle.fz_machine.proofs.Working.{work_apart}
 abbrev at : State → List Item → List Item → Going
 at s kept left = record { finalizers = s; kept = kept; left = left }
 
-module _ (r s g : ℕ) where
+module _ (r s g c : ℕ) where
   -- how often a phase and those behind it may go over an item, by how many are kept and left
   abbrev to_come : Option Phase → ℕ → ℕ → ℕ
   to_come None kept left = 0
@@ -69,24 +69,24 @@ module _ (r s g : ℕ) where
   -- ---- answers
 
   module _ (phase : Phase) where
-    steps_fewer : (answers : List Bool) (t : State) (kept left : List Item) → IsWithin r s g t → length answers ≤ length left
-        → IsWithin r s g (steps phase answers (at t kept left)).finalizers × (length answers + to_come_in (Some phase) (steps phase answers (at t kept left)) ≤ to_come (Some phase) (length kept) (length left))
+    steps_fewer : (answers : List Bool) (t : State) (kept left : List Item) → IsWithin r s g c t → length answers ≤ length left
+        → IsWithin r s g c (steps phase answers (at t kept left)).finalizers × (length answers + to_come_in (Some phase) (steps phase answers (at t kept left)) ≤ to_come (Some phase) (length kept) (length left))
     steps_fewer [] t kept left h few = (h, omega arith)
     steps_fewer (answer ∷ answers) t kept [] h few = absurd (omega (arith, few))
     steps_fewer (answer ∷ answers) t kept (item ∷ left) h few =
-        let rest = steps_fewer answers (after phase item answer t) (kept_on (keeps phase item answer) kept item) left (still r s g t h phase item answer) (omega (arith, few)) in
+        let rest = steps_fewer answers (after phase item answer t) (kept_on (keeps phase item answer) kept item) left (still r s g c t h phase item answer) (omega (arith, few)) in
         let one = fewer phase (length kept) (length (kept_on (keeps phase item answer) kept item)) (length left) (one_kept (keeps phase item answer) kept item) in
         let all = rest.1 in
         (rest.0, omega (arith, all, one))
 
-    skips_fewer : (left : List Item) (t : State) (kept : List Item) → IsWithin r s g t
-        → IsWithin r s g (skipped phase left (at t kept left)).finalizers × (to_come_in (Some phase) (skipped phase left (at t kept left)) ≤ to_come (Some phase) (length kept) (length left))
+    skips_fewer : (left : List Item) (t : State) (kept : List Item) → IsWithin r s g c t
+        → IsWithin r s g c (skipped phase left (at t kept left)).finalizers × (to_come_in (Some phase) (skipped phase left (at t kept left)) ≤ to_come (Some phase) (length kept) (length left))
     skips_fewer [] t kept h = (h, omega arith)
-    skips_fewer (item ∷ left) t kept h = by (is_some (asks phase item)) (skips_fewer left (after phase item false t) (kept_on (keeps phase item false) kept item) (still r s g t h phase item false))
+    skips_fewer (item ∷ left) t kept h = by (is_some (asks phase item)) (skips_fewer left (after phase item false t) (kept_on (keeps phase item false) kept item) (still r s g c t h phase item false))
       where
-        by : (b : Bool) → IsWithin r s g (skipped phase left (at (after phase item false t) (kept_on (keeps phase item false) kept item) left)).finalizers
+        by : (b : Bool) → IsWithin r s g c (skipped phase left (at (after phase item false t) (kept_on (keeps phase item false) kept item) left)).finalizers
             × (to_come_in (Some phase) (skipped phase left (at (after phase item false t) (kept_on (keeps phase item false) kept item) left)) ≤ to_come (Some phase) (length (kept_on (keeps phase item false) kept item)) (length left))
-            → IsWithin r s g (cond b (at t kept (item ∷ left)) (skipped phase left (at (after phase item false t) (kept_on (keeps phase item false) kept item) left))).finalizers
+            → IsWithin r s g c (cond b (at t kept (item ∷ left)) (skipped phase left (at (after phase item false t) (kept_on (keeps phase item false) kept item) left))).finalizers
             × (to_come_in (Some phase) (cond b (at t kept (item ∷ left)) (skipped phase left (at (after phase item false t) (kept_on (keeps phase item false) kept item) left))) ≤ to_come (Some phase) (length kept) (suc (length left)))
         by true rest = (h, omega arith)
         by false rest =
@@ -105,7 +105,7 @@ module _ (r s g : ℕ) where
   objects_few : (registrations : Map Registration) (late : Set) (items : List Item) → AreObjects registrations late items → length items ≡ len registrations
   objects_few registrations late items are = ap length are.3 ∙ length-map are.0 of_stored ∙ sym (length-map are.0 plain) ∙ entries registrations (map plain are.0) are.1
 
-  module _ (t : State) (h : IsWithin r s g t) (kept : List Item) where
+  module _ (t : State) (h : IsWithin r s g c t) (kept : List Item) where
     abbrev IsFewer : Phase → Option Phase → Type 0
     IsFewer phase None = Unit {0}
     IsFewer phase (Some next) = (items : List Item) → Lists next t kept items → to_come (Some next) 0 (length items) ≤ to_come (Some phase) (length kept) 0
@@ -124,11 +124,11 @@ module _ (r s g : ℕ) where
     turns_fewer ShortHolders = λ items are. let many = links_few t.long items are in let few = h.long in omega (arith, many, few)
     turns_fewer LongHolders = tt
 
-  goes_fewer : (phase : Phase) (k : Going) (last : Option Phase) (m : Going) → GoesOn phase k last m → IsWithin r s g k.finalizers → IsWithin r s g m.finalizers × (to_come_in last m ≤ to_come_in (Some phase) k)
+  goes_fewer : (phase : Phase) (k : Going) (last : Option Phase) (m : Going) → GoesOn phase k last m → IsWithin r s g c k.finalizers → IsWithin r s g c m.finalizers × (to_come_in last m ≤ to_come_in (Some phase) k)
   goes_fewer phase k last m (Asks item left some) h = skips_fewer phase k.left k.finalizers k.kept h
   goes_fewer phase k last m (Turns {next = next} {h = n} none turns begins rest) h =
       let past = skips_fewer phase k.left k.finalizers k.kept h in
-      let on = goes_fewer next n last m rest (subst (IsWithin r s g) (sym begins.same) past.0) in
+      let on = goes_fewer next n last m rest (subst (IsWithin r s g c) (sym begins.same) past.0) in
       let turn : to_come (Some next) 0 (length n.left) ≤ to_come (Some phase) (length (skip phase k).kept) 0 =
       subst (IsFewer (skip phase k).finalizers past.0 (skip phase k).kept phase) turns (turns_fewer (skip phase k).finalizers past.0 (skip phase k).kept phase) n.left begins.lists in
       let here : to_come_in (Some next) n ≤ to_come (Some phase) (length (skip phase k).kept) 0 = subst (λ (xs : List Item). to_come (Some next) (length xs) (length n.left) ≤ to_come (Some phase) (length (skip phase k).kept) 0) (sym begins.none) turn in
@@ -140,7 +140,7 @@ module _ (r s g : ℕ) where
   -- ---- a run
 
   record IsHearing (n : ℕ) (m : Machine) : Type 0 where
-    within : IsWithin r s g m.finalizers.state
+    within : IsWithin r s g c m.finalizers.state
     few : n + to_come m.phase (length m.walk.kept) (length m.walk.left) ≤ 6 * r + 3 * (s + g)
     asked : (p : Phase) → m.phase ≡ Some p → m.asked ≤ length m.walk.left
 
@@ -148,10 +148,10 @@ module _ (r s g : ℕ) where
   asked_for m (told.Asks question) (phase, was, is, count) p at = let within = is.within in omega (arith, within, count)
   asked_for m (told.Ended passed) (none, same, picked) p at = absurd (none-some p (sym none ∙ at))
 
-  worked_within : (t u : State) (event : Event) → IsWork event → Follows t event u → IsWithin r s g t → IsWithin r s g u
+  worked_within : (t u : State) (event : Event) → IsWork event → Follows t event u → IsWithin r s g c t → IsWithin r s g c u
   worked_within t u event work follows h =
-      let there = subst (IsWithin r s g) (sym (work_apart 0 [] t u event work follows)) (record { registered = h.registered; short = h.short; long = h.long }) in
-      record { registered = there.registered; short = there.short; long = there.long }
+      let there = subst (IsWithin r s g c) (sym (work_apart 0 [] t u event work follows)) (record { registered = h.registered; short = h.short; long = h.long; attached = h.attached }) in
+      record { registered = there.registered; short = there.short; long = there.long; attached = there.attached }
 
   heard : (begun m : Machine) (n : ℕ) → IsHearing 0 begun → Hears begun m n → IsHearing n m
   heard begun m n h Begun = h
@@ -178,12 +178,12 @@ passes_end old begun m n is hears =
     let t = old.finalizers.state in
     let r = len t.registrations in
     let same = is.finalizers in
-    let many : length begun.walk.left ≡ len t.short = links_few r (len t.short) (len t.long) t.short begun.walk.left (subst (λ (u : State). AreLinks u.short begun.walk.left) same is.begins.lists) in
+    let many : length begun.walk.left ≡ len t.short = links_few r (len t.short) (len t.long) (len t.cleanups) t.short begun.walk.left (subst (λ (u : State). AreLinks u.short begun.walk.left) same is.begins.lists) in
     let kept = ap length is.begins.none in
-    let start : IsHearing r (len t.short) (len t.long) 0 begun = record {
-      within = subst (IsWithin r (len t.short) (len t.long)) (sym same) (record { registered = omega arith; short = omega arith; long = omega arith });
-      few = subst (λ o. 0 + to_come r (len t.short) (len t.long) o (length begun.walk.kept) (length begun.walk.left) ≤ 6 * r + 3 * (len t.short + len t.long)) (sym is.phase) (omega (arith, many, kept));
+    let start : IsHearing r (len t.short) (len t.long) (len t.cleanups) 0 begun = record {
+      within = subst (IsWithin r (len t.short) (len t.long) (len t.cleanups)) (sym same) (record { registered = omega arith; short = omega arith; long = omega arith; attached = omega arith });
+      few = subst (λ o. 0 + to_come r (len t.short) (len t.long) (len t.cleanups) o (length begun.walk.kept) (length begun.walk.left) ≤ 6 * r + 3 * (len t.short + len t.long)) (sym is.phase) (omega (arith, many, kept));
       asked = λ p at. let none = is.asked in omega (arith, none);
     } in
-    let end = (heard r (len t.short) (len t.long) begun m n start hears).few in
+    let end = (heard r (len t.short) (len t.long) (len t.cleanups) begun m n start hears).few in
     omega (arith, end)

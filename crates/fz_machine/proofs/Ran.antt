@@ -151,7 +151,7 @@ module _ (E : Type 0) (word_of : ℕ → Option ℕ) (old begun new : Machine) (
   as_pass : Follows old.finalizers.state Pass end
   as_pass = (
     decided_queues E word_of c.passes before.objects (retain_keys after_it.objects after_it.marked) before.marked old.finalizers.state end
-        (decides E word_of c before begins_so end after_it at_end) (ap (λ (s : State). s.taken) at_end.state) (ap (λ (s : State). s.held) at_end.state) (ap (λ (s : State). s.next_number) at_end.state),
+        (decides E word_of c before begins_so end after_it at_end) (ap (λ (s : State). s.taken) at_end.state) (ap (λ (s : State). s.held) at_end.state) (ap (λ (s : State). s.next_number) at_end.state) (ap (λ (s : State). s.cleanups) at_end.state),
     ap (λ (s : State). s.passes) at_end.state,
   )
 

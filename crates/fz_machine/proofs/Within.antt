@@ -12,31 +12,32 @@ use Rattle.fz_machine.specs.declared.phase.Phase.{Phase}
 use Rattle.fz_machine.specs.declared.phase.Phase.TheVariants.{ShortTargets, ShortWords, Objects, Children, Again, Picks, LateAgain, LatePicks, LongTargets, LongWords, ShortHolders, LongHolders}
 use Rattle.fz_machine.specs.Phases.{after}
 
--- no more registrations and links than these
-pub record IsWithin (r s g : ℕ) (t : State) : Type 0 where
+-- no more registrations, links and cleanups than these
+pub record IsWithin (r s g c : ℕ) (t : State) : Type 0 where
   pub registered : len t.registrations ≤ r
   pub short : len t.short ≤ s
   pub long : len t.long ≤ g
+  pub attached : len t.cleanups ≤ c
 
-module _ (r s g : ℕ) (t : State) (h : IsWithin r s g t) where
-  without_short : (word : ℕ) → IsWithin r s g (record t { short = remove t.short word })
-  without_short word = let less = len_less t.short word in let few = h.short in record { registered = h.registered; short = omega (arith, less, few); long = h.long }
+module _ (r s g c : ℕ) (t : State) (h : IsWithin r s g c t) where
+  without_short : (word : ℕ) → IsWithin r s g c (record t { short = remove t.short word })
+  without_short word = let less = len_less t.short word in let few = h.short in record { registered = h.registered; short = omega (arith, less, few); long = h.long; attached = h.attached }
 
-  without_long : (word : ℕ) → IsWithin r s g (record t { long = remove t.long word })
-  without_long word = let less = len_less t.long word in let few = h.long in record { registered = h.registered; short = h.short; long = omega (arith, less, few) }
+  without_long : (word : ℕ) → IsWithin r s g c (record t { long = remove t.long word })
+  without_long word = let less = len_less t.long word in let few = h.long in record { registered = h.registered; short = h.short; long = omega (arith, less, few); attached = h.attached }
 
-  queued : (object : ℕ) → IsWithin r s g (queued_object t object)
+  queued : (object : ℕ) → IsWithin r s g c (queued_object t object)
   queued object = by (get t.registrations object)
     where
-      by : (o : Option Registration) → IsWithin r s g (option_map_or (queued_one t object) o t)
+      by : (o : Option Registration) → IsWithin r s g c (option_map_or (queued_one t object) o t)
       by None = h
-      by (Some q) = let less = len_less t.registrations object in let few = h.registered in record { registered = omega (arith, less, few); short = h.short; long = h.long }
+      by (Some q) = let less = len_less t.registrations object in let few = h.registered in record { registered = omega (arith, less, few); short = h.short; long = h.long; attached = h.attached }
 
-  cases : (b : Bool) (u v : State) → IsWithin r s g u → IsWithin r s g v → IsWithin r s g (cond b u v)
+  cases : (b : Bool) (u v : State) → IsWithin r s g c u → IsWithin r s g c v → IsWithin r s g c (cond b u v)
   cases true u v x y = x
   cases false u v x y = y
 
-  pub still : (phase : Phase) (item : Item) (answer : Bool) → IsWithin r s g (after phase item answer t)
+  pub still : (phase : Phase) (item : Item) (answer : Bool) → IsWithin r s g c (after phase item answer t)
   still ShortTargets item answer = h
   still ShortWords item answer = without_short item.word
   still Objects item answer = h

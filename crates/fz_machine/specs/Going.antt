@@ -10,11 +10,12 @@ use Rattle.fz_machine.specs.Walks.{Walk}
 abbrev pub going : View → Walk → Going
 going finalizers walk = record { finalizers = finalizers.state; kept = walk.kept; left = walk.left }
 
--- a list with this room can contain all registrations, and all links of each kind
+-- a list with this room can contain all registrations, all links of each kind, and all cleanups
 pub record HasRoom (s : State) (room : ℕ) : Type 0 where
   pub registrations : len s.registrations ≤ room
   pub short : len s.short ≤ room
   pub long : len s.long ≤ room
+  pub cleanups : len s.cleanups ≤ room
 
 -- the same with further registrations and links
 pub record HasRoomForMore (s : State) (registrations shorts longs room : ℕ) : Type 0 where
@@ -29,3 +30,7 @@ LacksToRegister s object room = (get s.registrations object ≡ None) × (room �
 -- a new link has no room in the list
 abbrev pub LacksToLink : State → LinkKind → ℕ → ℕ → Type 0
 LacksToLink s kind word room = (get (links_of s kind) word ≡ None) × (room ≤ len (links_of s kind))
+
+-- a new cleanup has no room in the list
+abbrev pub LacksToAdd : State → ℕ → Type 0
+LacksToAdd s room = room ≤ len s.cleanups

@@ -1,12 +1,13 @@
 //! The calls that change finalizers. While a pass is open only entries are taken and finished.
 
 ghost use Rattle.std.specs.Prelude.{◌≡◌, ◌≤◌, ◌+◌, ◌⊎◌, [], None, length, if◌then◌else◌, IfOk, IfErr, OnOk, OnErr};
-ghost use Rattle.std.specs.FinMap.{get, len, contains_key};
+ghost use Rattle.std.specs.FinMap.{get, len, contains_key, empty};
 ghost use Rattle.std.specs.FinSet.{contains};
 ghost use Rattle.fz_model.specs.Steps.{move_answer, old_of};
 ghost use Rattle.fz_pass.specs.All.{QueuesAll};
-ghost use Rattle.fz_finalizers.specs.Causes.{finish_causes, link_causes, move_causes, register_causes};
-ghost use Rattle.fz_finalizers.specs.Follows.{Follows, Register, Unregister, Link, Unlink, Move, QueueAll, Take, TakeFinished, Finish};
+ghost use Rattle.fz_finalizers.specs.Causes.{add_causes, finish_causes, link_causes, move_causes, register_causes};
+ghost use Rattle.fz_finalizers.specs.Follows.{Follows, Register, Unregister, Link, Unlink, Move, AddCleanup, Cancel, QueueAll, Take, TakeFinished, Finish};
+ghost use Rattle.fz_finalizers.specs.Passed.{CleansAll};
 ghost use Rattle.fz_finalizers.specs.States.{HasRooms, IsRoomier, KeepsTables, links_of, room_of};
 ghost use Rattle.fz_machine.specs.Causes.{IsJudgedBy, IsJudgedOrLacks};
 ghost use Rattle.fz_machine.specs.Going.{HasRoomForMore};
@@ -16,7 +17,9 @@ ghost use Rattle.fz_finalizers.specs.declared.refused.Refused.TheVariants.{NoMem
 use crate::machine::Machine;
 use crate::refused::Refused;
 use crate::reserving;
-use fz_finalizers::{Addr, Entry, Finalizer, LinkAnswer, LinkKind, MoveAnswer, Old};
+use fz_finalizers::{
+    Addr, Attached, Cleanup, Entry, Finalizer, LinkAnswer, LinkKind, MoveAnswer, Old,
+};
 
 impl Machine {
     /// Checks that no pass is open.
@@ -113,6 +116,35 @@ impl Machine {
         }
     }
 
+    /// Adds a cleanup to an object, which may have others and a finalizer, and returns its number. When the object is lost, an entry without it is queued.
+    ///
+    /// Fails with `PassOpen`, and then as `Finalizers::add_cleanup` does.
+    pub fn add_cleanup(&mut self, object: Addr, cleanup: Cleanup) -> Result<u64, Refused>
+        ensures judged { IsJudgedOrLacks self.old.phase (add_causes self.old.finalizers.cleanups self.old.finalizers.next_number object) result }
+        // Only a call without reserved room can run out of memory.
+        ensures wanting { IfErr result (λ r. r ≡ Refused.Finalizers NoMemory → (self.old.finalizers.rooms.cleanups ≡ 0) ⊎ (self.old.walk.room ≤ len self.old.finalizers.cleanups)) }
+        ensures refused { OnErr result ((self.new.phase ≡ self.old.phase) × (self.new.finalizers.state ≡ self.old.finalizers.state)) }
+        ensures number { IfOk result (λ number. number ≡ self.old.finalizers.next_number) }
+        ensures follows { OnOk result (IsIdle self.new × Follows self.old.finalizers.state (AddCleanup object cleanup) self.new.finalizers.state) }
+    {
+        self.check()?;
+        match reserving::add_cleanup(&mut self.finalizers, &mut self.walk, object, cleanup) {
+            Ok(number) => Ok(number),
+            Err(refused) => Err(Refused::Finalizers(refused)),
+        }
+    }
+
+    /// Removes a cleanup, and returns it with its object. Returns none if it was queued or cancelled, or never added. Fails with `PassOpen`.
+    pub fn cancel(&mut self, number: u64) -> Result<Option<Attached>, Refused>
+        ensures judged { IsJudgedBy self.old.phase [] result }
+        ensures refused { OnErr result (self.new ≡ self.old) }
+        ensures answer { IfOk result (λ attached. attached ≡ get self.old.finalizers.cleanups number) }
+        ensures follows { OnOk result (IsIdle self.new × Follows self.old.finalizers.state (Cancel number) self.new.finalizers.state) }
+    {
+        self.check()?;
+        Ok(self.finalizers.cancel(number))
+    }
+
     /// Removes an object's registration, and returns its procedure and client data, if it was registered. Fails with `PassOpen`.
     pub fn unregister(&mut self, object: Addr) -> Result<Option<Old>, Refused>
         ensures judged { IsJudgedBy self.old.phase [] result }
@@ -151,7 +183,7 @@ impl Machine {
         }
     }
 
-    /// Queues every registration, whatever is marked, and returns how many there were: `GC_finalize_all`. Takes time proportional to the registrations. Fails
+    /// Queues every registration, whatever is marked, and returns how many there were: `GC_finalize_all`. Links and cleanups are unchanged. Takes time proportional to the registrations. Fails
     /// with `PassOpen`.
     pub fn queue_all(&mut self) -> Result<u64, Refused>
         ensures judged { IsJudgedBy self.old.phase [] result }
@@ -162,6 +194,20 @@ impl Machine {
     {
         self.check()?;
         Ok(self.finalizers.queue_all())
+    }
+
+    /// Queues every cleanup, whatever is marked, and returns how many there were: first the short ones, then the long ones, each by rank, then number. The
+    /// entries' pass is 0. Takes time proportional to the cleanups. Fails with `PassOpen`.
+    pub fn queue_cleanups(&mut self) -> Result<u64, Refused>
+        ensures judged { IsJudgedBy self.old.phase [] result }
+        ensures refused { OnErr result (self.new ≡ self.old) }
+        ensures idle { OnOk result (IsIdle self.new) }
+        ensures queued { OnOk result (CleansAll self.old.finalizers.state self.new.finalizers.state) }
+        ensures none { OnOk result (self.new.finalizers.cleanups ≡ empty) }
+        ensures count { IfOk result (λ count. length self.new.finalizers.queue ≡ length self.old.finalizers.queue + count) }
+    {
+        self.check()?;
+        Ok(self.finalizers.queue_cleanups())
     }
 
     /// Takes the first waiting entry. It is held until it is finished: its object and its client data stay roots. An open pass allows it.

@@ -1,17 +1,17 @@
-//! The calls that may allocate: the list of a phase has room for all registrations, and for all links of each kind.
+//! The calls that may allocate: the list of a phase has room for all registrations, for all links of each kind, and for all cleanups.
 
 ghost use Rattle.std.specs.Prelude.{◌≡◌, ◌≤◌, ◌<◌, ◌+◌, ◌^◌, ◌⊎◌, None, if◌then◌else◌, IfOk, IfErr, OnOk, OnErr};
 ghost use Rattle.std.specs.FinMap.{get, insert, len, contains_key};
 ghost use Rattle.fz_model.specs.declared.answers.Registration.{Registration};
 ghost use Rattle.fz_model.specs.Steps.{old_of};
-ghost use Rattle.fz_finalizers.specs.Causes.{IsJudgedOrLacks, link_causes, register_causes};
-ghost use Rattle.fz_finalizers.specs.Follows.{Follows, Register, Link};
+ghost use Rattle.fz_finalizers.specs.Causes.{IsJudgedOrLacks, add_causes, link_causes, register_causes};
+ghost use Rattle.fz_finalizers.specs.Follows.{Follows, Register, Link, AddCleanup};
 ghost use Rattle.fz_finalizers.specs.States.{HasRooms, KeepsTables, limited, links_of, room_of};
 ghost use Rattle.fz_machine.specs.Causes.{RefusesOrLacks};
-ghost use Rattle.fz_machine.specs.Going.{HasRoom, HasRoomForMore, LacksToLink, LacksToRegister};
+ghost use Rattle.fz_machine.specs.Going.{HasRoom, HasRoomForMore, LacksToAdd, LacksToLink, LacksToRegister};
 
 use crate::walk::Walk;
-use fz_finalizers::{Addr, Finalizer, Finalizers, LinkAnswer, LinkKind, Old, Refused};
+use fz_finalizers::{Addr, Cleanup, Finalizer, Finalizers, LinkAnswer, LinkKind, Old, Refused};
 use fz_table::MOST_ENTRIES;
 
 /// Reserves room in the list for one more registration, unless the object has one.
@@ -110,6 +110,46 @@ pub(crate) fn link(
     finalizers.link(kind, word, target)
 }
 
+/// Reserves room in the list for one more cleanup.
+fn room_to_add(finalizers: &Finalizers, walk: &mut Walk, object: Addr) -> Result<(), Refused>
+    requires { HasRoom finalizers.now.state walk.old.room }
+    ensures refused { IfErr result (λ r. RefusesOrLacks (add_causes finalizers.now.cleanups finalizers.now.next_number object) (LacksToAdd finalizers.now.state walk.old.room) r) }
+    ensures kept { walk.old.room ≤ walk.new.room }
+    ensures room { OnOk result (len finalizers.now.cleanups < walk.new.room) }
+{
+    let room = walk.room();
+    let count = finalizers.cleanups() as usize;
+    if count < room {
+        return Ok(());
+    }
+    let Err(_) = walk.reserve(count + 1) else {
+        return Ok(());
+    };
+    finalizers.check_cleanup(object)?;
+    Err(Refused::NoMemory)
+}
+
+/// Adds a cleanup to an object, after reserving room in the list.
+#[tactic(auto, using(fz_finalizers::proofs::Counting::len_grown))]
+pub(crate) fn add_cleanup(
+    finalizers: &mut Finalizers,
+    walk: &mut Walk,
+    object: Addr,
+    cleanup: Cleanup,
+) -> Result<u64, Refused>
+    requires { HasRoom finalizers.old.state walk.old.room }
+    ensures judged { IsJudgedOrLacks (add_causes finalizers.old.cleanups finalizers.old.next_number object) result }
+    ensures wanting { IfErr result (λ r. r ≡ Refused.NoMemory → (finalizers.old.rooms.cleanups ≡ 0) ⊎ (walk.old.room ≤ len finalizers.old.cleanups)) }
+    ensures refused { OnErr result (finalizers.new.state ≡ finalizers.old.state) }
+    ensures number { IfOk result (λ number. number ≡ finalizers.old.next_number) }
+    ensures follows { OnOk result (Follows finalizers.old.state (AddCleanup object cleanup) finalizers.new.state) }
+    ensures kept { walk.old.room ≤ walk.new.room }
+    ensures room { HasRoom finalizers.new.state walk.new.room }
+{
+    room_to_add(finalizers, walk, object)?;
+    finalizers.add_cleanup(object, cleanup)
+}
+
 /// Reserves room in the list for `more` items in addition to `count`, but at most for as many as a table can have.
 fn grow(walk: &mut Walk, count: u64, more: usize) -> Result<(), Refused>
     requires { count ≤ walk.old.room }
@@ -159,5 +199,6 @@ pub(crate) fn shrink(finalizers: &mut Finalizers, walk: &mut Walk)
     let links = finalizers
         .links(LinkKind::Short)
         .max(finalizers.links(LinkKind::Long));
-    walk.shrink(finalizers.registrations().max(links) as usize);
+    let others = finalizers.registrations().max(finalizers.cleanups());
+    walk.shrink(others.max(links) as usize);
 }
