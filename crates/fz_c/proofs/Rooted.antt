@@ -1,5 +1,5 @@
 -- Walks from a place on.
-use Rattle.std.proofs.Common.{◌≡◌, ◌≢◌, ◌<◌, ◌≤◌, ◌-◌, ℕ, zero, suc, min, nat_eq, List, drop, map, take, length, Option, Some, refl, sym, ap, subst, ◌∙◌, inl, inr, arith}
+use Rattle.std.proofs.Common.{◌≡◌, ◌≢◌, ◌<◌, ◌≤◌, ◌-◌, ℕ, zero, suc, min, nat_eq, List, drop, map, take, length, Option, Some, None, refl, sym, ap, subst, ◌∙◌, inl, inr, arith}
 use Rattle.std.proofs.lemmas.List.{drop-map, length-drop, length-map}
 use Rattle.std.specs.FinMap.{from_entries}
 use Rattle.std.specs.List.{IsDistinct}
@@ -12,6 +12,7 @@ use Rattle.fz_finalizers.specs.declared.roots.Root.{Root}
 use Rattle.fz_finalizers.specs.States.{State, View, kind_at, links_of}
 use Rattle.fz_finalizers.specs.Walks.{AreCleanups, AreLinks, AreRegistrations, IsRest, YieldsRoots, links_in_order, registrations_in_order, roots_of, somes}
 use Rattle.fz_finalizers.proofs.Shown.{rest_place}
+use Rattle.fz_machine.specs.declared.refused.Refused.{Refused}
 use Rattle.fz_machine.specs.Machines.{Machine}
 use Rattle.fz_c.specs.declared.machine.codes.TheConstants.{OK, EMPTY}
 use Rattle.fz_c.specs.declared.machine.shown.TheConstants.{WORDS}
@@ -21,7 +22,7 @@ use Rattle.fz_c.specs.declared.machine.walks.TheConstants.{PART}
 use Rattle.fz_c.specs.declared.machine.walks.Cleanups.{Cleanups}
 use Rattle.fz_c.specs.declared.machine.walks.Links.{Links}
 use Rattle.fz_c.specs.declared.machine.walks.Registrations.{Registrations}
-use Rattle.fz_c.specs.MachineCodes.{Behind}
+use Rattle.fz_c.specs.MachineCodes.{Answers, Behind}
 use Rattle.fz_c.specs.MachineShows.{ShowsCleanups, ShowsFrom, ShowsLinks, ShowsRegistrations, ShowsRoots, cleanup_told, kind_number, link_told, registration_told}
 
 -- what a walk of the finalizers behind the handle yields is their list
@@ -163,6 +164,14 @@ rest_short all left after from is rest =
     let size = ap length rest ∙ length-drop (length left - length after) left in
     omega (arith, one, size)
 
+-- what a call does to the finalizers behind a handle
+pub changed : (old new : Option Machine) (m n : Machine) (code : ℕ) (Kept : Type 0) (does : Machine → Machine → Type 0) → old ≡ Some m → new ≡ Some n → does m n → Behind old new code Kept does
+changed old new m n code Kept does was is h = subst (λ (o : Option Machine). Behind o new code Kept does) (sym was) (subst (λ (o : Option Machine). Behind (Some m) o code Kept does) (sym is) h)
+
 -- nothing changes behind a handle
 pub behind : (old new : Option Machine) (m : Machine) (code : ℕ) (Kept : Type 0) (does : Machine → Machine → Type 0) → old ≡ Some m → new ≡ Some m → does m m → Behind old new code Kept does
-behind old new m code Kept does was is h = subst (λ (o : Option Machine). Behind o new code Kept does) (sym was) (subst (λ (o : Option Machine). Behind (Some m) o code Kept does) (sym is) h)
+behind old new m = changed old new m m
+
+-- a call that is accepted
+pub accepted : (cause : Option Refused) (done refused : Type 0) → cause ≡ None → done → Answers cause OK done refused
+accepted cause done refused none h = subst (λ (o : Option Refused). Answers o OK done refused) (sym none) (refl, h)

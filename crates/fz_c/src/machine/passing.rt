@@ -117,10 +117,15 @@ pub extern "C" fn fz_machine_queue_cleanups(
 ) -> Code
     ensures { Behind finalizers.old.value finalizers.new.value result (queued.new ≡ queued.old) (QueuesCleanups result queued.old queued.new) }
 {
-    let reply = behind!(alloc, finalizers, NOT_OPEN, |it| it.machine.queue_cleanups());
+    let reply = behind!(
+        alloc,
+        finalizers,
+        NOT_OPEN,
+        |it| it.machine.queue_cleanups()
+    );
     match reply {
-        Ok(count) => {
-            *queued = count;
+        Ok(all) => {
+            *queued = all;
             OK
         }
         Err(refused) => code_of(refused),
