@@ -14,6 +14,7 @@
 
 #ifndef GC_NO_FINALIZATION
 #include "derrimas_finalizers.h"
+#include "gc_cleanup.h"
 #include "javaxfc.h"
 #include <string.h>
 #include <sys/mman.h>
@@ -310,6 +311,46 @@ GC_API void GC_CALL GC_register_finalizer_unreachable(void *object, GC_finalizat
     register_kind(object, proc, cd, old_proc, old_cd, DERRIMAS_FINALIZERS_UNREACHABLE);
 }
 
+/* ---- cleanups, of which gc.h has none */
+
+static GC_bool add(uint64_t object, GC_cleanup_when when, GC_finalization_proc proc, uint64_t cd, uint64_t *number)
+{
+    const derrimas_finalizers_when due = when == GC_CLEANUP_SHORT ? DERRIMAS_FINALIZERS_SHORT : DERRIMAS_FINALIZERS_LONG;
+
+    return is_open() && derrimas_finalizers_add_cleanup(&finalizers, object, due, (uint64_t)(word)proc, cd, 0, number) == DERRIMAS_FINALIZERS_OK;
+}
+
+/* A number of gc_cleanup.h is 1 more than the library's. */
+GC_API unsigned long long GC_CALL GC_add_cleanup(void *object, GC_cleanup_when when, GC_finalization_proc proc, void *cd)
+{
+    const uint64_t hidden = HIDE(object), data = HIDE(cd);
+    uint64_t number = 0;
+    GC_bool done;
+    DCL_LOCK_STATE;
+
+    if (EXPECT(GC_find_leak, FALSE))
+        return 0;
+    LOCK();
+    done = HDR(object) != 0
+           && (add(hidden, when, proc, data, &number)
+               || (found_memory(sizeof(derrimas_finalizers_cleanup_at)) && add(hidden, when, proc, data, &number)));
+    GC_reachable_here(object);
+    GC_reachable_here(cd);
+    UNLOCK();
+    return done ? number + 1 : 0;
+}
+
+GC_API int GC_CALL GC_cancel_cleanup(unsigned long long number)
+{
+    derrimas_finalizers_old old = {0, 0, false};
+    DCL_LOCK_STATE;
+
+    LOCK();
+    (void)derrimas_finalizers_cancel(&finalizers, number - 1, &old);
+    UNLOCK();
+    return old.was;
+}
+
 /* ---- links */
 
 static GC_bool is_word(void *link) { return ((word)link & (ALIGNMENT - 1)) == 0; }
@@ -581,7 +622,7 @@ static GC_bool take(struct taken *taken)
     LOCK();
     was = derrimas_finalizers_take_finished(&finalizers, &entry) == DERRIMAS_FINALIZERS_OK;
     if (was) {
-        taken->object = SHOW(entry.obj);
+        taken->object = entry.obj ? SHOW(entry.obj) : NULL; /* that of a cleanup has none */
         taken->cd = SHOW(entry.cd);
         taken->proc = (GC_finalization_proc)(word)entry.proc;
         taken->freed = GC_bytes_freed;

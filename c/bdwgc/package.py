@@ -125,7 +125,8 @@ def replaced(room, name, original, archive):
     shutil.rmtree(tree, ignore_errors=True)
     must(['cp', '-a', original, tree])
     os.rename(f'{tree}/finalize.c', f'{tree}/finalize_package.c')
-    shutil.copy(f'{HERE}/finalize.c', tree)
+    for file in ('finalize.c', 'gc_cleanup.h'):
+        shutil.copy(f'{HERE}/{file}', tree)
     libraries = [f'LIBS={archive} -lpthread -ldl'] if os.path.exists(f'{original}/.libs/libgc.so') else []
     must(['make', 'libgc.la', f'CPPFLAGS={header(archive)}', *libraries], cwd=tree)
     return tree

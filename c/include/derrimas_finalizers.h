@@ -1,14 +1,14 @@
 /* derrimas_finalizers.h: finalizers and disappearing links for a runtime that has a heap of its own, for C99 and later,
  * and C++17 and later.
  *
- * A derrimas_finalizers holds registrations of objects, short and long disappearing links, and the entries of finalizers
- * that are ready. Objects, words, procedures and client data are numbers of 64 bits, which are compared and handed back,
- * and never followed. An object is any number but 0 by which the host finds it: its address, an address that is hidden by
- * a map that keeps the order, or an index. What is proved of a pass gives an object as many numbers as it has words, from
- * its own on, and no two objects share one. A link's word is any number but 0 by which the host finds it, and has one
- * number: its address, or an object's number and an offset. A host whose marker scans the stack for what looks like an
- * address hides them, since questions and entries lie there: objects, words, targets and client data, all by the same
- * map.
+ * A derrimas_finalizers holds registrations of objects, short and long disappearing links, cleanups of objects, and the
+ * entries of finalizers and cleanups that are ready. Objects, words, procedures and client data are numbers of 64 bits,
+ * which are compared and handed back, and never followed. An object is any number but 0 by which the host finds it: its
+ * address, an address that is hidden by a map that keeps the order, or an index. What is proved of a pass gives an object
+ * as many numbers as it has words, from its own on, and no two objects share one. A link's word is any number but 0 by
+ * which the host finds it, and has one number: its address, or an object's number and an offset. A host whose marker scans
+ * the stack for what looks like an address hides them, since questions and entries lie there: objects, words, targets and
+ * client data, all by the same map.
  *
  * The host has the heap. It marks what its roots reach, and what derrimas_finalizers_roots yields. Then it runs a pass, in
  * which it is asked questions: is this object marked, mark what it reaches, write zero to this word. What isn't marked at
@@ -29,16 +29,20 @@
  * - Before the host frees, reuses or moves the memory of a link's word, it unlinks or moves the link. A pass writes to the
  *   word of each link that it clears, also where no object has the word. A pass that ends has removed the links whose
  *   words lie in objects that it left unmarked: these may be freed without further calls.
+ * - Before the host reclaims an object at any other time than after a pass that left it unmarked, it cancels the object's
+ *   cleanups: a pass asks whether the object is marked, and a new object of the same number would inherit them. A pass that
+ *   ends has queued the cleanups of all objects that it left unmarked.
  *
- * Memory is taken by derrimas_finalizers_open, .._reserve, .._shrink, .._register and .._link alone, by the handle's
- * allocator; and it is freed by those and by .._destroy alone. All other calls may be made while other threads are
- * stopped at any place. By .._reserve memory comes beforehand. A registration in place of another takes no room, also
- * where its kind is another. Each new registration takes room for its entry, so that a pass, a take and a move of a link
- * never lack memory. Where the list of a pass has no room left, .._register and .._link make it grow, even if they
- * replace what there is or are refused.
+ * Memory is taken by derrimas_finalizers_open, .._reserve, .._shrink, .._register, .._link and .._add_cleanup alone, by the
+ * handle's allocator; and it is freed by those and by .._destroy alone. All other calls may be made while other threads are
+ * stopped at any place. By .._reserve memory comes beforehand, but none for cleanups. A registration in place of another
+ * takes no room, also where its kind is another. Each new registration and each cleanup takes room for its entry, so that a
+ * pass, a take and a move of a link never lack memory; so a cleanup uses up the room that was reserved for one
+ * registration. Where the list of a pass has no room left, .._register, .._link and .._add_cleanup make it grow, even if
+ * they replace what there is or are refused.
  *
- * Unless a comment says otherwise a call takes constant time: .._register and .._link amortized over the growth of tables,
- * .._move_link over as many moves as there are links of its kind. */
+ * Unless a comment says otherwise a call takes constant time: .._register, .._link and .._add_cleanup amortized over the
+ * growth of tables, .._move_link over as many moves as there are links of its kind. */
 #ifndef DERRIMAS_FINALIZERS_H
 #define DERRIMAS_FINALIZERS_H
 
@@ -54,8 +58,8 @@ extern "C" {
 typedef enum derrimas_finalizers_code {
     DERRIMAS_FINALIZERS_OK = 0,           /* the call was accepted */
     DERRIMAS_FINALIZERS_ZERO = 1,         /* the object or the word is 0 */
-    DERRIMAS_FINALIZERS_EXHAUSTED = 2,    /* 2^48 registrations have been numbered */
-    DERRIMAS_FINALIZERS_FULL = 3,         /* there are 2^32 registrations, or links of this kind */
+    DERRIMAS_FINALIZERS_EXHAUSTED = 2,    /* 2^48 registrations and cleanups have been numbered */
+    DERRIMAS_FINALIZERS_FULL = 3,         /* there are 2^32 registrations, cleanups, or links of this kind */
     DERRIMAS_FINALIZERS_NO_MEMORY = 4,    /* the handle's allocator returned NULL */
     DERRIMAS_FINALIZERS_NOT_HELD = 5,     /* no entry that is held is the same in all fields */
     DERRIMAS_FINALIZERS_PASS_OPEN = 6,    /* a pass is open: .._begin came, and its last question didn't */
@@ -82,8 +86,10 @@ typedef enum derrimas_finalizers_kind {
     DERRIMAS_FINALIZERS_UNREACHABLE = 3  /* as NORMAL, but the references of NO_ORDER objects count too */
 } derrimas_finalizers_kind;
 
-/* The kinds of links and the answers about them, which are those of derrimas_common.h, by names of this header. */
+/* The kinds of links and the answers about them, which are those of derrimas_common.h, by names of this header. A cleanup
+ * is due when a link of this kind to its object is cleared. */
 typedef derrimas_links derrimas_finalizers_link_kind;
+typedef derrimas_links derrimas_finalizers_when;
 typedef derrimas_link_answer derrimas_finalizers_linked;
 
 #define DERRIMAS_FINALIZERS_SHORT DERRIMAS_SHORT
@@ -109,14 +115,15 @@ typedef struct derrimas_finalizers_entry derrimas_finalizers_entry;
 /* What a host is told of, by derrimas_finalizers_trace. Each function may be NULL. It is called at the end of the call that
  * brings the event about, by its thread, with `data` first. It makes no call that changes the handle, and returns. */
 typedef struct derrimas_trace {
-    void (*queued)(void *data, uint64_t pass, uint64_t count); /* a pass, or .._queue_all as pass 0, has queued entries */
+    void (*queued)(void *data, uint64_t pass, uint64_t count); /* a pass has queued entries; or as pass 0 .._queue_all or
+                                                                * .._queue_cleanups has */
     void (*cleared)(void *data, uint64_t word);                /* a question asks the host to write zero to a link's word */
     void (*finished)(void *data, const derrimas_finalizers_entry *entry); /* by .._finish, or taken as finished */
     void *data;
 } derrimas_trace;
 
-/* How many registrations and passes there have been, for derrimas_finalizers_dump alone; and how many registrations before
- * the pass (n + 1) * 2^thinned, in before[n]. */
+/* For derrimas_finalizers_dump alone: 1 more than the number of the last registration, and how many passes there have been;
+ * and the first of these as it was before the pass (n + 1) * 2^thinned, in before[n]. */
 typedef struct derrimas_finalizers_ages {
     uint64_t registrations, passes, thinned, before[8];
 } derrimas_finalizers_ages;
@@ -131,14 +138,16 @@ typedef struct derrimas_finalizers {
     derrimas_finalizers_ages ages;
 } derrimas_finalizers;
 
-/* The procedure and the client data of a registration that went away, and whether there was one: else both are 0. */
+/* The procedure and the client data of a registration or a cleanup that went away, and whether there was one: else both
+ * are 0. */
 typedef struct derrimas_finalizers_old {
     uint64_t proc, cd;
     bool was;
 } derrimas_finalizers_old;
 
-/* An entry: its place in the queue of all entries ever; the pass that queued it, 0 of .._queue_all; the number of its
- * registration; the object, the procedure and the client data. */
+/* An entry: its place in the queue of all entries ever; the pass that queued it, 0 of .._queue_all and .._queue_cleanups;
+ * the number of its registration or its cleanup; the object, which is 0 if it is the entry of a cleanup; the procedure and
+ * the client data. */
 struct derrimas_finalizers_entry {
     uint64_t seq, pass, reg, obj, proc, cd;
 };
@@ -155,10 +164,17 @@ typedef struct derrimas_finalizers_link_at {
     uint64_t word, target;
 } derrimas_finalizers_link_at;
 
-/* How many registrations, links, entries that wait and entries that are held there are; how many entries and passes there
- * ever were. */
+/* A cleanup: its number, its object, procedure and client data, when it is due, and its rank. */
+typedef struct derrimas_finalizers_cleanup_at {
+    uint64_t number, object, proc, cd;
+    derrimas_finalizers_when when;
+    uint8_t rank;
+} derrimas_finalizers_cleanup_at;
+
+/* How many registrations, links, cleanups, entries that wait and entries that are held there are; how many entries and
+ * passes there ever were. */
 typedef struct derrimas_finalizers_counts {
-    uint64_t registrations, short_links, long_links, waiting, held, queued, passes;
+    uint64_t registrations, short_links, long_links, cleanups, waiting, held, queued, passes;
 } derrimas_finalizers_counts;
 
 /* What a pass did: its number, from 1 on, and how many entries it queued. */
@@ -199,26 +215,26 @@ DERRIMAS_CHECKED derrimas_finalizers_code derrimas_finalizers_open(derrimas_fina
 /* Frees all that the handle has, by its allocator, and leaves it as {0}. Does nothing where it isn't open. */
 void derrimas_finalizers_destroy(derrimas_finalizers *finalizers) DERRIMAS_NONNULL(1);
 
-/* Makes room for so many further registrations, and for so many further links of each kind: up to there no call takes
- * memory. It takes memory itself, and time by what it makes room for.
+/* Makes room for so many further registrations, and for so many further links of each kind: up to there no call but
+ * .._add_cleanup takes memory. It takes memory itself, and time by what it makes room for.
  * Refused: NOT_OPEN, PASS_OPEN, NO_MEMORY. */
 DERRIMAS_CHECKED derrimas_finalizers_code derrimas_finalizers_reserve(derrimas_finalizers *finalizers,
                                                                       uint64_t registrations, uint64_t shorts, uint64_t longs)
     DERRIMAS_NONNULL(1);
 
-/* Gives back the memory that isn't needed for what is registered, linked, waits or is held; also what was reserved. Where
- * the allocator has no memory to make something smaller, that stays as it is. No other call does this but .._destroy. Takes
- * time by what there is.
+/* Gives back the memory that isn't needed for what is registered, linked, added, waits or is held; also what was reserved.
+ * Where the allocator has no memory to make something smaller, that stays as it is. No other call does this but .._destroy.
+ * Takes time by what there is.
  * Refused: NOT_OPEN, PASS_OPEN. */
 derrimas_finalizers_code derrimas_finalizers_shrink(derrimas_finalizers *finalizers) DERRIMAS_NONNULL(1);
 
-/* ---- registrations and links */
+/* ---- registrations, links and cleanups */
 
 /* Registers a finalizer of the object, in the place of the one that it has, of whichever kind. An object has one: for
- * several, let the client data be a list that the procedure goes over. `proc` is any number, and so is `cd`; both come
- * back in the entry. Of what one pass queues, those of kind UNREACHABLE come last; among these and among the others lower
- * ranks come first, and within a rank lower objects. *number, which may be NULL, is the number of the registration, which
- * no other has; *old, which may be NULL, what it replaced.
+ * several, let the client data be a list that the procedure goes over. `proc` is any number, and so is `cd`; both come back
+ * in the entry. Of the registrations that one pass queues, those of kind UNREACHABLE come last; among these and among the
+ * others lower ranks come first, and within a rank lower objects. *number, which may be NULL, is the number of the
+ * registration, which no other and no cleanup has; *old, which may be NULL, what it replaced.
  * Refused: BAD_KIND, NOT_OPEN, PASS_OPEN, ZERO, EXHAUSTED, FULL, NO_MEMORY. */
 DERRIMAS_CHECKED derrimas_finalizers_code
 derrimas_finalizers_register(derrimas_finalizers *finalizers, uint64_t object, derrimas_finalizers_kind kind, uint64_t proc,
@@ -251,33 +267,60 @@ derrimas_finalizers_code derrimas_finalizers_move_link(derrimas_finalizers *fina
                                                        uint64_t word, uint64_t to, derrimas_finalizers_linked *answer)
     DERRIMAS_NONNULL(1);
 
+/* Adds a cleanup to the object, which may have any number of them, registered or not. When the object is lost, an entry
+ * without it is queued: its obj is 0, and its reg is *number, which no other cleanup and no registration has, and which may
+ * be NULL. So the object isn't retained, and may be reclaimed after the same pass. A SHORT cleanup is due in a pass that
+ * finds the object unmarked, just as short links to it are cleared; a LONG one in a pass that leaves it unmarked, so when
+ * no finalizer retains it either. A pass queues the SHORT ones before all else, and the LONG ones after all else: each by
+ * rank, then number. `proc` is any number, and so is `cd`; both come back in the entry. Until then .._roots yields `cd` as
+ * REGISTERED_DATA, and the object not at all. Where the host marks what `cd` leads to, that is never the object: else the
+ * cleanup never comes.
+ * Refused: BAD_KIND, NOT_OPEN, PASS_OPEN, ZERO, EXHAUSTED, FULL, NO_MEMORY. */
+DERRIMAS_CHECKED derrimas_finalizers_code
+derrimas_finalizers_add_cleanup(derrimas_finalizers *finalizers, uint64_t object, derrimas_finalizers_when when, uint64_t proc,
+                                uint64_t cd, uint8_t rank, uint64_t *number) DERRIMAS_NONNULL(1);
+
+/* Removes the cleanup with this number, and tells in *old, which may be NULL, what it was: nothing where it was queued,
+ * cancelled or never added.
+ * Refused: NOT_OPEN, PASS_OPEN. */
+derrimas_finalizers_code derrimas_finalizers_cancel(derrimas_finalizers *finalizers, uint64_t number,
+                                                    derrimas_finalizers_old *old) DERRIMAS_NONNULL(1);
+
 /* ---- a pass, by questions and answers */
 
 /* Opens a pass, once the host's marking is done. Until its end entries may be taken and finished; all other changes are
- * refused with PASS_OPEN. Takes time by the links.
+ * refused with PASS_OPEN. Takes time by the links and the cleanups.
  * Refused: NOT_OPEN, PASS_OPEN. */
 derrimas_finalizers_code derrimas_finalizers_begin(derrimas_finalizers *finalizers) DERRIMAS_NONNULL(1);
 
-/* Takes the answers to the question before (at first any), and puts the next question into *question. EMPTY: there is
- * none, and the pass has ended; what it did is in *passed, which may be NULL. A pass takes time by the registrations and
- * the links, and to sort the unmarked objects; a single call may take as much, where it goes on to another list.
+/* Takes the answers to the question before (at first any), and puts the next question into *question. EMPTY: there is none,
+ * and the pass has ended; what it did is in *passed, which may be NULL. A pass takes time by the registrations, the links
+ * and the cleanups, and to sort the unmarked objects and the cleanups; a single call may take as much, where it goes on to
+ * another list.
  * Refused: NOT_OPEN, NO_PASS; EMPTY. */
 derrimas_finalizers_code derrimas_finalizers_next(derrimas_finalizers *finalizers, uint64_t answers,
                                                   derrimas_question *question, derrimas_finalizers_passed *passed)
     DERRIMAS_NONNULL(1, 3);
 
 /* Ends the open pass before its last question. What it has queued stays queued. A link whose CLEAR wasn't answered stays a
- * link, and an object that wasn't queued stays registered. The host reclaims nothing before its next pass has ended: what
- * that would have retained may be unmarked.
+ * link, an object that wasn't queued stays registered, and a cleanup that wasn't queued stays. The host reclaims nothing
+ * before its next pass has ended: what that would have retained may be unmarked.
  * Refused: NOT_OPEN, NO_PASS. */
 derrimas_finalizers_code derrimas_finalizers_abandon(derrimas_finalizers *finalizers) DERRIMAS_NONNULL(1);
 
-/* ---- the entries of finalizers that are ready */
+/* ---- the entries of finalizers and cleanups that are ready */
 
 /* Queues all that is registered, by rank, then object, whatever is marked, those of kind UNREACHABLE after the others:
- * GC_finalize_all. *queued, which may be NULL, is how many. Links stay. Takes time by the registrations, which it sorts.
+ * GC_finalize_all. *queued, which may be NULL, is how many. Links and cleanups stay. Takes time by the registrations, which
+ * it sorts.
  * Refused: NOT_OPEN, PASS_OPEN. */
 derrimas_finalizers_code derrimas_finalizers_queue_all(derrimas_finalizers *finalizers, uint64_t *queued)
+    DERRIMAS_NONNULL(1);
+
+/* Queues all cleanups, whatever is marked: the SHORT ones, and then the LONG ones, each by rank, then number. *queued,
+ * which may be NULL, is how many. Registrations and links stay. Takes time by the cleanups, which it sorts.
+ * Refused: NOT_OPEN, PASS_OPEN. */
+derrimas_finalizers_code derrimas_finalizers_queue_cleanups(derrimas_finalizers *finalizers, uint64_t *queued)
     DERRIMAS_NONNULL(1);
 
 /* Takes the first entry that waits. It is held, with its object and its client data, until .._finish. A pass may be open,
@@ -304,15 +347,17 @@ bool derrimas_finalizers_has_waiting(const derrimas_finalizers *finalizers) DERR
 
 /* The roots: before each pass a host marks what they reach, and it keeps these. */
 typedef enum derrimas_finalizers_root {
-    DERRIMAS_FINALIZERS_HELD_OBJECTS = 0,   /* the objects of entries that wait or are held: roots themselves */
+    DERRIMAS_FINALIZERS_HELD_OBJECTS = 0,   /* the objects of entries that wait or are held, which are roots themselves; the
+                                             * entry of a cleanup has none */
     DERRIMAS_FINALIZERS_HELD_DATA = 1,      /* their client data */
-    DERRIMAS_FINALIZERS_REGISTERED_DATA = 2 /* the client data of registrations, for hosts that keep it */
+    DERRIMAS_FINALIZERS_REGISTERED_DATA = 2 /* the client data of registrations and cleanups, for hosts that keep it */
 } derrimas_finalizers_root;
 
-/* Copies roots of the sort into the buffer, which has `room` words: those from the place *from on, which is 0 at first,
- * and goes on to where the next call starts, by *count or more: a finished entry may have a place, and has no root. *count is
- * how many were copied. As long as only calls that take a const handle come between, the parts are one walk, which has each
- * root once. A call takes time by the roots that it copies, wherever it starts. The buffer may be NULL where `room` is 0.
+/* Copies roots of the sort into the buffer, which has `room` words: those from the place *from on, which is 0 at first, and
+ * goes on to where the next call starts, by *count or more: a finished entry or that of a cleanup may have a place, and has
+ * no root. *count is how many were copied. As long as only calls that take a const handle come between, the parts are one
+ * walk, which has each root once. A call takes time by the roots that it copies and the places that it passes, wherever it
+ * starts. The buffer may be NULL where `room` is 0.
  * Refused: BAD_KIND, NOT_OPEN; EMPTY where no root is left, or `room` is 0. */
 derrimas_finalizers_code derrimas_finalizers_roots(const derrimas_finalizers *finalizers, derrimas_finalizers_root sort,
                                                    uint64_t *from, uint64_t *buffer, size_t room, size_t *count)
@@ -341,6 +386,11 @@ derrimas_finalizers_code derrimas_finalizers_target(const derrimas_finalizers *f
                                                     derrimas_finalizers_link_kind kind, uint64_t word, uint64_t *target)
     DERRIMAS_NONNULL(1, 4);
 
+/* The cleanup with this number.
+ * Refused: NOT_OPEN; EMPTY where it was queued, cancelled or never added. */
+derrimas_finalizers_code derrimas_finalizers_cleanup(const derrimas_finalizers *finalizers, uint64_t number,
+                                                     derrimas_finalizers_cleanup_at *cleanup) DERRIMAS_NONNULL(1, 3);
+
 /* Copies registrations into the buffer, which has `room` places, as derrimas_finalizers_roots copies roots: from the place
  * *from on, in no order that a host may rely on. A call takes time by what it copies, wherever it starts.
  * Refused: NOT_OPEN; EMPTY where none is left, or `room` is 0. */
@@ -354,6 +404,12 @@ derrimas_finalizers_code derrimas_finalizers_links(const derrimas_finalizers *fi
                                                    uint64_t *from, derrimas_finalizers_link_at *buffer, size_t room,
                                                    size_t *count) DERRIMAS_NONNULL(1, 3, 6);
 
+/* The same of cleanups.
+ * Refused: NOT_OPEN; EMPTY where none is left, or `room` is 0. */
+derrimas_finalizers_code derrimas_finalizers_cleanups(const derrimas_finalizers *finalizers, uint64_t *from,
+                                                      derrimas_finalizers_cleanup_at *buffer, size_t room, size_t *count)
+    DERRIMAS_NONNULL(1, 2, 5);
+
 /* ---- what happens, for tools */
 
 /* Tells the host of what happens from now on: *trace stays where it is until another takes its place. NULL, as at first:
@@ -362,7 +418,7 @@ void derrimas_finalizers_trace(derrimas_finalizers *finalizers, const derrimas_t
 
 /* Describes the handle for a person, by calls of `line` with `data` and a line of text: its counts, the kinds of its
  * registrations, the registration that was made first, and the entry that was queued first and isn't finished, with the
- * pass that queued it. Of the registration it says between which passes it was made: exactly for the first 8 passes, and
+ * pass that queued it; the entry of a cleanup is told by the cleanup's number. Of the registration it says between which passes it was made: exactly for the first 8 passes, and
  * later to within a quarter of all passes. "not open" where the handle isn't. The texts may change. Takes time by the
  * registrations, and no memory. `line` makes no call that changes the handle. */
 void derrimas_finalizers_dump(const derrimas_finalizers *finalizers, void (*line)(void *data, const char *text), void *data)

@@ -35,6 +35,7 @@ public:
         unreachable = DERRIMAS_FINALIZERS_UNREACHABLE
     };
     enum class link_kind { short_link = DERRIMAS_FINALIZERS_SHORT, long_link = DERRIMAS_FINALIZERS_LONG };
+    enum class when { short_cleanup = DERRIMAS_FINALIZERS_SHORT, long_cleanup = DERRIMAS_FINALIZERS_LONG }; /* a cleanup is due */
     enum class link_answer { linked = DERRIMAS_FINALIZERS_LINKED, duplicate = DERRIMAS_FINALIZERS_DUPLICATE, not_found = DERRIMAS_FINALIZERS_NOT_FOUND };
     enum class root {
         held_objects = DERRIMAS_FINALIZERS_HELD_OBJECTS, held_data = DERRIMAS_FINALIZERS_HELD_DATA, registered_data = DERRIMAS_FINALIZERS_REGISTERED_DATA
@@ -45,6 +46,7 @@ public:
     using entry = derrimas_finalizers_entry;
     using registration = derrimas_finalizers_registration_at;
     using linked = derrimas_finalizers_link_at;
+    using cleanup = derrimas_finalizers_cleanup_at;
     using counts = derrimas_finalizers_counts;
     using passed = derrimas_finalizers_passed;
     using question = derrimas_question;
@@ -131,6 +133,22 @@ public:
         return static_cast<link_answer>(answer);
     }
 
+    /* The number of the cleanup. */
+    std::uint64_t add_cleanup(std::uint64_t object, when when, std::uint64_t proc, std::uint64_t cd, std::uint8_t rank = 0)
+    {
+        std::uint64_t number;
+        check(derrimas_finalizers_add_cleanup(&handle_, object, static_cast<derrimas_finalizers_when>(when), proc, cd, rank, &number));
+        return number;
+    }
+
+    /* What the cleanup was, if it was neither queued nor cancelled before. */
+    std::optional<old> cancel(std::uint64_t number)
+    {
+        old old;
+        check(derrimas_finalizers_cancel(&handle_, number, &old));
+        return old.was ? std::optional(old) : std::nullopt;
+    }
+
     /* An open pass, question by question. Its end before the last question abandons it: then the host reclaims nothing before its next pass has ended. The
      * finalizers have to outlive it where they are. */
     class open_pass {
@@ -194,6 +212,13 @@ public:
         return queued;
     }
 
+    std::uint64_t queue_cleanups()
+    {
+        std::uint64_t queued;
+        check(derrimas_finalizers_queue_cleanups(&handle_, &queued));
+        return queued;
+    }
+
     std::optional<entry> take() { return taken(derrimas_finalizers_take); }
     std::optional<entry> take_finished() { return taken(derrimas_finalizers_take_finished); }
     void finish(const entry &entry) { check(derrimas_finalizers_finish(&handle_, &entry)); }
@@ -240,6 +265,23 @@ public:
         for (std::size_t count; found(derrimas_finalizers_links(&handle_, of(kind), &from, some, PART, &count));)
             for (std::size_t n = 0; n < count; n++)
                 visit(some[n]);
+    }
+
+    /* The same with each cleanup. */
+    template <typename Visit> void cleanups(Visit visit) const
+    {
+        cleanup some[PART];
+        std::uint64_t from = 0;
+        for (std::size_t count; found(derrimas_finalizers_cleanups(&handle_, &from, some, PART, &count));)
+            for (std::size_t n = 0; n < count; n++)
+                visit(some[n]);
+    }
+
+    /* The cleanup with this number. */
+    std::optional<cleanup> cleanup_of(std::uint64_t number) const
+    {
+        cleanup cleanup;
+        return found(derrimas_finalizers_cleanup(&handle_, number, &cleanup)) ? std::optional(cleanup) : std::nullopt;
     }
 
     std::optional<registration> registration_of(std::uint64_t object) const

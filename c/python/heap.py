@@ -1,7 +1,7 @@
 #!/usr/bin/env python3
 """A small mark-and-sweep heap in Python over derrimas.finalizers: an object is a list of words, a word is the number of an object, or 0."""
 from derrimas._library import Error
-from derrimas.finalizers import Finalizers, Kind, LinkKind, Refused, Root
+from derrimas.finalizers import Finalizers, Kind, LinkKind, Refused, Root, When
 
 WEAK = 1 << 32  # words from here on lie outside of the heap, in `weak`
 
@@ -92,7 +92,10 @@ with heap.finalizers as finalizers:
     ring = heap.alloc()
     heap.objects[ring] = [ring]
     finalizers.register(ring, proc=0, cd=300)
+    finalizers.finalizer(1, lambda _, entry: print("  cleaned up", entry.cd))
+    print(finalizers.cleanup(finalizers.add_cleanup(ring, proc=1, cd=400, when=When.SHORT)))
     print("a ring waits:", *heap.collect(), finalizers.registration(ring))
+    finalizers.invoke_finalizers()
     print(*finalizers.dump(), sep="\n")
     finalizers.trace(None)
     print("at the end", finalizers.queue_all(), "is queued,", finalizers.invoke_finalizers(), "ran")

@@ -74,7 +74,8 @@ static void tell_registered(const derrimas_finalizers_ages *ages, const register
     to->line(to->data, text);
 }
 
-/* The entry that was queued first and isn't finished. Those before the first one that waits are held. */
+/* The entry that was queued first and isn't finished: by its object, or, if it is the entry of a cleanup, by the cleanup's number. Those before the first one
+ * that waits are held. */
 static void tell_unfinished(const derrimas_finalizers *finalizers, const derrimas_finalizers_counts *counts, const sink *to)
 {
     derrimas_finalizers_entry first;
@@ -86,8 +87,8 @@ static void tell_unfinished(const derrimas_finalizers *finalizers, const derrima
         snprintf(since, sizeof since, "not by a pass");
     else
         snprintf(since, sizeof since, "by pass %" PRIu64 ", %" PRIu64 " before the last", first.pass, counts->passes - first.pass);
-    snprintf(text, sizeof text, "unfinished longest: object %" PRIu64 ", entry %" PRIu64 ", queued %s, %s, procedure %" PRIu64, first.obj, first.seq, since,
-             first.seq < counts->queued - counts->waiting ? "held" : "waiting", first.proc);
+    snprintf(text, sizeof text, "unfinished longest: %s %" PRIu64 ", entry %" PRIu64 ", queued %s, %s, procedure %" PRIu64,
+             first.obj ? "object" : "cleanup", first.obj ? first.obj : first.reg, first.seq, since, first.seq < counts->queued - counts->waiting ? "held" : "waiting", first.proc);
     to->line(to->data, text);
 }
 
@@ -102,8 +103,8 @@ void derrimas_finalizers_dump(const derrimas_finalizers *finalizers, void (*line
         line(data, "not open");
         return;
     }
-    snprintf(text, sizeof text, "registrations %" PRIu64 ", short links %" PRIu64 ", long links %" PRIu64, counts.registrations, counts.short_links,
-             counts.long_links);
+    snprintf(text, sizeof text, "registrations %" PRIu64 ", short links %" PRIu64 ", long links %" PRIu64 ", cleanups %" PRIu64, counts.registrations,
+             counts.short_links, counts.long_links, counts.cleanups);
     line(data, text);
     snprintf(text, sizeof text, "passes %" PRIu64 ", entries queued %" PRIu64 ", waiting %" PRIu64 ", held %" PRIu64, counts.passes, counts.queued,
              counts.waiting, counts.held);

@@ -10,6 +10,7 @@ typedef derrimas_finalizers_code code;
 
 static bool is_kind(derrimas_finalizers_kind kind) { return (unsigned)kind <= DERRIMAS_FINALIZERS_UNREACHABLE; }
 static bool is_links(derrimas_finalizers_link_kind kind) { return (unsigned)kind <= DERRIMAS_FINALIZERS_LONG; }
+static bool is_when(derrimas_finalizers_when when) { return is_links(when); }
 static bool is_root(derrimas_finalizers_root sort) { return (unsigned)sort <= DERRIMAS_FINALIZERS_REGISTERED_DATA; }
 
 /* A handle for calls that change nothing. */
@@ -206,7 +207,7 @@ code derrimas_finalizers_shrink(derrimas_finalizers *finalizers)
     return after_memory(fz_machine_shrink(finalizers));
 }
 
-/* ---- registrations and links */
+/* ---- registrations, links and cleanups */
 
 code derrimas_finalizers_register(derrimas_finalizers *finalizers, uint64_t object, derrimas_finalizers_kind kind, uint64_t proc, uint64_t cd,
                                   uint8_t rank, uint64_t *number, derrimas_finalizers_old *old)
@@ -279,6 +280,24 @@ code derrimas_finalizers_move_link(derrimas_finalizers *finalizers, derrimas_fin
     return answered(it, found, answer);
 }
 
+code derrimas_finalizers_add_cleanup(derrimas_finalizers *finalizers, uint64_t object, derrimas_finalizers_when when, uint64_t proc, uint64_t cd,
+                                     uint8_t rank, uint64_t *number)
+{
+    uint64_t unwanted;
+
+    if (!is_when(when))
+        return DERRIMAS_FINALIZERS_BAD_KIND;
+    current = &finalizers->allocator;
+    return after_memory(fz_machine_add_cleanup(finalizers, object, when == DERRIMAS_FINALIZERS_LONG, proc, cd, rank, number ? number : &unwanted));
+}
+
+code derrimas_finalizers_cancel(derrimas_finalizers *finalizers, uint64_t number, derrimas_finalizers_old *old)
+{
+    derrimas_finalizers_old unwanted;
+
+    return fz_machine_cancel(finalizers, number, old ? old : &unwanted);
+}
+
 /* ---- a pass */
 
 code derrimas_finalizers_begin(derrimas_finalizers *finalizers)
@@ -327,11 +346,9 @@ code derrimas_finalizers_abandon(derrimas_finalizers *finalizers)
 
 /* ---- the entries */
 
-code derrimas_finalizers_queue_all(derrimas_finalizers *finalizers, uint64_t *queued)
+/* What a call returns that queues without a pass: if it was accepted, so many more entries wait. */
+static code queued_now(derrimas_finalizers *finalizers, code it, uint64_t count, uint64_t *queued)
 {
-    uint64_t count;
-    code it = fz_machine_queue_all(finalizers, &count);
-
     if (it != DERRIMAS_FINALIZERS_OK)
         return it;
     set_waiting(finalizers, finalizers->waiting + count);
@@ -339,6 +356,22 @@ code derrimas_finalizers_queue_all(derrimas_finalizers *finalizers, uint64_t *qu
         *queued = count;
     tell_queued(finalizers, 0, count);
     return it;
+}
+
+code derrimas_finalizers_queue_all(derrimas_finalizers *finalizers, uint64_t *queued)
+{
+    uint64_t count = 0;
+    code it = fz_machine_queue_all(finalizers, &count);
+
+    return queued_now(finalizers, it, count, queued);
+}
+
+code derrimas_finalizers_queue_cleanups(derrimas_finalizers *finalizers, uint64_t *queued)
+{
+    uint64_t count = 0;
+    code it = fz_machine_queue_cleanups(finalizers, &count);
+
+    return queued_now(finalizers, it, count, queued);
 }
 
 /* What a take answers; if it was accepted, one entry fewer waits. What an open pass has queued counts from its end on, so less than none may wait till then. */
@@ -366,7 +399,7 @@ code derrimas_finalizers_finish(derrimas_finalizers *finalizers, const derrimas_
 
 bool derrimas_finalizers_has_waiting(const derrimas_finalizers *finalizers) { return (int64_t)__atomic_load_n(&finalizers->waiting, __ATOMIC_RELAXED) > 0; }
 
-/* ---- what is registered and linked, and roots */
+/* ---- what is registered, linked and added, and roots */
 
 /* What a part of a walk returns, of which so many were copied: the next part begins behind them. */
 static code walked(code it, size_t filled, uint64_t *from, size_t *count)
@@ -377,6 +410,9 @@ static code walked(code it, size_t filled, uint64_t *from, size_t *count)
     *count = filled;
     return DERRIMAS_FINALIZERS_OK;
 }
+
+/* Whether the word is a root of the sort: the entry of a cleanup has no object, and its export returns 0. */
+static bool is_some_root(derrimas_finalizers_root sort, uint64_t word) { return word || sort != DERRIMAS_FINALIZERS_HELD_OBJECTS; }
 
 code derrimas_finalizers_roots(const derrimas_finalizers *finalizers, derrimas_finalizers_root sort, uint64_t *from, uint64_t *buffer, size_t room,
                                size_t *count)
@@ -394,7 +430,8 @@ code derrimas_finalizers_roots(const derrimas_finalizers *finalizers, derrimas_f
         if (it != DERRIMAS_FINALIZERS_OK)
             break;
         for (uint64_t i = 0; i < some.count && filled < room; i++)
-            buffer[filled++] = some.words[i];
+            if (is_some_root(sort, some.words[i]))
+                buffer[filled++] = some.words[i];
         next = some.next;
     } while (filled < room);
     if (filled == 0)
@@ -450,6 +487,46 @@ code derrimas_finalizers_links(const derrimas_finalizers *finalizers, derrimas_f
             buffer[filled++] = some.links[i];
     } while (it == DERRIMAS_FINALIZERS_OK && filled < room);
     return walked(it, filled, from, count);
+}
+
+/* A cleanup with its moment as C has it. */
+static derrimas_finalizers_cleanup_at shown_cleanup(const fz_machine_cleanup_at *found)
+{
+    derrimas_finalizers_cleanup_at it;
+
+    it.number = found->number;
+    it.object = found->object;
+    it.proc = found->proc;
+    it.cd = found->cd;
+    it.when = found->is_long ? DERRIMAS_FINALIZERS_LONG : DERRIMAS_FINALIZERS_SHORT;
+    it.rank = found->rank;
+    return it;
+}
+
+code derrimas_finalizers_cleanups(const derrimas_finalizers *finalizers, uint64_t *from, derrimas_finalizers_cleanup_at *buffer, size_t room, size_t *count)
+{
+    derrimas_finalizers copy = copied(finalizers);
+    fz_machine_some_cleanups some;
+    size_t filled = 0;
+    code it;
+
+    do {
+        it = fz_machine_cleanups(&copy, *from + filled, &some);
+        for (uint64_t i = 0; it == DERRIMAS_FINALIZERS_OK && i < some.count && filled < room; i++)
+            buffer[filled++] = shown_cleanup(&some.cleanups[i]);
+    } while (it == DERRIMAS_FINALIZERS_OK && filled < room);
+    return walked(it, filled, from, count);
+}
+
+code derrimas_finalizers_cleanup(const derrimas_finalizers *finalizers, uint64_t number, derrimas_finalizers_cleanup_at *cleanup)
+{
+    derrimas_finalizers copy = copied(finalizers);
+    fz_machine_cleanup_at found;
+    code it = fz_machine_cleanup(&copy, number, &found);
+
+    if (it == DERRIMAS_FINALIZERS_OK)
+        *cleanup = shown_cleanup(&found);
+    return it;
 }
 
 code derrimas_finalizers_registration(const derrimas_finalizers *finalizers, uint64_t object, derrimas_finalizers_registration_at *registration)

@@ -6,7 +6,7 @@
 #include "derrimas_finalizers.h"
 
 #define FZ_MACHINE_WORDS 512 /* the most roots of a call */
-#define FZ_MACHINE_PART 64   /* the most registrations or links of a call */
+#define FZ_MACHINE_PART 64   /* the most registrations, links or cleanups of a call */
 
 typedef struct fz_machine_registered {
     uint64_t number;
@@ -33,6 +33,17 @@ typedef struct fz_machine_some_links {
     uint64_t count;
 } fz_machine_some_links;
 
+typedef struct fz_machine_cleanup_at {
+    uint64_t number, object, proc, cd;
+    bool is_long;
+    uint8_t rank;
+} fz_machine_cleanup_at;
+
+typedef struct fz_machine_some_cleanups {
+    fz_machine_cleanup_at cleanups[FZ_MACHINE_PART];
+    uint64_t count;
+} fz_machine_some_cleanups;
+
 uint8_t fz_machine_open(derrimas_finalizers *finalizers);
 void fz_machine_destroy(derrimas_finalizers *finalizers);
 uint8_t fz_machine_reserve(derrimas_finalizers *finalizers, uint64_t registrations, uint64_t shorts, uint64_t longs);
@@ -43,10 +54,13 @@ uint8_t fz_machine_unregister(derrimas_finalizers *finalizers, uint64_t object, 
 uint8_t fz_machine_link(derrimas_finalizers *finalizers, bool is_long, uint64_t word, uint64_t target, uint8_t *answer);
 uint8_t fz_machine_unlink(derrimas_finalizers *finalizers, bool is_long, uint64_t word, bool *was);
 uint8_t fz_machine_move_link(derrimas_finalizers *finalizers, bool is_long, uint64_t word, uint64_t to, uint8_t *answer);
+uint8_t fz_machine_add_cleanup(derrimas_finalizers *finalizers, uint64_t object, bool is_long, uint64_t proc, uint64_t cd, uint8_t rank, uint64_t *number);
+uint8_t fz_machine_cancel(derrimas_finalizers *finalizers, uint64_t number, derrimas_finalizers_old *old);
 uint8_t fz_machine_begin(derrimas_finalizers *finalizers);
 uint8_t fz_machine_next(derrimas_finalizers *finalizers, uint64_t answers, derrimas_question *question, derrimas_finalizers_passed *passed);
 uint8_t fz_machine_abandon(derrimas_finalizers *finalizers);
 uint8_t fz_machine_queue_all(derrimas_finalizers *finalizers, uint64_t *queued);
+uint8_t fz_machine_queue_cleanups(derrimas_finalizers *finalizers, uint64_t *queued);
 uint8_t fz_machine_take(derrimas_finalizers *finalizers, derrimas_finalizers_entry *entry);
 uint8_t fz_machine_take_finished(derrimas_finalizers *finalizers, derrimas_finalizers_entry *entry);
 uint8_t fz_machine_finish(derrimas_finalizers *finalizers, const derrimas_finalizers_entry *entry);
@@ -55,6 +69,8 @@ uint8_t fz_machine_roots(derrimas_finalizers *finalizers, uint8_t sort, uint64_t
 uint8_t fz_machine_count(derrimas_finalizers *finalizers, derrimas_finalizers_counts *counts);
 uint8_t fz_machine_registrations(derrimas_finalizers *finalizers, uint64_t from, fz_machine_some_registrations *registrations);
 uint8_t fz_machine_links(derrimas_finalizers *finalizers, bool is_long, uint64_t from, fz_machine_some_links *links);
+uint8_t fz_machine_cleanups(derrimas_finalizers *finalizers, uint64_t from, fz_machine_some_cleanups *cleanups);
+uint8_t fz_machine_cleanup(derrimas_finalizers *finalizers, uint64_t number, fz_machine_cleanup_at *cleanup);
 uint8_t fz_machine_registration(derrimas_finalizers *finalizers, uint64_t object, fz_machine_registration_at *registration);
 uint8_t fz_machine_target(derrimas_finalizers *finalizers, bool is_long, uint64_t word, uint64_t *target);
 

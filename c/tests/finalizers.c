@@ -132,9 +132,17 @@ static void changes_are_refused(derrimas_finalizers_code code)
         REFUSED(code, answer, derrimas_finalizers_move_link(&finalizers, of, 16, 0, &answer));
         IS(derrimas_finalizers_move_link(&finalizers, of, 16, 24, NULL), code);
     }
+    for (int when = DERRIMAS_FINALIZERS_SHORT; when <= DERRIMAS_FINALIZERS_LONG; when++) {
+        REFUSED(code, number, derrimas_finalizers_add_cleanup(&finalizers, 0, (derrimas_finalizers_when)when, 1, 1, 1, &number));
+        IS(derrimas_finalizers_add_cleanup(&finalizers, 16, (derrimas_finalizers_when)when, 1, 1, 1, NULL), code);
+    }
+    REFUSED(code, old, derrimas_finalizers_cancel(&finalizers, 0, &old));
+    IS(derrimas_finalizers_cancel(&finalizers, UINT64_MAX, NULL), code);
     IS(derrimas_finalizers_begin(&finalizers), code);
     REFUSED(code, number, derrimas_finalizers_queue_all(&finalizers, &number));
     IS(derrimas_finalizers_queue_all(&finalizers, NULL), code);
+    REFUSED(code, number, derrimas_finalizers_queue_cleanups(&finalizers, &number));
+    IS(derrimas_finalizers_queue_cleanups(&finalizers, NULL), code);
 }
 
 static void takes_are_refused(derrimas_finalizers_code code)
@@ -156,6 +164,7 @@ static void kinds_are_refused(void)
     for (int bad = 2; bad < 600; bad += 251) {
         derrimas_finalizers_link_kind kind = (derrimas_finalizers_link_kind)bad;
         REFUSED(DERRIMAS_FINALIZERS_BAD_KIND, answer, derrimas_finalizers_link(&finalizers, kind, 0, 0, &answer));
+        REFUSED(DERRIMAS_FINALIZERS_BAD_KIND, number, derrimas_finalizers_add_cleanup(&finalizers, 0, (derrimas_finalizers_when)kind, 1, 1, 1, &number));
         REFUSED(DERRIMAS_FINALIZERS_BAD_KIND, was, derrimas_finalizers_unlink(&finalizers, kind, 8, &was));
         REFUSED(DERRIMAS_FINALIZERS_BAD_KIND, answer, derrimas_finalizers_move_link(&finalizers, kind, 8, 0, &answer));
         REFUSED(DERRIMAS_FINALIZERS_BAD_KIND, target, derrimas_finalizers_target(&finalizers, kind, 8, &target));
@@ -202,6 +211,7 @@ static void options_are_refused(void)
 static void closed(void)
 {
     derrimas_finalizers_registration_at registration;
+    derrimas_finalizers_cleanup_at cleanup;
     derrimas_finalizers_counts counts;
     derrimas_finalizers_link_at at;
     derrimas_finalizers_passed passed;
@@ -226,6 +236,8 @@ static void closed(void)
     IS(derrimas_finalizers_abandon(&finalizers), DERRIMAS_FINALIZERS_NOT_OPEN);
     REFUSED(DERRIMAS_FINALIZERS_NOT_OPEN, registration, derrimas_finalizers_registration(&finalizers, 8, &registration));
     REFUSED(DERRIMAS_FINALIZERS_NOT_OPEN, count, derrimas_finalizers_registrations(&finalizers, &from, &registration, 1, &count));
+    REFUSED(DERRIMAS_FINALIZERS_NOT_OPEN, cleanup, derrimas_finalizers_cleanup(&finalizers, 0, &cleanup));
+    REFUSED(DERRIMAS_FINALIZERS_NOT_OPEN, count, derrimas_finalizers_cleanups(&finalizers, &from, &cleanup, 1, &count));
     for (int kind = DERRIMAS_FINALIZERS_SHORT; kind <= DERRIMAS_FINALIZERS_LONG; kind++) {
         derrimas_finalizers_link_kind of = (derrimas_finalizers_link_kind)kind;
         REFUSED(DERRIMAS_FINALIZERS_NOT_OPEN, target, derrimas_finalizers_target(&finalizers, of, 8, &target));
@@ -354,6 +366,234 @@ static void moving(derrimas_finalizers_link_kind kind)
     REFUSED(DERRIMAS_FINALIZERS_EMPTY, target, derrimas_finalizers_target(&finalizers, kind, 24, &target));
     REFUSED(DERRIMAS_FINALIZERS_EMPTY, target, derrimas_finalizers_target(&finalizers, kind, 0, &target));
     closes();
+}
+
+/* ---- cleanups */
+
+/* Adds a cleanup whose client data is 1 more than its procedure, and returns its number. */
+static uint64_t adds(const object *it, derrimas_finalizers_when when, uint64_t proc, uint8_t rank)
+{
+    uint64_t number = UINT64_MAX;
+
+    OK(derrimas_finalizers_add_cleanup(&finalizers, number_of(it), when, proc, proc + 1, rank, &number));
+    return number;
+}
+
+static bool is_cleanup(uint64_t number, uint64_t object, derrimas_finalizers_when when, uint64_t proc, uint64_t cd, uint8_t rank)
+{
+    derrimas_finalizers_cleanup_at it;
+
+    memset(&it, 1, sizeof it);
+    OK(derrimas_finalizers_cleanup(&finalizers, number, &it));
+    return it.number == number && it.object == object && it.when == when && it.proc == proc && it.cd == cd && it.rank == rank;
+}
+
+/* Several of an object, and numbers that no registration has; all are what they were added as. */
+static void adding(void)
+{
+    static const uint64_t values[] = {0, 1, UINT64_C(1) << 47, UINT64_C(1) << 63, UINT64_MAX};
+    uint64_t number = 0, count = 0, registered;
+
+    opens();
+    for (size_t object = 0; object < 5; object++)
+        for (size_t value = 0; value < 5; value++)
+            for (unsigned n = 0; n < 4; n++) {
+                const derrimas_finalizers_when when = n % 2 ? DERRIMAS_FINALIZERS_LONG : DERRIMAS_FINALIZERS_SHORT;
+                const uint8_t rank = n < 2 ? 0 : 255;
+                if (values[object] == 0) {
+                    REFUSED(DERRIMAS_FINALIZERS_ZERO, number, derrimas_finalizers_add_cleanup(&finalizers, 0, when, values[value], values[4 - value], rank, &number));
+                    continue;
+                }
+                OK(derrimas_finalizers_add_cleanup(&finalizers, values[object], when, values[value], values[4 - value], rank, &number));
+                IS(number, count++);
+                IS(is_cleanup(number, values[object], when, values[value], values[4 - value], rank), true);
+            }
+    OK(derrimas_finalizers_register(&finalizers, 8, DERRIMAS_FINALIZERS_NORMAL, 1, 2, 0, &registered, NULL));
+    OK(derrimas_finalizers_add_cleanup(&finalizers, 8, DERRIMAS_FINALIZERS_LONG, 3, 4, 0, NULL));
+    IS(registered, count);
+    IS(is_cleanup(count + 1, 8, DERRIMAS_FINALIZERS_LONG, 3, 4, 0), true);
+    IS(counted().cleanups == count + 1 && counted().registrations == 1, true);
+    closes();
+}
+
+/* A cleanup is cancelled once, by its number alone. */
+static void cancelling(void)
+{
+    derrimas_finalizers_cleanup_at cleanup;
+    derrimas_finalizers_old old;
+    uint64_t number[3], registered;
+
+    opens();
+    for (size_t n = 0; n < 3; n++)
+        number[n] = adds(&objects[1], DERRIMAS_FINALIZERS_LONG, 10 * n, (uint8_t)n);
+    OK(derrimas_finalizers_register(&finalizers, number_of(&objects[1]), DERRIMAS_FINALIZERS_NORMAL, 50, 51, 0, &registered, NULL));
+    OK(derrimas_finalizers_cancel(&finalizers, number[1], &old));
+    IS(old.was && old.proc == 10 && old.cd == 11, true);
+    REFUSED(DERRIMAS_FINALIZERS_EMPTY, cleanup, derrimas_finalizers_cleanup(&finalizers, number[1], &cleanup));
+    for (unsigned n = 0; n < 4; n++) { /* cancelled already; a registration's; never given; a large one */
+        OK(derrimas_finalizers_cancel(&finalizers, n == 0 ? number[1] : n == 1 ? registered : n == 2 ? registered + 1 : UINT64_MAX, &old));
+        IS(old.was || old.proc || old.cd, false);
+    }
+    IS(counted().cleanups == 2 && counted().registrations == 1, true);
+    OK(derrimas_finalizers_cancel(&finalizers, number[0], NULL));
+    IS(is_cleanup(number[2], number_of(&objects[1]), DERRIMAS_FINALIZERS_LONG, 20, 21, 2), true);
+    IS(collect(&all, &finalizers).picked, 1);
+    RUNS(50);
+    IS(collect(&all, &finalizers).picked, 1);
+    OK(derrimas_finalizers_cancel(&finalizers, number[2], &old)); /* it is queued */
+    IS(old.was, false);
+    RUNS(20);
+    closes();
+}
+
+/* The short ones, the finalizers, the long ones; each by rank, then number. Where no finalizer retains an object, all of its cleanups come in one pass. */
+static void order_of_cleanups(void)
+{
+    opens();
+    (void)adds(&objects[1], DERRIMAS_FINALIZERS_LONG, 190, 0);
+    (void)adds(&objects[2], DERRIMAS_FINALIZERS_LONG, 290, 1);
+    (void)adds(&objects[2], DERRIMAS_FINALIZERS_SHORT, 210, 255);
+    (void)adds(&objects[1], DERRIMAS_FINALIZERS_SHORT, 110, 3);
+    (void)adds(&objects[2], DERRIMAS_FINALIZERS_LONG, 280, 0);
+    (void)adds(&objects[2], DERRIMAS_FINALIZERS_SHORT, 200, 3);
+    registers(&objects[1], DERRIMAS_FINALIZERS_NORMAL, 150, 9);
+    registers(&objects[3], DERRIMAS_FINALIZERS_UNREACHABLE, 350, 0);
+    objects[1].is_root = objects[2].is_root = objects[3].is_root = true;
+    IS(collect(&all, &finalizers).picked, 0);
+    objects[1].is_root = objects[2].is_root = objects[3].is_root = false;
+    IS(collect(&all, &finalizers).picked, 7);
+    IS(objects[1].is_marked && !objects[2].is_marked, true);
+    IS(counted().cleanups, 1);
+    RUNS(110, 200, 210, 150, 350, 280, 290);
+    IS(collect(&all, &finalizers).picked, 1);
+    IS(objects[1].is_marked, false);
+    RUNS(190);
+    IS(collect(&all, &finalizers).picked, 0);
+    closes();
+}
+
+/* An entry of a cleanup has its number and no object. Its data is a root until it is finished; its object isn't one. */
+static void entries_of_cleanups(void)
+{
+    derrimas_finalizers_entry entry;
+    uint64_t number;
+
+    opens();
+    OK(derrimas_finalizers_add_cleanup(&finalizers, number_of(&objects[1]), DERRIMAS_FINALIZERS_LONG, 7, number_of(&objects[2]), 0, &number));
+    IS(walked(DERRIMAS_FINALIZERS_REGISTERED_DATA, 1), number_of(&objects[2]));
+    IS(collect(&all, &finalizers).picked, 1);
+    IS(!objects[1].is_marked && objects[2].is_marked, true);
+    walked(DERRIMAS_FINALIZERS_REGISTERED_DATA, 0);
+    walked(DERRIMAS_FINALIZERS_HELD_OBJECTS, 0);
+    IS(walked(DERRIMAS_FINALIZERS_HELD_DATA, 1), number_of(&objects[2]));
+    OK(derrimas_finalizers_take(&finalizers, &entry));
+    IS(entry.seq == 0 && entry.pass == 1 && entry.reg == number && entry.obj == 0 && entry.proc == 7 && entry.cd == number_of(&objects[2]), true);
+    IS(collect(&all, &finalizers).picked == 0 && objects[2].is_marked, true);
+    registers(&objects[3], DERRIMAS_FINALIZERS_NORMAL, 9, 0);
+    IS(collect(&all, &finalizers).picked, 1);
+    IS(walked(DERRIMAS_FINALIZERS_HELD_OBJECTS, 1), number_of(&objects[3]));
+    OK(derrimas_finalizers_finish(&finalizers, &entry));
+    IS(collect(&all, &finalizers).picked == 0 && !objects[2].is_marked, true);
+    closes();
+}
+
+/* A ring and a chain hold no cleanup back; data that leads to the object does. */
+static void lost(void)
+{
+    uint64_t number;
+
+    opens();
+    for (size_t n = 1; n <= 4; n++) {
+        objects[n].words[0] = number_of(&objects[n == 2 ? 1 : n == 4 ? 3 : n + 1]); /* 1 and 2 are a ring, and so are 3 and 4 */
+        (void)adds(&objects[n], n % 2 ? DERRIMAS_FINALIZERS_SHORT : DERRIMAS_FINALIZERS_LONG, 10 * n, 0);
+    }
+    registers(&objects[3], DERRIMAS_FINALIZERS_NORMAL, 35, 0); /* never picked, on a ring; so it retains 4 */
+    OK(derrimas_finalizers_add_cleanup(&finalizers, number_of(&objects[5]), DERRIMAS_FINALIZERS_LONG, 50, number_of(&objects[5]), 0, &number));
+    IS(collect(&all, &finalizers).picked, 3);
+    RUNS(10, 30, 20);
+    IS(collect(&all, &finalizers).picked, 0);
+    IS(counted().cleanups, 2);
+    OK(derrimas_finalizers_unregister(&finalizers, number_of(&objects[3]), NULL));
+    OK(derrimas_finalizers_cancel(&finalizers, number, NULL));
+    IS(collect(&all, &finalizers).picked, 1);
+    RUNS(40);
+    closes();
+}
+
+/* A pass leaves no cleanup to a new object at the place of one that it left unmarked. Of one that is freed at another time they are cancelled. */
+static void same_number(void)
+{
+    uint64_t number;
+
+    opens();
+    (void)adds(&objects[1], DERRIMAS_FINALIZERS_SHORT, 10, 0);
+    (void)adds(&objects[1], DERRIMAS_FINALIZERS_LONG, 20, 0);
+    IS(collect(&all, &finalizers).picked, 2);
+    objects[1].is_root = true; /* a new one */
+    RUNS(10, 20);
+    number = adds(&objects[1], DERRIMAS_FINALIZERS_LONG, 30, 0);
+    objects[1].is_root = false;
+    OK(derrimas_finalizers_cancel(&finalizers, number, NULL)); /* it is freed now, and another comes */
+    IS(collect(&all, &finalizers).picked, 0);
+    (void)adds(&objects[1], DERRIMAS_FINALIZERS_LONG, 40, 0);
+    IS(collect(&all, &finalizers).picked, 1);
+    RUNS(40);
+    closes();
+}
+
+/* All cleanups, in use or not: the short ones, then the long ones. Finalizers and links stay, as cleanups do where all finalizers are queued. */
+static void all_cleanups(void)
+{
+    derrimas_finalizers_entry entry;
+    uint64_t queued;
+
+    opens();
+    OK(derrimas_finalizers_queue_cleanups(&finalizers, &queued));
+    IS(queued, 0);
+    registers(&objects[1], DERRIMAS_FINALIZERS_NORMAL, 10, 0);
+    links(DERRIMAS_FINALIZERS_SHORT, &objects[2], 0, &objects[1]);
+    (void)adds(&objects[1], DERRIMAS_FINALIZERS_LONG, 90, 0);
+    (void)adds(&objects[1], DERRIMAS_FINALIZERS_SHORT, 30, 1);
+    (void)adds(&objects[2], DERRIMAS_FINALIZERS_SHORT, 20, 0);
+    (void)adds(&objects[1], DERRIMAS_FINALIZERS_SHORT, 40, 1);
+    objects[1].is_root = objects[2].is_root = true;
+    OK(derrimas_finalizers_queue_all(&finalizers, &queued));
+    IS(queued == 1 && counted().cleanups == 4, true);
+    registers(&objects[1], DERRIMAS_FINALIZERS_NORMAL, 50, 0);
+    OK(derrimas_finalizers_queue_cleanups(&finalizers, &queued));
+    IS(queued == 4 && counted().cleanups == 0 && counted().registrations == 1 && counted().short_links == 1, true);
+    OK(derrimas_finalizers_queue_cleanups(&finalizers, NULL));
+    OK(derrimas_finalizers_take_finished(&finalizers, &entry));
+    IS(entry.proc, 10);
+    OK(derrimas_finalizers_unfinished(&finalizers, 0, &entry));
+    IS(entry.seq == 1 && entry.pass == 0 && entry.obj == 0 && entry.proc == 20, true);
+    RUNS(20, 30, 40, 90);
+    closes();
+}
+
+/* A pass asks only whether objects are marked for cleanups, 64 at a time. What it didn't queue when it is abandoned comes in the next one. */
+static void questions_of_cleanups(void)
+{
+    derrimas_question question;
+
+    for (uint64_t questions = 0; questions < 4; questions++) {
+        const uint64_t queued = questions < 2 ? 0 : questions == 2 ? 64 : 100; /* the last question isn't answered */
+        opens();
+        for (size_t n = 0; n < 200; n++)
+            (void)adds(&objects[n / 2], n < 100 ? DERRIMAS_FINALIZERS_SHORT : DERRIMAS_FINALIZERS_LONG, n + 1, 0);
+        OK(derrimas_finalizers_begin(&finalizers));
+        for (uint64_t asked = 0; asked < questions; asked++) {
+            OK(derrimas_finalizers_next(&finalizers, 0, &question, NULL));
+            IS(question.ask, DERRIMAS_ASK_IS_MARKED);
+            IS(question.count, asked % 2 ? 36 : DERRIMAS_FINALIZERS_BATCH);
+            IS(question.what[0], number_of(&objects[asked == 0 ? 0 : asked == 1 ? 32 : 50]));
+        }
+        OK(derrimas_finalizers_abandon(&finalizers));
+        IS(counted().queued == queued && counted().cleanups == 200 - queued, true);
+        IS(collect(&all, &finalizers).picked, 200 - queued);
+        IS(counted().cleanups == 0 && counted().queued == 200, true);
+        closes();
+    }
 }
 
 /* ---- passes */
@@ -763,6 +1003,7 @@ enum { WALKED = 200 };
 /* The walks of registrations and links in parts of so many, put together; and that each part begins where the one before ended. */
 static derrimas_finalizers_registration_at registered[WALKED];
 static derrimas_finalizers_link_at linked[2][WALKED];
+static derrimas_finalizers_cleanup_at added[WALKED];
 
 static void walk_registrations(size_t room)
 {
@@ -786,6 +1027,30 @@ static void walk_links(derrimas_finalizers_link_kind kind, size_t room)
         IS(count >= 1 && count <= room && from == before + count && from <= WALKED, true);
     REFUSED(DERRIMAS_FINALIZERS_EMPTY, count, derrimas_finalizers_links(&finalizers, kind, &from, linked[kind], room, &count));
     IS(from, kind == DERRIMAS_FINALIZERS_LONG ? counted().long_links : counted().short_links);
+}
+
+/* The number of the n-th cleanup: they are added with the registrations in turn, the last of them first. */
+static uint64_t nth_number(uint64_t n) { return 2 * (WALKED - 1 - n) + 1; }
+
+/* Each cleanup is there once, as it was added. */
+static void walk_cleanups(size_t room)
+{
+    uint64_t from = 0, before = 0;
+    bool seen[WALKED] = {false};
+    size_t count;
+
+    memset(added, 0, sizeof added);
+    for (; derrimas_finalizers_cleanups(&finalizers, &from, added + before, room, &count) == DERRIMAS_FINALIZERS_OK; before = from)
+        IS(count >= 1 && count <= room && from == before + count && from <= WALKED, true);
+    REFUSED(DERRIMAS_FINALIZERS_EMPTY, count, derrimas_finalizers_cleanups(&finalizers, &from, added, room, &count));
+    IS(from == WALKED && counted().cleanups == WALKED, true);
+    for (size_t n = 0; n < WALKED; n++) {
+        const derrimas_finalizers_cleanup_at *it = &added[n];
+        const uint64_t at = it->object / 8 - 1;
+        IS(at < WALKED && !seen[at] && it->number == nth_number(at) && it->object == 8 * at + 8 && it->proc == at && it->cd == 3 * at, true);
+        IS((uint64_t)it->when == at % 2 && it->rank == (uint8_t)(at + 100), true);
+        seen[at] = true;
+    }
 }
 
 /* Each is there once, as it was made: of the n-th the object or the word is 8 * n + 8. */
@@ -812,6 +1077,18 @@ static void each_once(uint64_t sum_of_registered, uint64_t sum_of_shorts, uint64
         }
     }
     IS(sums[2] == sum_of_registered && sums[0] == sum_of_shorts && sums[1] == sum_of_longs, true);
+}
+
+static void look_up_cleanups(void)
+{
+    derrimas_finalizers_cleanup_at it;
+
+    for (uint64_t n = 0; n < WALKED; n++) {
+        const derrimas_finalizers_when when = n % 2 ? DERRIMAS_FINALIZERS_LONG : DERRIMAS_FINALIZERS_SHORT;
+        REFUSED(DERRIMAS_FINALIZERS_EMPTY, it, derrimas_finalizers_cleanup(&finalizers, nth_number(n) - 1, &it)); /* a registration's */
+        IS(is_cleanup(nth_number(n), 8 * n + 8, when, n, 3 * n, (uint8_t)(n + 100)), true);
+    }
+    REFUSED(DERRIMAS_FINALIZERS_EMPTY, it, derrimas_finalizers_cleanup(&finalizers, UINT64_MAX, &it));
 }
 
 /* Looks up each, whether it is there or not. */
@@ -841,6 +1118,7 @@ static void walk_all(void)
         walk_registrations(rooms[n]);
         walk_links(DERRIMAS_FINALIZERS_SHORT, rooms[n]);
         walk_links(DERRIMAS_FINALIZERS_LONG, rooms[n]);
+        walk_cleanups(rooms[n]);
         each_once(WALKED * (WALKED - 1) / 2, WALKED * (WALKED - 1) / 2, WALKED * (WALKED - 1) / 2);
     }
 }
@@ -853,20 +1131,25 @@ static void walks(void)
     opens();
     for (uint64_t n = WALKED; n-- > 0;) {
         OK(derrimas_finalizers_register(&finalizers, 8 * n + 8, (derrimas_finalizers_kind)(n % 4), n, 2 * n, (uint8_t)(n + 200), NULL, NULL));
+        OK(derrimas_finalizers_add_cleanup(&finalizers, 8 * n + 8, (derrimas_finalizers_when)(n % 2), n, 3 * n, (uint8_t)(n + 100), NULL));
         OK(derrimas_finalizers_link(&finalizers, DERRIMAS_FINALIZERS_SHORT, 8 * n + 8, n + 1, NULL));
         OK(derrimas_finalizers_link(&finalizers, DERRIMAS_FINALIZERS_LONG, 8 * n + 8, n + 2, NULL));
     }
     walk_all();
     look_up_all(0, WALKED);
+    look_up_cleanups();
     REFUSED(DERRIMAS_FINALIZERS_EMPTY, count, derrimas_finalizers_registrations(&finalizers, &from, registered, WALKED, &count));
     REFUSED(DERRIMAS_FINALIZERS_EMPTY, count, derrimas_finalizers_links(&finalizers, DERRIMAS_FINALIZERS_LONG, &from, linked[1], WALKED, &count));
+    REFUSED(DERRIMAS_FINALIZERS_EMPTY, count, derrimas_finalizers_cleanups(&finalizers, &from, added, WALKED, &count));
     for (from = 0; from == 0; from++) {
         REFUSED(DERRIMAS_FINALIZERS_EMPTY, count, derrimas_finalizers_registrations(&finalizers, &from, NULL, 0, &count));
         REFUSED(DERRIMAS_FINALIZERS_EMPTY, count, derrimas_finalizers_links(&finalizers, DERRIMAS_FINALIZERS_SHORT, &from, NULL, 0, &count));
+        REFUSED(DERRIMAS_FINALIZERS_EMPTY, count, derrimas_finalizers_cleanups(&finalizers, &from, NULL, 0, &count));
     }
     OK(derrimas_finalizers_begin(&finalizers)); /* a pass may be open */
     walk_all();
     look_up_all(0, WALKED);
+    look_up_cleanups();
     closes();
 }
 
@@ -879,6 +1162,14 @@ int main(void)
     linking(DERRIMAS_FINALIZERS_LONG);
     moving(DERRIMAS_FINALIZERS_SHORT);
     moving(DERRIMAS_FINALIZERS_LONG);
+    adding();
+    cancelling();
+    order_of_cleanups();
+    entries_of_cleanups();
+    lost();
+    same_number();
+    all_cleanups();
+    questions_of_cleanups();
     order();
     kinds();
     weak();

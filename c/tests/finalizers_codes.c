@@ -65,6 +65,20 @@ uint8_t fz_machine_move_link(derrimas_finalizers *f, bool is_long, uint64_t word
     return told_link(noted(place, sizeof *place, f == &finalizers, is_long, word, to, 0), place);
 }
 
+uint8_t fz_machine_add_cleanup(derrimas_finalizers *f, uint64_t object, bool is_long, uint64_t proc, uint64_t cd, uint8_t rank, uint64_t *place)
+{
+    uint8_t code = noted(place, sizeof *place, object, is_long, proc, cd, rank);
+
+    if (code == DERRIMAS_FINALIZERS_OK)
+        *place = 24 + (f == &finalizers);
+    return code;
+}
+
+uint8_t fz_machine_cancel(derrimas_finalizers *f, uint64_t cleanup, derrimas_finalizers_old *place)
+{
+    return noted(place, sizeof *place, f == &finalizers, cleanup, 1, 0, 0);
+}
+
 uint8_t fz_machine_begin(derrimas_finalizers *f) { return noted(NULL, 0, f == &finalizers, 0, 0, 0, 0); }
 
 uint8_t fz_machine_next(derrimas_finalizers *f, uint64_t answers, derrimas_question *question, derrimas_finalizers_passed *passed)
@@ -81,13 +95,22 @@ uint8_t fz_machine_next(derrimas_finalizers *f, uint64_t answers, derrimas_quest
     return code;
 }
 
+/* So many entries are queued, if the call was accepted. */
+static uint8_t told_queued(uint8_t code, uint64_t *queued, uint64_t count)
+{
+    if (code == DERRIMAS_FINALIZERS_OK)
+        *queued = count;
+    return code;
+}
+
 uint8_t fz_machine_queue_all(derrimas_finalizers *f, uint64_t *queued)
 {
-    uint8_t code = noted(queued, sizeof *queued, f == &finalizers, 0, 0, 0, 0);
+    return told_queued(noted(queued, sizeof *queued, f == &finalizers, 0, 0, 0, 0), queued, 5);
+}
 
-    if (code == DERRIMAS_FINALIZERS_OK)
-        *queued = 5;
-    return code;
+uint8_t fz_machine_queue_cleanups(derrimas_finalizers *f, uint64_t *queued)
+{
+    return told_queued(noted(queued, sizeof *queued, f == &finalizers, 1, 0, 0, 0), queued, 7);
 }
 
 uint8_t fz_machine_take(derrimas_finalizers *f, derrimas_finalizers_entry *entry) { return noted(entry, sizeof *entry, f == &finalizers, 1, 0, 0, 0); }
@@ -106,8 +129,8 @@ uint8_t fz_machine_roots(derrimas_finalizers *f, uint8_t sort, uint64_t from, ui
         if (words->count > most)
             words->count = most;
         words->next = from + words->count;
-        for (uint64_t n = 0; n < words->count; n++)
-            words->words[n] = from + n;
+        for (uint64_t n = 0; n < words->count; n++) /* of every third place an entry has no object */
+            words->words[n] = sort == DERRIMAS_FINALIZERS_HELD_OBJECTS && (from + n) % 3 == 0 ? 0 : from + n;
     }
     return code;
 }
@@ -141,6 +164,25 @@ uint8_t fz_machine_links(derrimas_finalizers *f, bool is_long, uint64_t from, fz
     if (code == DERRIMAS_FINALIZERS_OK)
         for (place->count = part_from(from); given[3] < place->count; given[3]++)
             place->links[given[3]] = (derrimas_finalizers_link_at){from + given[3], 2 * (from + given[3])};
+    return code;
+}
+
+uint8_t fz_machine_cleanups(derrimas_finalizers *f, uint64_t from, fz_machine_some_cleanups *place)
+{
+    uint8_t code = from < 1000 ? noted(place, sizeof *place, is_copy(f), from, 0, 0, 0) : DERRIMAS_FINALIZERS_EMPTY;
+
+    if (code == DERRIMAS_FINALIZERS_OK)
+        for (place->count = part_from(from); given[2] < place->count; given[2]++)
+            place->cleanups[given[2]] = (fz_machine_cleanup_at){from + given[2], 52, 53, 54, given[2] % 2 == 1, 55};
+    return code;
+}
+
+uint8_t fz_machine_cleanup(derrimas_finalizers *f, uint64_t cleanup, fz_machine_cleanup_at *place)
+{
+    uint8_t code = noted(place, sizeof *place, is_copy(f), cleanup, 0, 0, 0);
+
+    if (code == DERRIMAS_FINALIZERS_OK)
+        *place = (fz_machine_cleanup_at){51, 52, 53, 54, true, 55};
     return code;
 }
 
@@ -213,6 +255,12 @@ static void changes(void)
     THROUGH(linked, derrimas_finalizers_move_link(&finalizers, DERRIMAS_FINALIZERS_SHORT, 8, 9, &linked), 1, 0, 8, 9);
     answers_of_links();
     THROUGH(was, derrimas_finalizers_unlink(&finalizers, DERRIMAS_FINALIZERS_LONG, 8, &was), 1, 1, 8);
+    THROUGH(number, derrimas_finalizers_add_cleanup(&finalizers, 3, DERRIMAS_FINALIZERS_LONG, 4, 5, 6, &number), 3, 1, 4, 5, 6);
+    THROUGH(number, derrimas_finalizers_add_cleanup(&finalizers, 3, DERRIMAS_FINALIZERS_SHORT, 4, 5, 6, &number), 3, 0, 4, 5, 6);
+    IS(answer != DERRIMAS_FINALIZERS_OK || number == 25, true);
+    THROUGH(old, derrimas_finalizers_cancel(&finalizers, 7, &old), 1, 7, 1);
+    IS(derrimas_finalizers_add_cleanup(&finalizers, 3, DERRIMAS_FINALIZERS_LONG, 4, 5, 6, NULL), answer);
+    IS(derrimas_finalizers_cancel(&finalizers, 7, NULL), answer);
     IS(derrimas_finalizers_unregister(&finalizers, 7, NULL), answer);
     IS(derrimas_finalizers_link(&finalizers, DERRIMAS_FINALIZERS_SHORT, 8, 9, NULL), answer);
     IS(derrimas_finalizers_move_link(&finalizers, DERRIMAS_FINALIZERS_LONG, 8, 9, NULL), answer);
@@ -227,7 +275,7 @@ static void changes(void)
     IS(derrimas_finalizers_begin(&finalizers), answer);
 }
 
-/* How many entries wait follows what the exports say: 34 more at a pass's end, 5 of .._queue_all, one fewer by a take. */
+/* How many entries wait follows what the exports say: 34 more at a pass's end, 5 of .._queue_all, 7 of .._queue_cleanups, one fewer by a take. */
 static void waiting(void)
 {
     const bool is_ok = answer == DERRIMAS_FINALIZERS_OK, has_ended = answer == DERRIMAS_FINALIZERS_EMPTY;
@@ -248,9 +296,12 @@ static void waiting(void)
     THROUGH(number, derrimas_finalizers_queue_all(&finalizers, &number), 1);
     IS(!is_ok || number == 5, true);
     IS(derrimas_finalizers_queue_all(&finalizers, NULL), answer);
+    THROUGH(number, derrimas_finalizers_queue_cleanups(&finalizers, &number), 1, 1);
+    IS(!is_ok || number == 7, true);
+    IS(derrimas_finalizers_queue_cleanups(&finalizers, NULL), answer);
     THROUGH(entry, derrimas_finalizers_take(&finalizers, &entry), 1, 1);
     THROUGH(entry, derrimas_finalizers_take_finished(&finalizers, &entry), 1, 2);
-    IS(finalizers.waiting, is_ok ? 8 : has_ended ? 68 : 0);
+    IS(finalizers.waiting, is_ok ? 22 : has_ended ? 68 : 0);
     calls = 0;
     IS(derrimas_finalizers_abandon(&finalizers), answer); /* how many wait then is read anew */
     IS(calls, is_ok ? 2 : 1);
@@ -263,6 +314,29 @@ static void waiting(void)
 static bool is_shown(const derrimas_finalizers_registration_at *it, uint64_t object)
 {
     return it->object == object && it->number == 42 && it->proc == 43 && it->cd == 44 && it->kind == DERRIMAS_FINALIZERS_UNREACHABLE && it->rank == 45;
+}
+
+static bool is_shown_cleanup(const derrimas_finalizers_cleanup_at *it, uint64_t number, derrimas_finalizers_when when)
+{
+    return it->number == number && it->object == 52 && it->proc == 53 && it->cd == 54 && it->when == when && it->rank == 55;
+}
+
+/* The same of cleanups. */
+static void walks_of_cleanups(size_t room)
+{
+    static derrimas_finalizers_cleanup_at cleanups[1000];
+    const uint8_t ends = answer == DERRIMAS_FINALIZERS_OK ? DERRIMAS_FINALIZERS_EMPTY : answer; /* a part without room */
+    uint64_t from = 100;
+    size_t count;
+
+    REFUSED(ends, count, derrimas_finalizers_cleanups(&finalizers, &from, cleanups, 0, &count));
+    IS(from, 100);
+    for (uint64_t before = 100; derrimas_finalizers_cleanups(&finalizers, &from, cleanups, room, &count) == DERRIMAS_FINALIZERS_OK; before = from) {
+        IS(count >= 1 && count <= room && from == before + count && from <= 1000, true);
+        for (size_t n = 0; n < count; n++)
+            IS(is_shown_cleanup(&cleanups[n], before + n, n % FZ_MACHINE_PART % 2 ? DERRIMAS_FINALIZERS_LONG : DERRIMAS_FINALIZERS_SHORT), true);
+    }
+    IS(from, answer == DERRIMAS_FINALIZERS_OK ? 1000 : 100);
 }
 
 /* Parts of each size are one walk, and begin at their place. */
@@ -291,6 +365,7 @@ static void walks(size_t room)
 static void reads(void)
 {
     derrimas_finalizers_registration_at registration;
+    derrimas_finalizers_cleanup_at cleanup;
     derrimas_finalizers_entry entry;
     derrimas_finalizers_counts counts;
     uint64_t buffer[1100], from = 100;
@@ -302,6 +377,8 @@ static void reads(void)
     IS(is_filled(&counts, sizeof counts), answer != DERRIMAS_FINALIZERS_OK);
     THROUGH(registration, derrimas_finalizers_registration(&finalizers, 16, &registration), 1, 16);
     IS(answer != DERRIMAS_FINALIZERS_OK || is_shown(&registration, 41), true);
+    THROUGH(cleanup, derrimas_finalizers_cleanup(&finalizers, 19, &cleanup), 1, 19);
+    IS(answer != DERRIMAS_FINALIZERS_OK || is_shown_cleanup(&cleanup, 51, DERRIMAS_FINALIZERS_LONG), true);
     THROUGH(entry, derrimas_finalizers_unfinished(&finalizers, 18, &entry), 1, 18);
     THROUGH(number, derrimas_finalizers_target(&finalizers, DERRIMAS_FINALIZERS_LONG, 17, &number), 1, 1, 17);
     THROUGH(number, derrimas_finalizers_target(&finalizers, DERRIMAS_FINALIZERS_SHORT, 17, &number), 1, 0, 17);
@@ -313,6 +390,22 @@ static void reads(void)
         IS(buffer[n], n + 110);
 }
 
+/* Objects of entries: those that are 0 aren't copied, and a part goes on until it is full. */
+static void held_objects(size_t room)
+{
+    uint64_t buffer[1000], from = 100, wanted = 100;
+    size_t count;
+
+    while (derrimas_finalizers_roots(&finalizers, DERRIMAS_FINALIZERS_HELD_OBJECTS, &from, buffer, room, &count) == DERRIMAS_FINALIZERS_OK) {
+        IS(count == room || from == 1000, true);
+        for (size_t n = 0; n < count; n++, wanted++) {
+            wanted += wanted % 3 == 0;
+            IS(buffer[n], wanted);
+        }
+    }
+    IS(wanted, answer == DERRIMAS_FINALIZERS_OK ? 999 : 100);
+}
+
 /* A kind that is none goes to no export. */
 static void bad_kinds(void)
 {
@@ -322,6 +415,7 @@ static void bad_kinds(void)
 
     calls = 0;
     IS(derrimas_finalizers_register(&finalizers, 3, (derrimas_finalizers_kind)256, 4, 5, 6, NULL, NULL), DERRIMAS_FINALIZERS_BAD_KIND);
+    IS(derrimas_finalizers_add_cleanup(&finalizers, 3, (derrimas_finalizers_when)kind, 4, 5, 6, NULL), DERRIMAS_FINALIZERS_BAD_KIND);
     IS(derrimas_finalizers_link(&finalizers, kind, 8, 9, NULL), DERRIMAS_FINALIZERS_BAD_KIND);
     IS(derrimas_finalizers_unlink(&finalizers, kind, 8, NULL), DERRIMAS_FINALIZERS_BAD_KIND);
     IS(derrimas_finalizers_move_link(&finalizers, kind, 8, 9, NULL), DERRIMAS_FINALIZERS_BAD_KIND);
@@ -354,8 +448,11 @@ int main(void)
         changes();
         waiting();
         reads();
-        for (size_t room = 1; room < 1000; room += room)
+        for (size_t room = 1; room < 1000; room += room) {
             walks(room);
+            walks_of_cleanups(room);
+            held_objects(room);
+        }
         bad_kinds();
     }
     derrimas_finalizers_destroy(&finalizers);

@@ -130,10 +130,10 @@ static void opening(void)
     closes();
 }
 
-/* All is registered and linked with too little memory at first; then each object is registered again, in another kind. */
+/* All is registered, linked and added with too little memory at first; then each object is registered again, in another kind. */
 static void refusals(void)
 {
-    unsigned registering = 0, linking = 0;
+    unsigned registering = 0, linking = 0, adding = 0;
     derrimas_finalizers_linked answer;
     derrimas_finalizers_old old;
     uint64_t number;
@@ -144,14 +144,17 @@ static void refusals(void)
         WITHIN(registering, number, derrimas_finalizers_register(&finalizers, object, (derrimas_finalizers_kind)(n % 4), n, n, 0, &number, NULL));
         WITHIN(linking, answer, derrimas_finalizers_link(&finalizers, DERRIMAS_FINALIZERS_SHORT, word, object, &answer));
         WITHIN(linking, answer, derrimas_finalizers_link(&finalizers, DERRIMAS_FINALIZERS_LONG, word, object, &answer));
+        WITHIN(adding, number, derrimas_finalizers_add_cleanup(&finalizers, object, DERRIMAS_FINALIZERS_SHORT, n, n, 0, &number));
+        WITHIN(adding, number, derrimas_finalizers_add_cleanup(&finalizers, object, DERRIMAS_FINALIZERS_LONG, n, n, 0, &number));
+        IS(number, 3 * n + 2);
     }
-    IS(registering > 0 && linking > 0, true);
+    IS(registering > 0 && linking > 0 && adding > 0, true);
     for (size_t n = 0; n < 300; n++) {
         const derrimas_finalizers_kind kind = (derrimas_finalizers_kind)((n + 1) % 4);
         WITHIN(registering, old, derrimas_finalizers_register(&finalizers, number_of(&objects[n]), kind, n, n, 0, NULL, &old));
         IS(old.was && old.proc == n, true);
     }
-    IS(counted().registrations == 300 && counted().short_links == 300 && counted().long_links == 300, true);
+    IS(counted().registrations == 300 && counted().short_links == 300 && counted().long_links == 300 && counted().cleanups == 600, true);
     closes();
 }
 
@@ -194,7 +197,17 @@ static void too_much(void)
     closes();
 }
 
-/* Up to what is reserved, no memory is asked for. */
+/* Refused for lack of memory alone, a cleanup is no other cause's; and it uses up none of what is reserved. */
+static void adding_without_memory(void)
+{
+    uint64_t number;
+
+    REFUSED(DERRIMAS_FINALIZERS_ZERO, number, derrimas_finalizers_add_cleanup(&finalizers, 0, DERRIMAS_FINALIZERS_LONG, 1, 2, 3, &number));
+    for (size_t n = 0; n < 10; n++)
+        REFUSED(DERRIMAS_FINALIZERS_NO_MEMORY, number, derrimas_finalizers_add_cleanup(&finalizers, 8, DERRIMAS_FINALIZERS_LONG, 1, 2, 3, &number));
+}
+
+/* Up to what is reserved, no memory is asked for but for cleanups. */
 static void reserved(void)
 {
     unsigned refused = 0, before;
@@ -203,8 +216,9 @@ static void reserved(void)
     OK(derrimas_finalizers_open(&finalizers, &options));
     WITHIN(refused, unused, derrimas_finalizers_reserve(&finalizers, 1000, 900, 1100));
     IS(refused > 0, true);
-    before = first.asked;
     first.granted = 0;
+    adding_without_memory();
+    before = first.asked;
     for (size_t n = 0; n < 1000; n++)
         OK(derrimas_finalizers_register(&finalizers, number_of(&objects[n]), (derrimas_finalizers_kind)(n % 4), n, n, 0, NULL, NULL));
     for (size_t n = 0; n < 900; n++)
@@ -300,6 +314,13 @@ static bool finds(uint64_t object)
     return is_found;
 }
 
+static bool finds_cleanup(uint64_t number)
+{
+    derrimas_finalizers_cleanup_at it;
+
+    return derrimas_finalizers_cleanup(&finalizers, number, &it) == DERRIMAS_FINALIZERS_OK;
+}
+
 /* After a peak and a shrink no more bytes are allocated than one and a half times those of a fresh handle. Refused memory, it changes nothing that is seen. */
 static uint64_t of_peak(uint64_t peak, uint64_t left, bool shrinks, long granted)
 {
@@ -310,20 +331,22 @@ static uint64_t of_peak(uint64_t peak, uint64_t left, bool shrinks, long granted
         OK(derrimas_finalizers_register(&finalizers, 8 * n, (derrimas_finalizers_kind)(n % 4), n, n, 0, NULL, NULL));
         OK(derrimas_finalizers_link(&finalizers, DERRIMAS_FINALIZERS_SHORT, 8 * n, n, NULL));
         OK(derrimas_finalizers_link(&finalizers, DERRIMAS_FINALIZERS_LONG, 8 * n, n, NULL));
+        OK(derrimas_finalizers_add_cleanup(&finalizers, 8 * n, (derrimas_finalizers_when)(n % 2), n, n, 0, NULL));
     }
     for (uint64_t n = left + 1; n <= peak; n++) {
         OK(derrimas_finalizers_unregister(&finalizers, 8 * n, NULL));
         OK(derrimas_finalizers_unlink(&finalizers, DERRIMAS_FINALIZERS_SHORT, 8 * n, NULL));
         OK(derrimas_finalizers_unlink(&finalizers, DERRIMAS_FINALIZERS_LONG, 8 * n, NULL));
+        OK(derrimas_finalizers_cancel(&finalizers, 2 * n - 1, NULL));
     }
     first.granted = granted;
     if (shrinks)
         OK(derrimas_finalizers_shrink(&finalizers));
     first.granted = -1;
-    IS(counted().registrations == left && counted().short_links == left && counted().long_links == left, true);
+    IS(counted().registrations == left && counted().short_links == left && counted().long_links == left && counted().cleanups == left, true);
     live = first.live;
     for (uint64_t n = 1; n <= peak; n++)
-        IS(finds(8 * n) == (n <= left), true);
+        IS(finds(8 * n) == (n <= left) && finds_cleanup(2 * n - 1) == (n <= left), true);
     closes();
     return live;
 }
@@ -341,6 +364,8 @@ static void shrinks(void)
     }
 }
 
+static uint64_t cleanups[2][OBJECTS]; /* their numbers */
+
 static void fill(void)
 {
     memset(&all, 0, sizeof all);
@@ -350,6 +375,8 @@ static void fill(void)
         OK(derrimas_finalizers_register(&finalizers, number_of(&objects[n]), (derrimas_finalizers_kind)(n % 4), n, n + 1, (uint8_t)(n % 7), NULL, NULL));
         OK(derrimas_finalizers_link(&finalizers, DERRIMAS_FINALIZERS_SHORT, word_of(&objects[n], 1), number_of(&objects[(n + 1) % OBJECTS]), NULL));
         OK(derrimas_finalizers_link(&finalizers, DERRIMAS_FINALIZERS_LONG, word_of(&objects[n], 2), number_of(&objects[(n + 2) % OBJECTS]), NULL));
+        for (int when = DERRIMAS_FINALIZERS_SHORT; when <= DERRIMAS_FINALIZERS_LONG; when++)
+            OK(derrimas_finalizers_add_cleanup(&finalizers, number_of(&objects[n]), (derrimas_finalizers_when)when, n, n + 1, (uint8_t)(n % 7), &cleanups[when][n]));
     }
 }
 
@@ -371,8 +398,10 @@ static void others(void)
         OK(derrimas_finalizers_move_link(&finalizers, DERRIMAS_FINALIZERS_SHORT, word_of(&objects[n], 1), word_of(&objects[n], 3), NULL));
         OK(derrimas_finalizers_unlink(&finalizers, DERRIMAS_FINALIZERS_LONG, word_of(&objects[n], 2), NULL));
         OK(derrimas_finalizers_unregister(&finalizers, number_of(&objects[n]), NULL));
+        OK(derrimas_finalizers_cancel(&finalizers, cleanups[n / 2 % 2][n], NULL));
     }
     OK(derrimas_finalizers_queue_all(&finalizers, NULL));
+    OK(derrimas_finalizers_queue_cleanups(&finalizers, NULL));
     for (size_t n = 0; derrimas_finalizers_has_waiting(&finalizers); n++) {
         OK(n % 2 ? derrimas_finalizers_take(&finalizers, &entry) : derrimas_finalizers_take_finished(&finalizers, &entry));
         IS(derrimas_finalizers_finish(&finalizers, &entry), n % 2 ? DERRIMAS_FINALIZERS_OK : DERRIMAS_FINALIZERS_NOT_HELD);
@@ -383,10 +412,22 @@ static void others(void)
     closes();
 }
 
+/* How many unfinished entries have an object. */
+static uint64_t with_object(void)
+{
+    derrimas_finalizers_entry entry;
+    uint64_t from = 0, count = 0;
+
+    for (; derrimas_finalizers_unfinished(&finalizers, from, &entry) == DERRIMAS_FINALIZERS_OK; from = entry.seq + 1)
+        count += entry.obj != 0;
+    return count;
+}
+
 /* Calls that change nothing, while the memory can't be written to. */
 static void reads(void)
 {
     derrimas_finalizers_registration_at registrations[70];
+    derrimas_finalizers_cleanup_at some[70];
     derrimas_finalizers_link_at links[70];
     derrimas_finalizers_counts counts;
     uint64_t buffer[100], from, target;
@@ -401,10 +442,12 @@ static void reads(void)
         for (from = 0; derrimas_finalizers_links(&finalizers, of, &from, links, 70, &count) == DERRIMAS_FINALIZERS_OK; seen += count)
             OK(derrimas_finalizers_target(&finalizers, of, links[count - 1].word, &target));
     }
+    for (from = 0; derrimas_finalizers_cleanups(&finalizers, &from, some, 70, &count) == DERRIMAS_FINALIZERS_OK; seen += count)
+        OK(derrimas_finalizers_cleanup(&finalizers, some[count - 1].number, some));
     for (int sort = DERRIMAS_FINALIZERS_HELD_OBJECTS; sort <= DERRIMAS_FINALIZERS_REGISTERED_DATA; sort++)
         for (from = 0; derrimas_finalizers_roots(&finalizers, (derrimas_finalizers_root)sort, &from, buffer, 100, &count) == DERRIMAS_FINALIZERS_OK;)
             seen += count;
-    IS(seen, 2 * counts.registrations + counts.short_links + counts.long_links + 2 * (counts.waiting + counts.held));
+    IS(seen, 2 * (counts.registrations + counts.cleanups) + counts.short_links + counts.long_links + counts.waiting + counts.held + with_object());
     IS(mprotect(first.memory, ROOM, PROT_READ | PROT_WRITE), 0);
 }
 
@@ -455,6 +498,7 @@ static void grows(derrimas_finalizers *it, uint64_t object)
     OK(derrimas_finalizers_register(it, object, (derrimas_finalizers_kind)(object / 8 % 4), object, 0, 0, NULL, NULL));
     OK(derrimas_finalizers_link(it, DERRIMAS_FINALIZERS_SHORT, object, object, NULL));
     OK(derrimas_finalizers_link(it, DERRIMAS_FINALIZERS_LONG, object, object, NULL));
+    OK(derrimas_finalizers_add_cleanup(it, object, DERRIMAS_FINALIZERS_LONG, object, 0, 0, NULL));
 }
 
 /* Call by call in turn: each takes and gives back its own memory. */
@@ -501,6 +545,7 @@ static void *grow_alone(void *handle)
     for (uint64_t n = 1; n <= EACH; n++) {
         refused += derrimas_finalizers_register(it, 8 * n, (derrimas_finalizers_kind)(n % 4), n, n, 0, NULL, NULL) != DERRIMAS_FINALIZERS_OK;
         refused += derrimas_finalizers_link(it, DERRIMAS_FINALIZERS_SHORT, 8 * n, n, NULL) != DERRIMAS_FINALIZERS_OK;
+        refused += derrimas_finalizers_add_cleanup(it, 8 * n, DERRIMAS_FINALIZERS_SHORT, n, n, 0, NULL) != DERRIMAS_FINALIZERS_OK;
     }
     return refused ? handle : NULL;
 }

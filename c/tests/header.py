@@ -29,10 +29,10 @@ class Finalizers:
     prefix, own = 'derrimas_finalizers_', 11
     refused = range(11)
     types = {'MachineHandle': 'derrimas_finalizers', 'HostEntry': 'derrimas_finalizers_entry', 'Linked': 'derrimas_finalizers_link_at',
-             'RegistrationAt': 'fz_machine_registration_at', 'Question': 'derrimas_question', 'u32': 'derrimas_ask',
-             **{name: f'fz_machine_some_{name.lower()}' for name in ('Registrations', 'Links')},
+             'RegistrationAt': 'fz_machine_registration_at', 'CleanupAt': 'fz_machine_cleanup_at', 'Question': 'derrimas_question', 'u32': 'derrimas_ask',
+             **{name: f'fz_machine_some_{name.lower()}' for name in ('Registrations', 'Links', 'Cleanups')},
              **{name: f'fz_machine_{name.lower()}' for name in ('Registered', 'Words')}}
-    alone = ['rattle_tried', 'derrimas_finalizers', 'derrimas_finalizers_registration_at', 'derrimas_host', 'derrimas_trace',
+    alone = ['rattle_tried', 'derrimas_finalizers', 'derrimas_finalizers_registration_at', 'derrimas_finalizers_cleanup_at', 'derrimas_host', 'derrimas_trace',
              'derrimas_finalizers_options', 'derrimas_finalizers_ages']
 
 

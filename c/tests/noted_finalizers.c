@@ -94,6 +94,18 @@ uint8_t fz_machine_move_link(derrimas_finalizers *f, bool is_long, uint64_t word
     return FILLED(noted("move_link %d" N N, is_long, word, to), answer, uint8_t, (uint8_t)V(0));
 }
 
+uint8_t fz_machine_add_cleanup(derrimas_finalizers *f, uint64_t object, bool is_long, uint64_t proc, uint64_t cd, uint8_t rank, uint64_t *number)
+{
+    (void)f;
+    return FILLED(noted("add_cleanup" N " %d" N N " %d", object, is_long, proc, cd, rank), number, uint64_t, V(0));
+}
+
+uint8_t fz_machine_cancel(derrimas_finalizers *f, uint64_t number, derrimas_finalizers_old *old)
+{
+    (void)f;
+    return FILLED(noted("cancel" N, number), old, derrimas_finalizers_old, V(0), V(1), V(0) != 0);
+}
+
 uint8_t fz_machine_begin(derrimas_finalizers *f) { return (void)f, noted("begin"); }
 
 /* A question about two objects, whose kind follows from the value. At the end of a pass what it did. */
@@ -109,6 +121,7 @@ uint8_t fz_machine_next(derrimas_finalizers *f, uint64_t answers, derrimas_quest
 
 uint8_t fz_machine_abandon(derrimas_finalizers *f) { return (void)f, noted("abandon"); }
 uint8_t fz_machine_queue_all(derrimas_finalizers *f, uint64_t *queued) { return (void)f, FILLED(noted("queue_all"), queued, uint64_t, V(0)); }
+uint8_t fz_machine_queue_cleanups(derrimas_finalizers *f, uint64_t *queued) { return (void)f, FILLED(noted("queue_cleanups"), queued, uint64_t, V(0)); }
 uint8_t fz_machine_take(derrimas_finalizers *f, derrimas_finalizers_entry *entry) { return (void)f, ENTRY_AT(noted("take"), entry); }
 uint8_t fz_machine_take_finished(derrimas_finalizers *f, derrimas_finalizers_entry *entry) { return (void)f, ENTRY_AT(noted("take_finished"), entry); }
 uint8_t fz_machine_finish(derrimas_finalizers *f, const derrimas_finalizers_entry *it) { return (void)f, noted("finish" ENTRY, OF_ENTRY(it)); }
@@ -128,7 +141,7 @@ uint8_t fz_machine_roots(derrimas_finalizers *f, uint8_t sort, uint64_t from, ui
 uint8_t fz_machine_count(derrimas_finalizers *f, derrimas_finalizers_counts *counts)
 {
     (void)f;
-    return FILLED(noted("count"), counts, derrimas_finalizers_counts, V(0), V(1), V(2), V(3), V(4), V(5), V(6));
+    return FILLED(noted("count"), counts, derrimas_finalizers_counts, V(0), V(1), V(2), V(3), V(4), V(5), V(6), V(7));
 }
 
 static fz_machine_registration_at registration(uint64_t further)
@@ -156,6 +169,27 @@ uint8_t fz_machine_registration(derrimas_finalizers *f, uint64_t object, fz_mach
 
     (void)f;
     return noted_filled(noted("registration" N, object), place, &it, sizeof it);
+}
+
+static fz_machine_cleanup_at cleanup(uint64_t further)
+{
+    const fz_machine_cleanup_at it = {V(further), V(further + 1), V(further + 2), V(further + 3), V(further) % 2 == 1, (uint8_t)V(further + 5)};
+
+    return it;
+}
+
+uint8_t fz_machine_cleanups(derrimas_finalizers *f, uint64_t from, fz_machine_some_cleanups *some)
+{
+    (void)f;
+    return FILLED(noted("cleanups" N, from), some, fz_machine_some_cleanups, {cleanup(0), cleanup(11)}, 2);
+}
+
+uint8_t fz_machine_cleanup(derrimas_finalizers *f, uint64_t number, fz_machine_cleanup_at *place)
+{
+    const fz_machine_cleanup_at it = cleanup(0);
+
+    (void)f;
+    return noted_filled(noted("cleanup" N, number), place, &it, sizeof it);
 }
 
 uint8_t fz_machine_target(derrimas_finalizers *f, bool is_long, uint64_t word, uint64_t *target)

@@ -319,6 +319,30 @@ static void calls_of_finalizers()
     IS(refusal([&] { f.register_object(0, fin::kind::normal, 0, 0); }) == "Zero");
 }
 
+/* Object 1 has a finalizer, and with it a cleanup of each moment; object 2 has a long one. */
+static void cleanups_of_finalizers()
+{
+    fin f;
+    small_heap heap;
+    std::vector<std::uint64_t> seen;
+
+    auto note = [&seen](fin &, const fin::entry &e) { seen.push_back(e.obj ? e.obj : 100 + e.cd); };
+    f.register_object(1, fin::kind::normal, 5, 0);
+    IS(f.add_cleanup(1, fin::when::long_cleanup, 6, 1) == 1 && f.add_cleanup(1, fin::when::short_cleanup, 7, 2, 9) == 2);
+    IS(f.add_cleanup(2, fin::when::long_cleanup, 8, 3) == 3 && f.add_cleanup(2, fin::when::long_cleanup, 9, 4) == 4);
+    IS(f.cleanup_of(2)->object == 1 && f.cleanup_of(2)->when == DERRIMAS_FINALIZERS_SHORT && f.cleanup_of(2)->rank == 9 && !f.cleanup_of(0));
+    f.cleanups([&seen](const fin::cleanup &it) { seen.push_back(it.number); });
+    IS(seen.size() == 4 && f.count().cleanups == 4);
+    IS(f.cancel(4)->cd == 4 && !f.cancel(4) && !f.cleanup_of(4));
+    seen.clear();
+    IS(collected(f, heap).picked == 3 && f.invoke(note) == 3 && seen == std::vector<std::uint64_t>({102, 1, 103}));
+    seen.clear();
+    IS(collected(f, heap).picked == 1 && f.invoke(note) == 1 && seen == std::vector<std::uint64_t>({101}));
+    f.add_cleanup(3, fin::when::short_cleanup, 10, 5);
+    IS(f.queue_cleanups() == 1 && f.queue_cleanups() == 0 && f.take()->pass == 0);
+    IS(refusal([&] { f.add_cleanup(0, fin::when::long_cleanup, 0, 0); }) == "Zero");
+}
+
 /* A host that throws, and a scope that is left: the pass is abandoned, and the next one is whole. */
 static void abandoned_passes()
 {
@@ -486,6 +510,7 @@ int main()
     seats();
     passes_of_finalizers();
     calls_of_finalizers();
+    cleanups_of_finalizers();
     abandoned_passes();
     memory_of_finalizers();
     told_of_finalizers();

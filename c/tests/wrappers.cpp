@@ -73,11 +73,15 @@ static string shown(const finalizers::entry &it) { return shown({it.seq, it.pass
 static string shown(const finalizers::registered &it) { return shown({it.number, it.replaced.proc, it.replaced.cd, it.replaced.was}); }
 static string shown(const finalizers::counts &it)
 {
-    return shown({it.registrations, it.short_links, it.long_links, it.waiting, it.held, it.queued, it.passes});
+    return shown({it.registrations, it.short_links, it.long_links, it.cleanups, it.waiting, it.held, it.queued, it.passes});
 }
 static string shown(const finalizers::registration &it)
 {
     return shown({it.object, it.number, it.proc, it.cd, static_cast<std::uint64_t>(it.kind), it.rank});
+}
+static string shown(const finalizers::cleanup &it)
+{
+    return shown({it.number, it.object, it.proc, it.cd, static_cast<std::uint64_t>(it.when), it.rank});
 }
 static string shown(const finalizers::question &it) { return std::to_string(it.ask) + ":" + shown({it.what[0], it.what[1]}); }
 template <typename T> static string shown(const std::optional<T> &it) { return it ? shown(*it) : "none"; }
@@ -104,6 +108,7 @@ static const std::map<string, finalizers::kind> finalizer_kinds = {{"normal", fi
     {"no_order", finalizers::kind::no_order}, {"unreachable", finalizers::kind::unreachable}};
 static const std::map<string, finalizers::link_kind> link_kinds = {{"short", finalizers::link_kind::short_link},
     {"default", finalizers::link_kind::short_link}, {"long", finalizers::link_kind::long_link}};
+static const std::map<string, finalizers::when> moments = {{"short", finalizers::when::short_cleanup}, {"long", finalizers::when::long_cleanup}};
 static const std::map<string, finalizers::root> sorts_of_roots = {{"held_objects", finalizers::root::held_objects},
     {"held_data", finalizers::root::held_data}, {"registered_data", finalizers::root::registered_data}};
 
@@ -367,11 +372,16 @@ static const std::map<string, member> members = {
     {"finalizers_link", SHOWN(f.finalizers.link(LINK_KIND, a.number(1), a.number(2)))},
     {"finalizers_unlink", SHOWN(f.finalizers.unlink(LINK_KIND, a.number(1)))},
     {"finalizers_move_link", SHOWN(f.finalizers.move_link(LINK_KIND, a.number(1), a.number(2)))},
+    {"finalizers_add_cleanup", SHOWN(a.is("default") ? f.finalizers.add_cleanup(a.number(1), finalizers::when::long_cleanup, a.number(2), a.number(3))
+                                                     : f.finalizers.add_cleanup(a.number(1), a.kind(moments), a.number(2), a.number(3),
+                                                                                static_cast<std::uint8_t>(a.number(4))))},
+    {"finalizers_cancel", SHOWN(f.finalizers.cancel(a.number(0)))},
     {"finalizers_begin", [](fixture &f, const arguments &) { return abandoned(f.finalizers, true); }},
     {"finalizers_abandon", [](fixture &f, const arguments &) { return abandoned(f.finalizers, false); }},
     {"finalizers_next", [](fixture &f, const arguments &a) { return asked(f.finalizers, a.number(0)); }},
     {"finalizers_pass", SHOWN(f.finalizers.pass(noting_host{a.is("throws")}))},
     {"finalizers_queue_all", SHOWN(f.finalizers.queue_all())},
+    {"finalizers_queue_cleanups", SHOWN(f.finalizers.queue_cleanups())},
     {"finalizers_take", SHOWN_IN_PASS(shown(f.finalizers.take()))},
     {"finalizers_take_finished", SHOWN_IN_PASS(shown(f.finalizers.take_finished()))},
     {"finalizers_finish", SHOWN_IN_PASS((f.finalizers.finish(a.finalizers_entry(0)), string("done")))},
@@ -380,6 +390,8 @@ static const std::map<string, member> members = {
     {"finalizers_roots", [](fixture &f, const arguments &a) { return walked([&](auto visit) { f.finalizers.roots(a.kind(sorts_of_roots), visit); }); }},
     {"finalizers_registrations", [](fixture &f, const arguments &) { return walked([&](auto visit) { f.finalizers.registrations(visit); }); }},
     {"finalizers_links", [](fixture &f, const arguments &a) { return walked([&](auto visit) { f.finalizers.links(LINK_KIND, visit); }); }},
+    {"finalizers_cleanups", [](fixture &f, const arguments &) { return walked([&](auto visit) { f.finalizers.cleanups(visit); }); }},
+    {"finalizers_cleanup", SHOWN(f.finalizers.cleanup_of(a.number(0)))},
     {"finalizers_registration", SHOWN(f.finalizers.registration_of(a.number(0)))},
     {"finalizers_target", SHOWN(f.finalizers.target(LINK_KIND, a.number(1)))},
     {"finalizers_unfinished", SHOWN(a.is("default") ? f.finalizers.unfinished() : f.finalizers.unfinished(a.number(0)))},

@@ -4,8 +4,8 @@
  * number that no object has: one below 65,536, or with its highest bit set. So the heap follows each address that it
  * meets, and asks nobody whether it is one. Nothing is collected but by own_heap_collect.
  *
- * Registrations and links are made by the library's calls on `finalizers`, with numbers by own_heap_number and
- * own_heap_word. Entries are taken by its calls too, or by own_heap_run. */
+ * Registrations, links and cleanups are made by the library's calls on `finalizers`, with numbers by own_heap_number and
+ * own_heap_word. An object that has cleanups alone is freed by the collection that queues the long ones. Entries are taken by its calls too, or by own_heap_run. */
 #ifndef OWN_HEAP_H
 #define OWN_HEAP_H
 

@@ -36,13 +36,18 @@ class LinkKind(enum.IntEnum):
     SHORT, LONG = range(2)
 
 
+class When(enum.IntEnum):
+    """When a cleanup is due: SHORT when a pass finds its object unreachable, LONG when nothing retains its object any more."""
+    SHORT, LONG = range(2)
+
+
 class LinkAnswer(enum.IntEnum):
     """What is answered about a link."""
     LINKED, DUPLICATE, NOT_FOUND = range(128, 131)
 
 
 class Root(enum.IntEnum):
-    """The roots that a host marks before a pass: objects and client data of entries, and client data of registrations, for hosts that keep it."""
+    """The roots that a host marks before a pass: objects and client data of entries, and client data of registrations and cleanups, for hosts that keep it."""
     HELD_OBJECTS, HELD_DATA, REGISTERED_DATA = range(3)
 
 
@@ -65,16 +70,17 @@ LINE = CFUNCTYPE(None, c_void_p, c_char_p)
 Allocator = struct("Allocator", "An allocator's functions, in C.", ("allocate", ALLOCATE), ("reallocate", REALLOCATE), ("release", RELEASE), ("data", c_void_p))
 Options = struct("Options", "What a handle is opened with.", ("size", c_size_t), ("allocator", Allocator))
 Handle = struct("Handle", "What stands for finalizers in C.", ("inside", c_void_p), "waiting", ("allocator", Allocator), ("trace", c_void_p), ("ages", c_uint64 * 11))
-Old = struct("Old", "A registration that went away, if there `was` one.", "proc", "cd", ("was", c_bool))
+Old = struct("Old", "A registration or a cleanup that went away, if there `was` one.", "proc", "cd", ("was", c_bool))
 Registered = struct("Registered", "A new registration: its number, and what it replaced.", "number", ("replaced", Old))
-Entry = struct("Entry", "An entry of the queue: its place, its pass, its registration, object, procedure and client data.",
+Entry = struct("Entry", "An entry of the queue: its place, its pass, its registration or cleanup, its object (0 of a cleanup), procedure and client data.",
                "seq", "passed", "reg", "obj", "proc", "cd")
 Trace = struct("Trace", "What is told of what happens, in C.", ("queued", CFUNCTYPE(None, c_void_p, c_uint64, c_uint64)), ("cleared", CFUNCTYPE(None, c_void_p, c_uint64)),
                ("finished", CFUNCTYPE(None, c_void_p, POINTER(Entry))), ("data", c_void_p))
 Registration = struct("Registration", "A registration that stands; its kind is a Kind.", "object", "number", "proc", "cd", ("kind", c_uint32), ("rank", c_uint8))
 Linked = struct("Linked", "A link that stands: its word and its target.", "word", "target")
-Counts = struct("Counts", "How many registrations, links, waiting and held entries there are; how many entries and passes there ever were.",
-                "registrations", "short_links", "long_links", "waiting", "held", "queued", "passes")
+Cleanup = struct("Cleanup", "A cleanup that stands: `when` is a When.", "number", "object", "proc", "cd", ("when", c_uint32), ("rank", c_uint8))
+Counts = struct("Counts", "How many registrations, links, cleanups, waiting and held entries there are; how many entries and passes there ever were.",
+                "registrations", "short_links", "long_links", "cleanups", "waiting", "held", "queued", "passes")
 Passed = struct("Passed", "What a pass did: its number, and the entries that it queued.", "number", "picked")
 CQuestion = struct("CQuestion", "A question, in C.", ("what", c_uint64 * BATCH), "count", ("ask", c_uint32))
 
@@ -93,7 +99,8 @@ def library() -> ctypes.CDLL:
     for name, types in {
         "open": [POINTER(Options)], "reserve": [n, n, n], "shrink": [], "register": [n, kind, n, n, c_uint8, POINTER(n), POINTER(Old)],
         "unregister": [n, POINTER(Old)], "link": [kind, n, n, POINTER(kind)], "unlink": [kind, n, POINTER(c_bool)], "move_link": [kind, n, n, POINTER(kind)],
-        "begin": [], "next": [n, POINTER(CQuestion), POINTER(Passed)], "abandon": [], "queue_all": [POINTER(n)], "take": [POINTER(Entry)],
+        "add_cleanup": [n, kind, n, n, c_uint8, POINTER(n)], "cancel": [n, POINTER(Old)], "queue_cleanups": [POINTER(n)], "cleanups": walk,
+        "cleanup": [n, POINTER(Cleanup)], "begin": [], "next": [n, POINTER(CQuestion), POINTER(Passed)], "abandon": [], "queue_all": [POINTER(n)], "take": [POINTER(Entry)],
         "take_finished": [POINTER(Entry)], "finish": [POINTER(Entry)], "roots": [kind, *walk], "registrations": walk, "links": [kind, *walk],
         "registration": [n, POINTER(Registration)], "target": [kind, n, POINTER(n)], "unfinished": [n, POINTER(Entry)], "count": [POINTER(Counts)],
     }.items():
@@ -207,6 +214,14 @@ class Finalizers:
         """Moves a link from the word to the word `to`."""
         return LinkAnswer(self._answer(c_uint32, "move_link", kind, word, to))
 
+    def add_cleanup(self, object: int, proc: int, cd: int = 0, rank: int = 0, when: When = When.LONG) -> int:
+        """Adds a cleanup to the object, and returns its number. Its entry comes when the object is lost, with that number and without the object."""
+        return self._answer(c_uint64, "add_cleanup", object, when, proc, cd, rank)
+
+    def cancel(self, number: int) -> Old:
+        """Removes the cleanup with this number, and tells what it was."""
+        return self._answer(Old, "cancel", number)
+
     def open_pass(self) -> OpenPass:
         """Opens a pass, for a `with`, which is asked question by question."""
         return OpenPass(self)
@@ -222,6 +237,10 @@ class Finalizers:
     def queue_all(self) -> int:
         """Queues all that is registered; how many."""
         return self._answer(c_uint64, "queue_all")
+
+    def queue_cleanups(self) -> int:
+        """Queues all cleanups; how many."""
+        return self._answer(c_uint64, "queue_cleanups")
 
     def take(self) -> Optional[Entry]:
         """The first entry that waits, which is held until it is finished; or None."""
@@ -279,6 +298,14 @@ class Finalizers:
     def links(self, kind: LinkKind = LinkKind.SHORT) -> Iterator[Linked]:
         """The links of a kind that stand."""
         return self._walk(Linked, "links", kind)
+
+    def cleanups(self) -> Iterator[Cleanup]:
+        """The cleanups that stand."""
+        return self._walk(Cleanup, "cleanups")
+
+    def cleanup(self, number: int) -> Optional[Cleanup]:
+        """The cleanup with this number, or None."""
+        return self._or_none(Cleanup, "cleanup", number)
 
     def registration(self, object: int) -> Optional[Registration]:
         """The registration of an object, or None."""

@@ -1,26 +1,29 @@
 -- Walks from a place on.
-use Rattle.std.proofs.Common.{◌≡◌, ◌≢◌, ◌<◌, ◌≤◌, ◌-◌, ℕ, zero, suc, min, nat_eq, List, drop, map, take, length, Option, Some, refl, sym, ap, subst, ◌∙◌, inl, inr, arith}
+use Rattle.std.proofs.Common.{◌≡◌, ◌≢◌, ◌<◌, ◌≤◌, ◌-◌, ℕ, zero, suc, min, nat_eq, List, drop, map, take, length, Option, Some, None, refl, sym, ap, subst, ◌∙◌, inl, inr, arith}
 use Rattle.std.proofs.lemmas.List.{drop-map, length-drop, length-map}
 use Rattle.std.specs.FinMap.{from_entries}
 use Rattle.std.specs.List.{IsDistinct}
 use Rattle.std.specs.Map.{keys_of}
 use Rattle.fz_model.specs.declared.answers.Registration as answers
 use Rattle.fz_model.specs.declared.kinds.LinkKind.{LinkKind}
+use Rattle.fz_finalizers.specs.declared.cleanups.Attached.{Attached}
 use Rattle.fz_finalizers.specs.declared.kinds.Kind.{Kind}
 use Rattle.fz_finalizers.specs.declared.roots.Root.{Root}
 use Rattle.fz_finalizers.specs.States.{State, View, kind_at, links_of}
-use Rattle.fz_finalizers.specs.Walks.{AreLinks, AreRegistrations, IsRest, YieldsRoots, links_in_order, registrations_in_order, roots_of, somes}
+use Rattle.fz_finalizers.specs.Walks.{AreCleanups, AreLinks, AreRegistrations, IsRest, YieldsRoots, links_in_order, registrations_in_order, roots_of, somes}
 use Rattle.fz_finalizers.proofs.Shown.{rest_place}
+use Rattle.fz_machine.specs.declared.refused.Refused.{Refused}
 use Rattle.fz_machine.specs.Machines.{Machine}
 use Rattle.fz_c.specs.declared.machine.codes.TheConstants.{OK, EMPTY}
 use Rattle.fz_c.specs.declared.machine.shown.TheConstants.{WORDS}
 use Rattle.fz_c.specs.declared.machine.shown.RegistrationAt.{RegistrationAt}
 use Rattle.fz_c.specs.declared.machine.shown.Words.{Words}
 use Rattle.fz_c.specs.declared.machine.walks.TheConstants.{PART}
+use Rattle.fz_c.specs.declared.machine.walks.Cleanups.{Cleanups}
 use Rattle.fz_c.specs.declared.machine.walks.Links.{Links}
 use Rattle.fz_c.specs.declared.machine.walks.Registrations.{Registrations}
-use Rattle.fz_c.specs.MachineCodes.{Behind}
-use Rattle.fz_c.specs.MachineShows.{ShowsFrom, ShowsLinks, ShowsRegistrations, ShowsRoots, kind_number, link_told, registration_told}
+use Rattle.fz_c.specs.MachineCodes.{Answers, Behind}
+use Rattle.fz_c.specs.MachineShows.{ShowsCleanups, ShowsFrom, ShowsLinks, ShowsRegistrations, ShowsRoots, cleanup_told, kind_number, link_told, registration_told}
 
 -- what a walk of the finalizers behind the handle yields is their list
 rooted : (r root : Root) (w v : View) (words : List (Option ℕ)) → r ≡ root → w ≡ v → YieldsRoots r w.state (somes words) → words ≡ roots_of r w → YieldsRoots root v.state (somes (roots_of root v)) × (words ≡ roots_of root v)
@@ -133,6 +136,27 @@ module _ (k kind : LinkKind) (w v : View) (all left : List (ℕ × ℕ)) (from n
       subst (λ (u : View). ShowsLinks kind u from OK old told) same
       (subst (λ (q : LinkKind). ShowsLinks q w from OK old told) is (are_linked, some_left PART (λ (t : Links). t.count) (λ (t : Links). t.links) (map link_told (links_in_order w k)) (map link_told left) from n (omega arith) linked_left linked_count old told some told_count filled))
 
+-- a walk over cleanups as the finalizers behind the handle yield it
+module _ (w v : View) (all left : List (ℕ × Attached)) (from n : ℕ) (same : w ≡ v) (are : AreCleanups w.state all) (listed : all ≡ w.order.cleanups) (from_there : left ≡ drop from all) (counted : n ≡ min PART (length left)) where
+  are_cleanups : AreCleanups w.state w.order.cleanups
+  are_cleanups = subst (AreCleanups w.state) listed are
+
+  cleanups_left : map cleanup_told left ≡ drop from (map cleanup_told w.order.cleanups)
+  cleanups_left = ap (map cleanup_told) (from_there ∙ ap (drop from) listed) ∙ sym (drop-map cleanup_told from w.order.cleanups)
+
+  cleanups_count : n ≡ min PART (length (map cleanup_told left))
+  cleanups_count = counted ∙ ap (min PART) (sym (length-map left cleanup_told))
+
+  pub none_cleaned : (old : Cleanups) → n ≡ 0 → ShowsCleanups v from EMPTY old old
+  none_cleaned old none =
+      subst (λ (u : View). ShowsCleanups u from EMPTY old old) same
+      (are_cleanups, none_left PART (λ (t : Cleanups). t.count) (λ (t : Cleanups). t.cleanups) (map cleanup_told w.order.cleanups) (map cleanup_told left) from n (omega arith) cleanups_left cleanups_count old none)
+
+  pub some_cleaned : (old told : Cleanups) → n ≢ 0 → told.count ≡ n → take n told.cleanups ≡ take n (map cleanup_told left) → ShowsCleanups v from OK old told
+  some_cleaned old told some is filled =
+      subst (λ (u : View). ShowsCleanups u from OK old told) same
+      (are_cleanups, some_left PART (λ (t : Cleanups). t.count) (λ (t : Cleanups). t.cleanups) (map cleanup_told w.order.cleanups) (map cleanup_told left) from n (omega arith) cleanups_left cleanups_count old told some is filled)
+
 -- no more places are left behind a part of a walk than there are
 pub rest_short : (all left after : List (Option ℕ)) (from : ℕ) → left ≡ drop from all → IsRest left after → length after ≤ length all
 rest_short all left after from is rest =
@@ -140,6 +164,14 @@ rest_short all left after from is rest =
     let size = ap length rest ∙ length-drop (length left - length after) left in
     omega (arith, one, size)
 
+-- what a call does to the finalizers behind a handle
+pub changed : (old new : Option Machine) (m n : Machine) (code : ℕ) (Kept : Type 0) (does : Machine → Machine → Type 0) → old ≡ Some m → new ≡ Some n → does m n → Behind old new code Kept does
+changed old new m n code Kept does was is h = subst (λ (o : Option Machine). Behind o new code Kept does) (sym was) (subst (λ (o : Option Machine). Behind (Some m) o code Kept does) (sym is) h)
+
 -- nothing changes behind a handle
 pub behind : (old new : Option Machine) (m : Machine) (code : ℕ) (Kept : Type 0) (does : Machine → Machine → Type 0) → old ≡ Some m → new ≡ Some m → does m m → Behind old new code Kept does
-behind old new m code Kept does was is h = subst (λ (o : Option Machine). Behind o new code Kept does) (sym was) (subst (λ (o : Option Machine). Behind (Some m) o code Kept does) (sym is) h)
+behind old new m = changed old new m m
+
+-- a call that is accepted
+pub accepted : (cause : Option Refused) (done refused : Type 0) → cause ≡ None → done → Answers cause OK done refused
+accepted cause done refused none h = subst (λ (o : Option Refused). Answers o OK done refused) (sym none) (refl, h)

@@ -1,14 +1,16 @@
 -- What a change does to the finalizers behind a handle, the code that it returns, and what C gets.
--- code: fz_c/src/machine/registering.rt, linking.rt
-use Rattle.std.specs.Prelude.{◌≡◌, ◌⊎◌, ℕ, ◌+◌, ◌≤◌, Bool, [], length, None}
-use Rattle.std.specs.FinMap.{get, len, contains_key}
+-- code: fz_c/src/machine/registering.rt, linking.rt, adding.rt, passing.rt
+use Rattle.std.specs.Prelude.{◌≡◌, ◌⊎◌, ℕ, ◌+◌, ◌≤◌, Bool, [], length, None, option_map}
+use Rattle.std.specs.FinMap.{get, len, contains_key, empty}
 use Rattle.fz_model.specs.declared.answers.Entry.{Entry}
 use Rattle.std.specs.FinSet.{contains}
 use Rattle.fz_model.specs.Steps.{move_answer, old_of}
+use Rattle.fz_finalizers.specs.declared.cleanups.Cleanup.{Cleanup}
 use Rattle.fz_finalizers.specs.declared.kinds.Finalizer.{Finalizer}
-use Rattle.fz_finalizers.specs.Causes.{register_causes, link_causes, move_causes, finish_causes}
-use Rattle.fz_finalizers.specs.Follows.{Follows, Register, Unregister, Link, Unlink, Move, QueueAll, Finish}
+use Rattle.fz_finalizers.specs.Causes.{add_causes, register_causes, link_causes, move_causes, finish_causes}
+use Rattle.fz_finalizers.specs.Follows.{Follows, Register, Unregister, Link, Unlink, Move, AddCleanup, Cancel, QueueAll, Finish}
 use Rattle.fz_pass.specs.All as passes
+use Rattle.fz_finalizers.specs.Passed.{CleansAll}
 use Rattle.fz_finalizers.specs.States.{HasRooms, KeepsTables, links_of, room_of}
 use Rattle.fz_machine.specs.Causes.{first_of}
 use Rattle.fz_machine.specs.Going.{HasRoomForMore}
@@ -16,7 +18,7 @@ use Rattle.fz_machine.specs.Machines.{KeepsPass, Machine}
 use Rattle.fz_c.specs.declared.old.Old.{Old}
 use Rattle.fz_c.specs.declared.machine.registering.Registered.{Registered}
 use Rattle.fz_c.specs.MachineCodes.{Answers, AnswersOrLacks}
-use Rattle.fz_c.specs.MachineTold.{TellsRegistered, link_number, move_number}
+use Rattle.fz_c.specs.MachineTold.{TellsRegistered, link_number, move_number, old_of_cleanup}
 use Rattle.fz_c.specs.Values.{TellsOld, link_kind_of}
 
 -- the finalizers' state is unchanged, and so is the state of their pass
@@ -69,6 +71,23 @@ MovesLink is_long word to code old told m n =
     × (told ≡ move_number (move_answer (links_of m.finalizers.state (link_kind_of is_long)) word to)))
     (Stays m n × (told ≡ old))
 
+-- there is no room in the table or in the list
+abbrev pub LacksToAdd : Machine → Type 0
+LacksToAdd m = (m.finalizers.rooms.cleanups ≡ 0) ⊎ (m.walk.room ≤ len m.finalizers.cleanups)
+
+abbrev pub AddsCleanup : ℕ → Cleanup → ℕ → ℕ → ℕ → Machine → Machine → Type 0
+AddsCleanup object c code old told m n =
+    AnswersOrLacks (first_of m.phase (add_causes m.finalizers.cleanups m.finalizers.next_number object)) code
+    (Follows m.finalizers.state (AddCleanup object c) n.finalizers.state × (told ≡ m.finalizers.next_number))
+    (Stays m n × (told ≡ old))
+    (LacksToAdd m)
+
+abbrev pub Cancels : ℕ → ℕ → Old → Old → Machine → Machine → Type 0
+Cancels number code old told m n =
+    Answers (first_of m.phase []) code
+    (Follows m.finalizers.state (Cancel number) n.finalizers.state × TellsOld told (option_map old_of_cleanup (get m.finalizers.cleanups number)))
+    ((n ≡ m) × (told ≡ old))
+
 abbrev pub Reserves : ℕ → ℕ → ℕ → ℕ → Machine → Machine → Type 0
 Reserves registrations shorts longs code m n =
     AnswersOrLacks (first_of m.phase []) code
@@ -82,6 +101,12 @@ QueuesAll code old told m n =
     (Follows m.finalizers.state QueueAll n.finalizers.state
     × passes.QueuesAll (length m.finalizers.queue) m.finalizers.registrations (contains m.finalizers.late) m.finalizers.queue n.finalizers.queue
     × (length n.finalizers.queue ≡ length m.finalizers.queue + told))
+    ((n ≡ m) × (told ≡ old))
+
+abbrev pub QueuesCleanups : ℕ → ℕ → ℕ → Machine → Machine → Type 0
+QueuesCleanups code old told m n =
+    Answers (first_of m.phase []) code
+    (CleansAll m.finalizers.state n.finalizers.state × (n.finalizers.cleanups ≡ empty) × (length n.finalizers.queue ≡ length m.finalizers.queue + told))
     ((n ≡ m) × (told ≡ old))
 
 abbrev pub Finishes : Entry → ℕ → Machine → Machine → Type 0

@@ -4,7 +4,7 @@ ghost use Rattle.std.specs.Prelude.{◌≡◌, []};
 ghost use Rattle.fz_machine.specs.Asks.{bits_of};
 ghost use Rattle.fz_machine.specs.Causes.{first_of};
 ghost use Rattle.fz_machine.specs.Machines.{IsBegun};
-ghost use Rattle.fz_c.specs.MachineChanges.{QueuesAll};
+ghost use Rattle.fz_c.specs.MachineChanges.{QueuesAll, QueuesCleanups};
 ghost use Rattle.fz_c.specs.MachineCodes.{Answers, Behind};
 ghost use Rattle.fz_c.specs.MachinePassing.{Abandons, AsksNext};
 
@@ -102,6 +102,30 @@ pub extern "C" fn fz_machine_queue_all(
     match reply {
         Ok(count) => {
             *queued = count;
+            OK
+        }
+        Err(refused) => code_of(refused),
+    }
+}
+
+/// `Machine::queue_cleanups`.
+#[unsafe(no_mangle)]
+pub extern "C" fn fz_machine_queue_cleanups(
+    alloc: Global,
+    finalizers: &mut MachineHandle,
+    queued: &mut u64,
+) -> Code
+    ensures { Behind finalizers.old.value finalizers.new.value result (queued.new ≡ queued.old) (QueuesCleanups result queued.old queued.new) }
+{
+    let reply = behind!(
+        alloc,
+        finalizers,
+        NOT_OPEN,
+        |it| it.machine.queue_cleanups()
+    );
+    match reply {
+        Ok(all) => {
+            *queued = all;
             OK
         }
         Err(refused) => code_of(refused),

@@ -3,14 +3,14 @@
 ghost use Rattle.std.specs.Prelude.{◌≡◌};
 ghost use Rattle.fz_finalizers.specs.States.{links_of};
 ghost use Rattle.fz_c.specs.MachineCodes.{Behind};
-ghost use Rattle.fz_c.specs.MachineShows.{IsCounted, ShowsRegistration, ShowsRoots, ShowsTarget, kind_number, root_of};
+ghost use Rattle.fz_c.specs.MachineShows.{IsCounted, ShowsCleanup, ShowsRegistration, ShowsRoots, ShowsTarget, cleanup_told, is_long, kind_number, root_of};
 ghost use Rattle.fz_c.specs.Values.{link_kind_of};
 
 use crate::handle::behind;
 use crate::kinds::kind_for;
 use crate::machine::codes::{Code, EMPTY, NOT_OPEN, OK};
 use crate::machine::handle::MachineHandle;
-use fz_finalizers::{Finalizers, Kind, LinkKind, Root};
+use fz_finalizers::{Attached, Finalizers, Kind, LinkKind, Root};
 use std::alloc::Global;
 
 /// The size of the buffer of words, which one call fills.
@@ -25,13 +25,14 @@ pub struct Words {
     pub next: u64,
 }
 
-/// The number of registrations, links and entries.
+/// The number of registrations, links, cleanups and entries.
 #[repr(C)]
 #[derive(Clone, Copy)]
 pub struct Counts {
     pub registrations: u64,
     pub short_links: u64,
     pub long_links: u64,
+    pub cleanups: u64,
     pub waiting: u64,
     pub held: u64,
     pub queued: u64,
@@ -67,6 +68,44 @@ impl RegistrationAt {
             kind: kind_number(kind),
             rank: registration.rank,
         }
+    }
+}
+
+/// A cleanup.
+#[repr(C)]
+#[derive(Clone, Copy)]
+pub struct CleanupAt {
+    pub number: u64,
+    pub object: u64,
+    pub proc: u64,
+    pub cd: u64,
+    pub is_long: bool,
+    pub rank: u8,
+}
+
+impl CleanupAt {
+    /// A cleanup, as C represents it.
+    pub(crate) fn of(number: u64, attached: Attached) -> CleanupAt
+        ensures { result ≡ cleanup_told (number, attached) }
+    {
+        CleanupAt {
+            number,
+            object: attached.object,
+            proc: attached.cleanup.procedure,
+            cd: attached.cleanup.client_data,
+            is_long: is_long(attached.cleanup.when),
+            rank: attached.cleanup.rank,
+        }
+    }
+}
+
+/// Whether a cleanup is due only when nothing retains its object.
+fn is_long(when: LinkKind) -> bool
+    ensures { result ≡ is_long when }
+{
+    match when {
+        LinkKind::Short => false,
+        LinkKind::Long => true,
     }
 }
 
@@ -132,6 +171,7 @@ fn counts_of(shown: &Finalizers) -> Counts
         registrations: shown.registrations(),
         short_links: shown.links(LinkKind::Short),
         long_links: shown.links(LinkKind::Long),
+        cleanups: shown.cleanups(),
         waiting: shown.waiting(),
         held: shown.held(),
         queued: shown.queued(),
@@ -175,6 +215,29 @@ pub extern "C" fn fz_machine_registration(
         return EMPTY;
     };
     *registration = RegistrationAt::of(object, &shown, kind);
+    OK
+}
+
+/// `Finalizers::cleanup`.
+#[unsafe(no_mangle)]
+pub extern "C" fn fz_machine_cleanup(
+    alloc: Global,
+    finalizers: &mut MachineHandle,
+    number: u64,
+    cleanup: &mut CleanupAt,
+) -> Code
+    ensures { Behind finalizers.old.value finalizers.new.value result (cleanup.new ≡ cleanup.old) (λ m n. (n ≡ m) × ShowsCleanup m.finalizers.state number result cleanup.old cleanup.new) }
+{
+    let found = behind!(
+        alloc,
+        finalizers,
+        NOT_OPEN,
+        |it| it.machine.finalizers().cleanup(number)
+    );
+    let Some(shown) = found else {
+        return EMPTY;
+    };
+    *cleanup = CleanupAt::of(number, shown);
     OK
 }
 

@@ -1,20 +1,20 @@
-//! Iterating over registrations and links, a buffer at a time. This changes nothing, and works while a pass is open.
+//! Iterating over registrations, links and cleanups, a buffer at a time. This changes nothing, and works while a pass is open.
 
 ghost use Rattle.std.specs.Prelude.{◌≡◌, ◌≤◌, ◌<◌, ◌+◌, length, map, min, take};
 ghost use Rattle.fz_c.specs.MachineCodes.{Behind};
-ghost use Rattle.fz_c.specs.MachineShows.{ShowsLinks, ShowsRegistrations, link_told, registration_told};
+ghost use Rattle.fz_c.specs.MachineShows.{ShowsCleanups, ShowsLinks, ShowsRegistrations, cleanup_told, link_told, registration_told};
 ghost use Rattle.fz_c.specs.Values.{link_kind_of};
 
 use crate::handle::behind;
 use crate::kinds::kind_for;
 use crate::machine::codes::{Code, EMPTY, NOT_OPEN, OK};
 use crate::machine::handle::MachineHandle;
-use crate::machine::shown::RegistrationAt;
-use fz_finalizers::Finalizers;
+use crate::machine::shown::{CleanupAt, RegistrationAt};
+use fz_finalizers::{Attached, Finalizers};
 use fz_table::Pairs;
 use std::alloc::Global;
 
-/// The size of the buffers of registrations and links, which one call fills.
+/// The size of the buffers of registrations, links and cleanups, which one call fills.
 const PART: usize = 64;
 
 /// The registrations of an iteration, and their number.
@@ -41,6 +41,14 @@ pub struct Links {
     pub count: u64,
 }
 
+/// The cleanups of an iteration, and their number.
+#[repr(C)]
+#[derive(Clone, Copy)]
+pub struct Cleanups {
+    pub cleanups: [CleanupAt; PART],
+    pub count: u64,
+}
+
 /// The content of the buffer of registrations before it is filled.
 const NO_REGISTRATION: RegistrationAt = RegistrationAt {
     object: 0,
@@ -53,6 +61,16 @@ const NO_REGISTRATION: RegistrationAt = RegistrationAt {
 
 /// The content of the buffer of links before it is filled.
 const NO_LINK: Linked = Linked { word: 0, target: 0 };
+
+/// The content of the buffer of cleanups before it is filled.
+const NO_CLEANUP: CleanupAt = CleanupAt {
+    number: 0,
+    object: 0,
+    proc: 0,
+    cd: 0,
+    is_long: false,
+    rank: 0,
+};
 
 /// Writes the next registrations into the buffer, as many as fit or remain. Returns their number.
 fn fill_registrations(
@@ -87,6 +105,23 @@ fn fill_links(walk: Pairs<'_, u64, u64>, buffer: &mut [Linked]) -> usize
             return filled;
         };
         *place = Linked { word, target };
+        filled += 1;
+    }
+    filled
+}
+
+/// Writes the next cleanups into the buffer, as many as fit or remain. Returns their number.
+fn fill_cleanups(walk: Pairs<'_, u64, Attached>, buffer: &mut [CleanupAt]) -> usize
+    ensures count { result ≡ min (length buffer.old) (length walk.entry) }
+    ensures filled { take result buffer.new ≡ take result (map cleanup_told walk.entry) }
+{
+    let mut left = walk;
+    let mut filled = 0;
+    for place in buffer.iter_mut() {
+        let Some((number, attached)) = left.next() else {
+            return filled;
+        };
+        *place = CleanupAt::of(number, attached);
         filled += 1;
     }
     filled
@@ -142,6 +177,32 @@ pub extern "C" fn fz_machine_links(
     }
     *links = Links {
         links: found,
+        count: count as u64,
+    };
+    OK
+}
+
+/// `Finalizers::iter_cleanups`: the cleanups of the iteration from an index on, as many as fit. Takes the same time at each index.
+#[unsafe(no_mangle)]
+pub extern "C" fn fz_machine_cleanups(
+    alloc: Global,
+    finalizers: &mut MachineHandle,
+    from: u64,
+    cleanups: &mut Cleanups,
+) -> Code
+    ensures { Behind finalizers.old.value finalizers.new.value result (cleanups.new ≡ cleanups.old) (λ m n. (n ≡ m) × ShowsCleanups m.finalizers from result cleanups.old cleanups.new) }
+{
+    let mut found = [NO_CLEANUP; PART];
+    let count = behind!(alloc, finalizers, NOT_OPEN, |it| {
+        let shown = it.machine.finalizers();
+        let left = shown.iter_cleanups().from_place(from as usize);
+        fill_cleanups(left, &mut found)
+    });
+    if count == 0 {
+        return EMPTY;
+    }
+    *cleanups = Cleanups {
+        cleanups: found,
         count: count as u64,
     };
     OK
