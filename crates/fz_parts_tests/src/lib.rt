@@ -23,6 +23,8 @@ mod marker;
 #[cfg(test)]
 mod pass;
 #[cfg(test)]
+mod ready;
+#[cfg(test)]
 mod script;
 #[cfg(test)]
 mod table;
