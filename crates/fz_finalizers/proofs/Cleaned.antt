@@ -1,9 +1,9 @@
 -- Due cleanups are listed, and leave the table one after another.
-use Rattle.std.proofs.Common.{◌≡◌, ℕ, zero, suc, ◌+◌, ◌<◌, ◌≤◌, ◌++◌, ◌⊎◌, ◌≢◌, ◌&&◌, not, Bool, true, false, cond, List, [], ◌∷◌, map, take, length, get_or, nat_eq, nat_cmp, Option, Some, None, is_some, All, AllPairs, Contains, IsTrue, inl, inr, ⊎_elim, append-nil, append_assoc, refl, sym, ap, subst, ◌∙◌, arith}
+use Rattle.std.proofs.Common.{◌≡◌, ℕ, zero, suc, ◌+◌, ◌<◌, ◌≤◌, ◌++◌, ◌≢◌, ◌&&◌, not, Bool, true, false, cond, List, [], ◌∷◌, map, take, length, get_or, nat_eq, nat_cmp, Option, Some, None, is_some, All, Contains, IsTrue, ⊎_elim, append-nil, append_assoc, refl, sym, ap, subst, ◌∙◌, arith}
 use Rattle.std.proofs.lemmas.Bool.{true≢false}
 use Rattle.std.proofs.lemmas.Option.{none-some, same_Some, slice_get-get_or, get_or_from_slice_get}
 use Rattle.std.proofs.lemmas.List.{map-append, length-append, length-map, take_more, take_all}
-use Rattle.std.proofs.lemmas.List.Elements.{All-append, All-cons, All-nil, All-head, All-tail, All-contains, filter-append}
+use Rattle.std.proofs.lemmas.List.Elements.{All-append, All-cons, All-nil, All-head, All-tail, filter-append}
 use Rattle.std.proofs.lemmas.Map.Keys.{IsDistinct-head, IsDistinct-tail, IsDistinct-cons}
 use Rattle.std.specs.List.{filter, IsDistinct, AllByRecursion}
 use Rattle.std.specs.Map.{keys_of}
@@ -13,7 +13,6 @@ use Rattle.fz_model.specs.declared.kinds.LinkKind.{LinkKind}
 use Rattle.fz_model.specs.declared.kinds.LinkKind.TheVariants.{Short, Long}
 use Rattle.fz_model.specs.Pass.{entries_of}
 use Rattle.fz_model.specs.State.{Map}
-use Rattle.fz_model.specs.declared.answers.Entry.{Entry}
 use Rattle.fz_model.specs.declared.answers.Pick.{Pick}
 use Rattle.fz_model.proofs.KeyedEntries.{got, listed}
 use Rattle.fz_model.proofs.Maps.{get-remove_same, get-remove_other}
@@ -21,7 +20,7 @@ use Rattle.fz_model.proofs.Sound.{length-entries_of}
 use Rattle.fz_pass.specs.Listing.{AreApart, AreRanked, ComesAt, are_one}
 use Rattle.fz_pass.proofs.Gathering.{entries_of-append}
 use Rattle.fz_finalizers.specs.declared.cleanups.Attached.{Attached}
-use Rattle.fz_finalizers.specs.Cleanups.{AreDue, AreListed, ComesFirst, IsListed, is_due, is_when, pick_of, ranked, without}
+use Rattle.fz_finalizers.specs.Cleanups.{AreDue, AreListed, IsListed, is_due, is_when, pick_of, ranked, without}
 use Rattle.fz_finalizers.specs.Queue.{CleansOut, GainsPicks, Queue, TakesListed}
 
 -- ---- what is due among entries
@@ -89,7 +88,7 @@ module _ (test : Attached → Bool) where
   }
 
 -- one more at most
-pub fewer : (b : Bool) (xs : List (ℕ × ℕ)) (x : ℕ × ℕ) → length (cond b (xs ++ x ∷ []) xs) ≤ length xs + 1
+pub fewer : {X : Type 0} (b : Bool) (xs : List X) (x : X) → length (cond b (xs ++ x ∷ []) xs) ≤ length xs + 1
 fewer true xs x = let long = length-append xs (x ∷ []) in omega (arith, long)
 fewer false xs x = omega arith
 
@@ -100,6 +99,10 @@ get-without_other m [] k apart = refl
 get-without_other m (x ∷ xs) k apart =
     get-without_other (remove m x.0) xs k (All-tail (λ (y : ℕ × Attached). y.0 ≢ k) x xs apart)
     ∙ get-remove_other m x.0 k (λ same. All-head (λ (y : ℕ × Attached). y.0 ≢ k) x xs apart (sym same))
+
+-- one that is there by itself
+pub one_there : (m : Map Attached) (number : ℕ) (c : Attached) → get m number ≡ Some c → All (λ (x : ℕ × Attached). get m x.0 ≡ Some x.1) ((number, c) ∷ [])
+one_there m number c here = All-cons (λ (x : ℕ × Attached). get m x.0 ≡ Some x.1) (number, c) [] here (All-nil (λ (x : ℕ × Attached). get m x.0 ≡ Some x.1))
 
 pub without-push : (m : Map Attached) (xs : List (ℕ × Attached)) (x : ℕ × Attached) → without m (xs ++ x ∷ []) ≡ remove (without m xs) x.0
 without-push m [] x = refl

@@ -1,9 +1,8 @@
 -- What events do to links, and to the numbers of passes.
-use Rattle.std.proofs.Common.{◌≡◌, ◌≢◌, ℕ, ◌+◌, ◌-◌, ◌^◌, ◌<◌, ◌≤◌, ◌⊎◌, inl, inr, Bool, true, false, List, ◌++◌, length, map, Option, None, Some, is_some, if◌then◌else◌, slice_get, refl, sym, ap, subst, ◌∙◌, arith}
+use Rattle.std.proofs.Common.{◌≡◌, ◌≢◌, ℕ, ◌+◌, ◌⊎◌, inl, inr, List, [], ◌∷◌, ◌++◌, append-nil, length, map, Option, None, Some, is_some, if◌then◌else◌, slice_get, refl, sym, ap, subst, ◌∙◌, arith}
 use Rattle.std.proofs.lemmas.Option.{none-some}
 use Rattle.std.specs.Option.{option_map_or}
-use Rattle.std.specs.FinMap.{get, insert, remove, contains_key}
-use Rattle.fz_model.specs.declared.answers.Entry.{Entry}
+use Rattle.std.specs.FinMap.{get, insert, remove}
 use Rattle.fz_model.specs.declared.answers.Registration.{Registration}
 use Rattle.fz_model.specs.declared.kinds.LinkKind.{LinkKind}
 use Rattle.fz_model.specs.declared.kinds.LinkKind.TheVariants.{Short, Long}
@@ -13,9 +12,10 @@ use Rattle.fz_model.specs.Steps.{moved_to}
 use Rattle.fz_model.proofs.Lists.{slice_get-right}
 use Rattle.fz_model.proofs.Maps.{get-insert_same, get-insert_other, get-remove_same, get-remove_other}
 use Rattle.fz_model.specs.declared.answers.Pick.{Pick}
+use Rattle.fz_finalizers.specs.declared.cleanups.Attached.{Attached}
 use Rattle.fz_finalizers.specs.Cleanups.{pick_of}
 use Rattle.fz_finalizers.specs.States.{State, links_of, with_links}
-use Rattle.fz_finalizers.specs.Follows.{Event, Follows, Queues, next_pass, queued_one, queued_object, with_registration, Register, Unregister, Link, Unlink, Move, AddCleanup, Cancel, Clean, Pass, Begin, Queue, QueueAll, Take, TakeFinished, TakeAll, Finish}
+use Rattle.fz_finalizers.specs.Follows.{Event, Follows, Queues, next_pass, queued_one, queued_object, queued_attached, queued_cleanup, Register, Unregister, Link, Unlink, Move, AddCleanup, Cancel, Clean, Pass, Begin, Queue, QueueCleanup, QueueAll, Take, TakeFinished, TakeAll, Finish}
 use Rattle.fz_finalizers.specs.Laws.{SameLinks, SameLinksBut, ChangesLinks, IsNextPass, AddsOfPass, NumbersPasses}
 use Rattle.fz_finalizers.proofs.OneQueued.{queued_queues}
 use Rattle.fz_finalizers.proofs.Recorded.{entry_has}
@@ -111,6 +111,14 @@ module _ (s : State) (object : ℕ) where
   queued_passes : (queued_object s object).passes ≡ s.passes
   queued_passes = queued_by (λ t. t.passes ≡ s.passes) refl (λ r. refl) (get s.registrations object)
 
+-- and so does a cleanup
+cleaned_by : (s : State) (number : ℕ) (P : State → Type 0) → P s → ((c : Attached) → P (queued_attached s number c)) → P (queued_cleanup s number)
+cleaned_by s number P none some = by (get s.cleanups number)
+  where
+    by : (o : Option Attached) → P (option_map_or (queued_attached s number) o s)
+    by None = none
+    by (Some c) = some c
+
 unlinked : (old new made : State) → new ≡ made → made.short ≡ old.short → made.long ≡ old.long → SameLinks old new
 unlinked old new made is short long = same_links old new (ap (λ (s : State). s.short) is ∙ short) (ap (λ (s : State). s.long) is ∙ long)
 
@@ -126,6 +134,7 @@ changes_links old new (Clean pass is_due) does = unlinked old new _ does.2 refl 
 changes_links old new Pass does = tt
 changes_links old new Begin does = unlinked old new _ does refl refl
 changes_links old new (Queue object) does = unlinked old new _ does (queued_short old object) (queued_long old object)
+changes_links old new (QueueCleanup number) does = unlinked old new _ does (cleaned_by old number (λ t. t.short ≡ old.short) refl (λ c. refl)) (cleaned_by old number (λ t. t.long ≡ old.long) refl (λ c. refl))
 changes_links old new QueueAll does = same_links old new does.3 does.4
 changes_links old new (Take entry) does = unlinked old new _ does.1 refl refl
 changes_links old new (TakeFinished entry) does = unlinked old new _ does.1 refl refl
@@ -142,6 +151,9 @@ adds_picks pass old new picks queued k e at =
 
 adds : (pass : ℕ) (old new : State) → Queues pass old new → AddsOfPass pass old new
 adds pass old new queues = adds_picks pass old new queues.picks queues.queue
+
+adds_cleanup : (s : State) (number : ℕ) → AddsOfPass s.passes s (queued_cleanup s number)
+adds_cleanup s number = cleaned_by s number (AddsOfPass s.passes s) (adds_picks s.passes s s [] (sym (append-nil s.queue))) (λ c. adds_picks s.passes s (queued_attached s number c) (pick_of (number, c) ∷ []) refl)
 
 next_is : (old new : ℕ) → new ≡ next_pass old → IsNextPass old new
 next_is old new is = (λ low. omega (arith, is, low), λ high. omega (arith, is, high))
@@ -165,6 +177,8 @@ numbers_passes old new (Clean pass is_due) does = (ap (λ (s : State). s.passes)
 numbers_passes old new Pass does = (next_is old.passes new.passes does.1, λ k e at. adds _ old new does.0 k e at ∙ sym does.1)
 numbers_passes old new Begin does = (next_is old.passes new.passes (ap (λ (s : State). s.passes) does), ap (λ (s : State). s.queue) does)
 numbers_passes old new (Queue object) does = (ap (λ (s : State). s.passes) does ∙ queued_passes old object, adds old.passes old new (queued_queues old new object does))
+numbers_passes old new (QueueCleanup number) does =
+    (ap (λ (s : State). s.passes) does ∙ cleaned_by old number (λ t. t.passes ≡ old.passes) refl (λ c. refl), subst (AddsOfPass old.passes old) (sym does) (adds_cleanup old number))
 numbers_passes old new QueueAll does = (does.5, adds 0 old new does.0)
 numbers_passes old new (Take entry) does = kept old new _ does.1 refl refl
 numbers_passes old new (TakeFinished entry) does = kept old new _ does.1 refl refl

@@ -1,4 +1,4 @@
--- A registration that is queued by itself.
+-- A registration or a cleanup that is queued by itself.
 use Rattle.std.proofs.Common.{◌≡◌, ℕ, zero, suc, [], ◌∷◌, append-nil, ⊎_elim, Option, Some, None, All, refl, sym, ap, subst, ◌∙◌, arith}
 use Rattle.std.proofs.lemmas.Bool.{cases_eq}
 use Rattle.std.proofs.lemmas.Option.{none-some}
@@ -10,12 +10,13 @@ use Rattle.fz_model.specs.State.{Map}
 use Rattle.fz_model.proofs.Maps.{get-remove_same, get-remove_other}
 use Rattle.fz_pass.specs.All.{unknown}
 use Rattle.fz_pass.specs.Picking.{pick_of}
-use Rattle.fz_finalizers.specs.Follows.{ArePicksIn, IsOf, Queues, queued_one, queued_object, without_registration}
+use Rattle.fz_finalizers.specs.declared.cleanups.Attached.{Attached}
+use Rattle.fz_finalizers.specs.Follows.{ArePicksIn, IsOf, Queues, queued_attached, queued_cleanup, queued_one, queued_object, without_cleanup, without_registration}
 use Rattle.fz_finalizers.specs.States.{State, AreFlags}
 use Rattle.fz_finalizers.proofs.Flags.{flag_none}
 
 -- what isn't there can't be removed
-pub nothing_removed : (m : Map Registration) (k : ℕ) → get m k ≡ None → remove m k ≡ m
+pub nothing_removed : {X : Type 0} (m : Map X) (k : ℕ) → get m k ≡ None → remove m k ≡ m
 nothing_removed m k none =
     same_map nat_cmp_total nat_cmp-IsAntisymmetric _ _
     (λ q. ⊎_elim (λ (is : q ≡ k). ap (get (remove m k)) is ∙ get-remove_same m k ∙ sym none ∙ ap (get m) (sym is)) (λ ne. get-remove_other m k q ne) (cases_eq q k))
@@ -52,3 +53,8 @@ none_queued s object flags none =
 
 pub queued_queues : (old new : State) (object : ℕ) → new ≡ queued_object old object → Queues old.passes old new
 queued_queues old new object is = subst (Queues old.passes old) (sym is) (one_queues old object)
+
+-- where there is no cleanup with the number, nothing is queued
+pub no_cleanup_queued : (s : State) (number : ℕ) → get s.cleanups number ≡ None → without_cleanup s number ≡ queued_cleanup s number
+no_cleanup_queued s number none =
+    (λ i. record s { cleanups = nothing_removed s.cleanups number none i }) ∙ ap (λ (o : Option Attached). option_map_or (queued_attached s number) o s) (sym none)

@@ -1,11 +1,12 @@
 -- What every sequence of calls keeps.
-use Rattle.std.proofs.Common.{◌≡◌, ◌≢◌, ◌<◌, ◌⊎◌, inl, inr, ◌↔◌, ℕ, zero, suc, ◌+◌, Bool, true, false, true≢false, cond, List, [], ◌∷◌, ◌++◌, drop, take, filter, map, not, length, Some, slice_get, get_or, All, AllPairs, Contains, nat_cmp, refl, sym, ap, subst, ◌∙◌, ⊎_elim, append_assoc, append-nil, arith}
+use Rattle.std.proofs.Common.{◌≡◌, ◌≢◌, ◌<◌, ◌⊎◌, inl, inr, ◌↔◌, ℕ, zero, suc, ◌+◌, Bool, true, false, true≢false, cond, List, [], ◌∷◌, ◌++◌, drop, take, filter, map, not, length, Option, None, Some, slice_get, get_or, All, AllPairs, Contains, nat_cmp, refl, sym, ap, subst, ◌∙◌, ⊎_elim, append_assoc, append-nil, arith}
 use Rattle.std.proofs.lemmas.Bool.{cases_eq}
 use Rattle.std.proofs.lemmas.List.{length-append, take-append-le, drop-append-le, take_more, take-append-drop, length-take-le}
 use Rattle.std.proofs.lemmas.List.Kept.{AllPairs-filter}
 use Rattle.std.proofs.lemmas.List.Elements.{All-append, Contains-append_left, Contains-append_right, Contains-append_cases, Contains-push, Contains-push_cases}
 use Rattle.std.proofs.lemmas.Option.{same_Some, none-some, slice_get-get_or, slice_get_within, get_or_from_slice_get}
 use Rattle.std.specs.List.{list_any}
+use Rattle.std.specs.Option.{option_map_or}
 use Rattle.std.specs.FinMap.{get, insert, remove, get-empty}
 use Rattle.fz_model.specs.declared.answers.Entry.{Entry}
 use Rattle.fz_model.specs.declared.answers.Pick.{Pick}
@@ -23,11 +24,11 @@ use Rattle.fz_model.proofs.Sound.{entry_at}
 use Rattle.fz_finalizers.specs.declared.kinds.Finalizer.{Finalizer}
 use Rattle.fz_finalizers.specs.Kinds.{is_late, table_finalizer}
 use Rattle.fz_finalizers.specs.States.{State, opening, unfinished, waiting, with_links}
-use Rattle.fz_finalizers.specs.Follows.{Event, Follows, Queues, with_registration, without_registration, with_cleanup, without_cleanup, Register, Unregister, Link, Unlink, Move, AddCleanup, Cancel, Clean, Pass, Begin, Queue, QueueAll, Take, TakeFinished, TakeAll, Finish}
+use Rattle.fz_finalizers.specs.Follows.{Event, Follows, Queues, with_registration, without_registration, with_cleanup, without_cleanup, queued_attached, queued_cleanup, Register, Unregister, Link, Unlink, Move, AddCleanup, Cancel, Clean, Pass, Begin, Queue, QueueCleanup, QueueAll, Take, TakeFinished, TakeAll, Finish}
 use Rattle.fz_finalizers.specs.declared.cleanups.Attached as cleanups
 use Rattle.fz_finalizers.specs.declared.cleanups.Cleanup.{Cleanup}
-use Rattle.fz_finalizers.specs.Cleanups.{AreDue, ComesFirst, pick_of, without}
-use Rattle.fz_finalizers.proofs.Cleaned.{without_back}
+use Rattle.fz_finalizers.specs.Cleanups.{ComesFirst, pick_of, without}
+use Rattle.fz_finalizers.proofs.Cleaned.{one_there, without_back}
 use Rattle.fz_finalizers.specs.Promises.{Past, Registered, Attached, with_event, IsReached, Opened, Then, Promises}
 use Rattle.fz_finalizers.proofs.Flags.{flags_entered, flags_removed, late_is_normal, no_flags}
 use Rattle.fz_finalizers.proofs.Queueing as queueing
@@ -341,7 +342,7 @@ module _ (s : State) (past : Past) (object : ℕ) (cleanup : Cleanup) (p : Promi
 
 -- ---- entries of cleanups come
 
-module _ (pass : ℕ) (s : State) (past : Past) (p : Promises s past) (test : cleanups.Attached → Bool) (due : List (ℕ × cleanups.Attached)) (are : AreDue test s.cleanups due) where
+module _ (pass : ℕ) (s : State) (past : Past) (p : Promises s past) (due : List (ℕ × cleanups.Attached)) (each : All (λ (x : ℕ × cleanups.Attached). get s.cleanups x.0 ≡ Some x.1) due) (ordered : AllPairs ComesFirst due) where
   abbrev clean_entries : List Entry
   clean_entries = entries_of pass (length s.queue) (map pick_of due)
 
@@ -353,8 +354,7 @@ module _ (pass : ℕ) (s : State) (past : Past) (p : Promises s past) (test : cl
       let is = entry_at pass (length s.queue) (map pick_of due) k e at in
       let from = map_at pick_of due k is.0 is.1 in
       let x = from.0 in
-      let each = are.each k x (slice_get_within due k x from.1) in
-      let here = subst (λ (y : ℕ × cleanups.Attached). get s.cleanups y.0 ≡ Some y.1) (get_or_from_slice_get due k x x from.1) each.0 in
+      let here = subst (λ (y : ℕ × cleanups.Attached). get s.cleanups y.0 ≡ Some y.1) (get_or_from_slice_get due k x x from.1) (each k x (slice_get_within due k x from.1)) in
       (x, from.1, is.2, is.3 ∙ ap (λ (q : Pick). q.reg) (sym from.2), here)
 
   number_of : (k : ℕ) (d : Entry) → k < length clean_entries → (x : ℕ × cleanups.Attached) × (slice_get due k ≡ Some x) × ((get_or clean_entries k d).reg ≡ x.0) × (get s.cleanups x.0 ≡ Some x.1)
@@ -372,7 +372,7 @@ module _ (pass : ℕ) (s : State) (past : Past) (p : Promises s past) (test : cl
       let rank : x.0.1.cleanup.rank ≡ y.0.1.cleanup.rank = ap (λ (c : cleanups.Attached). c.cleanup.rank) one in
       let before : ComesFirst x.0 y.0 =
       subst (λ (z : ℕ × cleanups.Attached). ComesFirst z y.0) (get_or_from_slice_get due i x.0 x.0 x.1)
-      (subst (λ (z : ℕ × cleanups.Attached). ComesFirst (get_or due i x.0) z) (get_or_from_slice_get due j y.0 x.0 y.1) (are.ordered i j x.0 lt (slice_get_within due j y.0 y.1))) in
+      (subst (λ (z : ℕ × cleanups.Attached). ComesFirst (get_or due i x.0) z) (get_or_from_slice_get due j y.0 x.0 y.1) (ordered i j x.0 lt (slice_get_within due j y.0 y.1))) in
       ⊎_elim (λ less. absurd (omega (arith, less, rank))) (λ less. absurd (omega (arith, less.1, number))) before
 
   numbers_gone : (a : ℕ) (r : Registration) → get s.registrations a ≡ Some r → All (λ (e : Entry). e.reg ≢ r.number) clean_entries
@@ -417,6 +417,14 @@ module _ (pass : ℕ) (s : State) (past : Past) (p : Promises s past) (test : cl
         (λ (fresh : Contains clean_entries e). Contains-append_right (unfinished s) clean_entries e fresh)
         (Contains-append_cases s.queue clean_entries e here));
   }
+
+-- one is queued by itself
+one_cleaned : (s : State) (past : Past) (number : ℕ) → Promises s past → Promises (queued_cleanup s number) past
+one_cleaned s past number p = by (get s.cleanups number) refl
+  where
+    by : (o : Option cleanups.Attached) → get s.cleanups number ≡ o → Promises (option_map_or (queued_attached s number) o s) past
+    by None none = p
+    by (Some c) here = cleaned s.passes s past p ((number, c) ∷ []) (one_there s.cleanups number c here) (λ i j d lt within. absurd (omega (arith, lt, within)))
 
 -- ---- an entry is taken
 
@@ -565,7 +573,7 @@ taken_all s past p = subst (λ n. Promises (record s { taken = n; held = unfinis
 -- ---- an entry is finished
 
 -- what a test keeps stands among what is left
-kept_in : (q : Entry → Bool) (xs : List Entry) (k : ℕ) (x : Entry) → slice_get xs k ≡ Some x → q x ≡ true → (i : ℕ) × (slice_get (filter q xs) i ≡ Some x)
+pub kept_in : {X : Type 0} (q : X → Bool) (xs : List X) (k : ℕ) (x : X) → slice_get xs k ≡ Some x → q x ≡ true → (i : ℕ) × (slice_get (filter q xs) i ≡ Some x)
 kept_in q [] k x at on = absurd (none-some x at)
 kept_in q (y ∷ ys) zero x at on = (0, ap (λ b. slice_get (cond b (y ∷ filter q ys) (filter q ys)) 0) (ap q (same_Some y x at) ∙ on) ∙ at)
 kept_in q (y ∷ ys) (suc k) x at on = further (q y) (kept_in q ys k x at on)
@@ -633,7 +641,7 @@ step : (old now : State) (past : Past) (event : Event) → Promises old past →
 step old now past (Register object finalizer) p does = subst (λ s. Promises s (record past { made = past.made ++ (object, Registered finalizer) ∷ [] })) (sym does) (remade old past object finalizer p)
 step old now past (AddCleanup object cleanup) p does = subst (λ s. Promises s (record past { made = past.made ++ (object, Attached cleanup) ∷ [] })) (sym does) (added old past object cleanup p)
 step old now past (Cancel number) p does = subst (λ s. Promises s past) (sym does) (cancelled old past number p)
-step old now past (Clean pass is_due) p does = subst (λ s. Promises s past) (sym does.2) (cleaned pass old past p is_due does.0 does.1)
+step old now past (Clean pass is_due) p does = subst (λ s. Promises s past) (sym does.2) (cleaned pass old past p does.0 (λ k d within. (does.1.each k d within).0) does.1.ordered)
 step old now past (Unregister object) p does = subst (λ s. Promises s past) (sym does) (unregistered old past object p)
 step old now past (Link kind word target) p does = subst (λ s. Promises s past) (sym does) (linked old past kind _ p)
 step old now past (Unlink kind word) p does = subst (λ s. Promises s past) (sym does) (linked old past kind _ p)
@@ -641,6 +649,7 @@ step old now past (Move kind word to) p does = subst (λ s. Promises s past) (sy
 step old now past Pass p does = come _ old now past p does.0
 step old now past Begin p does = subst (λ s. Promises s past) (sym does) (begun old past _ p)
 step old now past (Queue object) p does = come _ old now past p (queued_queues old now object does)
+step old now past (QueueCleanup number) p does = subst (λ s. Promises s past) (sym does) (one_cleaned old past number p)
 step old now past QueueAll p does = come _ old now past p does.0
 step old now past (Take entry) p does = subst (λ s. Promises s (record past { taken = past.taken ++ entry ∷ [] })) (sym does.1) (taken old past entry p does.0)
 step old now past (TakeFinished entry) p does =

@@ -1,8 +1,9 @@
 -- A number stands for what was registered under it.
-use Rattle.std.proofs.Common.{◌≡◌, ◌≢◌, ℕ, zero, suc, ◌+◌, ◌<◌, Bool, true, false, cond, nat_eq, nat_cmp, List, [], ◌∷◌, ◌++◌, length, length-append, map, option_map, Option, None, Some, slice_get, get_or, All, Contains, refl, sym, ap, subst, ◌∙◌, ⊎_elim, arith}
+use Rattle.std.proofs.Common.{◌≡◌, ◌≢◌, ℕ, zero, suc, ◌+◌, false, cond, nat_cmp, List, [], ◌∷◌, ◌++◌, length, length-append, map, option_map, Option, None, Some, slice_get, get_or, All, Contains, refl, sym, ap, subst, ◌∙◌, ⊎_elim, arith}
 use Rattle.std.proofs.lemmas.Bool.{cases_eq, eq-eqb, ne_eqb}
 use Rattle.std.proofs.lemmas.Option.{same_Some, none-some, slice_get-get_or, slice_get_within, get_or_from_slice_get}
 use Rattle.std.proofs.lemmas.List.Elements.{Contains-append_cases}
+use Rattle.std.specs.Option.{option_map_or}
 use Rattle.std.specs.FinMap.{get, insert, remove, get-empty}
 use Rattle.std.specs.FinSet.{contains}
 use Rattle.std.specs.FinSet as sets
@@ -24,11 +25,11 @@ use Rattle.fz_finalizers.specs.declared.kinds.Kind.TheVariants.{Normal, IgnoreSe
 use Rattle.fz_finalizers.specs.declared.kinds.Finalizer.{Finalizer}
 use Rattle.fz_finalizers.specs.Kinds.{is_late, table_kind, of_table, table_finalizer}
 use Rattle.fz_finalizers.specs.States.{State, opening, with_links, kind_at}
-use Rattle.fz_finalizers.specs.Follows.{Event, Follows, Queues, IsOf, with_registration, without_registration, with_cleanup, without_cleanup, Register, Unregister, Link, Unlink, Move, AddCleanup, Cancel, Clean, Pass, Begin, Queue, QueueAll, Take, TakeFinished, TakeAll, Finish}
+use Rattle.fz_finalizers.specs.Follows.{Event, Follows, Queues, IsOf, with_registration, without_registration, with_cleanup, without_cleanup, queued_attached, queued_cleanup, Register, Unregister, Link, Unlink, Move, AddCleanup, Cancel, Clean, Pass, Begin, Queue, QueueCleanup, QueueAll, Take, TakeFinished, TakeAll, Finish}
 use Rattle.fz_finalizers.specs.declared.cleanups.Attached as cleanups
 use Rattle.fz_finalizers.specs.declared.cleanups.Cleanup.{Cleanup}
-use Rattle.fz_finalizers.specs.Cleanups.{AreDue, pick_of, without}
-use Rattle.fz_finalizers.proofs.Cleaned.{without_back}
+use Rattle.fz_finalizers.specs.Cleanups.{pick_of, without}
+use Rattle.fz_finalizers.proofs.Cleaned.{one_there, without_back}
 use Rattle.fz_finalizers.specs.Promises.{Past, Made, Registered, Attached, IsEntryOf, with_event, IsReached, Opened, Then, Records}
 use Rattle.fz_finalizers.proofs.Queueing as queueing
 use Rattle.fz_finalizers.proofs.OneQueued.{queued_queues}
@@ -229,7 +230,7 @@ module _ (s : State) (past : Past) (object : ℕ) (cleanup : Cleanup) (p : Recor
     queued = λ e here. let of = p.queued e here in (of.0, slice_get-left past.made (one ∷ []) e.reg of.0 of.1, of.2);
   }
 
-module _ (pass : ℕ) (s : State) (past : Past) (p : Records s past) (test : cleanups.Attached → Bool) (due : List (ℕ × cleanups.Attached)) (are : AreDue test s.cleanups due) where
+module _ (pass : ℕ) (s : State) (past : Past) (p : Records s past) (due : List (ℕ × cleanups.Attached)) (each : All (λ (x : ℕ × cleanups.Attached). get s.cleanups x.0 ≡ Some x.1) due) where
   abbrev clean_entries : List Entry
   clean_entries = entries_of pass (length s.queue) (map pick_of due)
 
@@ -239,8 +240,7 @@ module _ (pass : ℕ) (s : State) (past : Past) (p : Records s past) (test : cle
       let has = entry_has pass (length s.queue) (map pick_of due) at.0 e at.1 in
       let from = map_at pick_of due at.0 has.0 has.1 in
       let x = from.0 in
-      let each = are.each at.0 x (slice_get_within due at.0 x from.1) in
-      let there = subst (λ (y : ℕ × cleanups.Attached). get s.cleanups y.0 ≡ Some y.1) (get_or_from_slice_get due at.0 x x from.1) each.0 in
+      let there = subst (λ (y : ℕ × cleanups.Attached). get s.cleanups y.0 ≡ Some y.1) (get_or_from_slice_get due at.0 x x from.1) (each at.0 x (slice_get_within due at.0 x from.1)) in
       let pick = sym from.2 in (
         (x.1.object, Attached x.1.cleanup),
         ap (slice_get past.made) (has.2 ∙ ap (λ (q : Pick). q.reg) pick) ∙ p.attached x.0 x.1 there,
@@ -255,13 +255,21 @@ module _ (pass : ℕ) (s : State) (past : Past) (p : Records s past) (test : cle
     queued = λ e here. ⊎_elim (p.queued e) (clean_fresh e) (Contains-append_cases s.queue clean_entries e here);
   }
 
+-- one is queued by itself
+one_cleaned : (s : State) (past : Past) (number : ℕ) → Records s past → Records (queued_cleanup s number) past
+one_cleaned s past number p = by (get s.cleanups number) refl
+  where
+    by : (o : Option cleanups.Attached) → get s.cleanups number ≡ o → Records (option_map_or (queued_attached s number) o s) past
+    by None none = p
+    by (Some c) here = cleaned s.passes s past p ((number, c) ∷ []) (one_there s.cleanups number c here)
+
 -- ---- each event
 
 step : (old now : State) (past : Past) (event : Event) → Records old past → Follows old event now → Records now (with_event past event)
 step old now past (Register object finalizer) p does = subst (λ s. Records s (record past { made = past.made ++ (object, Registered finalizer) ∷ [] })) (sym does) (entered old past object finalizer p)
 step old now past (AddCleanup object cleanup) p does = subst (λ s. Records s (record past { made = past.made ++ (object, Attached cleanup) ∷ [] })) (sym does) (added old past object cleanup p)
 step old now past (Cancel number) p does = subst (λ s. Records s past) (sym does) (cancelled old past number p)
-step old now past (Clean pass is_due) p does = subst (λ s. Records s past) (sym does.2) (cleaned pass old past p is_due does.0 does.1)
+step old now past (Clean pass is_due) p does = subst (λ s. Records s past) (sym does.2) (cleaned pass old past p does.0 (λ k d within. (does.1.each k d within).0))
 step old now past (Unregister object) p does = subst (λ s. Records s past) (sym does) (removed old past object p)
 step old now past (Link kind word target) p does = subst (λ s. Records s past) (sym does) (linked old past kind _ p)
 step old now past (Unlink kind word) p does = subst (λ s. Records s past) (sym does) (linked old past kind _ p)
@@ -269,6 +277,7 @@ step old now past (Move kind word to) p does = subst (λ s. Records s past) (sym
 step old now past Pass p does = come _ old now past p does.0
 step old now past Begin p does = subst (λ s. Records s past) (sym does) (beside old past old.short old.long _ p)
 step old now past (Queue object) p does = come _ old now past p (queued_queues old now object does)
+step old now past (QueueCleanup number) p does = subst (λ s. Records s past) (sym does) (one_cleaned old past number p)
 step old now past QueueAll p does = come _ old now past p does.0
 step old now past (Take entry) p does = subst (λ s. Records s (record past { taken = past.taken ++ entry ∷ [] })) (sym does.1) (spent old past _ _ _ past.finished p)
 step old now past (TakeFinished entry) p does = subst (λ s. Records s (record past { taken = past.taken ++ entry ∷ []; finished = past.finished ++ entry ∷ [] })) (sym does.1) (spent old past _ old.held _ _ p)

@@ -66,6 +66,7 @@ pub data Event : Type 0 where
   Pass : Event
   Begin : Event
   Queue : ℕ → Event
+  QueueCleanup : ℕ → Event
   QueueAll : Event
   Take : Entry → Event
   TakeFinished : Entry → Event
@@ -100,6 +101,14 @@ queued_one s object r = record (without_registration s object) { queue = s.queue
 abbrev pub queued_object : State → ℕ → State
 queued_object s object = option_map_or (queued_one s object) (get s.registrations object) s
 
+-- the cleanup leaves, and its entry is appended to the queue, as one of the last pass begun
+abbrev pub queued_attached : State → ℕ → Attached → State
+queued_attached s number c = record (without_cleanup s number) { queue = s.queue ++ entry_of s.passes (length s.queue) (cleanups.pick_of (number, c)) ∷ [] }
+
+-- the same, if there is a cleanup with this number
+abbrev pub queued_cleanup : State → ℕ → State
+queued_cleanup s number = option_map_or (queued_attached s number) (get s.cleanups number) s
+
 abbrev pub Follows : State → Event → State → Type 0
 Follows old (Register object finalizer) new = new ≡ with_registration old object finalizer
 Follows old (Unregister object) new = new ≡ without_registration old object
@@ -112,6 +121,7 @@ Follows old (Clean pass is_due) new = Cleans pass is_due old new
 Follows old Pass new = Queues (next_pass old.passes) old new × (new.passes ≡ next_pass old.passes)
 Follows old Begin new = new ≡ record old { passes = next_pass old.passes }
 Follows old (Queue object) new = new ≡ queued_object old object
+Follows old (QueueCleanup number) new = new ≡ queued_cleanup old number
 Follows old QueueAll new = Queues 0 old new × (new.registrations ≡ empty) × (new.late ≡ sets.empty) × (new.short ≡ old.short) × (new.long ≡ old.long) × (new.passes ≡ old.passes)
 Follows old (Take entry) new = (slice_get old.queue old.taken ≡ Some entry) × (new ≡ record old { taken = old.taken + 1; held = old.held ++ entry ∷ [] })
 Follows old (TakeFinished entry) new = (slice_get old.queue old.taken ≡ Some entry) × (new ≡ record old { taken = old.taken + 1 })

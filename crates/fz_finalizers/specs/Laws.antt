@@ -14,7 +14,7 @@ use Rattle.fz_finalizers.specs.declared.roots.Root.TheVariants.{HeldObject, Held
 use Rattle.fz_finalizers.specs.States.{State, links_of, unfinished}
 use Rattle.fz_finalizers.specs.declared.cleanups.Attached.{Attached}
 use Rattle.fz_finalizers.specs.Cleanups.{is_due}
-use Rattle.fz_finalizers.specs.Follows.{Event, Link, Unlink, Move, Clean, Pass, Begin, Queue, QueueAll, next_pass}
+use Rattle.fz_finalizers.specs.Follows.{Event, Link, Unlink, Move, Clean, Pass, Begin, Queue, QueueCleanup, QueueAll, next_pass}
 use Rattle.fz_finalizers.specs.Passed.{DecidesFor, PassesFor}
 use Rattle.fz_finalizers.specs.Walks.{AreRegistrations, AreCleanups, AreLinks, YieldsRoots}
 
@@ -52,6 +52,7 @@ NumbersPasses old Pass new = IsNextPass old.passes new.passes × AddsOfPass new.
 NumbersPasses old (Clean pass is_due) new = (new.passes ≡ old.passes) × AddsOfPass pass old new
 NumbersPasses old Begin new = IsNextPass old.passes new.passes × (new.queue ≡ old.queue)
 NumbersPasses old (Queue object) new = (new.passes ≡ old.passes) × AddsOfPass old.passes old new
+NumbersPasses old (QueueCleanup number) new = (new.passes ≡ old.passes) × AddsOfPass old.passes old new
 NumbersPasses old QueueAll new = (new.passes ≡ old.passes) × AddsOfPass 0 old new
 NumbersPasses old event new = (new.passes ≡ old.passes) × (new.queue ≡ old.queue)
 

@@ -9,7 +9,7 @@ use Rattle.fz_finalizers.specs.declared.roots.Root.TheVariants.{HeldObject, Held
 use Rattle.fz_finalizers.specs.declared.cleanups.Attached as cleanups
 use Rattle.fz_finalizers.specs.declared.cleanups.Cleanup.{Cleanup}
 use Rattle.fz_finalizers.specs.States.{State, AreFlags, opening, unfinished, kind_at}
-use Rattle.fz_finalizers.specs.Follows.{Event, Follows, Register, Unregister, Link, Unlink, Move, AddCleanup, Cancel, Clean, Pass, Begin, Queue, QueueAll, Take, TakeFinished, TakeAll, Finish}
+use Rattle.fz_finalizers.specs.Follows.{Event, Follows, Register, Unregister, Link, Unlink, Move, AddCleanup, Cancel, Clean, Pass, Begin, Queue, QueueCleanup, QueueAll, Take, TakeFinished, TakeAll, Finish}
 use Rattle.fz_finalizers.specs.Walks.{YieldsRoots}
 
 -- what a number was given for
@@ -31,6 +31,7 @@ with_event past (TakeAll entries) = record past { taken = past.taken ++ entries 
 with_event past (Finish entry) = record past { finished = past.finished ++ entry ∷ [] }
 with_event past Pass = past
 with_event past (Queue object) = past
+with_event past (QueueCleanup number) = past
 with_event past QueueAll = past
 with_event past (Register object finalizer) = record past { made = past.made ++ (object, Registered finalizer) ∷ [] }
 with_event past (AddCleanup object cleanup) = record past { made = past.made ++ (object, Attached cleanup) ∷ [] }

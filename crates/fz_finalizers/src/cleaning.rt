@@ -4,7 +4,7 @@ ghost use Rattle.std.specs.Prelude.{◌≡◌, ◌≤◌, ◌<◌, ◌+◌, ◌^
 ghost use Rattle.std.specs.FinMap.{get, remove, len, contains_key};
 ghost use Rattle.fz_pass.specs.Listing.{AreApart, AreRanked};
 ghost use Rattle.fz_finalizers.specs.declared.cleanups.Attached.{Attached};
-ghost use Rattle.fz_finalizers.specs.Cleanups.{AreListed, IsListed, is_due, is_when, pick_of};
+ghost use Rattle.fz_finalizers.specs.Cleanups.{AreListed, IsListed, is_due, pick_of};
 ghost use Rattle.fz_finalizers.specs.Queue.{TakesListed};
 
 use crate::cleanups::{Attached, Cleanups};
@@ -12,21 +12,11 @@ use crate::queue::Queue;
 use fz_model::{Addr, LinkKind, Pick};
 use fz_pass::{Host, ReadyList};
 
-/// Whether two moments are the same.
-fn is_when(when: LinkKind, other: LinkKind) -> bool
-    ensures { result ≡ is_when when other }
-{
-    match (when, other) {
-        (LinkKind::Short, LinkKind::Short) | (LinkKind::Long, LinkKind::Long) => true,
-        (LinkKind::Short, LinkKind::Long) | (LinkKind::Long, LinkKind::Short) => false,
-    }
-}
-
 /// Whether a cleanup is due at this moment.
 fn is_due<H: Host>(host: &H, when: LinkKind, attached: Attached) -> bool
     ensures { result ≡ is_due when (H.marked host.now) attached }
 {
-    is_when(when, attached.cleanup.when) && !host.is_marked(attached.object)
+    attached.cleanup.is_when(when) && !host.is_marked(attached.object)
 }
 
 /// Appends a cleanup's number with its rank to the list, which has room for it, if the cleanup is due.
@@ -69,6 +59,19 @@ pub(crate) fn rank_due<H: Host>(host: &H, when: LinkKind, cleanups: &Cleanups, l
     list.sort();
 }
 
+/// What the entry of a cleanup has: no object.
+pub(crate) fn pick_of(number: u64, attached: Attached) -> Pick
+    ensures { result ≡ pick_of (number, attached) }
+{
+    Pick {
+        reg: number,
+        obj: 0,
+        birth: 0,
+        proc: attached.cleanup.procedure,
+        cd: attached.cleanup.client_data,
+    }
+}
+
 /// Removes a cleanup from the table, and returns what its entry has.
 fn take(cleanups: &mut Cleanups, number: u64) -> Pick
     requires there { IsTrue (contains_key cleanups.old.cleanups number) }
@@ -77,13 +80,7 @@ fn take(cleanups: &mut Cleanups, number: u64) -> Pick
     ensures count { len cleanups.new.cleanups + 1 ≡ len cleanups.old.cleanups }
 {
     let attached = cleanups.remove(number).unwrap();
-    Pick {
-        reg: number,
-        obj: 0,
-        birth: 0,
-        proc: attached.cleanup.procedure,
-        cd: attached.cleanup.client_data,
-    }
+    pick_of(number, attached)
 }
 
 /// Removes the listed cleanups from the table, and appends their entries to the queue, with this pass. Requires room for them.

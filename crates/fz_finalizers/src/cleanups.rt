@@ -5,6 +5,7 @@ ghost use Rattle.std.specs.FinMap.{get, insert, remove, len, empty, from_entries
 ghost use Rattle.std.specs.List.{IsDistinct};
 ghost use Rattle.std.specs.Map.{keys_of};
 ghost use Rattle.fz_table.specs.declared.limits.TheConstants.{MOST_ENTRIES};
+ghost use Rattle.fz_finalizers.specs.Cleanups.{is_when};
 
 use crate::refused::Refused;
 use fz_model::{Addr, LinkKind};
@@ -25,6 +26,18 @@ pub struct Cleanup {
     pub client_data: u64,
     /// Among the short cleanups that one pass queues, and among the long ones, lower ranks come first.
     pub rank: u8,
+}
+
+impl Cleanup {
+    /// Whether it is of this moment: of the beginning of a pass if it is short, and of its end if it is long.
+    pub fn is_when(self, when: LinkKind) -> bool
+        ensures { result ≡ is_when when self.when }
+    {
+        match (when, self.when) {
+            (LinkKind::Short, LinkKind::Short) | (LinkKind::Long, LinkKind::Long) => true,
+            (LinkKind::Short, LinkKind::Long) | (LinkKind::Long, LinkKind::Short) => false,
+        }
+    }
 }
 
 /// A cleanup with its object.

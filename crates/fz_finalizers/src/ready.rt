@@ -6,8 +6,6 @@ ghost use Rattle.std.specs.FinSet.{contains};
 ghost use Rattle.fz_model.specs.Events.{same_entry};
 ghost use Rattle.fz_model.specs.Memory.{points};
 ghost use Rattle.fz_model.specs.Pass.{entry_of};
-ghost use Rattle.fz_pass.specs.All.{unknown};
-ghost use Rattle.fz_pass.specs.Picking.{pick_of};
 ghost use Rattle.fz_pass.specs.Marks.{IsClosed, AreRegistered, AreTargets};
 ghost use Rattle.fz_pass.specs.Decides.{parts_of, parts_left};
 ghost use Rattle.fz_pass.specs.Flagged.{AreNormal};
@@ -24,7 +22,7 @@ use crate::queue::Queue;
 use crate::refused::Refused;
 use crate::unfinished::Entries;
 use fz_links::Links;
-use fz_model::{Addr, Entry, LinkKind, Pick, Registration};
+use fz_model::{Entry, LinkKind, Pick};
 use fz_pass::{Host, ReadyList};
 use fz_table::Table;
 use std::alloc::Global;
@@ -264,22 +262,15 @@ impl Ready {
         self.queue.queue_all(table, &mut self.list);
     }
 
-    /// Appends the entry of an object's registration to the queue, with this pass.
-    pub(crate) fn push(&mut self, pass: u64, object: Addr, registration: Registration)
+    /// Appends a pick's entry to the queue, with this pass.
+    pub(crate) fn push(&mut self, pass: u64, pick: Pick)
         requires room { 0 < self.old.room }
         requires number { length self.old.queue + 1 < 2 ^ 64 }
-        ensures queue { self.new.queue ≡ self.old.queue ++ entry_of pass (length self.old.queue) (pick_of registration object unknown) ∷ [] }
+        ensures queue { self.new.queue ≡ self.old.queue ++ entry_of pass (length self.old.queue) pick ∷ [] }
         ensures taken { self.new.taken ≡ self.old.taken }
         ensures held { self.new.held ≡ self.old.held }
         ensures room { self.old.room ≤ self.new.room + 1 }
     {
-        let pick = Pick {
-            reg: registration.number,
-            obj: object,
-            birth: 0,
-            proc: registration.proc,
-            cd: registration.cd,
-        };
         self.queue.push(pass, pick);
     }
 

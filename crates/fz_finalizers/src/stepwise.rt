@@ -2,10 +2,26 @@
 
 ghost use Rattle.std.specs.Prelude.{◌≡◌, ◌≤◌, ◌<◌, ◌+◌, is_some};
 ghost use Rattle.std.specs.FinMap.{get};
-ghost use Rattle.fz_finalizers.specs.Follows.{Follows, Begin, Queue, next_pass};
+ghost use Rattle.fz_pass.specs.All.{unknown};
+ghost use Rattle.fz_pass.specs.Picking.{pick_of};
+ghost use Rattle.fz_finalizers.specs.Follows.{Follows, Begin, Queue, QueueCleanup, next_pass};
 
+use crate::cleaning;
 use crate::finalizers::Finalizers;
-use fz_model::Addr;
+use fz_model::{Addr, Pick, Registration};
+
+/// What the entry of an object's registration has.
+fn pick_of(object: Addr, registration: Registration) -> Pick
+    ensures { result ≡ pick_of registration object unknown }
+{
+    Pick {
+        reg: registration.number,
+        obj: object,
+        birth: 0,
+        proc: registration.proc,
+        cd: registration.cd,
+    }
+}
 
 impl Finalizers {
     /// Begins a pass that is carried out by individual calls, and returns its number. From now on `queue` adds entries to it.
@@ -27,7 +43,20 @@ impl Finalizers {
         let Some(registration) = self.table.take(object) else {
             return false;
         };
-        self.ready.push(self.passes, object, registration);
+        self.ready.push(self.passes, pick_of(object, registration));
+        true
+    }
+
+    /// Removes a cleanup and appends its entry to the queue, as one of the last pass begun, and returns whether there was one. Takes no memory.
+    pub fn queue_cleanup(&mut self, number: u64) -> bool
+        ensures answer { result ≡ is_some (get self.old.cleanups number) }
+        ensures follows { Follows self.old.state (QueueCleanup number) self.new.state }
+    {
+        let Some(attached) = self.cleanups.remove(number) else {
+            return false;
+        };
+        self.ready
+            .push(self.passes, cleaning::pick_of(number, attached));
         true
     }
 }

@@ -1,5 +1,5 @@
 -- A host that answers for a graph is asked only what it may be asked.
-use Rattle.std.proofs.Common.{◌≡◌, ◌⊎◌, ◌∷◌, ◌∙◌, [], ℕ, false, List, Some, refl, sym, ap, subst, inl, inr, not, IsTrue, Option}
+use Rattle.std.proofs.Common.{◌≡◌, ◌⊎◌, ◌∷◌, ◌∙◌, [], ℕ, false, List, Some, refl, sym, ap, subst, inl, inr, ⊎_elim, not, IsTrue, Option}
 use Rattle.std.specs.FinMap.{get}
 use Rattle.fz_model.specs.declared.answers.Registration.{Registration}
 use Rattle.fz_model.specs.declared.kinds.RegKind.{RegKind}
@@ -14,19 +14,21 @@ use Rattle.fz_finalizers.specs.Kinds.{of_table}
 use Rattle.fz_finalizers.specs.States.{State}
 use Rattle.fz_machine.specs.declared.item.Item.{Item}
 use Rattle.fz_machine.specs.declared.phase.Phase.{Phase}
-use Rattle.fz_machine.specs.declared.phase.Phase.TheVariants.{ShortTargets, ShortWords, Objects, Children, Again, Picks, LateAgain, LatePicks, LongTargets, LongWords, ShortHolders, LongHolders}
+use Rattle.fz_machine.specs.declared.phase.Phase.TheVariants.{ShortCleanups, ShortTargets, ShortWords, Objects, Children, Again, Picks, LateAgain, LatePicks, LongTargets, LongWords, ShortHolders, LongHolders, LongCleanups}
 use Rattle.fz_machine.specs.declared.question.Ask.TheVariants.{MarkAlone}
 use Rattle.fz_machine.specs.Graph.{Graph, CanMark, MayAsk, MayBeAsked}
 use Rattle.fz_machine.specs.Phases.{asks, child_ask, pick_ask, subject, after, keeps}
 use Rattle.fz_machine.specs.Runs.{AreAskable, AsksRightly}
 use Rattle.fz_machine.proofs.Begun.{HasBegun, late_led, late_there, normal, others_led, registered}
 use Rattle.fz_machine.proofs.Entered.{IsOfEither}
-use Rattle.fz_machine.proofs.Keeping.{keep}
+use Rattle.fz_machine.proofs.Cleaning.{after_due}
 use Rattle.fz_machine.proofs.Led.{can_mark}
-use Rattle.fz_machine.proofs.Phased.{IsIn, LeadsOn, PicksLate, PicksOn, clear}
+use Rattle.fz_machine.proofs.Phased as phased
+use Rattle.fz_machine.proofs.Phased.{LeadsOn, PicksLate, PicksOn, clear}
 use Rattle.fz_machine.proofs.Phasing.{kept_on}
 use Rattle.fz_machine.proofs.Choosing as choosing
 use Rattle.fz_machine.proofs.Ran.{where_it_is}
+use Rattle.fz_machine.proofs.Rounds.{IsBehind, IsFirst, IsIn, begin_behind, keep}
 use Rattle.fz_machine.proofs.Working.{apart}
 
 child_may : (k : Kind) (o : ℕ) (h : Graph) → CanMark h o → MayBeAsked (child_ask k) o h
@@ -77,7 +79,8 @@ module _ (E : Type 0) (word_of : ℕ → Option ℕ) (b : State) (before : Graph
       (choosing.can_mark E word_of clearly item.object h h p.are.objects p.are.closed (registered E word_of b before begin item.object r here))
       (λ a leads. p.are.least a (late_led E word_of b before begin p.first item.object r (late_there E word_of b before begin p.first item.object on ∙ here) (ap not p.left_are.0.1) a leads))
 
-  may : (phase : Phase) (s : State) (kept left : List Item) (item : Item) (h : Graph) → IsIn E word_of b before phase s kept (item ∷ left) h → MayBeAsked (asks phase item) (subject phase item) h
+  may : (phase : Phase) (s : State) (kept left : List Item) (item : Item) (h : Graph) → phased.IsIn E word_of b before phase s kept (item ∷ left) h → MayBeAsked (asks phase item) (subject phase item) h
+  may ShortCleanups s kept left item h p = tt
   may ShortTargets s kept left item h p = tt
   may ShortWords s kept left item h p = tt
   may Objects s kept left item h p = tt
@@ -90,11 +93,19 @@ module _ (E : Type 0) (word_of : ℕ → Option ℕ) (b : State) (before : Graph
   may LongWords s kept left item h p = tt
   may ShortHolders s kept left item h p = tt
   may LongHolders s kept left item h p = tt
+  may LongCleanups s kept left item h p = tt
+
+module _ (E : Type 0) (word_of : ℕ → Option ℕ) (b : State) (before : Graph) (begin : HasBegun word_of b before) where
+  -- in the first round too
+  may_ever : (phase : Phase) (s : State) (kept left : List Item) (item : Item) (h : Graph) → IsIn E word_of b before phase s kept (item ∷ left) h → MayBeAsked (asks phase item) (subject phase item) h
+  may_ever phase s kept left item h p =
+      ⊎_elim (λ (q : IsFirst E word_of b before phase s (item ∷ left) h). subst (λ (o : Phase). MayBeAsked (asks o item) (subject o item) h) (sym q.0) tt)
+      (λ (q : IsBehind E word_of b before phase s kept (item ∷ left) h). may E word_of (after_due b q.0) before (begin_behind E word_of b before begin q.0) phase s kept left item h q.2) p
 
   pub askable : (phase : Phase) (s : State) (kept left : List Item) (h : Graph) → IsIn E word_of b before phase s kept left h → AreAskable E word_of phase left h
   askable phase s kept [] h p = tt
   askable phase s kept (item ∷ left) h p = (
-    may phase s kept left item h p,
+    may_ever phase s kept left item h p,
     λ answer between honest. askable phase (after phase item answer s) (kept_on (keeps phase item answer) kept item) left between (keep E word_of b before begin phase s kept left item h between p answer honest),
   )
 

@@ -3,13 +3,13 @@ use Rattle.std.proofs.Common.{ℕ, Bool, true, false, cond, refl, sym, subst, in
 use Rattle.std.specs.FinMap.{remove}
 use Rattle.fz_model.specs.declared.kinds.LinkKind.{LinkKind}
 use Rattle.fz_model.specs.declared.kinds.LinkKind.TheVariants.{Short, Long}
-use Rattle.fz_finalizers.specs.Follows.{Follows, Unlink, Begin, Queue, queued_object}
+use Rattle.fz_finalizers.specs.Follows.{Follows, Unlink, Begin, Queue, QueueCleanup, queued_cleanup, queued_object}
 use Rattle.fz_finalizers.specs.Kinds.{is_late}
 use Rattle.fz_finalizers.specs.Promises.{IsReached, Past, Then}
 use Rattle.fz_finalizers.specs.States.{State, View}
 use Rattle.fz_machine.specs.declared.item.Item.{Item}
 use Rattle.fz_machine.specs.declared.phase.Phase.{Phase}
-use Rattle.fz_machine.specs.declared.phase.Phase.TheVariants.{ShortTargets, ShortWords, Objects, Children, Again, Picks, LateAgain, LatePicks, LongTargets, LongWords, ShortHolders, LongHolders}
+use Rattle.fz_machine.specs.declared.phase.Phase.TheVariants.{ShortCleanups, ShortTargets, ShortWords, Objects, Children, Again, Picks, LateAgain, LatePicks, LongTargets, LongWords, ShortHolders, LongHolders, LongCleanups}
 use Rattle.fz_machine.specs.Going.{going}
 use Rattle.fz_machine.specs.Heard.{IsCalled, PassesAreCalls}
 use Rattle.fz_machine.specs.Phases.{after}
@@ -25,11 +25,15 @@ module _ (past : Past) (s : State) (c : IsCalled past s) where
   queued : (object : ℕ) → IsCalled past (queued_object s object)
   queued object = record { later = _; reached = Then (Queue object) c.reached refl; taken = c.taken; finished = c.finished }
 
+  cleaned : (number : ℕ) → IsCalled past (queued_cleanup s number)
+  cleaned number = record { later = _; reached = Then (QueueCleanup number) c.reached refl; taken = c.taken; finished = c.finished }
+
   cases : (b : Bool) (t u : State) → IsCalled past t → IsCalled past u → IsCalled past (cond b t u)
   cases true t u x y = x
   cases false t u x y = y
 
   called : (phase : Phase) (item : Item) (answer : Bool) → IsCalled past (after phase item answer s)
+  called ShortCleanups item answer = cases answer s (queued_cleanup s item.word) c (cleaned item.word)
   called ShortTargets item answer = c
   called ShortWords item answer = unlinked Short item.word _ refl
   called Objects item answer = c
@@ -42,6 +46,7 @@ module _ (past : Past) (s : State) (c : IsCalled past s) where
   called LongWords item answer = unlinked Long item.word _ refl
   called ShortHolders item answer = cases answer s (record s { short = remove s.short item.word }) c (unlinked Short item.word _ refl)
   called LongHolders item answer = cases answer s (record s { long = remove s.long item.word }) c (unlinked Long item.word _ refl)
+  called LongCleanups item answer = cases answer s (queued_cleanup s item.word) c (cleaned item.word)
 
 pub passes_are_calls : PassesAreCalls
 passes_are_calls old new past reached (inl begun) = record { later = past; reached = Then Begin reached begun.finalizers; taken = refl; finished = refl }

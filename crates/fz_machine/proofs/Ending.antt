@@ -2,24 +2,26 @@
 use Rattle.std.proofs.Common.{◌≡◌, ◌<◌, ℕ, true, false, true≢false, List, [], ◌∷◌, drop, slice_get, is_some, Option, Some, None, refl, sym, ap, subst, ◌∙◌, arith}
 use Rattle.std.proofs.lemmas.Option.{none-some, same_Some}
 use Rattle.fz_machine.specs.declared.phase.Phase.{Phase}
-use Rattle.fz_machine.specs.declared.phase.Phase.TheVariants.{ShortTargets, ShortWords, Objects, Children, Again, Picks, LateAgain, LatePicks, LongTargets, LongWords, ShortHolders, LongHolders}
+use Rattle.fz_machine.specs.declared.phase.Phase.TheVariants.{ShortCleanups, ShortTargets, ShortWords, Objects, Children, Again, Picks, LateAgain, LatePicks, LongTargets, LongWords, ShortHolders, LongHolders, LongCleanups}
 use Rattle.fz_machine.specs.declared.item.Item.{Item}
 use Rattle.fz_machine.specs.Phases.{next_phase}
 use Rattle.fz_machine.specs.Steps.{Going, skip, Begins, GoesOn, Asks, Turns, Ends}
 
 abbrev pub phases_left : Phase → ℕ
-phases_left ShortTargets = 11
-phases_left ShortWords = 10
-phases_left Objects = 9
-phases_left Children = 8
-phases_left Again = 7
-phases_left Picks = 6
-phases_left LateAgain = 5
-phases_left LatePicks = 4
-phases_left LongTargets = 3
-phases_left LongWords = 2
-phases_left ShortHolders = 1
-phases_left LongHolders = 0
+phases_left ShortCleanups = 13
+phases_left ShortTargets = 12
+phases_left ShortWords = 11
+phases_left Objects = 10
+phases_left Children = 9
+phases_left Again = 8
+phases_left Picks = 7
+phases_left LateAgain = 6
+phases_left LatePicks = 5
+phases_left LongTargets = 4
+phases_left LongWords = 3
+phases_left ShortHolders = 2
+phases_left LongHolders = 1
+phases_left LongCleanups = 0
 
 -- each phase has fewer behind it than the one before
 pub fewer_left : (phase next : Phase) → next_phase phase ≡ Some next → phases_left next < phases_left phase
@@ -29,6 +31,7 @@ fewer_left phase next is = by phase is
     to p q is lt = let same = ap phases_left (same_Some q next is) in omega (arith, same, lt)
 
     by : (p : Phase) → next_phase p ≡ Some next → phases_left next < phases_left p
+    by ShortCleanups is = to ShortCleanups ShortTargets is (omega arith)
     by ShortTargets is = to ShortTargets ShortWords is (omega arith)
     by ShortWords is = to ShortWords Objects is (omega arith)
     by Objects is = to Objects Children is (omega arith)
@@ -40,7 +43,8 @@ fewer_left phase next is = by phase is
     by LongTargets is = to LongTargets LongWords is (omega arith)
     by LongWords is = to LongWords ShortHolders is (omega arith)
     by ShortHolders is = to ShortHolders LongHolders is (omega arith)
-    by LongHolders is = absurd (none-some next is)
+    by LongHolders is = to LongHolders LongCleanups is (omega arith)
+    by LongCleanups is = absurd (none-some next is)
 
 some_left : (xs : List Item) → is_some (slice_get xs 0) ≡ true → (item : Item) × (xs ≡ item ∷ drop 1 xs)
 some_left [] h = absurd (true≢false (sym h))

@@ -16,7 +16,7 @@ use Rattle.fz_machine.proofs.Sifting.{IsAt}
 
 module _ {X : Type 0} (m : Map X) (es : List (ℕ × X)) (are : AreEntriesOf m es) where
   -- what is listed stands in the map
-  stands : Each (λ e. get m e.0 ≡ Some e.1) es
+  pub stands : Each (λ e. get m e.0 ≡ Some e.1) es
   stands = each_from (λ e. get m e.0 ≡ Some e.1) es
       (All-weaker (Contains es) (λ e. get m e.0 ≡ Some e.1) (λ e is_in. ap (λ (n : Map X). get n e.0) (sym are.0) ∙ got es e.0 e.1 are.1 is_in) es (All-contains_itself es))
 

@@ -8,20 +8,25 @@ use Rattle.fz_model.specs.declared.answers.Registration.{Registration}
 use Rattle.fz_model.specs.State.{Map}
 use Rattle.fz_model.proofs.KeyedEntries.{len_made}
 use Rattle.fz_table.specs.Tabled.{Set, plain}
+use Rattle.fz_model.specs.declared.kinds.LinkKind.{LinkKind}
+use Rattle.fz_model.specs.declared.kinds.LinkKind.TheVariants.{Short, Long}
+use Rattle.fz_finalizers.specs.declared.cleanups.Attached.{Attached}
+use Rattle.fz_finalizers.specs.Cleanups.{is_when}
 use Rattle.fz_finalizers.specs.Follows.{Event, Follows}
 use Rattle.fz_finalizers.specs.States.{State}
 use Rattle.fz_machine.specs.declared.item.Item.{Item}
 use Rattle.fz_machine.specs.declared.pass.Next.{Next}
 use Rattle.fz_machine.specs.declared.pass.Next.TheVariants as told
 use Rattle.fz_machine.specs.declared.phase.Phase.{Phase}
-use Rattle.fz_machine.specs.declared.phase.Phase.TheVariants.{ShortTargets, ShortWords, Objects, Children, Again, Picks, LateAgain, LatePicks, LongTargets, LongWords, ShortHolders, LongHolders}
+use Rattle.fz_machine.specs.declared.phase.Phase.TheVariants.{ShortCleanups, ShortTargets, ShortWords, Objects, Children, Again, Picks, LateAgain, LatePicks, LongTargets, LongWords, ShortHolders, LongHolders, LongCleanups}
 use Rattle.fz_machine.specs.Going.{going}
 use Rattle.fz_machine.specs.Heard.{Begun, Goes, Hears, Meanwhile, PassesEnd}
-use Rattle.fz_machine.specs.Items.{AreEntriesOf, AreLinks, AreObjects, of_link, of_stored}
+use Rattle.fz_machine.specs.Items.{AreCleanups, AreEntriesOf, AreLinks, AreObjects, of_cleanup, of_link, of_stored}
 use Rattle.fz_machine.specs.Machines.{IsWork, Machine, Tells}
 use Rattle.fz_machine.specs.Phases.{Lists, after, asks, keeps, next_phase}
 use Rattle.fz_machine.specs.Steps.{Asks, Ends, Going, GoesOn, Turns, skip, skipped, steps}
 use Rattle.fz_machine.proofs.Phasing.{kept_on}
+use Rattle.fz_machine.proofs.Due.{due_few}
 use Rattle.fz_machine.proofs.Within.{IsWithin, still}
 use Rattle.fz_machine.proofs.Working.{work_apart}
 
@@ -32,23 +37,26 @@ module _ (r s g c : ℕ) where
   -- how often a phase and those behind it may go over an item, by how many are kept and left
   abbrev to_come : Option Phase → ℕ → ℕ → ℕ
   to_come None kept left = 0
-  to_come (Some ShortTargets) kept left = 2 * left + kept + (6 * r + 3 * g + s)
-  to_come (Some ShortWords) kept left = left + (6 * r + 3 * g + s)
-  to_come (Some Objects) kept left = 6 * left + 5 * kept + (3 * g + s)
-  to_come (Some Children) kept left = 5 * left + 4 * kept + (3 * g + s)
-  to_come (Some Again) kept left = 4 * left + 3 * kept + (3 * g + s)
-  to_come (Some Picks) kept left = 3 * left + 2 * kept + (3 * g + s)
-  to_come (Some LateAgain) kept left = 2 * left + kept + (3 * g + s)
-  to_come (Some LatePicks) kept left = left + (3 * g + s)
-  to_come (Some LongTargets) kept left = 2 * left + kept + (g + s)
-  to_come (Some LongWords) kept left = left + (g + s)
-  to_come (Some ShortHolders) kept left = left + g
-  to_come (Some LongHolders) kept left = left
+  to_come (Some ShortCleanups) kept left = left + (6 * r + 3 * (s + g) + c)
+  to_come (Some ShortTargets) kept left = 2 * left + kept + (6 * r + 3 * g + s + c)
+  to_come (Some ShortWords) kept left = left + (6 * r + 3 * g + s + c)
+  to_come (Some Objects) kept left = 6 * left + 5 * kept + (3 * g + s + c)
+  to_come (Some Children) kept left = 5 * left + 4 * kept + (3 * g + s + c)
+  to_come (Some Again) kept left = 4 * left + 3 * kept + (3 * g + s + c)
+  to_come (Some Picks) kept left = 3 * left + 2 * kept + (3 * g + s + c)
+  to_come (Some LateAgain) kept left = 2 * left + kept + (3 * g + s + c)
+  to_come (Some LatePicks) kept left = left + (3 * g + s + c)
+  to_come (Some LongTargets) kept left = 2 * left + kept + (g + s + c)
+  to_come (Some LongWords) kept left = left + (g + s + c)
+  to_come (Some ShortHolders) kept left = left + (g + c)
+  to_come (Some LongHolders) kept left = left + c
+  to_come (Some LongCleanups) kept left = left
 
   abbrev to_come_in : Option Phase → Going → ℕ
   to_come_in phase k = to_come phase (length k.kept) (length k.left)
 
   fewer : (phase : Phase) (kept new left : ℕ) → new ≤ kept + 1 → to_come (Some phase) new left + 1 ≤ to_come (Some phase) kept (suc left)
+  fewer ShortCleanups kept new left le = omega (arith, le)
   fewer ShortTargets kept new left le = omega (arith, le)
   fewer ShortWords kept new left le = omega (arith, le)
   fewer Objects kept new left le = omega (arith, le)
@@ -61,6 +69,7 @@ module _ (r s g c : ℕ) where
   fewer LongWords kept new left le = omega (arith, le)
   fewer ShortHolders kept new left le = omega (arith, le)
   fewer LongHolders kept new left le = omega (arith, le)
+  fewer LongCleanups kept new left le = omega (arith, le)
 
   one_kept : (keeps : Bool) (kept : List Item) (item : Item) → length (kept_on keeps kept item) ≤ length kept + 1
   one_kept true kept item = let long = length-append kept (item ∷ []) in omega (arith, long)
@@ -105,12 +114,19 @@ module _ (r s g c : ℕ) where
   objects_few : (registrations : Map Registration) (late : Set) (items : List Item) → AreObjects registrations late items → length items ≡ len registrations
   objects_few registrations late items are = ap length are.3 ∙ length-map are.0 of_stored ∙ sym (length-map are.0 plain) ∙ entries registrations (map plain are.0) are.1
 
+  cleanups_few : (when : LinkKind) (cleanups : Map Attached) (items : List Item) → AreCleanups when cleanups items → length items ≤ len cleanups
+  cleanups_few when cleanups items are =
+      let same = ap length are.2 ∙ length-map are.0 of_cleanup in
+      let few = due_few (λ (a : Attached). is_when when a.cleanup.when) cleanups are.0 are.1 in
+      omega (arith, same, few)
+
   module _ (t : State) (h : IsWithin r s g c t) (kept : List Item) where
     abbrev IsFewer : Phase → Option Phase → Type 0
     IsFewer phase None = Unit {0}
     IsFewer phase (Some next) = (items : List Item) → Lists next t kept items → to_come (Some next) 0 (length items) ≤ to_come (Some phase) (length kept) 0
 
     turns_fewer : (phase : Phase) → IsFewer phase (next_phase phase)
+    turns_fewer ShortCleanups = λ items are. let many = links_few t.short items are in let few = h.short in omega (arith, many, few)
     turns_fewer ShortTargets = λ items is. let same = ap length is in omega (arith, same)
     turns_fewer ShortWords = λ items are. let many = objects_few t.registrations t.late items are in let few = h.registered in omega (arith, many, few)
     turns_fewer Objects = λ items is. let same = ap length is in omega (arith, same)
@@ -122,7 +138,8 @@ module _ (r s g c : ℕ) where
     turns_fewer LongTargets = λ items is. let same = ap length is in omega (arith, same)
     turns_fewer LongWords = λ items are. let many = links_few t.short items are in let few = h.short in omega (arith, many, few)
     turns_fewer ShortHolders = λ items are. let many = links_few t.long items are in let few = h.long in omega (arith, many, few)
-    turns_fewer LongHolders = tt
+    turns_fewer LongHolders = λ items are. let many = cleanups_few Long t.cleanups items are in let few = h.attached in omega (arith, many, few)
+    turns_fewer LongCleanups = tt
 
   goes_fewer : (phase : Phase) (k : Going) (last : Option Phase) (m : Going) → GoesOn phase k last m → IsWithin r s g c k.finalizers → IsWithin r s g c m.finalizers × (to_come_in last m ≤ to_come_in (Some phase) k)
   goes_fewer phase k last m (Asks item left some) h = skips_fewer phase k.left k.finalizers k.kept h
@@ -141,7 +158,7 @@ module _ (r s g c : ℕ) where
 
   record IsHearing (n : ℕ) (m : Machine) : Type 0 where
     within : IsWithin r s g c m.finalizers.state
-    few : n + to_come m.phase (length m.walk.kept) (length m.walk.left) ≤ 6 * r + 3 * (s + g)
+    few : n + to_come m.phase (length m.walk.kept) (length m.walk.left) ≤ 6 * r + 3 * (s + g) + 2 * c
     asked : (p : Phase) → m.phase ≡ Some p → m.asked ≤ length m.walk.left
 
   asked_for : (m : Machine) (next : Next) → Tells m next → (p : Phase) → m.phase ≡ Some p → m.asked ≤ length m.walk.left
@@ -160,7 +177,7 @@ module _ (r s g c : ℕ) where
       let asked = was.asked goes.phase goes.was in
       let stepped = steps_fewer goes.phase answers old.finalizers.state old.walk.kept old.walk.left was.within (omega (arith, few, asked)) in
       let on = goes_fewer goes.phase (steps goes.phase answers (going old.finalizers old.walk)) m.phase (going m.finalizers m.walk) goes.goes stepped.0 in
-      let so_far = subst (λ o. before + to_come o (length old.walk.kept) (length old.walk.left) ≤ 6 * r + 3 * (s + g)) goes.was was.few in
+      let so_far = subst (λ o. before + to_come o (length old.walk.kept) (length old.walk.left) ≤ 6 * r + 3 * (s + g) + 2 * c) goes.was was.few in
       let here = stepped.1 in
       let there = on.1 in
       record { within = on.0; few = omega (arith, so_far, here, there); asked = asked_for m next goes.tells }
@@ -169,7 +186,7 @@ module _ (r s g c : ℕ) where
       let now = worked_within old.finalizers.state m.finalizers.state worked.event worked.work worked.follows was.within in
       record {
         within = now;
-        few = subst (λ (k : Machine). n + to_come k.phase (length k.walk.kept) (length k.walk.left) ≤ 6 * r + 3 * (s + g)) (sym worked.keeps) was.few;
+        few = subst (λ (k : Machine). n + to_come k.phase (length k.walk.kept) (length k.walk.left) ≤ 6 * r + 3 * (s + g) + 2 * c) (sym worked.keeps) was.few;
         asked = subst (λ (k : Machine). (p : Phase) → k.phase ≡ Some p → k.asked ≤ length k.walk.left) (sym worked.keeps) was.asked;
       }
 
@@ -178,11 +195,11 @@ passes_end old begun m n is hears =
     let t = old.finalizers.state in
     let r = len t.registrations in
     let same = is.finalizers in
-    let many : length begun.walk.left ≡ len t.short = links_few r (len t.short) (len t.long) (len t.cleanups) t.short begun.walk.left (subst (λ (u : State). AreLinks u.short begun.walk.left) same is.begins.lists) in
+    let many : length begun.walk.left ≤ len t.cleanups = cleanups_few r (len t.short) (len t.long) (len t.cleanups) Short t.cleanups begun.walk.left (subst (λ (u : State). AreCleanups Short u.cleanups begun.walk.left) same is.begins.lists) in
     let kept = ap length is.begins.none in
     let start : IsHearing r (len t.short) (len t.long) (len t.cleanups) 0 begun = record {
       within = subst (IsWithin r (len t.short) (len t.long) (len t.cleanups)) (sym same) (record { registered = omega arith; short = omega arith; long = omega arith; attached = omega arith });
-      few = subst (λ o. 0 + to_come r (len t.short) (len t.long) (len t.cleanups) o (length begun.walk.kept) (length begun.walk.left) ≤ 6 * r + 3 * (len t.short + len t.long)) (sym is.phase) (omega (arith, many, kept));
+      few = subst (λ o. 0 + to_come r (len t.short) (len t.long) (len t.cleanups) o (length begun.walk.kept) (length begun.walk.left) ≤ 6 * r + 3 * (len t.short + len t.long) + 2 * len t.cleanups) (sym is.phase) (omega (arith, many, kept));
       asked = λ p at. let none = is.asked in omega (arith, none);
     } in
     let end = (heard r (len t.short) (len t.long) (len t.cleanups) begun m n start hears).few in

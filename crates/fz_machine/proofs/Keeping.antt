@@ -20,13 +20,14 @@ use Rattle.fz_finalizers.specs.Kinds.{is_late, of_table}
 use Rattle.fz_finalizers.specs.States.{State}
 use Rattle.fz_machine.specs.declared.item.Item.{Item}
 use Rattle.fz_machine.specs.declared.phase.Phase.{Phase}
-use Rattle.fz_machine.specs.declared.phase.Phase.TheVariants.{ShortTargets, ShortWords, Objects, Children, Again, Picks, LateAgain, LatePicks, LongTargets, LongWords, ShortHolders, LongHolders}
+use Rattle.fz_machine.specs.declared.phase.Phase.TheVariants.{ShortCleanups, ShortTargets, ShortWords, Objects, Children, Again, Picks, LateAgain, LatePicks, LongTargets, LongWords, ShortHolders, LongHolders, LongCleanups}
 use Rattle.fz_machine.specs.declared.question.Ask.TheVariants.{MarkAlone}
 use Rattle.fz_machine.specs.Graph.{Graph, IsHonest}
 use Rattle.fz_machine.specs.Items.{of_other, place_of}
 use Rattle.fz_machine.specs.Phases.{after, asks, child_ask, keeps, pick_ask, subject}
 use Rattle.fz_machine.proofs.Among.{AreInOrder, OneOf, each_push, one_last, one_left, order_after, order_without}
 use Rattle.fz_machine.proofs.Begun.{HasBegun, births, late_led, late_starts, late_there, normal, others_led, registered, starts}
+use Rattle.fz_machine.proofs.Cleaning.{cleaning_on}
 use Rattle.fz_machine.proofs.Choosing.{marked_alone, marked_by_kind}
 use Rattle.fz_machine.proofs.Chosen.{chosen_again, chosen_more, chosen_on, no_more, place_in, still}
 use Rattle.fz_machine.proofs.Entered.{IsLate, IsLateAt, IsOfEither}
@@ -223,6 +224,7 @@ module _ (E : Type 0) (word_of : ℕ → Option ℕ) (b : State) (before : Graph
 
   pub keep : (phase : Phase) (s : State) (kept left : List Item) (item : Item) (h new : Graph) → IsIn E word_of b before phase s kept (item ∷ left) h → (answer : Bool) → IsHonest E word_of (asks phase item) (subject phase item) h answer new
       → IsIn E word_of b before phase (after phase item answer s) (kept_on (keeps phase item answer) kept item) left new
+  keep ShortCleanups s kept left item h new p answer honest = absurd p
   keep ShortTargets s kept left item h new p answer honest = sifts_on E word_of _ _ _ _ _ s kept left item h new p answer honest
   keep ShortWords s kept left item h new p answer honest = clears_on E word_of _ _ _ _ (λ t word. record t { short = remove t.short word }) (λ now word. refl) s left item h new p answer honest
   keep Objects s kept left item h new p answer honest = sifts_on E word_of _ _ _ _ _ s kept left item h new p answer honest
@@ -239,3 +241,4 @@ module _ (E : Type 0) (word_of : ℕ → Option ℕ) (b : State) (before : Graph
   keep LongWords s kept left item h new (c, p) answer honest = (c, clears_on E word_of _ _ _ _ (λ t word. record t { long = remove t.long word }) (λ now word. refl) s left item h new p answer honest)
   keep ShortHolders s kept left item h new (c, p) answer honest = (c, holds_on E word_of _ _ _ _ (λ t word. record t { short = remove t.short word }) (λ now word. refl) s left item h new p answer honest)
   keep LongHolders s kept left item h new (c, p) answer honest = (c, holds_on E word_of _ _ _ _ (λ t word. record t { long = remove t.long word }) (λ now word. refl) s left item h new p answer honest)
+  keep LongCleanups s kept left item h new (c, p) answer honest = (c, cleaning_on E word_of _ _ _ _ s left item h new p answer honest)

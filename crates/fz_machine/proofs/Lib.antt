@@ -11,11 +11,14 @@ pub mod Among
 pub mod Sifting
 pub mod DeadWords
 pub mod Entered
+pub mod Ordered
 pub mod Led
 pub mod Chosen
+pub mod Due
 pub mod Stated
 pub mod Phasing
 pub mod Choosing
+pub mod Cleaning
 pub mod Phased
 pub mod Begun
 pub mod Keeping
@@ -23,6 +26,7 @@ pub mod Turning
 pub mod Within
 pub mod Throughout
 pub mod Working
+pub mod Rounds
 pub mod Ran
 pub mod Fewer
 pub mod Called

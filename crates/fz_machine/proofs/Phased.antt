@@ -10,16 +10,20 @@ use Rattle.fz_pass.specs.Picking.{Picks}
 use Rattle.fz_pass.specs.Places.{placed}
 use Rattle.fz_pass.specs.Queued.{MarksLed, is_ready}
 use Rattle.fz_pass.specs.Tiers.{skips}
+use Rattle.fz_model.specs.declared.kinds.LinkKind.TheVariants.{Long}
+use Rattle.fz_finalizers.specs.Cleanups.{is_due}
+use Rattle.fz_finalizers.specs.Follows.{Cleans}
 use Rattle.fz_finalizers.specs.States.{State}
 use Rattle.fz_machine.specs.declared.item.Item.{Item}
 use Rattle.fz_machine.specs.declared.phase.Phase.{Phase}
-use Rattle.fz_machine.specs.declared.phase.Phase.TheVariants.{ShortTargets, ShortWords, Objects, Children, Again, LateAgain, LatePicks, LongTargets, LongWords, ShortHolders, LongHolders}
+use Rattle.fz_machine.specs.declared.phase.Phase.TheVariants.{ShortCleanups, ShortTargets, ShortWords, Objects, Children, Again, LateAgain, LatePicks, LongTargets, LongWords, ShortHolders, LongHolders, LongCleanups}
 use Rattle.fz_machine.specs.declared.phase.Phase.TheVariants as phase
 use Rattle.fz_machine.specs.Graph.{Graph}
 use Rattle.fz_machine.specs.Items.{place_of}
 use Rattle.fz_machine.specs.Phases.{Lists}
 use Rattle.fz_machine.proofs.Among.{Each, OneOf, AreInOrder}
 use Rattle.fz_machine.proofs.Chosen.{AreChosen}
+use Rattle.fz_machine.proofs.Cleaning.{Cleaning}
 use Rattle.fz_machine.proofs.DeadWords.{IsLink, IsLinkAt}
 use Rattle.fz_machine.proofs.Entered.{IsLate, IsOfEither, IsLateAt, IsEitherAt}
 use Rattle.fz_machine.proofs.Led.{AreLed}
@@ -110,9 +114,13 @@ module _ (E : Type 0) (word_of : ℕ → Option ℕ) (b : State) (before : Graph
     pub left_are : Each (λ i. IsLate b.registrations b.late i × (first.mid i.object ≡ false)) left
     pub ordered : AreInOrder place_of left
 
-  -- ---- all phases
+  abbrev pub passed : PickedBoth → State
+  passed c = after_picks c (short_held c) (long_held c)
+
+  -- ---- all phases behind the first
 
   abbrev pub IsIn : Phase → State → List Item → List Item → Graph → Type 0
+  IsIn ShortCleanups s kept left h = ⊥
   IsIn ShortTargets s kept left h =
       Sifts E word_of (state_with b b.short b.long b.registrations b.late []) before.objects found (IsLink word_of before.objects b.short found) (IsLinkAt word_of before.objects b.short found) s kept left h
   IsIn ShortWords s kept left h = Clears E word_of (λ links. state_with b links b.long b.registrations b.late []) before.objects b.short found s left h
@@ -129,12 +137,13 @@ module _ (E : Type 0) (word_of : ℕ → Option ℕ) (b : State) (before : Graph
   IsIn LongWords s kept left h = (c : PickedBoth) × Clears E word_of (after_picks c short_left) clear b.long c.kept s left h
   IsIn ShortHolders s kept left h = (c : PickedBoth) × Holds E word_of (λ links. after_picks c links (long_left c)) (last c) short_left c.kept s left h
   IsIn LongHolders s kept left h = (c : PickedBoth) × Holds E word_of (λ links. after_picks c (short_held c) links) (last c) (long_left c) c.kept s left h
+  IsIn LongCleanups s kept left h = (c : PickedBoth) × Cleaning E word_of Long (passed c) (last c) c.kept s left h
 
   -- ---- the end
 
   pub record IsAtEnd (s : State) (h : Graph) : Type 0 where
     pub chosen : PickedBoth
-    pub state : s ≡ after_picks chosen (short_held chosen) (long_held chosen)
+    pub cleaned : Cleans b.passes (is_due Long chosen.kept) (passed chosen) s
     pub objects_are : h.objects ≡ last chosen
     pub marks_are : h.marked ≡ chosen.kept
 

@@ -1,31 +1,33 @@
 -- A run keeps what holds in its phases, and ends with the model's pass.
-use Rattle.std.proofs.Common.{ℕ, ◌≡◌, ◌∷◌, ◌∙◌, [], Bool, false, cond, List, Option, Some, None, refl, sym, ap, subst, is_some}
+use Rattle.std.proofs.Common.{ℕ, ◌≡◌, ◌∷◌, ◌∙◌, [], Bool, false, cond, List, Option, Some, None, refl, sym, ap, subst, inl, is_some}
 use Rattle.std.specs.FinMap.{retain_keys}
-use Rattle.fz_finalizers.specs.Follows.{Follows, Pass, next_pass}
+use Rattle.fz_model.specs.declared.kinds.LinkKind.TheVariants.{Long, Short}
+use Rattle.fz_finalizers.specs.Cleanups.{is_due}
+use Rattle.fz_finalizers.specs.Follows.{Cleans, Follows, Pass, next_pass}
+use Rattle.fz_finalizers.specs.Passed.{PassesFor, parts_in, parts_left_in}
+use Rattle.fz_finalizers.specs.Ready.{Decides}
 use Rattle.fz_finalizers.proofs.Following.{decided_queues}
 use Rattle.fz_finalizers.proofs.Promised.{promised}
 use Rattle.fz_finalizers.specs.Promises.{IsReached, Past}
 use Rattle.fz_finalizers.specs.States.{State}
 use Rattle.fz_machine.specs.declared.item.Item.{Item}
 use Rattle.fz_machine.specs.declared.phase.Phase.{Phase}
-use Rattle.fz_machine.specs.declared.phase.Phase.TheVariants.{ShortTargets}
+use Rattle.fz_machine.specs.declared.phase.Phase.TheVariants.{ShortCleanups}
 use Rattle.fz_machine.specs.declared.question.Ask.{Ask}
 use Rattle.fz_machine.specs.Going.{going}
 use Rattle.fz_machine.specs.Graph.{Graph, IsHonest, MayBegin}
-use Rattle.fz_machine.specs.Items.{AreLinks}
+use Rattle.fz_machine.specs.Items.{AreCleanups}
 use Rattle.fz_machine.specs.Machines as machines
 use Rattle.fz_machine.specs.Machines.{IsBegun, Machine}
 use Rattle.fz_machine.specs.Phases.{after, asks, keeps, next_phase, subject}
 use Rattle.fz_machine.specs.Runs.{AreHonest, Begun, Goes, MakesPass, Meanwhile, Runs, RunsPass}
 use Rattle.fz_machine.specs.Steps.{Asks, Begins, Ends, Going, GoesOn, Turns, skip, skipped, steps}
 use Rattle.fz_machine.proofs.Begun.{HasBegun}
-use Rattle.fz_machine.proofs.DeadWords.{IsLink, IsLinkAt}
-use Rattle.fz_machine.proofs.Entered.{links_all, links_each}
-use Rattle.fz_machine.proofs.Keeping.{keep}
-use Rattle.fz_machine.proofs.Phased.{IsAfter, IsAtEnd, IsIn, IsWhere}
-use Rattle.fz_machine.proofs.Phasing.{kept_on, sifts_begin}
-use Rattle.fz_machine.proofs.Stated.{as_begun}
-use Rattle.fz_machine.proofs.Turning.{closed_after, decides, still_marked, turn}
+use Rattle.fz_machine.proofs.Cleaning.{after_due, cleaning_begins}
+use Rattle.fz_machine.proofs.Phased as phased
+use Rattle.fz_machine.proofs.Phasing.{kept_on}
+use Rattle.fz_machine.proofs.Rounds.{IsAfter, IsAtEnd, IsIn, IsWhere, begin_behind, keep, turn}
+use Rattle.fz_machine.proofs.Turning as turning
 use Rattle.fz_machine.proofs.Working.{WorksAfter, apart, goes_apart, goes_works, going_apart, steps_apart, work_apart, worked_on}
 
 module _ (E : Type 0) (word_of : ℕ → Option ℕ) (b : State) (before : Graph) (begin : HasBegun word_of b before) where
@@ -111,12 +113,10 @@ module _ (E : Type 0) (word_of : ℕ → Option ℕ) (old begun new : Machine) (
     flags = (promised old.finalizers.state past reached).flags;
   }
 
-  starts : IsIn E word_of b before ShortTargets begun.finalizers.state begun.walk.kept begun.walk.left before
+  starts : IsIn E word_of b before ShortCleanups begun.finalizers.state begun.walk.kept begun.walk.left before
   starts =
-      let listed : AreLinks b.short begun.walk.left = subst (λ (s : State). AreLinks s.short begun.walk.left) is.finalizers is.begins.lists in
-      subst (λ (xs : List Item). IsIn E word_of b before ShortTargets begun.finalizers.state xs begun.walk.left before) (sym is.begins.none)
-      (sifts_begin E word_of _ before.objects before.marked (IsLink word_of before.objects b.short before.marked) (IsLinkAt word_of before.objects b.short before.marked) begun.finalizers.state begun.walk.left before
-      (is.finalizers ∙ as_begun b) refl refl (links_each b.short begun.walk.left listed) (λ object word here off. links_all b.short begun.walk.left listed object word here))
+      let listed : AreCleanups Short b.cleanups begun.walk.left = subst (λ (s : State). AreCleanups Short s.cleanups begun.walk.left) is.finalizers is.begins.lists in
+      inl (refl, cleaning_begins E word_of Short b before.objects before.marked begun.finalizers.state begun.walk.left before is.finalizers refl refl listed)
 
   -- nothing is taken or finished yet
   as_b : apart b.taken b.held begun.finalizers.state ≡ begun.finalizers.state
@@ -147,22 +147,47 @@ module _ (E : Type 0) (word_of : ℕ → Option ℕ) (old begun new : Machine) (
   at_end : IsAtEnd E word_of c before end after_it
   at_end = subst (λ o. IsWhere E word_of c before o end new.walk.kept new.walk.left after_it) ends (is_where E word_of old begun new past before after_it reached is may runs)
 
+  -- what the first round leaves, and the pass behind it
+  abbrev mid : State
+  mid = after_due c at_end.0
+
+  begins_behind : HasBegun word_of mid before
+  begins_behind = begin_behind E word_of c before begins_so at_end.0
+
+  abbrev ending : phased.IsAtEnd E word_of mid before end after_it
+  ending = at_end.2
+
+  abbrev passed_state : State
+  passed_state = phased.passed E word_of mid before ending.chosen
+
+  -- the same before the pass is numbered
+  abbrev begun_state : State
+  begun_state = record mid { passes = old.finalizers.passes }
+
+  decides_it : Decides E word_of mid.passes mid.late passed_state.late (parts_in before.objects mid) before.marked (parts_left_in after_it.objects after_it.marked passed_state) mid.queue passed_state.queue
+  decides_it = turning.decides E word_of mid before begins_behind end after_it ending
+
   -- what comes and goes in the finalizers
-  as_pass : Follows old.finalizers.state Pass end
-  as_pass = (
-    decided_queues E word_of c.passes before.objects (retain_keys after_it.objects after_it.marked) before.marked old.finalizers.state end
-        (decides E word_of c before begins_so end after_it at_end) (ap (λ (s : State). s.taken) at_end.state) (ap (λ (s : State). s.held) at_end.state) (ap (λ (s : State). s.next_number) at_end.state) (ap (λ (s : State). s.cleanups) at_end.state),
-    ap (λ (s : State). s.passes) at_end.state,
-  )
+  as_pass : Follows begun_state Pass passed_state
+  as_pass = (decided_queues E word_of mid.passes before.objects (retain_keys after_it.objects after_it.marked) before.marked begun_state passed_state decides_it refl refl refl refl, refl)
+
+  passes : PassesFor E word_of old.finalizers.state before.objects before.marked end after_it.objects after_it.marked
+  passes = record {
+    begun = begun_state;
+    passed = passed_state;
+    short = (at_end.0, at_end.1, refl);
+    decided = decides_it.0;
+    follows = as_pass;
+    long = subst (λ (m : ℕ → Bool). Cleans mid.passes (is_due Long m) passed_state end) (sym ending.marks_are) ending.cleaned;
+  }
 
   pub makes_pass : MakesPass E word_of old.finalizers.state before new.finalizers.state after_it
   makes_pass = record {
     passed = end;
-    decided = (decides E word_of c before begins_so end after_it at_end).0;
-    follows = as_pass;
+    passes = passes;
     works = works_on E word_of old begun new past before after_it reached is may runs;
-    marks = still_marked E word_of c before begins_so end after_it at_end;
-    closed = closed_after E word_of c before begins_so end after_it at_end;
+    marks = turning.still_marked E word_of mid before begins_behind end after_it ending;
+    closed = turning.closed_after E word_of mid before begins_behind end after_it ending;
   }
 
 pub runs_pass : (E : Type 0) → RunsPass E

@@ -3,6 +3,7 @@ use Rattle.std.proofs.Common.{◌≡◌, ◌+◌, ◌++◌, ◌∷◌, ◌∙◌
 use Rattle.std.specs.Option.{option_map_or}
 use Rattle.std.specs.FinMap.{get, remove}
 use Rattle.std.specs.FinSet as sets
+use Rattle.fz_model.specs.declared.answers.Entry.{Entry}
 use Rattle.fz_model.specs.declared.answers.Pick.{Pick}
 use Rattle.fz_model.specs.declared.answers.Registration.{Registration}
 use Rattle.fz_model.specs.State.{Map}
@@ -14,6 +15,17 @@ use Rattle.fz_pass.specs.Picking.{pick_of}
 use Rattle.fz_pass.proofs.Gathering.{entries_of-append}
 use Rattle.fz_finalizers.specs.Follows.{queued_object, queued_one}
 use Rattle.fz_finalizers.specs.States.{State}
+
+-- one more entry
+pub entries_more : (pass : ℕ) (queue : List Entry) (picks : List Pick) (p : Pick)
+    → (queue ++ entries_of pass (length queue) picks) ++ entry_of pass (length (queue ++ entries_of pass (length queue) picks)) p ∷ [] ≡ queue ++ entries_of pass (length queue) (picks ++ p ∷ [])
+entries_more pass queue picks p =
+    let so_far = entries_of pass (length queue) picks in
+    let grown = length-append queue so_far in
+    let count = length-entries_of pass (length queue) picks in
+    let number : length (queue ++ so_far) ≡ length queue + length picks = omega (arith, grown, count) in
+    ap (λ n. (queue ++ so_far) ++ entry_of pass n p ∷ []) number ∙ append_assoc queue so_far (entry_of pass (length queue + length picks) p ∷ [])
+    ∙ ap (λ es. queue ++ es) (sym (entries_of-append pass (length queue) picks (p ∷ [])))
 
 module _ (b : State) where
   abbrev pub state_with : Map ℕ → Map ℕ → Map Registration → Set → List Pick → State
@@ -41,14 +53,7 @@ module _ (b : State) where
 
       one_more : queued_one s object r ≡ state_with short long (remove registrations object) (sets.remove late object) more_picks
       one_more =
-          let p = pick_of r object unknown in
-          let so_far = entries_of b.passes (length b.queue) picks in
-          let grown = length-append b.queue so_far in
-          let count = length-entries_of b.passes (length b.queue) picks in
-          let number : length (b.queue ++ so_far) ≡ length b.queue + length picks = omega (arith, grown, count) in
-          let queue : (b.queue ++ so_far) ++ entry_of b.passes (length (b.queue ++ so_far)) p ∷ [] ≡ b.queue ++ entries_of b.passes (length b.queue) more_picks =
-          ap (λ n. (b.queue ++ so_far) ++ entry_of b.passes n p ∷ []) number ∙ append_assoc b.queue so_far (entry_of b.passes (length b.queue + length picks) p ∷ [])
-          ∙ ap (λ es. b.queue ++ es) (sym (entries_of-append b.passes (length b.queue) picks (p ∷ []))) in
+          let queue = entries_more b.passes b.queue picks (pick_of r object unknown) in
           λ i. record b { short = short; long = long; registrations = remove registrations object; late = sets.remove late object; queue = queue i }
 
       pub queued_on : get registrations object ≡ Some r → queued_object s object ≡ state_with short long (remove registrations object) (sets.remove late object) more_picks

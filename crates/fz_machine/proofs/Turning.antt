@@ -12,22 +12,24 @@ use Rattle.fz_pass.specs.Places.{placed, links_held}
 use Rattle.fz_pass.proofs.Flags.{decided}
 use Rattle.fz_pass.proofs.Passed.{closed_still, dropped_twice, pointed}
 use Rattle.fz_pass.proofs.Tiers.{flag_of_round, unskipped_off}
+use Rattle.fz_model.specs.declared.kinds.LinkKind.TheVariants.{Long}
 use Rattle.fz_finalizers.specs.Passed.{parts_in, parts_left_in}
 use Rattle.fz_finalizers.specs.Ready.{Decides}
 use Rattle.fz_finalizers.specs.States.{State}
 use Rattle.fz_machine.specs.declared.item.Item.{Item}
 use Rattle.fz_machine.specs.declared.phase.Phase.{Phase}
-use Rattle.fz_machine.specs.declared.phase.Phase.TheVariants.{ShortTargets, ShortWords, Objects, Children, Again, Picks, LateAgain, LatePicks, LongTargets, LongWords, ShortHolders, LongHolders}
+use Rattle.fz_machine.specs.declared.phase.Phase.TheVariants.{ShortCleanups, ShortTargets, ShortWords, Objects, Children, Again, Picks, LateAgain, LatePicks, LongTargets, LongWords, ShortHolders, LongHolders, LongCleanups}
 use Rattle.fz_machine.specs.Graph.{Graph}
-use Rattle.fz_machine.specs.Items.{AreInTurn, AreLinks, AreObjects, place_of}
+use Rattle.fz_machine.specs.Items.{AreCleanups, AreInTurn, AreLinks, AreObjects, place_of}
 use Rattle.fz_machine.specs.Phases.{next_phase}
 use Rattle.fz_machine.proofs.Among.{AreInOrder, Each, OneOf, each_as, each_permuted, one_as, one_permuted, order_from}
 use Rattle.fz_machine.proofs.Begun.{HasBegun, closed, long_targets, normal, not_before, registered, was_there}
+use Rattle.fz_machine.proofs.Cleaning.{cleaning_all, cleaning_begins}
 use Rattle.fz_machine.proofs.Chosen.{choosing_begins, chosen_all}
 use Rattle.fz_machine.proofs.DeadWords.{IsLink, IsLinkAt}
 use Rattle.fz_machine.proofs.Entered.{IsEitherAt, either_at, IsLate, IsLateAt, IsOfEither, links_all, links_each, objects_all, objects_each}
 use Rattle.fz_machine.proofs.Led.{leading_begins, led_all}
-use Rattle.fz_machine.proofs.Phased.{IsAfter, IsAtEnd, IsIn, IsUnfound, Leading, LeadsOn, Picked, PickedBoth, PicksLate, PicksOn, after_picks, clear, last, long_held, long_left, short_held, short_left}
+use Rattle.fz_machine.proofs.Phased.{IsAfter, IsAtEnd, IsIn, IsUnfound, Leading, LeadsOn, Picked, PickedBoth, PicksLate, PicksOn, after_picks, clear, last, long_held, long_left, passed, short_held, short_left}
 use Rattle.fz_machine.proofs.Phasing.{Sifts, Clears, clears_all, clears_begin, holds_all, holds_begin, sifts_begin}
 use Rattle.fz_machine.proofs.Sifting.{IsAt, sifted}
 use Rattle.fz_machine.proofs.Stated.{state_with, tabled}
@@ -134,6 +136,7 @@ module _ (E : Type 0) (word_of : ℕ → Option ℕ) (b : State) (before : Graph
       )
 
   pub turn : (phase : Phase) (s : State) (kept : List Item) (h : Graph) → IsIn E word_of b before phase s kept [] h → IsAfter E word_of b before (next_phase phase) s kept h
+  turn ShortCleanups s kept h p = absurd p
   turn ShortTargets s kept h p = λ items is. clears_begin E word_of (λ links. state_with b links b.long b.registrations b.late []) before.objects b.short before.marked begin.short s kept items h p is
   turn ShortWords s kept h p = λ items are. to_objects s h p items are
   turn Objects s kept h p = λ items is. to_children s kept h p items is
@@ -149,9 +152,11 @@ module _ (E : Type 0) (word_of : ℕ → Option ℕ) (b : State) (before : Graph
   turn ShortHolders s kept h (c, p) = λ items are.
       let all = holds_all E word_of (λ links. after_picks E word_of b before c links (long_left E word_of b before c)) (last E word_of b before c) shorts c.kept s h p in
       (c, holds_begin E word_of (λ links. after_picks E word_of b before c (short_held E word_of b before c) links) (last E word_of b before c) (long_left E word_of b before c) c.kept s items h all.0 all.1 all.2 (subst (λ (t : State). AreLinks t.long items) all.0 are))
-  turn LongHolders s kept h (c, p) =
+  turn LongHolders s kept h (c, p) = λ items are.
       let all = holds_all E word_of (λ links. after_picks E word_of b before c (short_held E word_of b before c) links) (last E word_of b before c) (long_left E word_of b before c) c.kept s h p in
-      record { chosen = c; state = all.0; objects_are = all.1; marks_are = all.2 }
+      (c, cleaning_begins E word_of Long (passed E word_of b before c) (last E word_of b before c) c.kept s items h all.0 all.1 all.2 (subst (λ (t : State). AreCleanups Long t.cleanups items) all.0 are))
+  turn LongCleanups s kept h (c, p) =
+      record { chosen = c; cleaned = cleaning_all E word_of Long (passed E word_of b before c) (last E word_of b before c) c.kept s h p; objects_are = p.objects_are; marks_are = p.marks_are }
 
   -- ---- what is left at the end
 
@@ -168,8 +173,8 @@ module _ (E : Type 0) (word_of : ℕ → Option ℕ) (b : State) (before : Graph
     long_is : long_held E word_of b before c ≡ links_held word_of before.objects b.long c.kept c.kept
     long_is = dropped_twice word_of (last E word_of b before c) before.objects b.long c.kept c.kept lies
 
-    abbrev end : State
-    end = after_picks E word_of b before c (short_held E word_of b before c) (long_held E word_of b before c)
+    abbrev pub end : State
+    end = passed E word_of b before c
 
     both : QueuesTiers E (contains b.late) b.passes (length b.queue) clearly c.first.leading.led c.kept (tabled b) c.table b.queue end.queue
     both = record {
@@ -187,12 +192,11 @@ module _ (E : Type 0) (word_of : ℕ → Option ℕ) (b : State) (before : Graph
     abbrev DecidesHere : State → Type 0
     DecidesHere t = Decides E word_of b.passes b.late t.late (parts_in before.objects b) before.marked (parts_left_in h.objects h.marked t) b.queue t.queue
 
-    pub decides : DecidesHere s
+    pub decides : DecidesHere end
     decides =
         let objects_are : retain_keys h.objects h.marked ≡ retain_keys (last E word_of b before c) c.kept = λ i. retain_keys (p.objects_are i) (p.marks_are i) in
-        subst DecidesHere (sym p.state)
-        (decided E word_of (contains b.late) before.objects b.short b.long before.marked c.first.leading.led c.kept (tabled b) c.table b.passes (length b.queue) b.queue end.queue (normal E word_of b before begin) (registered E word_of b before begin) c.first.leading.marks both
-        (parts_left_in h.objects h.marked end) (λ i. record { objects = objects_are i; registrations = c.table.registrations; short = short_is i; long = long_is i }))
+        decided E word_of (contains b.late) before.objects b.short b.long before.marked c.first.leading.led c.kept (tabled b) c.table b.passes (length b.queue) b.queue end.queue (normal E word_of b before begin) (registered E word_of b before begin) c.first.leading.marks both
+        (parts_left_in h.objects h.marked end) (λ i. record { objects = objects_are i; registrations = c.table.registrations; short = short_is i; long = long_is i })
 
     pub still_marked : (a : ℕ) → IsTrue (before.marked a) → IsTrue (h.marked a)
     still_marked a on = subst (λ (m : ℕ → Bool). IsTrue (m a)) (sym p.marks_are) (c.marks.least a (inl (c.first.marks.least a (inl (c.first.leading.marks.least a (inl on))))))

@@ -3,13 +3,14 @@ use Rattle.std.proofs.Common.{◌≤◌, ℕ, Bool, true, false, cond, Option, S
 use Rattle.std.specs.FinMap.{get, len, remove}
 use Rattle.std.specs.Option.{option_map_or}
 use Rattle.fz_model.specs.declared.answers.Registration.{Registration}
-use Rattle.fz_finalizers.specs.Follows.{queued_object, queued_one}
+use Rattle.fz_finalizers.specs.declared.cleanups.Attached.{Attached}
+use Rattle.fz_finalizers.specs.Follows.{queued_attached, queued_cleanup, queued_object, queued_one}
 use Rattle.fz_finalizers.specs.Kinds.{is_late}
 use Rattle.fz_finalizers.specs.States.{State}
 use Rattle.fz_finalizers.proofs.Counting.{len_less}
 use Rattle.fz_machine.specs.declared.item.Item.{Item}
 use Rattle.fz_machine.specs.declared.phase.Phase.{Phase}
-use Rattle.fz_machine.specs.declared.phase.Phase.TheVariants.{ShortTargets, ShortWords, Objects, Children, Again, Picks, LateAgain, LatePicks, LongTargets, LongWords, ShortHolders, LongHolders}
+use Rattle.fz_machine.specs.declared.phase.Phase.TheVariants.{ShortCleanups, ShortTargets, ShortWords, Objects, Children, Again, Picks, LateAgain, LatePicks, LongTargets, LongWords, ShortHolders, LongHolders, LongCleanups}
 use Rattle.fz_machine.specs.Phases.{after}
 
 -- no more registrations, links and cleanups than these
@@ -33,11 +34,19 @@ module _ (r s g c : ℕ) (t : State) (h : IsWithin r s g c t) where
       by None = h
       by (Some q) = let less = len_less t.registrations object in let few = h.registered in record { registered = omega (arith, less, few); short = h.short; long = h.long; attached = h.attached }
 
+  cleaned : (number : ℕ) → IsWithin r s g c (queued_cleanup t number)
+  cleaned number = by (get t.cleanups number)
+    where
+      by : (o : Option Attached) → IsWithin r s g c (option_map_or (queued_attached t number) o t)
+      by None = h
+      by (Some a) = let less = len_less t.cleanups number in let few = h.attached in record { registered = h.registered; short = h.short; long = h.long; attached = omega (arith, less, few) }
+
   cases : (b : Bool) (u v : State) → IsWithin r s g c u → IsWithin r s g c v → IsWithin r s g c (cond b u v)
   cases true u v x y = x
   cases false u v x y = y
 
   pub still : (phase : Phase) (item : Item) (answer : Bool) → IsWithin r s g c (after phase item answer t)
+  still ShortCleanups item answer = cases answer t (queued_cleanup t item.word) h (cleaned item.word)
   still ShortTargets item answer = h
   still ShortWords item answer = without_short item.word
   still Objects item answer = h
@@ -50,3 +59,4 @@ module _ (r s g c : ℕ) (t : State) (h : IsWithin r s g c t) where
   still LongWords item answer = without_long item.word
   still ShortHolders item answer = cases answer t (record t { short = remove t.short item.word }) h (without_short item.word)
   still LongHolders item answer = cases answer t (record t { long = remove t.long item.word }) h (without_long item.word)
+  still LongCleanups item answer = cases answer t (queued_cleanup t item.word) h (cleaned item.word)

@@ -7,12 +7,13 @@ use Rattle.fz_model.specs.declared.answers.Entry.{Entry}
 use Rattle.fz_model.specs.declared.answers.Registration.{Registration}
 use Rattle.fz_model.specs.Events.{same_entry}
 use Rattle.fz_model.proofs.Lists.{slice_get-left}
-use Rattle.fz_finalizers.specs.Follows.{Event, Follows, queued_object, queued_one}
+use Rattle.fz_finalizers.specs.declared.cleanups.Attached.{Attached}
+use Rattle.fz_finalizers.specs.Follows.{Event, Follows, queued_attached, queued_cleanup, queued_object, queued_one}
 use Rattle.fz_finalizers.specs.Kinds.{is_late}
 use Rattle.fz_finalizers.specs.States.{State, is_held}
 use Rattle.fz_machine.specs.declared.item.Item.{Item}
 use Rattle.fz_machine.specs.declared.phase.Phase.{Phase}
-use Rattle.fz_machine.specs.declared.phase.Phase.TheVariants.{ShortTargets, ShortWords, Objects, Children, Again, Picks, LateAgain, LatePicks, LongTargets, LongWords, ShortHolders, LongHolders}
+use Rattle.fz_machine.specs.declared.phase.Phase.TheVariants.{ShortCleanups, ShortTargets, ShortWords, Objects, Children, Again, Picks, LateAgain, LatePicks, LongTargets, LongWords, ShortHolders, LongHolders, LongCleanups}
 use Rattle.fz_machine.specs.Machines as machines
 use Rattle.fz_machine.specs.Machines.{IsWork, Works}
 use Rattle.fz_machine.specs.Phases.{Lists, after, asks, keeps}
@@ -20,14 +21,15 @@ use Rattle.fz_machine.specs.Steps.{Asks, Begins, Ends, Going, GoesOn, Turns, ski
 use Rattle.fz_machine.proofs.Phasing.{kept_on}
 use Rattle.fz_machine.proofs.Throughout as throughout
 
--- ---- what an answer does: nothing, or one of three changes
+-- ---- what an answer does: nothing, or one of four changes
 
-module _ (P : (State → State) → Type 0) (same : P (λ s. s)) (short : (word : ℕ) → P (λ s. record s { short = remove s.short word })) (long : (word : ℕ) → P (λ s. record s { long = remove s.long word })) (queued : (object : ℕ) → P (λ s. queued_object s object)) where
+module _ (P : (State → State) → Type 0) (same : P (λ s. s)) (short : (word : ℕ) → P (λ s. record s { short = remove s.short word })) (long : (word : ℕ) → P (λ s. record s { long = remove s.long word })) (queued : (object : ℕ) → P (λ s. queued_object s object)) (cleaned : (number : ℕ) → P (λ s. queued_cleanup s number)) where
   unless : (b : Bool) (f : State → State) → P f → P (λ s. cond b s (f s))
   unless true f h = same
   unless false f h = h
 
   by_change : (phase : Phase) (item : Item) (answer : Bool) → P (λ s. after phase item answer s)
+  by_change ShortCleanups item answer = unless answer (λ s. queued_cleanup s item.word) (cleaned item.word)
   by_change ShortTargets item answer = same
   by_change ShortWords item answer = short item.word
   by_change Objects item answer = same
@@ -40,6 +42,7 @@ module _ (P : (State → State) → Type 0) (same : P (λ s. s)) (short : (word 
   by_change LongWords item answer = long item.word
   by_change ShortHolders item answer = unless answer (λ s. record s { short = remove s.short item.word }) (short item.word)
   by_change LongHolders item answer = unless answer (λ s. record s { long = remove s.long item.word }) (long item.word)
+  by_change LongCleanups item answer = unless answer (λ s. queued_cleanup s item.word) (cleaned item.word)
 
 -- ---- apart from what is taken and held
 
@@ -60,8 +63,15 @@ module _ (taken : ℕ) (held : List Entry) where
       by None = refl
       by (Some r) = refl
 
+  cleaned_apart : (number : ℕ) → Commutes (λ s. queued_cleanup s number)
+  cleaned_apart number s = by (get s.cleanups number)
+    where
+      by : (o : Option Attached) → option_map_or (queued_attached (apart s) number) o (apart s) ≡ apart (option_map_or (queued_attached s number) o s)
+      by None = refl
+      by (Some c) = refl
+
   pub after_apart : (phase : Phase) (item : Item) (answer : Bool) (s : State) → after phase item answer (apart s) ≡ apart (after phase item answer s)
-  after_apart = by_change Commutes (λ s. refl) (λ word s. refl) (λ word s. refl) queued_apart
+  after_apart = by_change Commutes (λ s. refl) (λ word s. refl) (λ word s. refl) queued_apart cleaned_apart
 
   module _ (phase : Phase) where
     step_apart : (answer : Bool) (g : Going) → step phase answer (going_apart g) ≡ going_apart (step phase answer g)
@@ -88,6 +98,7 @@ module _ (taken : ℕ) (held : List Entry) where
     skip_apart g = skipped_apart g.left g
 
   lists_apart : (phase : Phase) (s : State) (kept items : List Item) → Lists phase s kept items → Lists phase (apart s) kept items
+  lists_apart ShortCleanups s kept items is = is
   lists_apart ShortTargets s kept items is = is
   lists_apart ShortWords s kept items is = is
   lists_apart Objects s kept items is = is
@@ -100,6 +111,7 @@ module _ (taken : ℕ) (held : List Entry) where
   lists_apart LongWords s kept items is = is
   lists_apart ShortHolders s kept items is = is
   lists_apart LongHolders s kept items is = is
+  lists_apart LongCleanups s kept items is = is
 
   begins_apart : (phase : Phase) (g k : Going) → Begins phase g k → Begins phase (going_apart g) (going_apart k)
   begins_apart phase g k begins = record { same = ap apart begins.same; none = begins.none; lists = lists_apart phase g.finalizers g.kept k.left begins.lists }
@@ -141,8 +153,15 @@ module _ (phase : Phase) (item : Item) (answer : Bool) where
       by None = at
       by (Some r) = slice_get-left s.queue _ k e at
 
+  cleaned_grows : (number : ℕ) → Grows (λ s. queued_cleanup s number)
+  cleaned_grows number s k e at = by (get s.cleanups number)
+    where
+      by : (o : Option Attached) → slice_get (option_map_or (queued_attached s number) o s).queue k ≡ Some e
+      by None = at
+      by (Some c) = slice_get-left s.queue _ k e at
+
   grows : Grows changed
-  grows = by_change Grows (λ s k e at. at) (λ word s k e at. at) (λ word s k e at. at) queued_grows phase item answer
+  grows = by_change Grows (λ s k e at. at) (λ word s k e at. at) (λ word s k e at. at) queued_grows cleaned_grows phase item answer
 
   next_here : (s : State) (e : Entry) → slice_get s.queue s.taken ≡ Some e → slice_get (changed s).queue (changed s).taken ≡ Some e
   next_here s e at = subst (λ n. slice_get (changed s).queue n ≡ Some e) (sym (same_taken s)) (grows s s.taken e at)

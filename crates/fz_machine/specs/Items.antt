@@ -1,4 +1,4 @@
--- The items that phases process: links and registrations.
+-- The items that phases process: links, registrations and cleanups.
 -- code: fz_machine/src/item.rt, listing.rt
 use Rattle.std.specs.Prelude.{◌≡◌, ℕ, ◌+◌, ◌*◌, ◌^◌, false, if◌then◌else◌, List, map, nat_eq, All}
 use Rattle.std.specs.List.{IsDistinct}
@@ -10,7 +10,10 @@ use Rattle.fz_model.specs.declared.answers.Registration.{Registration}
 use Rattle.fz_model.specs.State.{Map}
 use Rattle.fz_table.specs.declared.stored.Stored.{Stored}
 use Rattle.fz_table.specs.Tabled.{Set, plain}
+use Rattle.fz_model.specs.declared.kinds.LinkKind.{LinkKind}
+use Rattle.fz_finalizers.specs.declared.cleanups.Attached.{Attached}
 use Rattle.fz_finalizers.specs.declared.kinds.Kind.TheVariants.{Normal, Unreachable}
+use Rattle.fz_finalizers.specs.Cleanups.{AreDue, is_when}
 use Rattle.fz_finalizers.specs.Kinds.{of_table}
 use Rattle.fz_machine.specs.declared.item.Item.{Item}
 
@@ -29,6 +32,10 @@ of_late e = record { object = e.0; word = 0; kind = Unreachable; turn = 256 + e.
 abbrev pub of_stored : ℕ × Stored → Item
 of_stored e = if e.1.unreachable then of_late (plain e) else of_other (plain e)
 
+-- a cleanup, with its number
+abbrev pub of_cleanup : ℕ × Attached → Item
+of_cleanup e = record { object = e.1.object; word = e.0; kind = Normal; turn = e.1.cleanup.rank }
+
 -- these are the entries of a map, each once
 abbrev pub AreEntriesOf : {X : Type 0} → Map X → List (ℕ × X) → Type 0
 AreEntriesOf m es = (from_entries es ≡ m) × IsDistinct nat_eq (keys_of es)
@@ -41,6 +48,10 @@ AreLinks links items = (es : List (ℕ × ℕ)) × AreEntriesOf links es × (ite
 abbrev pub AreObjects : Map Registration → Set → List Item → Type 0
 AreObjects registrations late items =
     (es : List (ℕ × Stored)) × AreEntriesOf registrations (map plain es) × All (λ (e : ℕ × Stored). e.1.unreachable ≡ contains late e.0) es × (items ≡ map of_stored es)
+
+-- the items are the cleanups of this moment, in order
+abbrev pub AreCleanups : LinkKind → Map Attached → List Item → Type 0
+AreCleanups when cleanups items = (cs : List (ℕ × Attached)) × AreDue (λ (c : Attached). is_when when c.cleanup.when) cleanups cs × (items ≡ map of_cleanup cs)
 
 -- an item's sort key: position in queue order, then address
 abbrev pub place_of : Item → ℕ

@@ -5,7 +5,7 @@ use Rattle.std.specs.Coded.{Coded, code_by, coded×, coded_ℕ, coded_option}
 use Rattle.fz_model.specs.declared.answers.Entry.{Entry}
 use Rattle.fz_finalizers.specs.States.{State, View, view_code, waiting}
 use Rattle.fz_machine.specs.declared.phase.Phase.{Phase}
-use Rattle.fz_machine.specs.declared.phase.Phase.TheVariants.{ShortTargets, ShortWords, Objects, Children, Again, Picks, LateAgain, LatePicks, LongTargets, LongWords, ShortHolders, LongHolders}
+use Rattle.fz_machine.specs.declared.phase.Phase.TheVariants.{ShortCleanups, ShortTargets, ShortWords, Objects, Children, Again, Picks, LateAgain, LatePicks, LongTargets, LongWords, ShortHolders, LongHolders, LongCleanups}
 use Rattle.fz_machine.specs.declared.pass.Next.{Next}
 use Rattle.fz_machine.specs.declared.pass.Step.{Step}
 use Rattle.fz_machine.specs.declared.pass.Step.TheVariants as written
@@ -26,34 +26,39 @@ abbrev phase_code : Coded Phase
 phase_code = code_by ℕ coded_ℕ to back same
   where
     to : Phase → ℕ
-    to ShortTargets = 0
-    to ShortWords = 1
-    to Objects = 2
-    to Children = 3
-    to Again = 4
-    to Picks = 5
-    to LateAgain = 6
-    to LatePicks = 7
-    to LongTargets = 8
-    to LongWords = 9
-    to ShortHolders = 10
-    to LongHolders = 11
+    to ShortCleanups = 0
+    to ShortTargets = 1
+    to ShortWords = 2
+    to Objects = 3
+    to Children = 4
+    to Again = 5
+    to Picks = 6
+    to LateAgain = 7
+    to LatePicks = 8
+    to LongTargets = 9
+    to LongWords = 10
+    to ShortHolders = 11
+    to LongHolders = 12
+    to LongCleanups = 13
 
     back : ℕ → Phase
-    back zero = ShortTargets
-    back (suc zero) = ShortWords
-    back (suc (suc zero)) = Objects
-    back (suc (suc (suc zero))) = Children
-    back (suc (suc (suc (suc zero)))) = Again
-    back (suc (suc (suc (suc (suc zero))))) = Picks
-    back (suc (suc (suc (suc (suc (suc zero)))))) = LateAgain
-    back (suc (suc (suc (suc (suc (suc (suc zero))))))) = LatePicks
-    back (suc (suc (suc (suc (suc (suc (suc (suc zero)))))))) = LongTargets
-    back (suc (suc (suc (suc (suc (suc (suc (suc (suc zero))))))))) = LongWords
-    back (suc (suc (suc (suc (suc (suc (suc (suc (suc (suc zero)))))))))) = ShortHolders
-    back (suc (suc (suc (suc (suc (suc (suc (suc (suc (suc (suc n))))))))))) = LongHolders
+    back zero = ShortCleanups
+    back (suc zero) = ShortTargets
+    back (suc (suc zero)) = ShortWords
+    back (suc (suc (suc zero))) = Objects
+    back (suc (suc (suc (suc zero)))) = Children
+    back (suc (suc (suc (suc (suc zero))))) = Again
+    back (suc (suc (suc (suc (suc (suc zero)))))) = Picks
+    back (suc (suc (suc (suc (suc (suc (suc zero))))))) = LateAgain
+    back (suc (suc (suc (suc (suc (suc (suc (suc zero)))))))) = LatePicks
+    back (suc (suc (suc (suc (suc (suc (suc (suc (suc zero))))))))) = LongTargets
+    back (suc (suc (suc (suc (suc (suc (suc (suc (suc (suc zero)))))))))) = LongWords
+    back (suc (suc (suc (suc (suc (suc (suc (suc (suc (suc (suc zero))))))))))) = ShortHolders
+    back (suc (suc (suc (suc (suc (suc (suc (suc (suc (suc (suc (suc zero)))))))))))) = LongHolders
+    back (suc (suc (suc (suc (suc (suc (suc (suc (suc (suc (suc (suc (suc n))))))))))))) = LongCleanups
 
     same : (p : Phase) → back (to p) ≡ p
+    same ShortCleanups = refl
     same ShortTargets = refl
     same ShortWords = refl
     same Objects = refl
@@ -66,6 +71,7 @@ phase_code = code_by ℕ coded_ℕ to back same
     same LongWords = refl
     same ShortHolders = refl
     same LongHolders = refl
+    same LongCleanups = refl
 
 abbrev pub machine_code : Coded Machine
 machine_code =
@@ -105,9 +111,9 @@ pub record IsWorked (old new : Machine) : Type 0 where
 
 -- a pass has begun
 pub record IsBegun (old new : Machine) : Type 0 where
-  pub phase : new.phase ≡ Some ShortTargets
+  pub phase : new.phase ≡ Some ShortCleanups
   pub finalizers : new.finalizers.state ≡ record old.finalizers.state { passes = next_pass old.finalizers.passes }
-  pub begins : Begins ShortTargets (record (going old.finalizers old.walk) { finalizers = new.finalizers.state }) (going new.finalizers new.walk)
+  pub begins : Begins ShortCleanups (record (going old.finalizers old.walk) { finalizers = new.finalizers.state }) (going new.finalizers new.walk)
   pub asked : new.asked ≡ 0
   pub before : new.before ≡ length old.finalizers.queue
 

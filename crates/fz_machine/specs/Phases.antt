@@ -2,19 +2,21 @@
 -- code: fz_machine/src/phase.rt, listing.rt
 use Rattle.std.specs.Prelude.{◌≡◌, ℕ, Bool, true, false, not, if◌then◌else◌, List, Option, Some, None}
 use Rattle.std.specs.FinMap.{remove}
+use Rattle.fz_model.specs.declared.kinds.LinkKind.TheVariants.{Short, Long}
 use Rattle.fz_finalizers.specs.declared.kinds.Kind.{Kind}
 use Rattle.fz_finalizers.specs.declared.kinds.Kind.TheVariants.{Normal, IgnoreSelf, NoOrder, Unreachable}
-use Rattle.fz_finalizers.specs.Follows.{queued_object}
+use Rattle.fz_finalizers.specs.Follows.{queued_cleanup, queued_object}
 use Rattle.fz_finalizers.specs.Kinds.{is_late}
 use Rattle.fz_finalizers.specs.States.{State}
 use Rattle.fz_machine.specs.declared.item.Item.{Item}
 use Rattle.fz_machine.specs.declared.phase.Phase.{Phase}
-use Rattle.fz_machine.specs.declared.phase.Phase.TheVariants.{ShortTargets, ShortWords, Objects, Children, Again, Picks, LateAgain, LatePicks, LongTargets, LongWords, ShortHolders, LongHolders}
+use Rattle.fz_machine.specs.declared.phase.Phase.TheVariants.{ShortCleanups, ShortTargets, ShortWords, Objects, Children, Again, Picks, LateAgain, LatePicks, LongTargets, LongWords, ShortHolders, LongHolders, LongCleanups}
 use Rattle.fz_machine.specs.declared.question.Ask.{Ask}
 use Rattle.fz_machine.specs.declared.question.Ask.TheVariants.{IsMarked, MarkChildren, MarkOthers, Mark, MarkAlone, Clear, IsHolderMarked}
-use Rattle.fz_machine.specs.Items.{AreLinks, AreObjects, AreInTurn}
+use Rattle.fz_machine.specs.Items.{AreCleanups, AreLinks, AreObjects, AreInTurn}
 
 abbrev pub next_phase : Phase → Option Phase
+next_phase ShortCleanups = Some ShortTargets
 next_phase ShortTargets = Some ShortWords
 next_phase ShortWords = Some Objects
 next_phase Objects = Some Children
@@ -26,7 +28,8 @@ next_phase LatePicks = Some LongTargets
 next_phase LongTargets = Some LongWords
 next_phase LongWords = Some ShortHolders
 next_phase ShortHolders = Some LongHolders
-next_phase LongHolders = None
+next_phase LongHolders = Some LongCleanups
+next_phase LongCleanups = None
 
 -- the command that marks the children of an unmarked object, by its kind
 abbrev pub child_ask : Kind → Option Ask
@@ -44,6 +47,7 @@ pick_ask Unreachable = None
 
 -- what a phase asks about an item
 abbrev pub asks : Phase → Item → Option Ask
+asks ShortCleanups item = Some IsMarked
 asks ShortTargets item = Some IsMarked
 asks ShortWords item = Some Clear
 asks Objects item = Some IsMarked
@@ -56,9 +60,11 @@ asks LongTargets item = Some IsMarked
 asks LongWords item = Some Clear
 asks ShortHolders item = Some IsHolderMarked
 asks LongHolders item = Some IsHolderMarked
+asks LongCleanups item = Some IsMarked
 
 -- the object or the word that it asks about
 abbrev pub subject : Phase → Item → ℕ
+subject ShortCleanups item = item.object
 subject ShortTargets item = item.object
 subject ShortWords item = item.word
 subject Objects item = item.object
@@ -71,9 +77,11 @@ subject LongTargets item = item.object
 subject LongWords item = item.word
 subject ShortHolders item = item.word
 subject LongHolders item = item.word
+subject LongCleanups item = item.object
 
 -- whether the next phase processes the item, too, given the answer: it does if the object isn't marked
 abbrev pub keeps : Phase → Item → Bool → Bool
+keeps ShortCleanups item answer = false
 keeps ShortTargets item answer = not answer
 keeps ShortWords item answer = false
 keeps Objects item answer = not answer
@@ -86,6 +94,7 @@ keeps LongTargets item answer = not answer
 keeps LongWords item answer = false
 keeps ShortHolders item answer = false
 keeps LongHolders item answer = false
+keeps LongCleanups item answer = false
 
 abbrev without_short : State → ℕ → State
 without_short s word = record s { short = remove s.short word }
@@ -93,8 +102,10 @@ without_short s word = record s { short = remove s.short word }
 abbrev without_long : State → ℕ → State
 without_long s word = record s { long = remove s.long word }
 
--- how the finalizers change: a cleared link is removed, and so is one whose containing object isn't marked; a picked object is queued
+-- how the finalizers change: a cleared link is removed, and so is one whose containing object isn't marked; a picked object is queued,
+-- and so is a cleanup whose object isn't marked
 abbrev pub after : Phase → Item → Bool → State → State
+after ShortCleanups item answer s = if answer then s else queued_cleanup s item.word
 after ShortTargets item answer s = s
 after ShortWords item answer s = without_short s item.word
 after Objects item answer s = s
@@ -107,9 +118,11 @@ after LongTargets item answer s = s
 after LongWords item answer s = without_long s item.word
 after ShortHolders item answer s = if answer then s else without_short s item.word
 after LongHolders item answer s = if answer then s else without_long s item.word
+after LongCleanups item answer s = if answer then s else queued_cleanup s item.word
 
 -- the list that a phase processes, given what the previous phase kept
 abbrev pub Lists : Phase → State → List Item → List Item → Type 0
+Lists ShortCleanups s kept items = AreCleanups Short s.cleanups items
 Lists ShortTargets s kept items = AreLinks s.short items
 Lists ShortWords s kept items = items ≡ kept
 Lists Objects s kept items = AreObjects s.registrations s.late items
@@ -122,3 +135,4 @@ Lists LongTargets s kept items = AreLinks s.long items
 Lists LongWords s kept items = items ≡ kept
 Lists ShortHolders s kept items = AreLinks s.short items
 Lists LongHolders s kept items = AreLinks s.long items
+Lists LongCleanups s kept items = AreCleanups Long s.cleanups items

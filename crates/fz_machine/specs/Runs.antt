@@ -2,8 +2,7 @@
 -- code: fz_machine/src/law.rt
 use Rattle.std.specs.Prelude.{◌≡◌, ℕ, Bool, List, [], ◌∷◌, Option, None, Some, IsTrue}
 use Rattle.fz_pass.specs.Marks.{IsClosed}
-use Rattle.fz_finalizers.specs.Follows.{Follows, Pass, next_pass}
-use Rattle.fz_finalizers.specs.Passed.{DecidesFor}
+use Rattle.fz_finalizers.specs.Passed.{PassesFor}
 use Rattle.fz_finalizers.specs.Promises.{IsReached, Past}
 use Rattle.fz_finalizers.specs.States.{State}
 use Rattle.fz_machine.specs.declared.item.Item.{Item}
@@ -27,12 +26,11 @@ pub data Runs (Exact : Type 0) (place : ℕ → Option ℕ) (begun : Machine) (b
       → Runs Exact place begun before m g → AreHonest Exact place goes.phase answers m.walk.left g after → Runs Exact place begun before new after
   Meanwhile : {m new : Machine} {g : Graph} → IsWorked m new → Runs Exact place begun before m g → Runs Exact place begun before new g
 
--- as for `Finalizers::pass`: what the model decides, how the finalizers change, and that marks stay and are closed; what is taken and finished meanwhile might as
--- well be taken and finished after the pass
+-- as for `Finalizers::pass`: what the model queues and decides, and that marks stay and are closed; what is taken and finished meanwhile might as well be taken
+-- and finished after the pass
 pub record MakesPass (Exact : Type 0) (place : ℕ → Option ℕ) (old : State) (before : Graph) (new : State) (after : Graph) : Type 0 where
   pub passed : State
-  pub decided : DecidesFor Exact place (next_pass old.passes) old before.objects before.marked passed after.objects after.marked
-  pub follows : Follows old Pass passed
+  pub passes : PassesFor Exact place old before.objects before.marked passed after.objects after.marked
   pub works : Works passed new
   pub marks : (a : ℕ) → IsTrue (before.marked a) → IsTrue (after.marked a)
   pub closed : IsClosed after.objects after.marked

@@ -34,6 +34,9 @@ fn act(finalizers: &mut Finalizers, phase: Phase, item: Item, yes: bool)
         Phase::LatePicks => {
             finalizers.queue(item.object);
         }
+        Phase::ShortCleanups | Phase::LongCleanups if !yes => {
+            finalizers.queue_cleanup(item.word);
+        }
         _ => {}
     }
 }

@@ -1,21 +1,21 @@
 //! The items that the phases of a pass process.
 
 ghost use Rattle.std.specs.Prelude.{◌≡◌};
-ghost use Rattle.fz_machine.specs.Items.{of_link, of_stored};
+ghost use Rattle.fz_machine.specs.Items.{of_cleanup, of_link, of_stored};
 
-use fz_finalizers::{Kind, Stored};
+use fz_finalizers::{Attached, Kind, Stored};
 use fz_model::Addr;
 
-/// A link or a registration, as a phase processes it.
+/// A link, a registration or a cleanup, as a phase processes it.
 #[derive(Clone, Copy, Debug, PartialEq, Eq)]
 pub struct Item {
-    /// The registered object, or the target of the link.
+    /// The registered object, the target of the link, or the object of the cleanup.
     pub object: Addr,
-    /// The word of the link; 0 for a registration.
-    pub word: Addr,
-    /// The kind of the registration; `Normal` for a link.
+    /// The word of the link, or the number of the cleanup; 0 for a registration.
+    pub word: u64,
+    /// The kind of the registration; `Normal` for a link or a cleanup.
     pub kind: Kind,
-    /// The position in queue order: the rank of the registration, plus 256 for the kind `Unreachable`; 0 for a link.
+    /// The position in queue order: the rank of the registration or the cleanup, plus 256 for the kind `Unreachable`; 0 for a link.
     pub turn: u16,
 }
 
@@ -29,6 +29,18 @@ impl Item {
             word,
             kind: Kind::Normal,
             turn: 0,
+        }
+    }
+
+    /// A cleanup with its number.
+    pub(crate) fn of_cleanup(number: u64, attached: &Attached) -> Item
+        ensures { result ≡ of_cleanup (number, attached.now) }
+    {
+        Item {
+            object: attached.object,
+            word: number,
+            kind: Kind::Normal,
+            turn: u16::from(attached.cleanup.rank),
         }
     }
 

@@ -1,16 +1,18 @@
 //! The lists that phases process.
 
-ghost use Rattle.std.specs.Prelude.{◌≡◌, ◌≤◌, ◌<◌, ◌++◌, ◌∷◌, [], vec_len, vec_capacity};
+ghost use Rattle.std.specs.Prelude.{◌≡◌, ◌≤◌, ◌<◌, ◌+◌, ◌*◌, ◌^◌, ◌++◌, ◌∷◌, [], ℕ, List, if◌then◌else◌, filter, map, All, vec_len, vec_capacity};
 ghost use Rattle.std.specs.FinMap.{len};
 ghost use Rattle.fz_finalizers.specs.States.{links_of};
-ghost use Rattle.fz_machine.specs.Items.{AreLinks, AreObjects};
+ghost use Rattle.fz_finalizers.specs.declared.cleanups.Attached.{Attached};
+ghost use Rattle.fz_finalizers.specs.Cleanups.{is_when};
+ghost use Rattle.fz_machine.specs.Items.{AreCleanups, AreEntriesOf, AreLinks, AreObjects, of_cleanup};
 ghost use Rattle.fz_machine.specs.Going.{going, HasRoom};
 ghost use Rattle.fz_machine.specs.Steps.{Begins};
 
 use crate::item::Item;
 use crate::phase::Phase;
 use crate::walk::Walk;
-use fz_finalizers::Finalizers;
+use fz_finalizers::{Attached, Finalizers};
 use fz_model::LinkKind;
 
 /// Appends an item to the list, which has room for it.
@@ -70,6 +72,52 @@ fn walk_objects(finalizers: &Finalizers, walk: &mut Walk)
     *walk = Walk::of(items);
 }
 
+/// Appends a cleanup to the list, which has room for it, if it is of this moment.
+fn put_if_when(items: &mut Vec<Item>, when: LinkKind, number: u64, attached: Attached)
+    requires room { vec_len items.old < vec_capacity items.old }
+    ensures listed { items.new.items ≡ (if is_when when attached.cleanup.when then items.old.items ++ of_cleanup (number, attached) ∷ [] else items.old.items) }
+    // Tells the caller that the number is less than 2^64.
+    ensures number { number < 2 ^ 64 }
+    ensures capacity { vec_capacity items.old ≤ vec_capacity items.new }
+{
+    if attached.cleanup.is_when(when) {
+        put(items, Item::of_cleanup(number, &attached));
+    }
+}
+
+/// Appends all cleanups of a moment to the list, which has room for them.
+fn list_cleanups(finalizers: &Finalizers, when: LinkKind, items: &mut Vec<Item>)
+    requires empty { items.old.items ≡ [] }
+    requires room { len finalizers.now.cleanups ≤ vec_capacity items.old }
+    ensures listed { (es : List (ℕ × Attached)) × AreEntriesOf finalizers.now.cleanups es × (items.new.items ≡ map of_cleanup (filter (λ e. is_when when e.1.cleanup.when) es)) }
+    ensures numbers { All (λ item. item.word < 2 ^ 64) items.new.items }
+    ensures room { vec_capacity items.old ≤ vec_capacity items.new }
+{
+    for (number, attached) in finalizers.iter_cleanups() {
+        put_if_when(items, when, number, attached);
+    }
+}
+
+/// A cleanup's sort key: its rank, then its number.
+fn numbered(item: &Item) -> u128
+    ensures { result ≡ item.now.turn * 2 ^ 64 + item.now.word }
+{
+    u128::from(item.turn) * 0x1_0000_0000_0000_0000 + u128::from(item.word)
+}
+
+/// Lists all cleanups of a moment, by rank, then number.
+fn walk_cleanups(finalizers: &Finalizers, when: LinkKind, walk: &mut Walk)
+    requires room { HasRoom finalizers.now.state walk.old.room }
+    ensures kept { walk.new.kept ≡ [] }
+    ensures listed { AreCleanups when finalizers.now.cleanups walk.new.left }
+    ensures room { walk.old.room ≤ walk.new.room }
+{
+    let mut items = walk.take_room();
+    list_cleanups(finalizers, when, &mut items);
+    items.sort_unstable_by_key(|item| numbered(item));
+    *walk = Walk::of(items);
+}
+
 /// Lists what a phase processes.
 pub(crate) fn begin(finalizers: &Finalizers, walk: &mut Walk, phase: Phase)
     requires room { HasRoom finalizers.now.state walk.old.room }
@@ -79,6 +127,8 @@ pub(crate) fn begin(finalizers: &Finalizers, walk: &mut Walk, phase: Phase)
     match phase {
         Phase::ShortTargets | Phase::ShortHolders => walk_links(finalizers, LinkKind::Short, walk),
         Phase::LongTargets | Phase::LongHolders => walk_links(finalizers, LinkKind::Long, walk),
+        Phase::ShortCleanups => walk_cleanups(finalizers, LinkKind::Short, walk),
+        Phase::LongCleanups => walk_cleanups(finalizers, LinkKind::Long, walk),
         Phase::Objects => walk_objects(finalizers, walk),
         Phase::Picks => walk.again_in_turn(),
         Phase::ShortWords | Phase::Children | Phase::Again => walk.again(),

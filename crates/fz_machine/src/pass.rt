@@ -50,8 +50,8 @@ impl Machine {
         }
         let number = self.finalizers.begin_pass();
         self.before = self.finalizers.queued();
-        begin(&self.finalizers, &mut self.walk, Phase::ShortTargets);
-        self.phase = Some(Phase::ShortTargets);
+        begin(&self.finalizers, &mut self.walk, Phase::ShortCleanups);
+        self.phase = Some(Phase::ShortCleanups);
         self.asked = 0;
         Ok(number)
     }

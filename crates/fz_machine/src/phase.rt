@@ -1,4 +1,4 @@
-//! The phases of a pass, in the order of bdwgc's finalize.c.
+//! The phases of a pass: those of bdwgc's finalize.c in its order, between two that queue cleanups.
 
 ghost use Rattle.std.specs.Prelude.{◌≡◌};
 ghost use Rattle.fz_machine.specs.Phases.{next_phase, child_ask, pick_ask, asks, subject, keeps};
@@ -11,6 +11,8 @@ use fz_model::Addr;
 /// A phase of a pass. It processes a list, and asks the same about each item of it.
 #[derive(Clone, Copy, Debug, PartialEq, Eq)]
 pub enum Phase {
+    /// Asks which objects of short cleanups are marked, and queues the cleanups of the others, by rank, then number.
+    ShortCleanups,
     /// Asks which targets of short links are marked.
     ShortTargets,
     /// Clears the words of short links to unmarked targets.
@@ -35,6 +37,8 @@ pub enum Phase {
     ShortHolders,
     /// The same for long links.
     LongHolders,
+    /// Asks which objects of long cleanups are marked, and queues the cleanups of the others.
+    LongCleanups,
 }
 
 /// The command that marks the children of an unmarked object.
@@ -65,6 +69,7 @@ impl Phase {
         ensures { result ≡ next_phase self }
     {
         match self {
+            Phase::ShortCleanups => Some(Phase::ShortTargets),
             Phase::ShortTargets => Some(Phase::ShortWords),
             Phase::ShortWords => Some(Phase::Objects),
             Phase::Objects => Some(Phase::Children),
@@ -76,7 +81,8 @@ impl Phase {
             Phase::LongTargets => Some(Phase::LongWords),
             Phase::LongWords => Some(Phase::ShortHolders),
             Phase::ShortHolders => Some(Phase::LongHolders),
-            Phase::LongHolders => None,
+            Phase::LongHolders => Some(Phase::LongCleanups),
+            Phase::LongCleanups => None,
         }
     }
 
@@ -85,6 +91,7 @@ impl Phase {
         ensures { result ≡ asks self item.now }
     {
         match self {
+            Phase::ShortCleanups | Phase::LongCleanups => Some(Ask::IsMarked),
             Phase::ShortTargets | Phase::LongTargets => Some(Ask::IsMarked),
             Phase::Objects | Phase::Again | Phase::LateAgain => Some(Ask::IsMarked),
             Phase::ShortWords | Phase::LongWords => Some(Ask::Clear),
@@ -102,6 +109,7 @@ impl Phase {
         match self {
             Phase::ShortWords | Phase::LongWords => item.word,
             Phase::ShortHolders | Phase::LongHolders => item.word,
+            Phase::ShortCleanups | Phase::LongCleanups => item.object,
             Phase::ShortTargets | Phase::LongTargets => item.object,
             Phase::Objects | Phase::Children | Phase::Again => item.object,
             Phase::Picks | Phase::LateAgain | Phase::LatePicks => item.object,
@@ -119,6 +127,7 @@ impl Phase {
             Phase::Picks => item.kind == Kind::Unreachable,
             Phase::ShortWords | Phase::LongWords | Phase::LatePicks => false,
             Phase::ShortHolders | Phase::LongHolders => false,
+            Phase::ShortCleanups | Phase::LongCleanups => false,
         }
     }
 }

@@ -1,0 +1,16 @@
+use Rattle.std.proofs.Common.{◌∙◌, sym, ap}
+use Rattle.fz_finalizers.specs.Fits.{state_of}
+use Rattle.fz_finalizers.specs.Follows.{queued_cleanup}
+use Rattle.fz_finalizers.specs.States.{View}
+use Rattle.fz_finalizers.proofs.Fitting.{cancelled_fits}
+use Rattle.fz_finalizers.proofs.OneQueued.{no_cleanup_queued}
+use Rattle.fz_finalizers.proofs.finalizers.Finalizers.queue_cleanup.Goals as goal
+
+pub invariant_of-self : goal.invariant_of-self
+invariant_of-self c =
+    (cancelled_fits c.self.inside.table.content c.self.inside.cleanups.cleanups c.self.inside.ready c.self.invariant.0 c.remove.new.self.cleanups c.args.number c.remove.ensures.removed, c.self.invariant.1)
+
+pub returns-in_default-clause-follows : goal.returns-in_default-clause-follows
+returns-in_default-clause-follows c =
+    let s = state_of c.self.inside.table.content c.self.inside.short c.self.inside.long c.self.inside.cleanups.cleanups c.self.inside.ready c.self.inside.passes in
+    (λ i. record s { cleanups = c.remove.ensures.removed i }) ∙ no_cleanup_queued s c.args.number (sym c.remove.ensures.answer ∙ c.in_default.is) ∙ ap (λ (v : View). queued_cleanup v.state c.args.number) c.self.view_is

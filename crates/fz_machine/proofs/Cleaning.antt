@@ -1,0 +1,89 @@
+-- A round over the cleanups of a moment: those whose objects aren't marked are queued.
+use Rattle.std.proofs.Common.{◌≡◌, ◌≢◌, ◌++◌, ◌∷◌, ◌∙◌, [], ℕ, Bool, true, false, cond, List, length, map, drop, slice_get, Option, Some, All, not, sym, ap, subst, append_assoc, append-nil, arith}
+use Rattle.std.proofs.lemmas.List.{map-append}
+use Rattle.std.proofs.lemmas.List.Elements.{All-filter}
+use Rattle.std.proofs.lemmas.Option.{same_Some}
+use Rattle.std.specs.FinMap.{get}
+use Rattle.std.specs.Option.{option_map_or}
+use Rattle.fz_model.specs.declared.answers.Pick.{Pick}
+use Rattle.fz_model.specs.declared.kinds.LinkKind.{LinkKind}
+use Rattle.fz_model.specs.Pass.{entries_of}
+use Rattle.fz_model.specs.State.{Map, Object}
+use Rattle.fz_finalizers.specs.declared.cleanups.Attached.{Attached}
+use Rattle.fz_finalizers.specs.Cleanups.{AreDue, is_due, is_when, pick_of, without}
+use Rattle.fz_finalizers.specs.Follows.{Cleans, queued_attached, queued_cleanup}
+use Rattle.fz_finalizers.specs.States.{State}
+use Rattle.fz_finalizers.proofs.Cleaned.{get-without_other, without-push}
+use Rattle.fz_machine.specs.declared.item.Item.{Item}
+use Rattle.fz_machine.specs.declared.question.Ask.TheVariants.{IsMarked}
+use Rattle.fz_machine.specs.Graph.{Graph, IsHonest}
+use Rattle.fz_machine.specs.Items.{AreCleanups, of_cleanup}
+use Rattle.fz_machine.proofs.Due.{are_due, due_in, due_more, others_before}
+use Rattle.fz_machine.proofs.Stated.{entries_more}
+
+module _ (b : State) where
+  -- these cleanups are queued
+  abbrev pub after_due : List (ℕ × Attached) → State
+  after_due due = record b { queue = b.queue ++ entries_of b.passes (length b.queue) (map pick_of due); cleanups = without b.cleanups due }
+
+  pub none_due : after_due [] ≡ b
+  none_due = λ i. record b { queue = append-nil b.queue i }
+
+  one_due : (due : List (ℕ × Attached)) (e : ℕ × Attached) → get b.cleanups e.0 ≡ Some e.1 → All (λ (y : ℕ × Attached). y.0 ≢ e.0) due → queued_cleanup (after_due due) e.0 ≡ after_due (due ++ e ∷ [])
+  one_due due e here others =
+      let queue = entries_more b.passes b.queue (map pick_of due) (pick_of e) ∙ ap (λ (ps : List Pick). b.queue ++ entries_of b.passes (length b.queue) ps) (sym (map-append pick_of due (e ∷ []))) in
+      ap (λ (o : Option Attached). option_map_or (queued_attached (after_due due) e.0) o (after_due due)) (get-without_other b.cleanups due e.0 others ∙ here)
+      ∙ (λ i. record b { queue = queue i; cleanups = sym (without-push b.cleanups due e) i })
+
+module _ (E : Type 0) (word_of : ℕ → Option ℕ) (when : LinkKind) (b : State) (objects : Map Object) (marked : ℕ → Bool) where
+  abbrev AreAll : List (ℕ × Attached) → Type 0
+  AreAll = AreDue (λ (c : Attached). is_when when c.cleanup.when) b.cleanups
+
+  -- those that were asked about, and those that remain
+  pub record Cleaning (s : State) (left : List Item) (h : Graph) : Type 0 where
+    pub past : List (ℕ × Attached)
+    pub rest : List (ℕ × Attached)
+    pub are : AreDue (λ (c : Attached). is_when when c.cleanup.when) b.cleanups (past ++ rest)
+    pub left_are : left ≡ map of_cleanup rest
+    pub state : s ≡ after_due b (due_in marked past)
+    pub objects_are : h.objects ≡ objects
+    pub marks_are : h.marked ≡ marked
+
+  pub cleaning_begins : (s : State) (items : List Item) (h : Graph) → s ≡ b → h.objects ≡ objects → h.marked ≡ marked → AreCleanups when b.cleanups items → Cleaning s items h
+  cleaning_begins s items h state objects_are marks_are (cs, are, is) =
+      record { past = []; rest = cs; are = are; left_are = is; state = state ∙ sym (none_due b); objects_are = objects_are; marks_are = marks_are }
+
+  module _ (s : State) (left : List Item) (item : Item) (h new : Graph) (p : Cleaning s (item ∷ left) h) where
+    next_state : (e : ℕ × Attached) (es : List (ℕ × Attached)) → AreAll (p.past ++ e ∷ es) → item ≡ of_cleanup e → (on : Bool) → on ≡ marked e.1.object → cond on s (queued_cleanup s item.word) ≡ after_due b (due_in marked (p.past ++ e ∷ []))
+    next_state e es are is true on = p.state ∙ ap (after_due b) (sym (due_more marked p.past e true on))
+    next_state e es are is false off =
+        let others = others_before (λ (c : Attached). is_when when c.cleanup.when) b.cleanups p.past e es are in
+        (λ i. queued_cleanup (p.state i) (is i).word)
+        ∙ one_due b (due_in marked p.past) e others.0 (All-filter (λ (x : ℕ × Attached). not (marked x.1.object)) (λ (y : ℕ × Attached). y.0 ≢ e.0) p.past others.1)
+        ∙ ap (after_due b) (sym (due_more marked p.past e false off))
+
+    pub cleaning_on : (answer : Bool) → IsHonest E word_of (Some IsMarked) item.object h answer new → Cleaning (cond answer s (queued_cleanup s item.word)) left new
+    cleaning_on answer honest = by p.rest p.are p.left_are
+      where
+        by : (rest : List (ℕ × Attached)) → AreAll (p.past ++ rest) → item ∷ left ≡ map of_cleanup rest → Cleaning (cond answer s (queued_cleanup s item.word)) left new
+        by [] are is = absurd (omega (arith, ap length is))
+        by (e ∷ es) are is =
+            let told = honest tt in
+            let first : item ≡ of_cleanup e = same_Some item (of_cleanup e) (ap (λ xs. slice_get xs 0) is) in
+            record {
+              past = p.past ++ e ∷ [];
+              rest = es;
+              are = subst AreAll (sym (append_assoc p.past (e ∷ []) es)) are;
+              left_are = ap (drop 1) is;
+              state = next_state e es are first answer (told.0 ∙ (λ i. p.marks_are i (first i).object));
+              objects_are = ap (λ (x : Graph). x.objects) told.1 ∙ p.objects_are;
+              marks_are = ap (λ (x : Graph). x.marked) told.1 ∙ p.marks_are;
+            }
+
+  -- all that are due are queued
+  pub cleaning_all : (s : State) (h : Graph) → Cleaning s [] h → Cleans b.passes (is_due when marked) b s
+  cleaning_all s h p = by p.rest p.are p.left_are
+    where
+      by : (rest : List (ℕ × Attached)) → AreAll (p.past ++ rest) → [] ≡ map of_cleanup rest → Cleans b.passes (is_due when marked) b s
+      by [] are is = (due_in marked p.past, are_due when marked b.cleanups p.past (subst AreAll (append-nil p.past) are), p.state)
+      by (e ∷ es) are is = absurd (omega (arith, ap length is))

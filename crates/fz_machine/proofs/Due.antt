@@ -1,0 +1,93 @@
+-- Cleanups in order: a map has no fewer, and what is due of them stays in order.
+use Rattle.std.proofs.Common.{◌≡◌, ◌≢◌, ◌≤◌, ◌<◌, ◌+◌, ◌++◌, ◌∷◌, ◌∙◌, [], ℕ, Bool, true, false, cond, List, length, length-append, refl, filter, get_or, Some, All, AllPairs, not, ◌&&◌, is_some, sym, ap, subst, ⊎_elim, arith, zero, suc, IsTrue, append-nil}
+use Rattle.std.proofs.lemmas.Bool.{and_parts}
+use Rattle.std.proofs.lemmas.List.Elements.{All-filter, All-head, filter-append, filter_passes}
+use Rattle.std.proofs.lemmas.List.Kept.{AllPairs-filter}
+use Rattle.std.proofs.lemmas.List.{get_or_append_left}
+use Rattle.std.proofs.lemmas.Option.{same_Some}
+use Rattle.std.proofs.Math.Seq.{get_or-append_seam}
+use Rattle.std.specs.FinMap.{get, len, remove}
+use Rattle.fz_model.specs.State.{Map}
+use Rattle.fz_model.specs.declared.kinds.LinkKind.{LinkKind}
+use Rattle.fz_model.proofs.Lists.{contains_at, place_of}
+use Rattle.fz_model.proofs.Maps.{get-remove_other}
+use Rattle.fz_finalizers.specs.declared.cleanups.Attached.{Attached}
+use Rattle.fz_finalizers.specs.Cleanups.{AreDue, ComesFirst, is_due, is_when}
+use Rattle.fz_finalizers.proofs.Counting.{len_gone}
+use Rattle.fz_finalizers.proofs.Promised.{kept_in}
+
+-- one that comes first has another number
+pub differs : (m : Map Attached) (x y : ℕ × Attached) → get m x.0 ≡ Some x.1 → get m y.0 ≡ Some y.1 → ComesFirst x y → y.0 ≢ x.0
+differs m x y here there first same =
+    let one : y.1 ≡ x.1 = same_Some y.1 x.1 (sym there ∙ ap (get m) same ∙ here) in
+    let rank : y.1.cleanup.rank ≡ x.1.cleanup.rank = ap (λ (c : Attached). c.cleanup.rank) one in
+    ⊎_elim (λ less. absurd (omega (arith, less, rank))) (λ less. absurd (omega (arith, less.1, same))) first
+
+-- a map has at least as many as are in it one after another
+few : (m : Map Attached) (cs : List (ℕ × Attached)) → All (λ (x : ℕ × Attached). get m x.0 ≡ Some x.1) cs → AllPairs ComesFirst cs → length cs ≤ len m
+few m [] each ordered = omega arith
+few m (x ∷ xs) each ordered =
+    let here : get m x.0 ≡ Some x.1 = All-head (λ (y : ℕ × Attached). get m y.0 ≡ Some y.1) x xs each in
+    let gone = len_gone m x.0 (ap is_some here) in
+    let rest = few (remove m x.0) xs others (λ i j d lt within. ordered (suc i) (suc j) d (omega (arith, lt)) (omega (arith, within))) in
+    omega (arith, gone, rest)
+  where
+    others : All (λ (y : ℕ × Attached). get (remove m x.0) y.0 ≡ Some y.1) xs
+    others k d within =
+        let here : get m x.0 ≡ Some x.1 = each zero d (omega arith) in
+        let there : get m (get_or xs k d).0 ≡ Some (get_or xs k d).1 = each (suc k) d (omega (arith, within)) in
+        get-remove_other m x.0 (get_or xs k d).0 (differs m x (get_or xs k d) here there (ordered zero (suc k) d (omega arith) (omega (arith, within)))) ∙ there
+
+pub due_few : (test : Attached → Bool) (m : Map Attached) (cs : List (ℕ × Attached)) → AreDue test m cs → length cs ≤ len m
+due_few test m cs are = few m cs (λ k d within. (are.each k d within).0) are.ordered
+
+-- those before one of them have other numbers
+pub others_before : (test : Attached → Bool) (m : Map Attached) (past : List (ℕ × Attached)) (e : ℕ × Attached) (rest : List (ℕ × Attached)) → AreDue test m (past ++ e ∷ rest)
+    → (get m e.0 ≡ Some e.1) × All (λ (y : ℕ × Attached). y.0 ≢ e.0) past
+others_before test m past e rest are = (here e, λ k d within same. differs m (get_or past k d) e (there k d within) (here d) (before k d within) (sym same))
+  where
+    long : length (past ++ e ∷ rest) ≡ length past + length (e ∷ rest)
+    long = length-append past (e ∷ rest)
+
+    here : (d : ℕ × Attached) → get m e.0 ≡ Some e.1
+    here d = subst (λ (y : ℕ × Attached). get m y.0 ≡ Some y.1) (get_or-append_seam past e rest d) (are.each (length past) d (let count = long in omega (arith, count))).0
+
+    there : (k : ℕ) (d : ℕ × Attached) → k < length past → get m (get_or past k d).0 ≡ Some (get_or past k d).1
+    there k d within = subst (λ (y : ℕ × Attached). get m y.0 ≡ Some y.1) (get_or_append_left past (e ∷ rest) d k within) (are.each k d (let count = long in omega (arith, count, within))).0
+
+    before : (k : ℕ) (d : ℕ × Attached) → k < length past → ComesFirst (get_or past k d) e
+    before k d within =
+        subst (ComesFirst (get_or past k d)) (get_or-append_seam past e rest d)
+        (subst (λ (y : ℕ × Attached). ComesFirst y (get_or (past ++ e ∷ rest) (length past) d)) (get_or_append_left past (e ∷ rest) d k within) (are.ordered k (length past) d within (let count = long in omega (arith, count))))
+
+-- whose objects aren't in the set
+abbrev pub due_in : (ℕ → Bool) → List (ℕ × Attached) → List (ℕ × Attached)
+due_in set cs = filter (λ (e : ℕ × Attached). not (set e.1.object)) cs
+
+pub due_more : (set : ℕ → Bool) (cs : List (ℕ × Attached)) (e : ℕ × Attached) (on : Bool) → on ≡ set e.1.object → due_in set (cs ++ e ∷ []) ≡ cond on (due_in set cs) (due_in set cs ++ e ∷ [])
+due_more set cs e on is = filter-append (λ (x : ℕ × Attached). not (set x.1.object)) cs (e ∷ []) ∙ ap (λ b. due_in set cs ++ cond (not b) (e ∷ []) []) (sym is) ∙ by on
+  where
+    by : (b : Bool) → due_in set cs ++ cond (not b) (e ∷ []) [] ≡ cond b (due_in set cs) (due_in set cs ++ e ∷ [])
+    by true = append-nil (due_in set cs)
+    by false = refl
+
+module _ (when : LinkKind) (set : ℕ → Bool) (m : Map Attached) (cs : List (ℕ × Attached)) (are : AreDue (λ (c : Attached). is_when when c.cleanup.when) m cs) where
+  abbrev stays : ℕ × Attached → Bool
+  stays e = not (set e.1.object)
+
+  pub are_due : AreDue (is_due when set) m (due_in set cs)
+  are_due = record {
+    each = λ k d within.
+        let of = All-filter stays (λ (x : ℕ × Attached). (get m x.0 ≡ Some x.1) × IsTrue (is_when when x.1.cleanup.when)) cs are.each k d within in
+        let off = filter_passes stays cs k d within in
+        (of.0, both (is_when when (get_or (due_in set cs) k d).1.cleanup.when) (stays (get_or (due_in set cs) k d)) of.1 off);
+    whole = λ number c here on.
+        let parts = and_parts (is_when when c.cleanup.when) (not (set c.object)) on in
+        let found = place_of cs (number, c) (are.whole number c here parts.0) in
+        let left = kept_in stays cs found.0 (number, c) found.1 parts.1 in
+        contains_at (due_in set cs) left.0 (number, c) left.1;
+    ordered = AllPairs-filter ComesFirst stays cs are.ordered;
+  }
+    where
+      both : (x y : Bool) → IsTrue x → IsTrue y → IsTrue (x && y)
+      both x y on off = ap (λ b. b && y) on ∙ off
