@@ -1,4 +1,4 @@
-/* finalizers_costs N STRIDE: registrations, links, walks and look-ups of N objects so many numbers apart. c/run counts the instructions of each function here
+/* finalizers_costs N STRIDE: registrations, links, cleanups, walks and look-ups of N objects so many numbers apart. c/run counts the instructions of each function here
  * whose name begins with `cost_`: for each of N, or of 10,000 calls where it finds something, they don't grow with N.
  */
 #include "check.h"
@@ -10,7 +10,7 @@ enum { CALLS = 10000, PART = 64 };
 static const uint64_t first = 65536;
 
 static derrimas_finalizers finalizers;
-static uint64_t size, stride, wrong;
+static uint64_t size, stride, wrong, next_number;
 
 static uint64_t object_at(uint64_t n) { return first + stride * n; }
 
@@ -86,12 +86,57 @@ COST cost_moving(void)
         wrong += derrimas_finalizers_move_link(&finalizers, DERRIMAS_FINALIZERS_LONG, object_at(n), object_at(size + n), NULL) != DERRIMAS_FINALIZERS_OK;
 }
 
+/* Their numbers follow one another. */
+COST cost_adding(void)
+{
+    for (uint64_t n = 0; n < size; n++)
+        wrong += derrimas_finalizers_add_cleanup(&finalizers, object_at(n), DERRIMAS_FINALIZERS_LONG, n, n, 0, &next_number) != DERRIMAS_FINALIZERS_OK;
+    next_number++;
+}
+
+COST cost_finding_cleanups(void)
+{
+    derrimas_finalizers_cleanup_at it;
+
+    for (uint64_t n = 0; n < CALLS; n++)
+        wrong += derrimas_finalizers_cleanup(&finalizers, next_number - 1 - n * 7919 % size, &it) != DERRIMAS_FINALIZERS_OK;
+}
+
+COST cost_walking_cleanups(void)
+{
+    derrimas_finalizers_cleanup_at some[PART];
+    uint64_t from = 0;
+    size_t count;
+
+    while (derrimas_finalizers_cleanups(&finalizers, &from, some, PART, &count) == DERRIMAS_FINALIZERS_OK)
+        continue;
+    wrong += from != size;
+}
+
+COST cost_cancelling(void)
+{
+    derrimas_finalizers_old old;
+
+    for (uint64_t n = 1; n <= size; n++)
+        wrong += derrimas_finalizers_cancel(&finalizers, next_number - n, &old) != DERRIMAS_FINALIZERS_OK || !old.was;
+}
+
+/* The tables grow, which comes at some sizes, and stay as large as they are. */
+static void make_room(void)
+{
+    for (uint64_t n = 0; n < size; n++)
+        OK(derrimas_finalizers_add_cleanup(&finalizers, object_at(n), DERRIMAS_FINALIZERS_LONG, n, n, 0, &next_number));
+    for (uint64_t n = 0; n < size; n++)
+        OK(derrimas_finalizers_cancel(&finalizers, n, NULL));
+    OK(derrimas_finalizers_reserve(&finalizers, 2 * size, 0, size)); /* for their entries too */
+}
+
 int main(int count, char **words)
 {
     size = count > 1 ? strtoull(words[1], NULL, 10) : 1000;
     stride = count > 2 ? strtoull(words[2], NULL, 10) : 8;
     OK(derrimas_finalizers_open(&finalizers, NULL));
-    OK(derrimas_finalizers_reserve(&finalizers, size, 0, size)); /* else growth counts, which comes at some sizes */
+    make_room();
     cost_registering();
     cost_linking();
     cost_finding_registrations();
@@ -100,6 +145,10 @@ int main(int count, char **words)
     cost_walking_links();
     cost_walking_roots();
     cost_moving();
+    cost_adding();
+    cost_finding_cleanups();
+    cost_walking_cleanups();
+    cost_cancelling();
     derrimas_finalizers_destroy(&finalizers);
     IS(wrong, 0);
     return told();

@@ -444,7 +444,7 @@ static void told_of_finalizers()
     f.trace(&trace);
     f.register_object(7, fin::kind::normal, 0, 0);
     f.dump([&](const char *line) { lines.push_back(line); });
-    IS(lines.size() == 4 && lines[0] == "registrations 1, short links 0, long links 0");
+    IS(lines.size() == 4 && lines[0] == "registrations 1, short links 0, long links 0, cleanups 0");
     f.queue_all();
     f.invoke([](fin &, const fin::entry &) {});
     IS(told == std::vector<std::string>({"queued 0 1", "finished 7"}));
