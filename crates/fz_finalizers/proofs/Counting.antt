@@ -6,10 +6,8 @@ use Rattle.std.proofs.lemmas.List.Sums.{count_by-le-length}
 use Rattle.std.specs.Cmp.{nat_cmp_total}
 use Rattle.std.specs.FinMap.{get, len, contains_key, insert, remove, keys, entries, retain_keys, len-entries, len-insert, len-remove}
 use Rattle.fz_model.specs.State.{Map}
-use Rattle.fz_model.specs.Steps.{moved_to}
 use Rattle.fz_model.proofs.Counts.{len_retained}
 use Rattle.fz_model.proofs.MapEntries.{place_of_key}
-use Rattle.fz_links.proofs.Moved.{len_moved, moved_turns}
 
 module _ {X : Type 0} (m : Map X) (k : ℕ) where
   pub len_grown : (x : X) → len (insert m k x) ≤ len m + 1
@@ -39,20 +37,6 @@ module _ {X : Type 0} (m : Map X) (k : ℕ) where
           let some = slice_get_within (entries m) found.0 (k, x) found.1 in
           let less = len-remove nat_cmp_total m k ∙ ap (λ (o : Option X). cond (is_some o) (len m - 1) (len m)) at in
           omega (arith, some, less, len-entries m)
-
--- a move leaves as many links
-pub len_moved_to : (links : Map ℕ) (old new : ℕ) → len (moved_to links old new (get links old)) ≡ len links
-len_moved_to links old new = by (get links old) refl
-  where
-    at_new : (target : ℕ) → get links old ≡ Some target → (o : Option ℕ) → get links new ≡ o → len (cond (is_some o) links (insert (remove links old) new target)) ≡ len links
-    at_new target here (Some x) there = refl
-    at_new target here None there =
-        let apart : new ≢ old = λ same. none-some target (sym there ∙ ap (get links) same ∙ here) in
-        ap len (sym (moved_turns links old new target apart)) ∙ len_moved links old new target target here there
-
-    by : (o : Option ℕ) → get links old ≡ o → len (moved_to links old new o) ≡ len links
-    by None here = refl
-    by (Some target) here = at_new target here (get links new) refl
 
 -- a map of which some keys stay has no more
 pub len_within : {X : Type 0} (m n : Map X) (p : ℕ → Bool) → n ≡ retain_keys m p → len n ≤ len m

@@ -1,5 +1,5 @@
 -- A table whose order changes, and its two halves.
-use Rattle.std.proofs.Common.{◌≡◌, ◌≤◌, ◌<◌, ℕ, ◌+◌, ◌-◌, ◌++◌, List, [], ◌∷◌, length, take, drop, get_or, slice_get, Option, Some, None, nat_eq, nat_cmp, true, false, refl, sym, ap, subst, ◌∙◌, arith, zero, suc, IsPermutation}
+use Rattle.std.proofs.Common.{◌≡◌, ◌≤◌, ◌<◌, ℕ, ◌-◌, ◌++◌, List, [], ◌∷◌, length, take, drop, get_or, slice_get, Option, Some, None, nat_eq, nat_cmp, false, refl, sym, ap, subst, ◌∙◌, arith, zero, suc, IsPermutation}
 use Rattle.std.proofs.lemmas.Bool.{both_ways, eq-eqb}
 use Rattle.std.proofs.lemmas.List.{length-take, get_or-take, take-append-drop}
 use Rattle.std.proofs.lemmas.List.Edits.{swapped_from_swap, length-swap}

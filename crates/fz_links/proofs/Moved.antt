@@ -6,6 +6,7 @@ use Rattle.std.specs.Map.{lookup}
 use Rattle.std.specs.Cmp.{nat_cmp_total}
 use Rattle.std.specs.FinMap.{get, len, insert, remove, from_entries, len-insert, len-remove, same_map, nat_cmp-IsAntisymmetric}
 use Rattle.fz_model.specs.State.{Map}
+use Rattle.fz_model.specs.Steps.{moved_to}
 use Rattle.fz_model.proofs.Tables.{get_made}
 use Rattle.fz_model.proofs.Maps.{get-remove_same, get-remove_other, get-insert_same, get-insert_other}
 
@@ -25,7 +26,7 @@ module _ {X : Type 0} where
       elsewhere q old new = get-remove_other (insert m n x) k q old ∙ get-insert_other m n x q new ∙ sym (get-insert_other (remove m k) n x q new ∙ get-remove_other m k q old)
 
   -- leaves as many as there were
-  pub len_moved : (m : Map X) (k n : ℕ) (x y : X) → get m k ≡ Some y → get m n ≡ None → len (remove (insert m n x) k) ≡ len m
+  len_moved : (m : Map X) (k n : ℕ) (x y : X) → get m k ≡ Some y → get m n ≡ None → len (remove (insert m n x) k) ≡ len m
   len_moved m k n x y old new =
       let grown = len-insert nat_cmp_total m n x ∙ ap (λ b. cond b (len m) (len m + 1)) (ap is_some new) in
       let apart : n ≢ k = λ same. none-some y (sym new ∙ ap (get m) same ∙ old) in
@@ -44,6 +45,20 @@ module _ {X : Type 0} where
   -- what a look-up among the entries finds
   pub looked_up : (es : List (ℕ × X)) (m : Map X) (k : ℕ) (o : Option X) → from_entries es ≡ m → o ≡ lookup (nat_eq k) es → get m k ≡ o
   looked_up es m k o made is = ap (λ (t : Map X). get t k) (sym made) ∙ get_made es k ∙ sym is
+
+-- a move leaves as many links
+pub len_moved_to : (links : Map ℕ) (old new : ℕ) → len (moved_to links old new (get links old)) ≡ len links
+len_moved_to links old new = by (get links old) refl
+  where
+    at_new : (target : ℕ) → get links old ≡ Some target → (o : Option ℕ) → get links new ≡ o → len (cond (is_some o) links (insert (remove links old) new target)) ≡ len links
+    at_new target here (Some x) there = refl
+    at_new target here None there =
+        let apart : new ≢ old = λ same. none-some target (sym there ∙ ap (get links) same ∙ here) in
+        ap len (sym (moved_turns links old new target apart)) ∙ len_moved links old new target target here there
+
+    by : (o : Option ℕ) → get links old ≡ o → len (moved_to links old new o) ≡ len links
+    by None here = refl
+    by (Some target) here = at_new target here (get links new) refl
 
 -- an item keeps its place when another goes last
 pub place_kept : {X : Type 0} (xs : List X) (i : ℕ) (x y : X) → slice_get xs i ≡ Some x → slice_get (xs ++ y ∷ []) i ≡ Some x

@@ -3,6 +3,7 @@
 ghost use Rattle.std.specs.Prelude.{◌≡◌, ◌≤◌, ◌<◌, ◌+◌, ◌*◌, ◌↔◌, ℕ, Bool, [], ◌∷◌, nat_eq, if◌then◌else◌, length, vec_capacity, min, ◌^◌, IsTrue, IsFalse, IsSome, None, IfOk, IfErr, OnOk, OnErr};
 ghost use Rattle.std.specs.FinMap.{get, insert, remove, len, empty, contains_key, from_entries};
 ghost use Rattle.std.specs.List.{IsDistinct};
+ghost use Rattle.std.specs.Ordering.{nat_cmp};
 ghost use Rattle.std.specs.Map.{keys_of};
 ghost use Rattle.fz_model.specs.Causes.{IsJudgedOrLacks, full};
 ghost use Rattle.fz_model.specs.Steps.{move_answer, moved_to};
@@ -16,7 +17,7 @@ use fz_model::{Addr, LinkAnswer, MoveAnswer, Refusal, TABLE_LIMIT};
 use fz_table::{AddressHasher, MOST_ENTRIES, Pairs};
 use indexmap::IndexMap;
 use indexmap::map::Entry;
-use std::alloc::Global;
+use std::alloc::{AllocError, Global};
 use std::marker::Model;
 
 /// Disappearing links by the addresses of their words, each with the address of its target, at most 2^32 at one time.
@@ -160,9 +161,8 @@ impl Links {
         ensures removed { self.new.links ≡ remove self.old.links link }
         ensures room { self.old.room ≤ self.new.room }
     {
-        let known = self.entries.swap_remove(&link).is_some();
-        self.room = room_in(&self.entries, self.room);
-        known
+        // `reserve` counts the place as room as soon as there is no other.
+        self.entries.swap_remove(&link).is_some()
     }
 
     /// Moves a link to another word; its target stays the same. Fails with `NoMemory` if the new word needs room that can't be allocated.
@@ -178,21 +178,9 @@ impl Links {
         ensures room { self.old.room ≤ self.new.room + 1 }
         ensures kept { OnErr result (self.old.room ≤ self.new.room) }
     {
-        let Some((old_place, _, target)) = self.entries.get_full(&link) else {
-            return Ok(MoveAnswer::NotFound);
-        };
-        let target = *target;
-        if link == new {
-            return Ok(MoveAnswer::Success);
-        }
-        // Room is reserved first, so that a failed move leaves the link where it was. The new link is inserted last, so that the reserved place stays valid.
-        let Entry::Vacant(room) = self.entries.entry(new)? else {
-            return Ok(MoveAnswer::Duplicate);
-        };
-        room.insert(target);
-        self.entries.swap_remove_index(old_place);
+        let answer = move_entry(&mut self.entries, link, new)?;
         self.room = room_within(&self.entries, self.room);
-        Ok(MoveAnswer::Success)
+        Ok(answer)
     }
 
     /// Moves a link to another word, as `move_link` does, but takes no memory.
@@ -209,22 +197,20 @@ impl Links {
         ensures empty { list.new.items ≡ [] }
         ensures list { vec_capacity list.old ≤ vec_capacity list.new }
     {
-        let Some(target) = self.get(link) else {
-            return MoveAnswer::NotFound;
-        };
-        if new == link {
-            return MoveAnswer::Success;
+        if spare_of(&self.entries) > self.room
+            || self.entries.contains_key(&new)
+            || !self.entries.contains_key(&link)
+        {
+            return move_entry(&mut self.entries, link, new).unwrap();
         }
-        if self.get(new).is_some() {
-            return MoveAnswer::Duplicate;
-        }
-        self.remove_for_another(link, list);
+        let target = self.entries[&link];
+        self.rebuild_without(link, list);
         let _ = self.register_checked(new, target);
         MoveAnswer::Success
     }
 
-    /// Removes a registered link, so that there is room for another.
-    fn remove_for_another(&mut self, link: Addr, list: &mut Vec<(Addr, Addr)>)
+    /// Removes a registered link, and rebuilds the table in the memory that it has, so that there is room for another.
+    fn rebuild_without(&mut self, link: Addr, list: &mut Vec<(Addr, Addr)>)
         requires known { IsSome (get self.old.links link) }
         requires empty { list.old.items ≡ [] }
         requires list { len self.old.links ≤ 2 * vec_capacity list.old }
@@ -234,11 +220,6 @@ impl Links {
         ensures empty { list.new.items ≡ [] }
         ensures list { vec_capacity list.old ≤ vec_capacity list.new }
     {
-        if spare_of(&self.entries) > self.room {
-            self.entries.swap_remove(&link);
-            self.room = room_within(&self.entries, self.room.saturating_add(1));
-            return;
-        }
         // A table that loses half of its links at once has all places again, also those that removed links left behind.
         let half = self.entries.len() / 2;
         put_last(&mut self.entries, link);
@@ -313,6 +294,37 @@ impl Links {
     {
         self.len() as u64 >= TABLE_LIMIT && self.get(link).is_none()
     }
+}
+
+/// Moves an entry to another key; its value stays the same. Takes no memory if the map has a free place.
+fn move_entry(
+    entries: &mut IndexMap<Addr, Addr, AddressHasher>,
+    link: Addr,
+    new: Addr,
+) -> Result<MoveAnswer, AllocError>
+    ensures fresh { OnErr result (IsSome (get (from_entries {R = nat_cmp} entries.old.entries) link) × (get (from_entries {R = nat_cmp} entries.old.entries) new ≡ None)) }
+    ensures wanting { OnErr result (spare entries.old ≡ 0) }
+    ensures unchanged { OnErr result (from_entries {R = nat_cmp} entries.new.entries ≡ from_entries entries.old.entries) }
+    ensures answer { IfOk result (λ answer. answer ≡ move_answer (from_entries entries.old.entries) link new) }
+    ensures moved { OnOk result (from_entries {R = nat_cmp} entries.new.entries ≡ moved_to (from_entries entries.old.entries) link new (get (from_entries {R = nat_cmp} entries.old.entries) link)) }
+    ensures room { spare entries.old ≤ spare entries.new + 1 }
+    // Only a link that moves uses a place.
+    ensures kept { (IsSome (get (from_entries {R = nat_cmp} entries.old.entries) link) → IsSome (get (from_entries {R = nat_cmp} entries.old.entries) new)) → spare entries.old ≤ spare entries.new }
+{
+    let Some((old_place, _, target)) = entries.get_full(&link) else {
+        return Ok(MoveAnswer::NotFound);
+    };
+    let target = *target;
+    if link == new {
+        return Ok(MoveAnswer::Success);
+    }
+    // Room is reserved first, so that a failed move leaves the link where it was. The new link is inserted last, so that the reserved place stays valid.
+    let Entry::Vacant(room) = entries.entry(new)? else {
+        return Ok(MoveAnswer::Duplicate);
+    };
+    room.insert(target);
+    entries.swap_remove_index(old_place);
+    Ok(MoveAnswer::Success)
 }
 
 /// How many places a table with this many links keeps free for moves: a sixteenth of all.

@@ -1,6 +1,6 @@
 use Rattle.std.proofs.Common.{◌∙◌, ap, arith}
 use Rattle.std.specs.FinMap.{len}
-use Rattle.fz_finalizers.proofs.Counting.{len_moved_to}
+use Rattle.fz_links.proofs.Moved.{len_moved_to}
 use Rattle.fz_finalizers.proofs.linking.move_link.Goals as goal
 
 pub returns-clause-count : goal.returns-clause-count

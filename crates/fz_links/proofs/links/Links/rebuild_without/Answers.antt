@@ -6,14 +6,13 @@ use Rattle.std.specs.List.{IsDistinct}
 use Rattle.std.specs.Map.{keys_of}
 use Rattle.std.specs.Option.{IsSome}
 use Rattle.fz_model.specs.State.{Map}
-use Rattle.fz_model.proofs.Tables.{made_removed}
 use Rattle.fz_model.proofs.KeyedEntries.{len_made}
 use Rattle.fz_table.specs.declared.limits.TheConstants.{MOST_ENTRIES}
 use Rattle.fz_table.proofs.Entries.{limit_removed, place_removed}
 use Rattle.fz_table.specs.Places.{lacks_place}
 use Rattle.fz_links.specs.Linked.{Linked}
 use Rattle.fz_links.proofs.Halves.{absent_before, halves_turned}
-use Rattle.fz_links.proofs.links.Links.remove_for_another.Goals as goal
+use Rattle.fz_links.proofs.links.Links.rebuild_without.Goals as goal
 
 few_now : (l now : Linked) → l ≡ now → len l.links ≤ MOST_ENTRIES → len now.links ≤ MOST_ENTRIES
 few_now l now is few = subst (λ (l : Linked). len l.links ≤ MOST_ENTRIES) is few
@@ -34,7 +33,7 @@ still_known items base es old m half link once listed cut same made known =
 
 pub list_from-requires-clause-room : goal.list_from-requires-clause-room
 list_from-requires-clause-room c =
-    let count = len_made c.self.inside.entries.entries c.spare_of.ensures.unique in
+    let count = len_made c.self.inside.entries.entries c.len-half.ensures.unique in
     let same = ap (λ (l : Linked). len l.links) c.self.view_is in
     let moved = c.put_last.ensures.count in
     let behind = length-drop (c.len-half.result / 2) c.put_last.new.links.entries in
@@ -64,25 +63,10 @@ insert_but-requires-clause-room c =
 
 pub invariant_of-self : goal.invariant_of-self
 invariant_of-self c = record {
-  few = subst (λ m. len m ≤ MOST_ENTRIES) (sym (made_removed c.self.inside.entries.entries _ c.args.link c.swap_remove.ensures.updates.0)) (limit_removed _ c.args.link c.self.invariant.few);
-  spared = c.room_within-self-inside.ensures.within;
-}
-
-pub returns-then-spare_of-self-clause-removed : goal.returns-then-spare_of-self-clause-removed
-returns-then-spare_of-self-clause-removed c =
-    made_removed c.self.inside.entries.entries _ c.args.link c.swap_remove.ensures.updates.0 ∙ ap (λ (t : Linked). remove t.links c.args.link) c.self.view_is
-
-pub returns-then-spare_of-self-clause-place : goal.returns-then-spare_of-self-clause-place
-returns-then-spare_of-self-clause-place c other =
-    subst (λ m. lacks_place m other ≡ false) (sym (returns-then-spare_of-self-clause-removed c))
-    (place_removed c.args.self.now.links c.args.link other c.requires.known (few_now _ _ c.self.view_is c.self.invariant.few))
-
-pub invariant_of-self-2 : goal.invariant_of-self-2
-invariant_of-self-2 c = record {
   few = subst (λ m. len m ≤ MOST_ENTRIES)
       (sym (built_anew _ _ _ c.put_last.new.links.entries _ _ (c.len-half.result / 2) c.args.link c.put_last.ensures.unique c.insert_but.ensures.all c.list_from.ensures.all c.truncate.ensures.entries c.put_last.ensures.same (ap (λ (l : Linked). l.links) c.self.view_is)))
       (limit_removed c.args.self.now.links c.args.link (few_now _ _ c.self.view_is c.self.invariant.few));
-  spared = c.room_within-self-inside-2.ensures.within;
+  spared = c.room_within-self-inside.ensures.within;
 }
 
 pub returns-clause-removed : goal.returns-clause-removed
@@ -108,7 +92,7 @@ returns-clause-room c =
     let long = c.truncate.ensures.len in
     let spared = c.self.invariant.spared in
     let same = ap (λ (l : Linked). l.room) c.self.view_is in
-    let small = c.room_within-self-inside-2.ensures.small in
-    let added : c.saturating_add-2.result ≡ c.self.inside.room + 1 = omega (arith, c.saturating_add-2.ensures, free, listed, behind, moved, kept, cleared, long, spared, small, c.len-half.ensures.len) in
-    let is = c.room_within-self-inside-2.ensures.all (omega (arith, added, free, listed, behind, moved, kept, cleared, long, spared, c.len-half.ensures.len)) in
+    let small = c.room_within-self-inside.ensures.small in
+    let added : c.saturating_add.result ≡ c.self.inside.room + 1 = omega (arith, c.saturating_add.ensures, free, listed, behind, moved, kept, cleared, long, spared, small, c.len-half.ensures.len) in
+    let is = c.room_within-self-inside.ensures.all (omega (arith, added, free, listed, behind, moved, kept, cleared, long, spared, c.len-half.ensures.len)) in
     omega (arith, is, added, same)
