@@ -289,7 +289,7 @@ derrimas_finalizers_code derrimas_finalizers_cancel(derrimas_finalizers *finaliz
 /* ---- a pass, by questions and answers */
 
 /* Opens a pass, once the host's marking is done. Until its end entries may be taken and finished; all other changes are
- * refused with PASS_OPEN. Takes time by the links and the cleanups.
+ * refused with PASS_OPEN. Takes time by the cleanups, of which it sorts the SHORT ones.
  * Refused: NOT_OPEN, PASS_OPEN. */
 derrimas_finalizers_code derrimas_finalizers_begin(derrimas_finalizers *finalizers) DERRIMAS_NONNULL(1);
 
