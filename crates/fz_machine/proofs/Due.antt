@@ -25,13 +25,15 @@ differs m x y here there first same =
     let rank : y.1.cleanup.rank ≡ x.1.cleanup.rank = ap (λ (c : Attached). c.cleanup.rank) one in
     ⊎_elim (λ less. absurd (omega (arith, less, rank))) (λ less. absurd (omega (arith, less.1, same))) first
 
+-- each is in the map
 abbrev AreThere : Map Attached → List (ℕ × Attached) → Type 0
 AreThere m = All (λ (x : ℕ × Attached). get m x.0 ≡ Some x.1)
 
--- a map has at least as many as are in it under numbers of their own
+-- each has a number of its own
 abbrev AreApart : List (ℕ × Attached) → Type 0
 AreApart = AllPairs (λ (x y : ℕ × Attached). y.0 ≢ x.0)
 
+-- a map has at least as many
 few : (m : Map Attached) (cs : List (ℕ × Attached)) → AreThere m cs → AreApart cs → length cs ≤ len m
 few m [] each apart = omega arith
 few m (x ∷ xs) each apart =
@@ -47,14 +49,14 @@ few m (x ∷ xs) each apart =
 apart_in_order : (m : Map Attached) (cs : List (ℕ × Attached)) → AreThere m cs → AllPairs ComesFirst cs → AreApart cs
 apart_in_order m cs each ordered i j d lt within = differs m (get_or cs i d) (get_or cs j d) (each i d (omega (arith, lt, within))) (each j d within) (ordered i j d lt within)
 
--- ---- of a map's cleanups as many are long as aren't short
+-- ---- short and long ones
 
--- in order, each of them a long cleanup of the map
+-- long cleanups of the map, in order
 pub record AreLong (m : Map Attached) (cs : List (ℕ × Attached)) : Type 0 where
   pub each : All (λ (x : ℕ × Attached). (get m x.0 ≡ Some x.1) × IsTrue (is_when Long x.1.cleanup.when)) cs
   pub ordered : AllPairs ComesFirst cs
 
--- it has no more than so many long ones
+-- the map has at most as many long cleanups
 abbrev pub HasLong : ℕ → Map Attached → Type 0
 HasLong most m = (cs : List (ℕ × Attached)) → AreLong m cs → length cs ≤ most
 
@@ -89,14 +91,16 @@ module _ (m : Map Attached) (short : List (ℕ × Attached)) (are : AreDue (λ (
           let one : y.1 ≡ x.1 = same_Some y.1 x.1 (sym (there_long j d within) ∙ ap (get m) same ∙ there_short i d lt) in
           not_both x.1.cleanup.when (are.each i d lt).1 (subst (λ (c : Attached). IsTrue (is_when Long c.cleanup.when)) one (are_long.each j d within).1)
 
-  -- those that aren't short are no more than the others leave
+  -- the long ones are at most as many as the short ones leave
   pub long_few : HasLong (len m - length short) m
   long_few long are_long = let both = both_few long are_long in omega (arith, both)
 
   pub short_few : length short ≤ len m
   short_few = few m short (λ k d within. (are.each k d within).0) (apart_in_order m short (λ k d within. (are.each k d within).0) are.ordered)
 
--- those before one of them have other numbers
+-- ---- what is due among them
+
+-- one of them is in the map, and those before it have other numbers
 pub others_before : (test : Attached → Bool) (m : Map Attached) (past : List (ℕ × Attached)) (e : ℕ × Attached) (rest : List (ℕ × Attached)) → AreDue test m (past ++ e ∷ rest)
     → (get m e.0 ≡ Some e.1) × All (λ (y : ℕ × Attached). y.0 ≢ e.0) past
 others_before test m past e rest are = (here e, λ k d within same. differs m (get_or past k d) e (there k d within) (here d) (before k d within) (sym same))
@@ -115,7 +119,7 @@ others_before test m past e rest are = (here e, λ k d within same. differs m (g
         subst (ComesFirst (get_or past k d)) (get_or-append_seam past e rest d)
         (subst (λ (y : ℕ × Attached). ComesFirst y (get_or (past ++ e ∷ rest) (length past) d)) (get_or_append_left past (e ∷ rest) d k within) (are.ordered k (length past) d within (let count = long in omega (arith, count))))
 
--- whose objects aren't in the set
+-- those whose objects aren't in the set
 abbrev pub due_in : (ℕ → Bool) → List (ℕ × Attached) → List (ℕ × Attached)
 due_in set cs = filter (λ (e : ℕ × Attached). not (set e.1.object)) cs
 
