@@ -58,7 +58,8 @@ impl Finalizers {
     pub fn check_cleanup(&self, object: Addr) -> Result<(), Refused>
         ensures judged { IsJudgedBy (add_causes self.now.cleanups self.now.next_number object) result }
     {
-        check(&self.table, &self.cleanups, object)
+        let (table, cleanups) = (&self.table, &self.cleanups);
+        check(table, cleanups, object)
     }
 
     /// Removes a cleanup, and returns it with its object. Returns none if it was queued or cancelled, or never added.

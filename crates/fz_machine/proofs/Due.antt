@@ -1,7 +1,7 @@
 -- Cleanups in order: a map has no fewer, and what is due of them stays in order.
-use Rattle.std.proofs.Common.{◌≡◌, ◌≢◌, ◌≤◌, ◌<◌, ◌+◌, ◌++◌, ◌∷◌, ◌∙◌, [], ℕ, Bool, true, false, cond, List, length, length-append, refl, filter, get_or, Some, All, AllPairs, not, ◌&&◌, is_some, sym, ap, subst, ⊎_elim, arith, zero, suc, IsTrue, append-nil}
-use Rattle.std.proofs.lemmas.Bool.{and_parts}
-use Rattle.std.proofs.lemmas.List.Elements.{All-filter, All-head, filter-append, filter_passes}
+use Rattle.std.proofs.Common.{◌≡◌, ◌≢◌, ◌≤◌, ◌<◌, ◌+◌, ◌-◌, ◌++◌, ◌∷◌, ◌∙◌, [], ℕ, Bool, true, false, cond, List, length, length-append, refl, filter, get_or, Some, All, AllPairs, not, ◌&&◌, is_some, sym, ap, subst, ⊎_elim, arith, zero, suc, IsTrue, append-nil}
+use Rattle.std.proofs.lemmas.Bool.{and_parts, true≢false}
+use Rattle.std.proofs.lemmas.List.Elements.{All-append, All-filter, All-head, filter-append, filter_passes}
 use Rattle.std.proofs.lemmas.List.Kept.{AllPairs-filter}
 use Rattle.std.proofs.lemmas.List.{get_or_append_left}
 use Rattle.std.proofs.lemmas.Option.{same_Some}
@@ -9,10 +9,12 @@ use Rattle.std.proofs.Math.Seq.{get_or-append_seam}
 use Rattle.std.specs.FinMap.{get, len, remove}
 use Rattle.fz_model.specs.State.{Map}
 use Rattle.fz_model.specs.declared.kinds.LinkKind.{LinkKind}
-use Rattle.fz_model.proofs.Lists.{contains_at, place_of}
+use Rattle.fz_model.specs.declared.kinds.LinkKind.TheVariants.{Short, Long}
+use Rattle.fz_model.proofs.Lists.{AllPairs-append, contains_at, place_of}
 use Rattle.fz_model.proofs.Maps.{get-remove_other}
 use Rattle.fz_finalizers.specs.declared.cleanups.Attached.{Attached}
 use Rattle.fz_finalizers.specs.Cleanups.{AreDue, ComesFirst, is_due, is_when}
+use Rattle.fz_finalizers.proofs.Cleaned.{without_back}
 use Rattle.fz_finalizers.proofs.Counting.{len_gone}
 use Rattle.fz_finalizers.proofs.Promised.{kept_in}
 
@@ -23,25 +25,82 @@ differs m x y here there first same =
     let rank : y.1.cleanup.rank ≡ x.1.cleanup.rank = ap (λ (c : Attached). c.cleanup.rank) one in
     ⊎_elim (λ less. absurd (omega (arith, less, rank))) (λ less. absurd (omega (arith, less.1, same))) first
 
--- a map has at least as many as are in it one after another
-few : (m : Map Attached) (cs : List (ℕ × Attached)) → All (λ (x : ℕ × Attached). get m x.0 ≡ Some x.1) cs → AllPairs ComesFirst cs → length cs ≤ len m
-few m [] each ordered = omega arith
-few m (x ∷ xs) each ordered =
+-- each is in the map
+abbrev AreThere : Map Attached → List (ℕ × Attached) → Type 0
+AreThere m = All (λ (x : ℕ × Attached). get m x.0 ≡ Some x.1)
+
+-- each has a number of its own
+abbrev AreApart : List (ℕ × Attached) → Type 0
+AreApart = AllPairs (λ (x y : ℕ × Attached). y.0 ≢ x.0)
+
+-- a map has at least as many
+few : (m : Map Attached) (cs : List (ℕ × Attached)) → AreThere m cs → AreApart cs → length cs ≤ len m
+few m [] each apart = omega arith
+few m (x ∷ xs) each apart =
     let here : get m x.0 ≡ Some x.1 = All-head (λ (y : ℕ × Attached). get m y.0 ≡ Some y.1) x xs each in
     let gone = len_gone m x.0 (ap is_some here) in
-    let rest = few (remove m x.0) xs others (λ i j d lt within. ordered (suc i) (suc j) d (omega (arith, lt)) (omega (arith, within))) in
+    let rest = few (remove m x.0) xs others (λ i j d lt within. apart (suc i) (suc j) d (omega (arith, lt)) (omega (arith, within))) in
     omega (arith, gone, rest)
   where
     others : All (λ (y : ℕ × Attached). get (remove m x.0) y.0 ≡ Some y.1) xs
     others k d within =
-        let here : get m x.0 ≡ Some x.1 = each zero d (omega arith) in
-        let there : get m (get_or xs k d).0 ≡ Some (get_or xs k d).1 = each (suc k) d (omega (arith, within)) in
-        get-remove_other m x.0 (get_or xs k d).0 (differs m x (get_or xs k d) here there (ordered zero (suc k) d (omega arith) (omega (arith, within)))) ∙ there
+        get-remove_other m x.0 (get_or xs k d).0 (apart zero (suc k) d (omega arith) (omega (arith, within))) ∙ each (suc k) d (omega (arith, within))
 
-pub due_few : (test : Attached → Bool) (m : Map Attached) (cs : List (ℕ × Attached)) → AreDue test m cs → length cs ≤ len m
-due_few test m cs are = few m cs (λ k d within. (are.each k d within).0) are.ordered
+apart_in_order : (m : Map Attached) (cs : List (ℕ × Attached)) → AreThere m cs → AllPairs ComesFirst cs → AreApart cs
+apart_in_order m cs each ordered i j d lt within = differs m (get_or cs i d) (get_or cs j d) (each i d (omega (arith, lt, within))) (each j d within) (ordered i j d lt within)
 
--- those before one of them have other numbers
+-- ---- short and long ones
+
+-- long cleanups of the map, in order
+pub record AreLong (m : Map Attached) (cs : List (ℕ × Attached)) : Type 0 where
+  pub each : All (λ (x : ℕ × Attached). (get m x.0 ≡ Some x.1) × IsTrue (is_when Long x.1.cleanup.when)) cs
+  pub ordered : AllPairs ComesFirst cs
+
+-- the map has at most as many long cleanups
+abbrev pub HasLong : ℕ → Map Attached → Type 0
+HasLong most m = (cs : List (ℕ × Attached)) → AreLong m cs → length cs ≤ most
+
+pub fewer_long : (most : ℕ) (m : Map Attached) (number : ℕ) → HasLong most m → HasLong most (remove m number)
+fewer_long most m number has cs are = has cs (record {
+  each = λ k d within. let of = are.each k d within in ((without_back m ((number, (get_or cs k d).1) ∷ []) (get_or cs k d).0 (get_or cs k d).1 of.0).0, of.1);
+  ordered = are.ordered;
+})
+
+not_both : (when : LinkKind) → IsTrue (is_when Short when) → IsTrue (is_when Long when) → ⊥
+not_both Short short long = true≢false (sym long)
+not_both Long short long = true≢false (sym short)
+
+module _ (m : Map Attached) (short : List (ℕ × Attached)) (are : AreDue (λ (c : Attached). is_when Short c.cleanup.when) m short) where
+  both_few : (long : List (ℕ × Attached)) → AreLong m long → length short + length long ≤ len m
+  both_few long are_long =
+      let all = few m (short ++ long) (All-append (λ (x : ℕ × Attached). get m x.0 ≡ Some x.1) short long there_short there_long)
+      (AllPairs-append (λ (x y : ℕ × Attached). y.0 ≢ x.0) short long (apart_in_order m short there_short are.ordered) (apart_in_order m long there_long are_long.ordered) across) in
+      let count = length-append short long in
+      omega (arith, all, count)
+    where
+      there_short : AreThere m short
+      there_short k d within = (are.each k d within).0
+
+      there_long : AreThere m long
+      there_long k d within = (are_long.each k d within).0
+
+      across : (i j : ℕ) (d : ℕ × Attached) → i < length short → j < length long → (get_or long j d).0 ≢ (get_or short i d).0
+      across i j d lt within same =
+          let x = get_or short i d in
+          let y = get_or long j d in
+          let one : y.1 ≡ x.1 = same_Some y.1 x.1 (sym (there_long j d within) ∙ ap (get m) same ∙ there_short i d lt) in
+          not_both x.1.cleanup.when (are.each i d lt).1 (subst (λ (c : Attached). IsTrue (is_when Long c.cleanup.when)) one (are_long.each j d within).1)
+
+  -- the long ones are at most as many as the short ones leave
+  pub long_few : HasLong (len m - length short) m
+  long_few long are_long = let both = both_few long are_long in omega (arith, both)
+
+  pub short_few : length short ≤ len m
+  short_few = few m short (λ k d within. (are.each k d within).0) (apart_in_order m short (λ k d within. (are.each k d within).0) are.ordered)
+
+-- ---- what is due among them
+
+-- one of them is in the map, and those before it have other numbers
 pub others_before : (test : Attached → Bool) (m : Map Attached) (past : List (ℕ × Attached)) (e : ℕ × Attached) (rest : List (ℕ × Attached)) → AreDue test m (past ++ e ∷ rest)
     → (get m e.0 ≡ Some e.1) × All (λ (y : ℕ × Attached). y.0 ≢ e.0) past
 others_before test m past e rest are = (here e, λ k d within same. differs m (get_or past k d) e (there k d within) (here d) (before k d within) (sym same))
@@ -60,7 +119,7 @@ others_before test m past e rest are = (here e, λ k d within same. differs m (g
         subst (ComesFirst (get_or past k d)) (get_or-append_seam past e rest d)
         (subst (λ (y : ℕ × Attached). ComesFirst y (get_or (past ++ e ∷ rest) (length past) d)) (get_or_append_left past (e ∷ rest) d k within) (are.ordered k (length past) d within (let count = long in omega (arith, count))))
 
--- whose objects aren't in the set
+-- those whose objects aren't in the set
 abbrev pub due_in : (ℕ → Bool) → List (ℕ × Attached) → List (ℕ × Attached)
 due_in set cs = filter (λ (e : ℕ × Attached). not (set e.1.object)) cs
 

@@ -83,7 +83,7 @@ module _ (s : State) (room : ℕ) (h : HasRoom s room) where
 
   still_room : (phase : Phase) (item : Item) (answer : Bool) → HasRoom (after phase item answer s) room
   still_room phase item answer =
-      let t = still room room room room s (record { registered = h.registrations; short = h.short; long = h.long; attached = h.cleanups }) phase item answer in
+      let t = still room room room (λ m. len m ≤ room) (λ m number few. let less = len_less m number in omega (arith, less, few)) s (record { registered = h.registrations; short = h.short; long = h.long; attached = h.cleanups }) phase item answer in
       record { registrations = t.registered; short = t.short; long = t.long; cleanups = t.attached }
 
 module _ (phase : Phase) (room : ℕ) where

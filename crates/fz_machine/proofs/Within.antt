@@ -3,6 +3,7 @@ use Rattle.std.proofs.Common.{◌≤◌, ℕ, Bool, true, false, cond, Option, S
 use Rattle.std.specs.FinMap.{get, len, remove}
 use Rattle.std.specs.Option.{option_map_or}
 use Rattle.fz_model.specs.declared.answers.Registration.{Registration}
+use Rattle.fz_model.specs.State.{Map}
 use Rattle.fz_finalizers.specs.declared.cleanups.Attached.{Attached}
 use Rattle.fz_finalizers.specs.Follows.{queued_attached, queued_cleanup, queued_object, queued_one}
 use Rattle.fz_finalizers.specs.Kinds.{is_late}
@@ -13,39 +14,39 @@ use Rattle.fz_machine.specs.declared.phase.Phase.{Phase}
 use Rattle.fz_machine.specs.declared.phase.Phase.TheVariants.{ShortCleanups, ShortTargets, ShortWords, Objects, Children, Again, Picks, LateAgain, LatePicks, LongTargets, LongWords, ShortHolders, LongHolders, LongCleanups}
 use Rattle.fz_machine.specs.Phases.{after}
 
--- no more registrations, links and cleanups than these
-pub record IsWithin (r s g c : ℕ) (t : State) : Type 0 where
+-- no more registrations and links than these, and cleanups of which this holds
+pub record IsWithin (r s g : ℕ) (C : Map Attached → Type 0) (t : State) : Type 0 where
   pub registered : len t.registrations ≤ r
   pub short : len t.short ≤ s
   pub long : len t.long ≤ g
-  pub attached : len t.cleanups ≤ c
+  pub attached : C t.cleanups
 
-module _ (r s g c : ℕ) (t : State) (h : IsWithin r s g c t) where
-  without_short : (word : ℕ) → IsWithin r s g c (record t { short = remove t.short word })
+module _ (r s g : ℕ) (C : Map Attached → Type 0) (fewer : (m : Map Attached) (number : ℕ) → C m → C (remove m number)) (t : State) (h : IsWithin r s g C t) where
+  without_short : (word : ℕ) → IsWithin r s g C (record t { short = remove t.short word })
   without_short word = let less = len_less t.short word in let few = h.short in record { registered = h.registered; short = omega (arith, less, few); long = h.long; attached = h.attached }
 
-  without_long : (word : ℕ) → IsWithin r s g c (record t { long = remove t.long word })
+  without_long : (word : ℕ) → IsWithin r s g C (record t { long = remove t.long word })
   without_long word = let less = len_less t.long word in let few = h.long in record { registered = h.registered; short = h.short; long = omega (arith, less, few); attached = h.attached }
 
-  queued : (object : ℕ) → IsWithin r s g c (queued_object t object)
+  queued : (object : ℕ) → IsWithin r s g C (queued_object t object)
   queued object = by (get t.registrations object)
     where
-      by : (o : Option Registration) → IsWithin r s g c (option_map_or (queued_one t object) o t)
+      by : (o : Option Registration) → IsWithin r s g C (option_map_or (queued_one t object) o t)
       by None = h
       by (Some q) = let less = len_less t.registrations object in let few = h.registered in record { registered = omega (arith, less, few); short = h.short; long = h.long; attached = h.attached }
 
-  cleaned : (number : ℕ) → IsWithin r s g c (queued_cleanup t number)
+  cleaned : (number : ℕ) → IsWithin r s g C (queued_cleanup t number)
   cleaned number = by (get t.cleanups number)
     where
-      by : (o : Option Attached) → IsWithin r s g c (option_map_or (queued_attached t number) o t)
+      by : (o : Option Attached) → IsWithin r s g C (option_map_or (queued_attached t number) o t)
       by None = h
-      by (Some a) = let less = len_less t.cleanups number in let few = h.attached in record { registered = h.registered; short = h.short; long = h.long; attached = omega (arith, less, few) }
+      by (Some a) = record { registered = h.registered; short = h.short; long = h.long; attached = fewer t.cleanups number h.attached }
 
-  cases : (b : Bool) (u v : State) → IsWithin r s g c u → IsWithin r s g c v → IsWithin r s g c (cond b u v)
+  cases : (b : Bool) (u v : State) → IsWithin r s g C u → IsWithin r s g C v → IsWithin r s g C (cond b u v)
   cases true u v x y = x
   cases false u v x y = y
 
-  pub still : (phase : Phase) (item : Item) (answer : Bool) → IsWithin r s g c (after phase item answer t)
+  pub still : (phase : Phase) (item : Item) (answer : Bool) → IsWithin r s g C (after phase item answer t)
   still ShortCleanups item answer = cases answer t (queued_cleanup t item.word) h (cleaned item.word)
   still ShortTargets item answer = h
   still ShortWords item answer = without_short item.word

@@ -13,9 +13,9 @@ pub data Hears (begun : Machine) : Machine → ℕ → Type 0 where
   Goes : {m new : Machine} {next : Next} {n : ℕ} (answers : List Bool) → length answers ≤ m.asked → GoesTo m answers new next → Hears begun m n → Hears begun new (n + length answers)
   Meanwhile : {m new : Machine} {n : ℕ} → IsWorked m new → Hears begun m n → Hears begun new n
 
--- six phases process registrations, three phases process the links of each kind, and two phases process cleanups
+-- six phases process registrations, three phases process the links of each kind, and one phase processes the cleanups of each moment
 abbrev pub most_answers : State → ℕ
-most_answers s = 6 * len s.registrations + 3 * (len s.short + len s.long) + 2 * len s.cleanups
+most_answers s = 6 * len s.registrations + 3 * (len s.short + len s.long) + len s.cleanups
 
 abbrev pub PassesEnd : Type 0
 PassesEnd = (old begun m : Machine) (n : ℕ) → IsBegun old begun → Hears begun m n → n ≤ most_answers old.finalizers.state

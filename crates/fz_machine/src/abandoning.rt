@@ -8,8 +8,8 @@ use crate::machine::Machine;
 use crate::refused::Refused;
 
 impl Machine {
-    /// Ends an open pass early. What it has queued stays queued. An object that it hasn't queued stays registered, and so does a link whose removal waits for
-    /// an answer.
+    /// Ends an open pass early. What it has queued stays queued. An object that it hasn't queued stays registered, and so does a cleanup. A link whose removal
+    /// waits for an answer stays, too.
     ///
     /// The host may reclaim nothing before its next pass has ended: registered objects and targets of links still have to exist. Fails with `NoPass` if no
     /// pass is open.

@@ -14,7 +14,7 @@ pub fn runs_make_the_pass()
 {}
 
 /// Whatever the host answers, and whatever is taken and finished meanwhile, a pass processes at most six answers for each registration, three for each link and
-/// two for each cleanup. This bounds answers, not calls: a call of `next` without answers repeats the question, so a host that never answers never reaches the
+/// one for each cleanup. This bounds answers, not calls: a call of `next` without answers repeats the question, so a host that never answers never reaches the
 /// end. Each question is about at least one item, so a host that answers at least one item of each question reaches the end after at most that many questions.
 pub fn passes_end()
     ensures { PassesEnd }

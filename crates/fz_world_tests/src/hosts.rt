@@ -2,6 +2,7 @@
 //! What a world hasn't, cleanups and reasons, has worked rows, and a plain reading of random graphs.
 
 mod asked;
+mod asked_cleanups;
 mod beside;
 mod cleanups;
 mod equal;

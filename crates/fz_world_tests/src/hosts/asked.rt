@@ -1,7 +1,7 @@
 //! A graph of numbered objects whose finalizers ask questions, as those of a host in C do.
 
 use crate::hosts::equal::must_be;
-use fz_finalizers::{Entry, Finalizer, Kind, LinkKind, Passed, Root};
+use fz_finalizers::{Cleanup, Entry, Finalizer, Kind, LinkKind, Passed, Root};
 use fz_machine::{Ask, BATCH, Machine, Next, Question};
 use own_heap::FIELDS;
 use std::alloc::Global;
@@ -150,7 +150,7 @@ impl Asked {
     }
 
     /// Makes an object a root, or not.
-    fn set_root(&mut self, object: u64, is_root: bool) {
+    pub(crate) fn set_root(&mut self, object: u64, is_root: bool) {
         if let Some(root) = self.graph.roots.get_mut(index_of(object)) {
             *root = is_root;
         }
@@ -171,6 +171,30 @@ impl Asked {
         self.machine
             .register(object, finalizer)
             .expect(rt, "a registration");
+    }
+
+    /// Adds a cleanup to an existing object, and returns its number.
+    pub(crate) fn add_cleanup(&mut self, rt: &impl Abort, object: u64, cleanup: Cleanup) -> u64 {
+        self.machine
+            .add_cleanup(object, cleanup)
+            .expect(rt, "a cleanup")
+    }
+
+    /// Cancels a cleanup, and returns whether there was one.
+    pub(crate) fn cancel(&mut self, rt: &impl Abort, number: u64) -> bool {
+        let cancelled = self.machine.cancel(number);
+        cancelled.expect(rt, "no open pass").is_some()
+    }
+
+    /// Makes the first object that doesn't exist, without references. If all exist, it is the one of this index.
+    pub(crate) fn make(&mut self, index: u64) -> u64 {
+        for (place, gone) in self.graph.gone.iter_mut().enumerate() {
+            if *gone {
+                *gone = false;
+                return number_of(place as u64);
+            }
+        }
+        number_of(index)
     }
 
     /// Makes a word of an object a link to another existing object.

@@ -13,7 +13,7 @@ use std::test::*;
 
 /// A step of a row. Records are named by their numbers, in the order in which they were made.
 #[derive(Clone, Copy, Debug, PartialEq, Eq)]
-enum Step {
+pub(crate) enum Step {
     /// Makes a record.
     Make,
     /// The first field of a record refers to another.
@@ -39,7 +39,7 @@ enum Step {
 
 /// A heap, its records by number, and the entries that were taken and not finished.
 #[derive(Drop)]
-struct Records {
+pub(crate) struct Records {
     runtime: Runtime,
     ids: Vec<RecordId>,
     taken: Vec<Entry>,
@@ -170,7 +170,7 @@ fn run(rt: &impl Abort, alloc: Global, steps: &[Step]) {
 }
 
 /// An object has two cleanups, and is reclaimed in their pass. A new object at its address has none.
-const TWO_OF_ONE_OBJECT: [Step; 13] = [
+pub(crate) const TWO_OF_ONE_OBJECT: [Step; 13] = [
     Step::Make,
     Step::Attach(0, Long, 1, None, 0),
     Step::Attach(0, Long, 2, None, 0),
@@ -187,7 +187,7 @@ const TWO_OF_ONE_OBJECT: [Step; 13] = [
 ];
 
 /// A short one comes before the finalizer, and a long one once the object is gone.
-const SHORT_BEFORE_AND_LONG_AFTER_A_FINALIZER: [Step; 15] = [
+pub(crate) const SHORT_BEFORE_AND_LONG_AFTER_A_FINALIZER: [Step; 15] = [
     Step::Make,
     Step::Register(0, 7),
     Step::Attach(0, Short, 1, None, 0),
@@ -206,7 +206,7 @@ const SHORT_BEFORE_AND_LONG_AFTER_A_FINALIZER: [Step; 15] = [
 ];
 
 /// Client data that leads to the object retains it, until the cleanup is cancelled.
-const DATA_LEADS_TO_THE_OBJECT: [Step; 12] = [
+pub(crate) const DATA_LEADS_TO_THE_OBJECT: [Step; 12] = [
     Step::Make,
     Step::Make,
     Step::Refer(1, 0),
@@ -222,7 +222,7 @@ const DATA_LEADS_TO_THE_OBJECT: [Step; 12] = [
 ];
 
 /// A finalizer brings the object back: the short one came, and the long one comes at last.
-const BROUGHT_BACK: [Step; 16] = [
+pub(crate) const BROUGHT_BACK: [Step; 16] = [
     Step::Make,
     Step::Register(0, 7),
     Step::Attach(0, Long, 2, None, 0),
@@ -242,7 +242,7 @@ const BROUGHT_BACK: [Step; 16] = [
 ];
 
 /// The order is by rank, then number, whichever the objects.
-const NUMBERS_AND_RANKS: [Step; 12] = [
+pub(crate) const NUMBERS_AND_RANKS: [Step; 12] = [
     Step::Make,
     Step::Make,
     Step::Attach(1, Long, 1, None, 0),
@@ -286,19 +286,19 @@ fn cleanups_come_by_rank_then_number(rt: HostRuntime) {
 const RANKS: u8 = 3;
 
 /// A cleanup of a graph: its number, its record, when it is due, its rank, and the record that is its client data, if any.
-type Attached = (u64, usize, LinkKind, u8, Option<usize>);
+pub(crate) type Attached = (u64, usize, LinkKind, u8, Option<usize>);
 
 /// A graph as lists, for a plain reading.
 #[derive(Drop)]
-struct Plain {
-    words: Vec<(usize, usize)>,
-    roots: Vec<usize>,
-    registered: Vec<usize>,
-    cleanups: Vec<Attached>,
+pub(crate) struct Plain {
+    pub(crate) words: Vec<(usize, usize)>,
+    pub(crate) roots: Vec<usize>,
+    pub(crate) registered: Vec<usize>,
+    pub(crate) cleanups: Vec<Attached>,
 }
 
 /// A random graph. Numbers are given to registrations and cleanups in the order of the records.
-fn drawn(rt: &impl Abort, alloc: Global, random: &mut Random) -> (Plain, Records) {
+pub(crate) fn drawn(rt: &impl Abort, alloc: Global, random: &mut Random) -> (Plain, Records) {
     let mut plain = Plain {
         words: Vec::new(alloc),
         roots: Vec::new(alloc),
@@ -365,7 +365,7 @@ fn spread(plain: &Plain, starts: [bool; COUNT]) -> [bool; COUNT] {
 }
 
 /// What the roots and the client data of cleanups reach.
-fn found(plain: &Plain) -> [bool; COUNT] {
+pub(crate) fn found(plain: &Plain) -> [bool; COUNT] {
     let mut starts = [false; COUNT];
     for record in plain.roots.iter() {
         set(&mut starts, *record);
@@ -379,7 +379,7 @@ fn found(plain: &Plain) -> [bool; COUNT] {
 }
 
 /// What is found, and what the registered records reach, found or not.
-fn retained(plain: &Plain, found: &[bool; COUNT]) -> [bool; COUNT] {
+pub(crate) fn retained(plain: &Plain, found: &[bool; COUNT]) -> [bool; COUNT] {
     let mut starts = *found;
     for record in plain.registered.iter() {
         set(&mut starts, *record);
@@ -388,7 +388,13 @@ fn retained(plain: &Plain, found: &[bool; COUNT]) -> [bool; COUNT] {
 }
 
 /// The numbers of the due cleanups of a moment, by rank, then number.
-fn due(rt: &impl Abort, plain: &Plain, when: LinkKind, kept: &[bool; COUNT], out: &mut Vec<u64>) {
+pub(crate) fn due(
+    rt: &impl Abort,
+    plain: &Plain,
+    when: LinkKind,
+    kept: &[bool; COUNT],
+    out: &mut Vec<u64>,
+) {
     for rank in 0..RANKS {
         for (number, record, moment, its_rank, _) in plain.cleanups.iter() {
             if *moment == when && *its_rank == rank && !has(kept, *record) {
