@@ -241,14 +241,15 @@ derrimas_finalizers_register(derrimas_finalizers *finalizers, uint64_t object, d
                              uint64_t cd, uint8_t rank, uint64_t *number, derrimas_finalizers_old *old)
     DERRIMAS_NONNULL(1);
 
-/* Removes the finalizer of the object, if it has one, and tells in *old, which may be NULL, what it was.
+/* Removes the finalizer of the object, if it has one, and tells in *old, which may be NULL, what it was. An object whose
+ * entry is queued has none any more: it may be registered again, for a further entry.
  * Refused: NOT_OPEN, PASS_OPEN. */
 derrimas_finalizers_code derrimas_finalizers_unregister(derrimas_finalizers *finalizers, uint64_t object,
                                                         derrimas_finalizers_old *old) DERRIMAS_NONNULL(1);
 
 /* Makes a link from the word to the target. Where the word has one of this kind, its target is replaced, and *answer is
- * DUPLICATE, else LINKED; it may be NULL. A pass clears the word once the target is unreachable, and the link goes. It also
- * goes, its word untouched, once the object that has the word isn't marked.
+ * DUPLICATE, else LINKED; it may be NULL. A word may have one link of each kind. A pass clears the word once the target is
+ * unreachable, and the link goes. It also goes, its word untouched, once the object that has the word isn't marked.
  * Refused: BAD_KIND, NOT_OPEN, PASS_OPEN, ZERO, FULL, NO_MEMORY. */
 DERRIMAS_CHECKED derrimas_finalizers_code
 derrimas_finalizers_link(derrimas_finalizers *finalizers, derrimas_finalizers_link_kind kind, uint64_t word, uint64_t target,
@@ -418,9 +419,10 @@ void derrimas_finalizers_trace(derrimas_finalizers *finalizers, const derrimas_t
 
 /* Describes the handle for a person, by calls of `line` with `data` and a line of text: its counts, the kinds of its
  * registrations, the registration that was made first, and the entry that was queued first and isn't finished, with the
- * pass that queued it; the entry of a cleanup is told by the cleanup's number. Of the registration it says between which passes it was made: exactly for the first 8 passes, and
- * later to within a quarter of all passes. "not open" where the handle isn't. The texts may change. Takes time by the
- * registrations, and no memory. `line` makes no call that changes the handle. */
+ * pass that queued it; the entry of a cleanup is told by the cleanup's number. Of the registration it says between which
+ * passes it was made: exactly for the first 8 passes, and later to within a quarter of all passes. "not open" where the
+ * handle isn't. The texts may change. Takes time by the registrations, and no memory. `line` makes no call that changes the
+ * handle. */
 void derrimas_finalizers_dump(const derrimas_finalizers *finalizers, void (*line)(void *data, const char *text), void *data)
     DERRIMAS_NONNULL(1, 2);
 
@@ -437,7 +439,8 @@ const char *derrimas_finalizers_strerror(derrimas_finalizers_code code);
 /* A host: what it does for each question. `data` is what derrimas_finalizers_pass was given. What is promised of a pass
  * holds if there are a graph and a set of marked objects such that: is_marked tells whether the object is in the set; the
  * three marks add to the set what the questions say, or more; nothing else changes the set in the pass; and at the
- * beginning and after each mark the set has all that its objects reach. */
+ * beginning and after each mark the set has all that its objects reach. With but_itself, mark_children passes over words
+ * that point to the object itself. */
 typedef struct derrimas_host {
     bool (*is_marked)(void *data, uint64_t object);
     void (*mark_children)(void *data, uint64_t object, bool but_itself);
