@@ -10,7 +10,6 @@ typedef derrimas_finalizers_code code;
 
 static bool is_kind(derrimas_finalizers_kind kind) { return (unsigned)kind <= DERRIMAS_FINALIZERS_UNREACHABLE; }
 static bool is_links(derrimas_finalizers_link_kind kind) { return (unsigned)kind <= DERRIMAS_FINALIZERS_LONG; }
-static bool is_when(derrimas_finalizers_when when) { return is_links(when); }
 static bool is_root(derrimas_finalizers_root sort) { return (unsigned)sort <= DERRIMAS_FINALIZERS_REGISTERED_DATA; }
 
 /* A handle for calls that change nothing. */
@@ -285,7 +284,7 @@ code derrimas_finalizers_add_cleanup(derrimas_finalizers *finalizers, uint64_t o
 {
     uint64_t unwanted;
 
-    if (!is_when(when))
+    if (!is_links(when))
         return DERRIMAS_FINALIZERS_BAD_KIND;
     current = &finalizers->allocator;
     return after_memory(fz_machine_add_cleanup(finalizers, object, when == DERRIMAS_FINALIZERS_LONG, proc, cd, rank, number ? number : &unwanted));

@@ -5,7 +5,8 @@
  * meets, and asks nobody whether it is one. Nothing is collected but by own_heap_collect.
  *
  * Registrations, links and cleanups are made by the library's calls on `finalizers`, with numbers by own_heap_number and
- * own_heap_word. An object that has cleanups alone is freed by the collection that queues the long ones. Entries are taken by its calls too, or by own_heap_run. */
+ * own_heap_word. Entries are taken by its calls too, or by own_heap_run. An object with cleanups and no finalizer is freed
+ * by the collection that queues the long ones. */
 #ifndef OWN_HEAP_H
 #define OWN_HEAP_H
 
