@@ -7,3 +7,14 @@ use std::process::Abort;
 pub(crate) fn must_be<T: Copy + Debug + PartialEq>(rt: &impl Abort, found: T, want: T, what: &str) {
     assert_eq!(rt; found, want, "{what}");
 }
+
+/// Records a number, which has to have an index in `seen` and may occur only once.
+pub(crate) fn note_once(rt: &impl Abort, seen: &mut [bool], number: u64) {
+    match seen.get_mut(number as usize) {
+        Some(is_seen) => {
+            must_be(rt, *is_seen, false, "a number that comes once");
+            *is_seen = true;
+        }
+        None => panic!(rt; "{number} is outside"),
+    }
+}

@@ -6,10 +6,10 @@ ghost use Rattle.fz_line.specs.States.{owner_state, new_seats};
 
 mod steals;
 
+use crate::equal::{must_be, note_once};
 use fz_line::{Duty, Owner, PlainLine, Seat, Take, line, retire_all};
 use fz_model::{Entry, Refusal};
 use std::alloc::{AllocError, Global};
-use std::fmt::Debug;
 use std::process::Abort;
 use std::test::*;
 use std::thread;
@@ -17,11 +17,6 @@ use std::thread::Threads;
 
 /// The largest number of takes until a result other than Busy.
 const TRIES: u32 = 1_000;
-
-/// Fails the test if a value isn't the expected one. The assert is in a function of its own, because it is proved again wherever it occurs.
-fn must_be<T: Copy + Debug + PartialEq>(rt: &impl Abort, found: T, want: T, what: &str) {
-    assert_eq!(rt; found, want, "{what}");
-}
 
 fn entry(seq: u64) -> Entry
     ensures { result.seq ≡ seq }
@@ -231,12 +226,8 @@ fn publisher_and_takers(rt: &impl Abort, alloc: Global) -> Result<(Publisher, Ta
 
 /// Records numbers, each of which has an index in `seen` and may occur only once.
 fn note_numbers(rt: &impl Abort, seen: &mut [bool], numbers: &[u64]) {
-    for &number in numbers {
-        let Some(is_seen) = seen.get_mut(number as usize) else {
-            panic!(rt; "{number} wasn't sent")
-        };
-        assert!(rt; !*is_seen, "{number} was taken twice");
-        *is_seen = true;
+    for number in numbers {
+        note_once(rt, seen, *number);
     }
 }
 

@@ -1,63 +1,98 @@
 //! What no clause states: that calls succeed, and what they return after a failed allocation.
 
-use crate::equal::must_be;
+use crate::equal::{must_be, note_once};
 use fz_links::Links;
 use fz_model::{Addr, HEAP_START, LinkAnswer, MoveAnswer, Refusal, TABLE_LIMIT};
 use std::alloc::{AllocError, Global};
 use std::process::Abort;
 use std::test::Fail;
 
+/// A call and the expected result.
+#[derive(Clone, Copy)]
+enum Step {
+    /// Reserves room for this many links.
+    Reserve(usize),
+    Register(Addr, Addr, Result<LinkAnswer, Refusal>),
+    Unregister(Addr, bool),
+    Move(Addr, Addr, Result<MoveAnswer, Refusal>),
+    Get(Addr, Option<Addr>),
+    /// How many links there are, and whether there is one.
+    Len(usize),
+}
+
+use Step::{Get, Len, Move, Register, Reserve, Unregister};
+
+/// Whether a step returns the expected result.
+fn answers(links: &mut Links, step: Step) -> bool {
+    match step {
+        Reserve(more) => links.reserve(more) == Ok(()),
+        Register(link, target, want) => links.register(link, target) == want,
+        Unregister(link, want) => links.unregister(link) == want,
+        Move(link, new, want) => links.move_link(link, new) == want,
+        Get(link, want) => links.get(link) == want,
+        Len(want) => links.len() == want && links.is_empty() == (want == 0),
+    }
+}
+
+/// The index of the first step that returns another result.
+fn first_wrong(links: &mut Links, steps: &[Step]) -> Option<usize> {
+    for (place, step) in steps.iter().enumerate() {
+        if !answers(links, *step) {
+            return Some(place);
+        }
+    }
+    None
+}
+
+/// Each of these steps has to return the expected result.
+fn must_answer(rt: &impl Abort, links: &mut Links, steps: &[Step]) {
+    must_be(rt, first_wrong(links, steps), None, "all steps");
+}
+
 #[test]
 fn registers_and_unregisters(rt: HostRuntime) {
     let mut links = Links::new(rt.alloc());
-    must_be(&rt, links.is_empty(), true, "empty at first");
-    must_be(&rt, links.unregister(70_000), false, "an unknown link");
-    let whole = links.reserve(TABLE_LIMIT as usize);
-    must_be(&rt, whole, Ok(()), "room for as many as there may be");
-    must_be(&rt, links.is_empty(), true, "still empty");
-
-    let success = Ok(LinkAnswer::Success);
-    must_be(&rt, links.register(70_000, 80_000), success, "a link");
-    must_be(&rt, links.register(70_001, 80_000), success, "a second");
-    let duplicate = Ok(LinkAnswer::Duplicate);
-    must_be(&rt, links.register(70_000, 80_064), duplicate, "again");
-    must_be(&rt, links.len(), 2, "two links");
-    must_be(&rt, links.get(70_000), Some(80_064), "the new target");
-
-    must_be(&rt, links.unregister(70_000), true, "the first link");
-    must_be(&rt, links.unregister(70_000), false, "the first once more");
-    must_be(&rt, links.get(70_000), None, "what is gone");
+    must_answer(
+        &rt,
+        &mut links,
+        &[
+            Len(0),
+            Unregister(70_000, false),
+            Reserve(TABLE_LIMIT as usize), // room for as many as there may be
+            Len(0),
+            Register(70_000, 80_000, Ok(LinkAnswer::Success)),
+            Register(70_001, 80_000, Ok(LinkAnswer::Success)),
+            Register(70_000, 80_064, Ok(LinkAnswer::Duplicate)),
+            Len(2),
+            Get(70_000, Some(80_064)), // the new target
+            Unregister(70_000, true),
+            Unregister(70_000, false),
+            Get(70_000, None),
+        ],
+    );
 }
 
 #[test]
 fn moves_a_link(rt: HostRuntime) {
     let mut links = Links::new(rt.alloc());
-    let registered = Ok(LinkAnswer::Success);
-    let not_found = Ok(MoveAnswer::NotFound);
-    must_be(&rt, links.move_link(1, 1), not_found, "no links");
-    must_be(&rt, links.register(1, 11), registered, "link 1");
-    must_be(&rt, links.register(2, 12), registered, "link 2");
-    must_be(&rt, links.register(3, 13), registered, "link 3");
-    must_be(&rt, links.move_link(4, 1), not_found, "an unknown link");
-    let moved = Ok(MoveAnswer::Success);
-    must_be(&rt, links.move_link(1, 1), moved, "to its own word");
-    let duplicate = Ok(MoveAnswer::Duplicate);
-    must_be(&rt, links.move_link(1, 2), duplicate, "to a taken word");
-    must_be(&rt, links.get(1), Some(11), "a link that wasn't moved");
-
-    must_be(&rt, links.move_link(1, 5), moved, "to a new word");
-    must_be(&rt, links.get(1), None, "the old word");
-    must_be(&rt, links.get(5), Some(11), "the new word");
-    must_be(&rt, links.len(), 3, "as many links as before");
-}
-
-/// Records one of ten links from 100 on. It has to have its own target, and it may occur only once.
-fn note_link(rt: &impl Abort, seen: &mut [bool; 10], link: Addr, target: Addr) {
-    must_be(rt, target, link ^ 1, "the target of a link");
-    assert!(rt; 100 <= link && link < 110, "{link} wasn't registered");
-    let place = (link - 100) as usize;
-    must_be(rt, seen[place], false, "a link that comes once");
-    seen[place] = true;
+    must_answer(
+        &rt,
+        &mut links,
+        &[
+            Move(1, 1, Ok(MoveAnswer::NotFound)),
+            Register(1, 11, Ok(LinkAnswer::Success)),
+            Register(2, 12, Ok(LinkAnswer::Success)),
+            Register(3, 13, Ok(LinkAnswer::Success)),
+            Move(4, 1, Ok(MoveAnswer::NotFound)),
+            Move(1, 1, Ok(MoveAnswer::Success)), // to its own word
+            Move(1, 2, Ok(MoveAnswer::Duplicate)), // to a taken word
+            Get(1, Some(11)),
+            Move(1, 5, Ok(MoveAnswer::Success)),
+            Get(1, None),
+            Get(5, Some(11)),
+            Len(3),
+        ],
+    );
 }
 
 #[test]
@@ -74,7 +109,8 @@ fn iterates_over_all(rt: HostRuntime) {
     must_be(&rt, entries.size_hint(), (9, Some(9)), "nine to come");
     let mut seen = [false; 10];
     for (link, target) in entries {
-        note_link(&rt, &mut seen, link, target);
+        must_be(&rt, target, link ^ 1, "the target of a link");
+        note_once(&rt, &mut seen, link.wrapping_sub(100));
     }
     let want = [true, true, true, false, true, true, true, true, true, true];
     must_be(&rt, seen, want, "all links but 103");
@@ -93,15 +129,13 @@ fn drops_by_link_and_target(rt: HostRuntime) {
     }
     links.drop_where(|link: u64, target: u64| -> bool { target == 3 || link < 10 });
     // 143 links have the target 3, and 9 others are below 10.
-    must_be(&rt, links.len(), 848, "what is left of 1,000 links");
-    must_be(&rt, links.get(9), None, "the last below 10");
-    must_be(&rt, links.get(10), None, "one with the target 3");
-    must_be(&rt, links.get(11), Some(4), "one with the target 4");
+    let left = [Len(848), Get(9, None), Get(10, None), Get(11, Some(4))];
+    must_answer(&rt, &mut links, &left);
     drop_all(&mut links);
-    must_be(&rt, links.is_empty(), true, "all are dropped");
+    must_answer(&rt, &mut links, &[Len(0)]);
     drop_all(&mut links);
-    let registered = Ok(LinkAnswer::Success);
-    must_be(&rt, links.register(9, 1), registered, "a link once more");
+    let again = [Register(9, 1, Ok(LinkAnswer::Success))];
+    must_answer(&rt, &mut links, &again);
 }
 
 /// A word above those of all the links.
@@ -115,30 +149,23 @@ fn holds_as_many_as_the_limit(rt: HostRuntime) {
         let answer = links.register(HEAP_START + number, number);
         must_be(&rt, answer, success, "one of all links");
     }
-    let full = Err(Refusal::TableFull);
-    must_be(&rt, links.register(FURTHER, 1), full, "one link too many");
-    must_be(
+    must_answer(
         &rt,
-        links.len() as u64,
-        TABLE_LIMIT,
-        "all that there is room for",
+        &mut links,
+        &[
+            Register(FURTHER, 1, Err(Refusal::TableFull)),
+            Len(TABLE_LIMIT as usize),
+            Register(HEAP_START + 1, 2, Ok(LinkAnswer::Duplicate)),
+            Get(HEAP_START + 1, Some(2)),
+            // A move doesn't change the number of links.
+            Move(HEAP_START + 2, FURTHER, Ok(MoveAnswer::Success)),
+            Get(FURTHER, Some(2)),
+            Register(HEAP_START + 2, 1, Err(Refusal::TableFull)),
+            Unregister(HEAP_START + 4, true),
+            // There is room for one.
+            Register(HEAP_START + 2, 1, Ok(LinkAnswer::Success)),
+        ],
     );
-    let (second, third) = (HEAP_START + 1, HEAP_START + 2);
-    let duplicate = Ok(LinkAnswer::Duplicate);
-    must_be(&rt, links.register(second, 2), duplicate, "a new target");
-    must_be(&rt, links.get(second), Some(2), "the new target");
-    // A move doesn't change the number of links.
-    let moved = Ok(MoveAnswer::Success);
-    must_be(&rt, links.move_link(third, FURTHER), moved, "a move");
-    must_be(&rt, links.get(FURTHER), Some(2), "the moved link");
-    must_be(&rt, links.register(third, 1), full, "the word it left");
-    must_be(
-        &rt,
-        links.unregister(HEAP_START + 4),
-        true,
-        "room for one link",
-    );
-    must_be(&rt, links.register(third, 1), success, "in that room");
 }
 
 /// Registers a link under a number, which is how many there are, and again if memory ran out.

@@ -1,56 +1,93 @@
 //! What no clause states: that calls succeed, and what they return after a failed allocation.
 
-use crate::equal::must_be;
+use crate::equal::{must_be, note_once};
 use fz_model::{Addr, Finalizer, HEAP_START, Old, Refusal, RegKind, Registration, TABLE_LIMIT};
 use fz_table::Table;
 use std::process::Abort;
 
+/// A call and the expected result.
+#[derive(Clone, Copy)]
+enum Step {
+    /// Reserves room for this many registrations.
+    Reserve(usize),
+    Register(Addr, Finalizer, Result<(u64, Option<Old>), Refusal>),
+    Get(Addr, Option<Registration>),
+    Take(Addr, Option<Registration>),
+    Remove(Addr, Option<Old>),
+    /// How many objects are registered, and whether there is one.
+    Len(usize),
+}
+
+use Step::{Get, Len, Register, Remove, Reserve, Take};
+
+/// Whether a step returns the expected result.
+fn answers(table: &mut Table, step: Step) -> bool {
+    match step {
+        Reserve(more) => table.reserve(more) == Ok(()),
+        Register(object, finalizer, want) => table.register(object, finalizer) == want,
+        Get(object, want) => table.get(object) == want,
+        Take(object, want) => table.take(object) == want,
+        Remove(object, want) => table.remove(object) == want,
+        Len(want) => table.len() == want && table.is_empty() == (want == 0),
+    }
+}
+
+/// The index of the first step that returns another result.
+fn first_wrong(table: &mut Table, steps: &[Step]) -> Option<usize> {
+    for (place, step) in steps.iter().enumerate() {
+        if !answers(table, *step) {
+            return Some(place);
+        }
+    }
+    None
+}
+
+/// Each of these steps has to return the expected result.
+fn must_answer(rt: &impl Abort, table: &mut Table, steps: &[Step]) {
+    must_be(rt, first_wrong(table, steps), None, "all steps");
+}
+
+fn finalizer(kind: RegKind, procedure: u64, client_data: u64, rank: u8) -> Finalizer {
+    Finalizer::new(kind, procedure, client_data, rank)
+}
+
+const REGISTRATION: Registration = Registration {
+    number: 2,
+    kind: RegKind::IgnoreSelf,
+    proc: 11,
+    cd: 12,
+    rank: 255,
+};
+
 #[test]
 fn registers_replaces_and_takes(rt: HostRuntime) {
     let mut table = Table::new(rt.alloc());
-    must_be(&rt, table.is_empty(), true, "empty at first");
-    must_be(&rt, table.get(70_000), None, "get an unknown object");
-    must_be(&rt, table.remove(70_000), None, "remove it");
-    let whole = table.reserve(TABLE_LIMIT as usize);
-    must_be(&rt, whole, Ok(()), "room for as many as there may be");
-    must_be(&rt, table.is_empty(), true, "still empty");
-
-    let first = table.register(70_000, Finalizer::new(RegKind::Normal, 7, 8, 5));
-    must_be(&rt, first, Ok((0, None)), "the first object");
-    let second = table.register(70_064, Finalizer::new(RegKind::NoOrder, 9, 10, 0));
-    must_be(&rt, second, Ok((1, None)), "the second object");
-    let replaced = table.register(70_000, Finalizer::new(RegKind::IgnoreSelf, 11, 12, 255));
-    let old = Old { proc: 7, cd: 8 };
-    must_be(&rt, replaced, Ok((2, Some(old))), "the first again");
-    must_be(&rt, table.len(), 2, "two objects");
-    let registration = Registration {
-        number: 2,
-        kind: RegKind::IgnoreSelf,
-        proc: 11,
-        cd: 12,
-        rank: 255,
-    };
-    must_be(&rt, table.get(70_000), Some(registration), "get it");
-
-    must_be(&rt, table.take(70_000), Some(registration), "take it");
-    must_be(&rt, table.take(70_000), None, "take it once more");
-    must_be(&rt, table.get(70_000), None, "get what was taken");
-    must_be(&rt, table.len(), 1, "one object");
-    // Numbers aren't reused.
-    let next = table.register(70_000, Finalizer::new(RegKind::Normal, 1, 2, 0));
-    must_be(&rt, next, Ok((3, None)), "the first after that");
-}
-
-/// Records one of ten objects from 100,000 on. Its procedure has to equal its address, and it may occur only once.
-fn note_object(rt: &impl Abort, seen: &mut [bool; 10], object: Addr, proc: u64) {
-    must_be(rt, proc, object, "the procedure of an object");
-    assert!(rt;
-        100_000 <= object && object < 100_010,
-        "{object} wasn't registered"
+    must_answer(
+        &rt,
+        &mut table,
+        &[
+            Len(0),
+            Get(70_000, None),
+            Remove(70_000, None),
+            Reserve(TABLE_LIMIT as usize), // room for as many as there may be
+            Len(0),
+            Register(70_000, finalizer(RegKind::Normal, 7, 8, 5), Ok((0, None))),
+            Register(70_064, finalizer(RegKind::NoOrder, 9, 10, 0), Ok((1, None))),
+            Register(
+                70_000,
+                finalizer(RegKind::IgnoreSelf, 11, 12, 255),
+                Ok((2, Some(Old { proc: 7, cd: 8 }))),
+            ),
+            Len(2),
+            Get(70_000, Some(REGISTRATION)),
+            Take(70_000, Some(REGISTRATION)),
+            Take(70_000, None),
+            Get(70_000, None),
+            Len(1),
+            // Numbers aren't reused.
+            Register(70_000, finalizer(RegKind::Normal, 1, 2, 0), Ok((3, None))),
+        ],
     );
-    let place = (object - 100_000) as usize;
-    must_be(rt, seen[place], false, "an object that comes once");
-    seen[place] = true;
 }
 
 #[test]
@@ -69,7 +106,8 @@ fn iterates_over_all(rt: HostRuntime) {
     must_be(&rt, hint, (9, Some(9)), "nine to come");
     let mut seen = [false; 10];
     for (object, registration) in registrations {
-        note_object(&rt, &mut seen, object, registration.proc);
+        must_be(&rt, registration.proc, object, "its procedure");
+        note_once(&rt, &mut seen, object.wrapping_sub(100_000));
     }
     let want = [true, true, true, false, true, true, true, true, true, true];
     must_be(&rt, seen, want, "all objects but one");
@@ -88,27 +126,29 @@ fn holds_as_many_as_the_limit(rt: HostRuntime) {
         );
         must_be(&rt, answer, Ok((number, None)), "one of all objects");
     }
-    let refused = table.register(FURTHER, Finalizer::new(RegKind::Normal, 1, 2, 0));
-    let full = Err(Refusal::TableFull);
-    must_be(&rt, refused, full, "one object too many");
-    must_be(
+    must_answer(
         &rt,
-        table.len() as u64,
-        TABLE_LIMIT,
-        "all that there is room for",
-    );
-
-    let replaced = table.register(HEAP_START + 1, Finalizer::new(RegKind::NoOrder, 3, 4, 0));
-    let old = Old { proc: 1, cd: 0 };
-    must_be(&rt, replaced, Ok((TABLE_LIMIT, Some(old))), "one again");
-    let old = Old { proc: 4, cd: 0 };
-    must_be(&rt, table.remove(HEAP_START + 4), Some(old), "room for one");
-    let accepted = table.register(FURTHER, Finalizer::new(RegKind::Normal, 1, 2, 0));
-    must_be(
-        &rt,
-        accepted,
-        Ok((TABLE_LIMIT + 1, None)),
-        "one in that room",
+        &mut table,
+        &[
+            Register(
+                FURTHER,
+                finalizer(RegKind::Normal, 1, 2, 0),
+                Err(Refusal::TableFull),
+            ),
+            Len(TABLE_LIMIT as usize),
+            Register(
+                HEAP_START + 1,
+                finalizer(RegKind::NoOrder, 3, 4, 0),
+                Ok((TABLE_LIMIT, Some(Old { proc: 1, cd: 0 }))),
+            ),
+            Remove(HEAP_START + 4, Some(Old { proc: 4, cd: 0 })),
+            // There is room for one.
+            Register(
+                FURTHER,
+                finalizer(RegKind::Normal, 1, 2, 0),
+                Ok((TABLE_LIMIT + 1, None)),
+            ),
+        ],
     );
 }
 

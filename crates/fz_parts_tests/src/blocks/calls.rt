@@ -1,69 +1,71 @@
-//! Calls of a map with the results that they have to return, and the content that a map has to have.
+//! Calls of a map with the results that they have to return, as steps of a table: a call is proved once, and not at each test.
 
+use crate::equal::must_be;
 use fz_blocks::BlockMap;
 use fz_model::{Addr, HEAP_START, ObjKind, Refusal, Word};
-use std::alloc::{AllocError, Global};
-use std::fmt::Debug;
+use std::alloc::Global;
 use std::process::Abort;
 
-/// The result has to be the expected one. A failure prints the arguments. All tests use this function, since an assertion takes much longer to prove than a
-/// call.
-fn must_equal<T: PartialEq + Debug, A: Debug>(rt: &impl Abort, got: &T, want: &T, asked: &A) {
-    assert_eq!(rt; got, want, "asked: {asked:?}");
+/// A call, or several like it, and the expected result.
+#[derive(Clone, Copy)]
+pub(crate) enum Step {
+    /// Claims a cell or a run.
+    Claim(u64, ObjKind, Result<Addr, Refusal>),
+    /// Claims this many cells or runs of a size and a kind, wherever they are. All calls succeed.
+    ClaimSome(u64, u64, ObjKind),
+    /// Claims this many objects of a size and a kind, which are adjacent, from the heap's first word on.
+    ClaimRow(u64, u64, ObjKind),
+    /// Removes the object with this address. Returns whether there is one.
+    Condemn(Addr, bool),
+    /// Removes this many objects of one word, from the heap's first word on.
+    CondemnRow(u64),
+    /// Removes objects of a block by bits. Returns how many of them start there.
+    CondemnIn(u64, u64, u64),
+    /// Sweeps a block of the map.
+    Sweep(u64),
+    /// The address of the object in which a word lies.
+    Lies(Word, Option<Addr>),
+    /// The size and the kind of the object with this address.
+    Starts(Word, Option<(u64, ObjKind)>),
+    /// The words of a block at which objects start, as bits.
+    StartsIn(u64, u64),
+    /// The number of dead, unswept cells.
+    Condemned(u64),
+    /// The address of the object with this place in a walk by address.
+    Start(usize, Option<Addr>),
+    /// The number of blocks.
+    Blocks(u64),
 }
 
-/// Opening a map with each of these numbers of blocks has to fail.
-pub(crate) fn must_refuse(rt: &impl Abort, alloc: Global, counts: &[u64]) {
-    for blocks in counts.iter() {
-        let refusal = BlockMap::new(alloc, *blocks).err();
-        must_equal(rt, &refusal, &Some(Refusal::BadCount), &("blocks", *blocks));
+use Step::{
+    Blocks, Claim, ClaimRow, ClaimSome, Condemn, CondemnIn, CondemnRow, Condemned, Lies, Start,
+    Starts, StartsIn, Sweep,
+};
+
+/// Claims cells or runs. Returns whether all calls succeeded.
+fn claims(map: &mut BlockMap, count: u64, size: u64, kind: ObjKind) -> bool {
+    for _ in 0..count {
+        if map.claim(size, kind).is_err() {
+            return false;
+        }
     }
+    true
 }
 
-/// The map has to have this number of blocks.
-pub(crate) fn must_have_blocks(rt: &impl Abort, map: &BlockMap, want: u64) {
-    must_equal(rt, &map.blocks(), &want, &"blocks");
-}
-
-/// Claims a cell or a run. The call has to return this result.
-fn must_answer(
-    rt: &impl Abort,
-    map: &mut BlockMap,
-    size: u64,
-    kind: ObjKind,
-    want: Result<Addr, Refusal>,
-) {
-    must_equal(rt, &map.claim(size, kind), &want, &("claim", size, kind));
-}
-
-/// Claims in sequence: each entry has a size, a kind and the expected result.
-pub(crate) fn must_claim(
-    rt: &impl Abort,
-    map: &mut BlockMap,
-    claims: &[(u64, ObjKind, Result<Addr, Refusal>)],
-) {
-    for (size, kind, want) in claims.iter() {
-        must_answer(rt, map, *size, *kind, *want);
-    }
-}
-
-/// Claims `count` objects of one size and kind. They have to be adjacent, from the heap's first word on.
-pub(crate) fn must_claim_row(
-    rt: &impl Abort,
-    map: &mut BlockMap,
-    count: u64,
-    size: u64,
-    kind: ObjKind,
-) {
+/// Claims objects, and returns whether they are adjacent, from the heap's first word on.
+fn claims_row(map: &mut BlockMap, count: u64, size: u64, kind: ObjKind) -> bool {
     let mut start = HEAP_START;
     for _ in 0..count {
-        must_answer(rt, map, size, kind, Ok(start));
+        if map.claim(size, kind) != Ok(start) {
+            return false;
+        }
         start = start.saturating_add(size);
     }
+    true
 }
 
 /// Removes the object with this address, if there is one.
-fn condemn(map: &mut BlockMap, start: Addr) -> bool {
+fn condemns(map: &mut BlockMap, start: Addr) -> bool {
     if map.extent_at(start).is_none() {
         return false;
     }
@@ -71,112 +73,88 @@ fn condemn(map: &mut BlockMap, start: Addr) -> bool {
     true
 }
 
-/// Removes the object that has to have this address, or checks that there is none.
-fn must_condemn_one(rt: &impl Abort, map: &mut BlockMap, start: Addr, want: bool) {
-    must_equal(rt, &condemn(map, start), &want, &("object at", start));
-}
-
-/// Removes objects in sequence. They have to have these addresses.
-pub(crate) fn must_condemn(rt: &impl Abort, map: &mut BlockMap, starts: &[Addr]) {
-    for start in starts.iter() {
-        must_condemn_one(rt, map, *start, true);
-    }
-}
-
-/// Removes `count` objects of one word, from the heap's first word on.
-pub(crate) fn must_condemn_row(rt: &impl Abort, map: &mut BlockMap, count: u64) {
+/// Removes objects of one word, and returns whether all of them were there.
+fn condemns_row(map: &mut BlockMap, count: u64) -> bool {
     let mut start = HEAP_START;
     for _ in 0..count {
-        must_condemn_one(rt, map, start, true);
+        if !condemns(map, start) {
+            return false;
+        }
         start = start.saturating_add(1);
     }
+    true
 }
 
-/// There may be no object with this address.
-pub(crate) fn must_not_condemn(rt: &impl Abort, map: &mut BlockMap, start: Addr) {
-    must_condemn_one(rt, map, start, false);
-}
-
-/// Words, each with the address of the object in which it has to lie.
-pub(crate) fn must_lie(rt: &impl Abort, map: &BlockMap, words: &[(Word, Option<Addr>)]) {
-    for (word, want) in words.iter() {
-        let start = map.cell_of(*word).map(|(start, _)| start);
-        must_equal(rt, &start, want, &("object round", *word));
-    }
-}
-
-/// Words, each with the size and the kind of the object that has to have this address.
-pub(crate) fn must_start(
-    rt: &impl Abort,
-    map: &BlockMap,
-    words: &[(Word, Option<(u64, ObjKind)>)],
-) {
-    for (word, want) in words.iter() {
-        let facts = map
-            .extent_at(*word)
-            .map(|extent| (extent.size, extent.kind));
-        must_equal(rt, &facts, want, &("start at", *word));
-    }
-}
-
-/// These have to be the addresses of all objects, in this order.
-pub(crate) fn must_have_starts(
-    rt: &impl Abort,
-    alloc: Global,
-    map: &BlockMap,
-    want: &[Addr],
-) -> Result<(), AllocError> {
-    let starts: Vec<Addr> = map.starts().collect(alloc)?;
-    must_equal(rt, &starts.as_slice(), &want, &"starts");
-    Ok(())
-}
-
-/// The words of a block at which objects start, if the map has the block.
-fn starts_in(map: &BlockMap, block: u64) -> u64 {
+/// Whether a step on a block that the map has returns the expected result.
+fn answers_in(map: &mut BlockMap, block: u64, step: Step) -> bool {
     if block >= map.blocks() {
-        return 0;
+        return false;
     }
-    map.starts_in(block)
-}
-
-/// The words of a block at which objects start, as bits, have to be these.
-pub(crate) fn must_start_in(rt: &impl Abort, map: &BlockMap, block: u64, want: u64) {
-    must_equal(
-        rt,
-        &starts_in(map, block),
-        &want,
-        &("starts in block", block),
-    );
-}
-
-/// There have to be this many dead, unswept cells at this point of the test.
-pub(crate) fn must_have_condemned(rt: &impl Abort, map: &BlockMap, want: u64, when: &str) {
-    must_equal(rt, &map.condemned(), &want, &("condemned", when));
-}
-
-/// Removes objects of a block by bits, if the map has the block.
-fn condemn_in(map: &mut BlockMap, block: u64, places: u64) -> u64 {
-    if block >= map.blocks() {
-        return 0;
+    match step {
+        CondemnIn(_, places, want) => map.condemn_in(block, places) == want,
+        StartsIn(_, want) => map.starts_in(block) == want,
+        Sweep(_) => {
+            map.sweep(block);
+            true
+        }
+        _ => false,
     }
-    map.condemn_in(block, places)
 }
 
-/// Removes objects of a block by bits. This many have to start there.
-pub(crate) fn must_condemn_in(
-    rt: &impl Abort,
-    map: &mut BlockMap,
-    block: u64,
-    places: u64,
-    want: u64,
-) {
-    let count = condemn_in(map, block, places);
-    must_equal(rt, &count, &want, &("condemned in block", block, places));
+/// The address of the object in which a word lies.
+fn cell_of(map: &BlockMap, word: Word) -> Option<Addr> {
+    let (start, _) = map.cell_of(word)?;
+    Some(start)
 }
 
-/// Sweeps a block, if the map has it.
-pub(crate) fn sweep(map: &mut BlockMap, block: u64) {
-    if block < map.blocks() {
-        map.sweep(block);
+/// The size and the kind of the object with this address.
+fn object_at(map: &BlockMap, start: Addr) -> Option<(u64, ObjKind)> {
+    let extent = map.extent_at(start)?;
+    Some((extent.size, extent.kind))
+}
+
+/// Whether a step returns the expected result.
+fn answers(map: &mut BlockMap, step: Step) -> bool {
+    match step {
+        Claim(size, kind, want) => map.claim(size, kind) == want,
+        ClaimSome(count, size, kind) => claims(map, count, size, kind),
+        ClaimRow(count, size, kind) => claims_row(map, count, size, kind),
+        Condemn(start, want) => condemns(map, start) == want,
+        CondemnRow(count) => condemns_row(map, count),
+        CondemnIn(block, _, _) | Sweep(block) | StartsIn(block, _) => answers_in(map, block, step),
+        Lies(word, want) => cell_of(map, word) == want,
+        Starts(word, want) => object_at(map, word) == want,
+        Condemned(want) => map.condemned() == want,
+        Start(place, want) => map.starts().nth(place) == want,
+        Blocks(want) => map.blocks() == want,
+    }
+}
+
+/// The index of the first step that returns another result.
+fn first_wrong(map: &mut BlockMap, steps: &[Step]) -> Option<usize> {
+    for (place, step) in steps.iter().enumerate() {
+        if !answers(map, *step) {
+            return Some(place);
+        }
+    }
+    None
+}
+
+/// Each of these steps has to return the expected result.
+fn must_run(rt: &impl Abort, map: &mut BlockMap, steps: &[Step]) {
+    must_be(rt, first_wrong(map, steps), None, "all steps");
+}
+
+/// The same of a new map with this many blocks.
+pub(crate) fn must_answer(rt: &impl Abort, alloc: Global, blocks: u64, steps: &[Step]) {
+    let mut map = BlockMap::new(alloc, blocks).expect(rt, "memory");
+    must_run(rt, &mut map, steps);
+}
+
+/// Opening a map with each of these numbers of blocks has to fail.
+pub(crate) fn must_refuse(rt: &impl Abort, alloc: Global, counts: &[u64]) {
+    for blocks in counts.iter() {
+        let refusal = BlockMap::new(alloc, *blocks).err();
+        must_be(rt, refusal, Some(Refusal::BadCount), "too few or many");
     }
 }

@@ -1,44 +1,38 @@
-//! Calls of a heap with the results that they have to return, and the content that a heap has to have.
+//! Calls of a heap with the results that they have to return, as steps of a table: a call is proved once, and not at each test.
 
+use crate::equal::must_be;
 use fz_heap::Heap;
 use fz_model::{Addr, BLOCK_WORDS, HEAP_START, ObjKind, Refusal, Word};
-use std::alloc::{AllocError, Global};
-use std::fmt::Debug;
+use std::alloc::Global;
 use std::process::Abort;
 
-/// The result has to be the expected one. A failure prints the arguments. All tests use this function, since an assertion takes much longer to prove than a
-/// call.
-pub(crate) fn must_equal<T: PartialEq + Debug, A: Debug>(
-    rt: &impl Abort,
-    got: &T,
-    want: &T,
-    asked: &A,
-) {
-    assert_eq!(rt; got, want, "asked: {asked:?}");
+/// A call and the expected result.
+#[derive(Clone, Copy)]
+pub(crate) enum Step {
+    /// Allocates an object of this size and kind.
+    Alloc(u64, ObjKind, Result<(Addr, u64), Refusal>),
+    /// Removes the object with this address and sweeps its cell. Returns whether there is one.
+    Free(Addr, bool),
+    /// Reads the word at an offset.
+    Read(Word, u64, Result<Word, Refusal>),
+    /// Writes a value at an offset.
+    Write(Word, u64, Word, Result<(), Refusal>),
+    /// The address of the object to which a word points.
+    Resolve(Word, Option<Addr>),
+    /// The size, the kind and the birth of the object with this address.
+    Facts(Addr, Option<(u64, ObjKind, u64)>),
+    /// The address of the object with this place in a walk by address.
+    Object(usize, Option<Addr>),
+    /// The number of blocks.
+    Blocks(u64),
+    /// The number of dead, unswept cells.
+    Condemned(u64),
 }
 
-/// Opening a heap with each of these numbers of blocks has to fail.
-pub(crate) fn must_refuse(rt: &impl Abort, alloc: Global, counts: &[u64]) {
-    for blocks in counts.iter() {
-        let refusal = Heap::new(alloc, *blocks).err();
-        must_equal(rt, &refusal, &Some(Refusal::BadCount), &("blocks", *blocks));
-    }
-}
-
-/// Allocations in sequence: each entry has a size, a kind and the expected result.
-pub(crate) fn must_alloc(
-    rt: &impl Abort,
-    heap: &mut Heap,
-    allocations: &[(u64, ObjKind, Result<(Addr, u64), Refusal>)],
-) {
-    for (size, kind, want) in allocations.iter() {
-        let answer = heap.alloc(*size, *kind);
-        must_equal(rt, &answer, want, &("allocation", *size, *kind));
-    }
-}
+use Step::{Alloc, Blocks, Condemned, Facts, Free, Object, Read, Resolve, Write};
 
 /// Removes the object with this address, if there is one, and sweeps its cell.
-fn free(heap: &mut Heap, start: Addr) -> bool {
+fn frees(heap: &mut Heap, start: Addr) -> bool {
     if heap.facts(start).is_none() {
         return false;
     }
@@ -47,66 +41,46 @@ fn free(heap: &mut Heap, start: Addr) -> bool {
     true
 }
 
-/// Frees the object that has to have this address.
-pub(crate) fn must_free(rt: &impl Abort, heap: &mut Heap, start: Addr) {
-    must_equal(rt, &free(heap, start), &true, &("object at", start));
-}
-
-/// There may be no object with this address.
-pub(crate) fn must_not_free(rt: &impl Abort, heap: &mut Heap, start: Addr) {
-    must_equal(rt, &free(heap, start), &false, &("object at", start));
-}
-
-/// Reads: each entry has a word, an offset and the expected result.
-pub(crate) fn must_read(
-    rt: &impl Abort,
-    heap: &Heap,
-    reads: &[(Word, u64, Result<Word, Refusal>)],
-) {
-    for (word, offset, want) in reads.iter() {
-        let answer = heap.read(*word, *offset);
-        must_equal(rt, &answer, want, &("read", *word, *offset));
+/// Whether a step returns the expected result.
+fn answers(heap: &mut Heap, step: Step) -> bool {
+    match step {
+        Alloc(size, kind, want) => heap.alloc(size, kind) == want,
+        Free(start, want) => frees(heap, start) == want,
+        Read(word, offset, want) => heap.read(word, offset) == want,
+        Write(word, offset, value, want) => heap.write(word, offset, value) == want,
+        Resolve(word, want) => heap.resolve(word) == want,
+        Facts(start, want) => heap.facts(start) == want,
+        Object(place, want) => heap.objects().nth(place) == want,
+        Blocks(want) => heap.blocks() == want,
+        Condemned(want) => heap.condemned() == want,
     }
 }
 
-/// Writes in sequence: each entry has a word, an offset, a value and the expected result.
-pub(crate) fn must_write(
-    rt: &impl Abort,
-    heap: &mut Heap,
-    writes: &[(Word, u64, Word, Result<(), Refusal>)],
-) {
-    for (word, offset, value, want) in writes.iter() {
-        let answer = heap.write(*word, *offset, *value);
-        must_equal(rt, &answer, want, &("write", *word, *offset));
+/// The index of the first step that returns another result.
+fn first_wrong(heap: &mut Heap, steps: &[Step]) -> Option<usize> {
+    for (place, step) in steps.iter().enumerate() {
+        if !answers(heap, *step) {
+            return Some(place);
+        }
     }
+    None
 }
 
-/// Words, each with the address of the object to which it has to point.
-pub(crate) fn must_resolve(rt: &impl Abort, heap: &Heap, words: &[(Word, Option<Addr>)]) {
-    for (word, want) in words.iter() {
-        must_equal(rt, &heap.resolve(*word), want, &("object round", *word));
-    }
+/// Each of these steps has to return the expected result.
+pub(crate) fn must_run(rt: &impl Abort, heap: &mut Heap, steps: &[Step]) {
+    must_be(rt, first_wrong(heap, steps), None, "all steps");
 }
 
-/// Addresses, each with the size, the kind and the birth of the object that has to have it.
-pub(crate) fn must_have_facts(
-    rt: &impl Abort,
-    heap: &Heap,
-    starts: &[(Addr, Option<(u64, ObjKind, u64)>)],
-) {
-    for (start, want) in starts.iter() {
-        must_equal(rt, &heap.facts(*start), want, &("facts at", *start));
-    }
+/// The same of a new heap with this many blocks.
+pub(crate) fn must_answer(rt: &impl Abort, alloc: Global, blocks: u64, steps: &[Step]) {
+    let mut heap = Heap::new(alloc, blocks).expect(rt, "memory");
+    must_run(rt, &mut heap, steps);
 }
 
-/// These have to be the addresses of all objects, in this order.
-pub(crate) fn must_have_objects(
-    rt: &impl Abort,
-    alloc: Global,
-    heap: &Heap,
-    want: &[Addr],
-) -> Result<(), AllocError> {
-    let starts: Vec<Addr> = heap.objects().collect(alloc)?;
-    must_equal(rt, &starts.as_slice(), &want, &"objects");
-    Ok(())
+/// Opening a heap with each of these numbers of blocks has to fail.
+pub(crate) fn must_refuse(rt: &impl Abort, alloc: Global, counts: &[u64]) {
+    for blocks in counts.iter() {
+        let refusal = Heap::new(alloc, *blocks).err();
+        must_be(rt, refusal, Some(Refusal::BadCount), "too few or many");
+    }
 }

@@ -3,12 +3,12 @@
 ghost use Rattle.std.specs.Prelude.{◌<◌, ◌≤◌};
 ghost use Rattle.fz_model.specs.declared.limits.TheConstants.{MAX_BLOCKS};
 
-use crate::heap::calls::must_equal;
 use crate::heap::plain::PlainHeap;
 use fz_heap::Heap;
 use fz_model::ObjKind::{Atomic, Scanned};
 use fz_model::{Addr, BLOCK_WORDS, HEAP_START, MAX_OBJECT_WORDS, ObjKind, Word};
 use std::alloc::Global;
+use std::fmt::Debug;
 use std::process::Abort;
 use std::test::Fail;
 
@@ -67,8 +67,13 @@ impl Random {
     }
 }
 
+/// Both results have to be equal. A failure prints the arguments.
+fn must_equal<T: PartialEq + Debug, A: Debug>(rt: &impl Abort, got: &T, want: &T, asked: &A) {
+    assert_eq!(rt; got, want, "asked: {asked:?}");
+}
+
 /// Removes the object with this address, if there is one.
-pub(crate) fn condemn(heap: &mut Heap, start: Addr) -> bool {
+fn condemn(heap: &mut Heap, start: Addr) -> bool {
     if heap.facts(start).is_none() {
         return false;
     }

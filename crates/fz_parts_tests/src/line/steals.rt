@@ -2,7 +2,8 @@
 
 ghost use Rattle.std.specs.Prelude.{⊤};
 
-use super::{counts, entry, must_be};
+use super::{counts, entry};
+use crate::equal::must_be;
 use fz_line::{Deque, Front, Seat, Steal, Take, Taker, line, retire_all};
 use fz_model::Entry;
 use std::test::*;
