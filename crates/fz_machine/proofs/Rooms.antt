@@ -10,7 +10,8 @@ use Rattle.fz_finalizers.specs.declared.refused.Refused.{Refused}
 use Rattle.fz_finalizers.specs.Follows.{without_cleanup, without_registration}
 use Rattle.fz_finalizers.specs.Passed.{CleansAll}
 use Rattle.fz_finalizers.specs.States.{State, opening, links_of, with_links}
-use Rattle.fz_finalizers.proofs.Counting.{len_less, len_moved_to}
+use Rattle.fz_finalizers.proofs.Counting.{len_less}
+use Rattle.fz_links.proofs.Moved.{len_moved_to}
 use Rattle.fz_machine.specs.declared.item.Item.{Item}
 use Rattle.fz_machine.specs.declared.phase.Phase.{Phase}
 use Rattle.fz_machine.specs.Going.{HasRoom}
