@@ -20,10 +20,12 @@ loop-each-preserved g c =
       rest = one_on c.loop-each.yielded c.loop-each.each-iterator _ c.next.new.self c.in-Some.each inv.rest c.in-Some.ensures.steps;
     }
 
-pub returns-clause-added : goal.returns-clause-added
-returns-clause-added g c =
-    let objects = g.H.Host.objects c.args.host.now in
-    let es = c.iter_cleanups-each-items.result in
-    let all : c.loop-each.yielded ≡ es = all_of c.loop-each.yielded _ es (c.loop-each.invariant.rest ∙ c.into_iter-each-iterator.ensures.into_iter_gives) c.in-None.ensures.steps.0 in
-    adds_as _ (subst (λ (ys : List (ℕ × Attached)). Adds (ByAny ys (ByAttached objects)) c.args.trail.now.entries.entries c.loop-each.trail.entries.entries) all c.loop-each.invariant.added)
-    (attached_all objects c.args.finalizers.now.state es c.iter_cleanups-each-items.ensures.all)
+pub returns : goal.returns
+returns g c = record {
+  added =
+      let objects = g.H.Host.objects c.args.host.now in
+      let es = c.iter_cleanups-each-items.result in
+      let all : c.loop-each.yielded ≡ es = all_of c.loop-each.yielded _ es (c.loop-each.invariant.rest ∙ c.into_iter-each-iterator.ensures.into_iter_gives) c.in-None.ensures.steps.0 in
+      adds_as _ (subst (λ (ys : List (ℕ × Attached)). Adds (ByAny ys (ByAttached objects)) c.args.trail.now c.loop-each.trail) all c.loop-each.invariant.added)
+      (attached_all objects c.args.finalizers.now.state es c.iter_cleanups-each-items.ensures.all);
+}
