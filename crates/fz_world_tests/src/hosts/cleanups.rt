@@ -341,7 +341,7 @@ fn furnish(
     }
     for _ in 0..random.below(3) {
         let when = if random.below(2) == 0 { Short } else { Long };
-        let rank = random.below(u64::from(RANKS)) as u8;
+        let rank = (random.below(u64::from(RANKS)) % 256) as u8;
         let other = random.below(COUNT as u64) as usize;
         let data = (random.below(6) == 0).then_some(other);
         push(rt, &mut plain.cleanups, (number, record, when, rank, data));
