@@ -266,9 +266,9 @@ impl Table {
         ensures order { self.new.order ≡ self.old.order }
         ensures room { self.new.room ≡ self.old.room }
     {
-        let number = self.next_number;
-        self.next_number = number + 1;
-        number
+        let taken = self.next_number;
+        self.next_number = taken + 1;
+        taken
     }
 
     /// Whether the table has as many registrations as it can have, and none for the object.
