@@ -54,7 +54,7 @@ fn make_room(table: &Table, cleanups: usize, ready: &mut Ready, object: Addr) ->
     Err(refused)
 }
 
-/// Registers an object's finalizer, beside so many cleanups. Returns the number and what was replaced.
+/// Registers an object's finalizer, where there is this number of cleanups. Returns the number and what was replaced.
 pub(crate) fn register(
     table: &mut Table,
     cleanups: usize,
