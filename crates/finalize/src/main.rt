@@ -7,8 +7,6 @@ ghost use Rattle.finalize.specs.Program.{Executes};
 mod program;
 mod shelf;
 mod stream;
-#[cfg(test)]
-mod tests;
 
 use fz_model::MAX_WORKERS;
 use fz_runs::{Failures, Keep, Nothing, Sink};
