@@ -1,7 +1,5 @@
-//! Tests of the service, and of runs of threads files.
+//! Tests of the service.
 #![tactic(auto)]
 
 #[cfg(test)]
 mod service;
-#[cfg(test)]
-mod threads;

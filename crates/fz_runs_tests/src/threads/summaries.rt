@@ -3,6 +3,7 @@
 use super::files::{ALL_ACTORS, MUTATORS_AND_COLLECTOR, ROWS};
 use super::wanted::{prints, runs_rows};
 use super::{FreeRow, Outcome, joined, run};
+use crate::equal::must_be;
 use fz_runs::WHOLE;
 use std::alloc::AllocError;
 use std::process::Abort;
@@ -37,7 +38,8 @@ fn always_fits<R: AllocGlobal + Abort + Threads + Wait + Sync>(
 ) -> Result<(), AllocError> {
     for round in 0..20u64 {
         let outcome = run(rt, row.file)?;
-        assert!(rt; fits(&outcome, row), "in round {round}");
+        let found = (round, fits(&outcome, row));
+        must_be(rt, found, (round, true), "the round, and whether it fits");
     }
     Ok(())
 }

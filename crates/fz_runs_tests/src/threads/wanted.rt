@@ -1,18 +1,13 @@
 //! Assertions that fail a test and say which result was wrong. An assertion is proved again wherever it occurs, so those that several tests need are here.
 
 use super::{Outcome, Row, run_within};
+use crate::equal::must_be;
 use fz_model::Refusal;
 use fz_runs::{DriveFault, Limits};
 use std::alloc::AllocError;
-use std::fmt::Debug;
 use std::process::Abort;
 use std::sync::Wait;
 use std::thread::Threads;
-
-/// Two equal values.
-pub(crate) fn same<T: PartialEq + Debug + Drop>(rt: &impl Abort, what: &str, got: T, want: T) {
-    assert_eq!(rt; got, want, "{what}");
-}
 
 /// The call has to succeed.
 pub(crate) fn accepted<T: Drop>(rt: &impl Abort, what: &str, answer: Result<T, Refusal>) {
@@ -21,7 +16,8 @@ pub(crate) fn accepted<T: Drop>(rt: &impl Abort, what: &str, answer: Result<T, R
 
 /// The run has to write this text.
 pub(crate) fn prints(rt: &impl Abort, what: &str, number: u64, outcome: &Outcome, text: &[u8]) {
-    assert_eq!(rt; outcome.text.as_slice(), text, "at {what} {number}");
+    let found = (number, outcome.text.as_slice());
+    must_be(rt, found, (number, text), what);
 }
 
 /// The run has to have this result.
@@ -32,7 +28,7 @@ pub(crate) fn ends(
     outcome: &Outcome,
     end: Result<(), DriveFault>,
 ) {
-    assert!(rt; outcome.result == end, "at {what} {number}");
+    must_be(rt, (number, outcome.result), (number, end), what);
 }
 
 /// The run has to write this text and to have this result.
@@ -58,7 +54,8 @@ pub(crate) fn runs_row<R: AllocGlobal + Abort + Threads + Wait + Sync>(
 ) -> Result<(), AllocError> {
     let outcome = run_within(rt, row.file, limits)?;
     prints(rt, "row", place as u64, &outcome, row.text);
-    assert_eq!(rt; outcome.result.err(), row.fault, "at row {place}");
+    let found = (place, outcome.result.err());
+    must_be(rt, found, (place, row.fault), "the row and its fault");
     Ok(())
 }
 

@@ -2,7 +2,7 @@
 
 ghost use Rattle.std.specs.Prelude.{◌≡◌};
 
-use super::wanted::same;
+use crate::equal::must_be;
 use fz_runs::{Failures, MemorySource, Pieces, drive_sections};
 use fz_service::{Opening, Prepared, Service, retire_all};
 use fz_world::Config;
@@ -42,7 +42,7 @@ fn takes<R: AllocGlobal + Abort + Threads + Wait + Sync>(
     let prepared = Service::prepare(rt.alloc(), Config { blocks: 1, frames }, 1);
     let prepared = prepared.expect(rt, "memory");
     let holds = holds_of::<Brand, Brand, R>(rt, prepared, file, Blank::new(1));
-    same(rt, "holds", holds, wanted);
+    must_be(rt, holds, wanted, "holds");
 }
 
 /// Files over one block and frames, with how often their runs take the lock: once for each call, for the pause at the end and for each collection after it;

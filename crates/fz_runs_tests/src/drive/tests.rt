@@ -6,6 +6,7 @@ ghost use Rattle.std.specs.Prelude.{◌≡◌, ◌≤◌, ◌<◌, ◌^◌, leng
 
 use crate::drive::Row;
 use crate::drive::scripts::{FIRST_SMALL, LARGE, LAST_SMALL, ONE_OBJECT, TWO_IN_ORDER};
+use crate::equal::must_be;
 use arrayvec::ArrayVec;
 use fz_model::{MAX_BLOCKS, MAX_FRAMES, MAX_WORKERS, Refusal};
 use fz_runs::{
@@ -82,19 +83,32 @@ fn first_lines(bytes: &[u8], count: usize) -> &[u8] {
     bytes
 }
 
-/// Fails the test if a run has another report. Only this function and the next two contain asserts, because each is proved again wherever it occurs.
+/// Fails the test if a run has another report.
 fn must_report(rt: &impl Abort, outcome: &Outcome, report: &[u8], row: usize) {
-    assert_eq!(rt; outcome.text.as_slice(), report, "row {row}");
+    let found = (row, outcome.text.as_slice());
+    must_be(rt, found, (row, report), "the row and its report");
 }
 
 /// Fails the test if a run ends in another way.
 fn must_end(rt: &impl Abort, outcome: &Outcome, end: Result<Summary, DriveFault>, row: usize) {
-    assert!(rt; outcome.result == end, "row {row}");
+    let is_right = outcome.result == end;
+    must_be(
+        rt,
+        (row, is_right),
+        (row, true),
+        "the row, and whether it ends so",
+    );
 }
 
 /// Fails the test if a condition doesn't hold.
 fn must_hold(rt: &impl Abort, holds: bool, row: usize, place: usize) {
-    assert!(rt; holds, "row {row}, place {place}");
+    let found = (row, place, holds);
+    must_be(
+        rt,
+        found,
+        (row, place, true),
+        "the row, the place, and whether it holds",
+    );
 }
 
 /// Runs the row's script over devices with these limits.
