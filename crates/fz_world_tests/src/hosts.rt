@@ -5,6 +5,5 @@ mod asked;
 mod asked_cleanups;
 mod beside;
 mod cleanups;
-mod equal;
 mod runtime;
 mod why;

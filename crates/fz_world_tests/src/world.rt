@@ -1,5 +1,6 @@
 //! Tests of a world.
 
+mod cache;
 mod calls;
 mod collecting;
 mod limits;

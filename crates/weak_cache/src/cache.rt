@@ -31,7 +31,7 @@ const HAND: u64 = 1;
 /// The list is an object with one word for each key. It is pointer-free, so it retains nothing. Each used word has a short link, so a collection clears it
 /// when its target is unreachable.
 #[derive(Drop)]
-pub(crate) struct Cache {
+pub struct Cache {
     world: World,
     keys: u64,
 }
@@ -53,7 +53,7 @@ impl Cache {
     /// An empty cache for keys below `keys`, in a heap of this many blocks.
     ///
     /// Errors, in order: `BadCount` for the blocks, `NoMemory`, `BadSize` if the number of keys isn't from 1 to 1,024, and `NoSpace` for their list.
-    pub(crate) fn open(alloc: Global, blocks: u64, keys: u64) -> Result<Cache, Refusal>
+    pub fn open(alloc: Global, blocks: u64, keys: u64) -> Result<Cache, Refusal>
         ensures judged { IsOpenedFor blocks keys result }
         ensures keys { IfOk result (λ cache. cache.keys ≡ keys) }
         ensures empty { IfOk result (λ cache. (key : ℕ) → cached cache key ≡ None) }
@@ -65,7 +65,7 @@ impl Cache {
 
     /// Allocates an object, which becomes the current object, and registers a finalizer with this client data. If that fails, the current object may be a new
     /// one without a finalizer.
-    pub(crate) fn make(&mut self, client_data: u64) -> Result<(), Refusal>
+    pub fn make(&mut self, client_data: u64) -> Result<(), Refusal>
         ensures made { OnOk result (Makes self.old.world client_data self.new.world) }
         ensures refused { IfErr result (MakesNone self.old.world client_data self.new.world) }
         ensures same { KeepsCached self.old.world self.new.world }
@@ -77,7 +77,7 @@ impl Cache {
     }
 
     /// Caches the current object under the key. Fails if the link from the list can't be registered.
-    pub(crate) fn put(&mut self, key: u64) -> Result<(), Refusal>
+    pub fn put(&mut self, key: u64) -> Result<(), Refusal>
         ensures judged { IsJudgedOrLacks (causes self.old.world.core (Make (Link Short (place_at 0 LIST key) (slot_at 0 HAND)))) result }
         ensures refused { OnErr result (self.new ≡ self.old) }
         ensures cached { OnOk result (cached self.new key ≡ Some (in_hand self.old)) }
@@ -89,7 +89,7 @@ impl Cache {
     }
 
     /// The address of the object under the key, which becomes the current object. If none is cached, there is no current object.
-    pub(crate) fn get(&mut self, key: u64) -> Result<Option<Addr>, Refusal>
+    pub fn get(&mut self, key: u64) -> Result<Option<Addr>, Refusal>
         ensures judged { IsJudgedBy (causes self.old.world.core (Make (Load (place_at 0 LIST key) (slot_at 0 HAND)))) result }
         ensures refused { OnErr result (self.new ≡ self.old) }
         ensures found { key < self.old.keys → IfOk result (λ found. found ≡ cached self.old key) }
@@ -107,7 +107,7 @@ impl Cache {
     }
 
     /// Drops the current object.
-    pub(crate) fn let_go(&mut self) -> Result<(), Refusal>
+    pub fn let_go(&mut self) -> Result<(), Refusal>
         ensures step { Does self.old.world (Make (Set (slot_at 0 HAND) 0)) result self.new.world }
         ensures same { KeepsCached self.old.world self.new.world }
         ensures keys { self.new.keys ≡ self.old.keys }
@@ -116,7 +116,7 @@ impl Cache {
     }
 
     /// Collects. Unreachable objects are no longer cached.
-    pub(crate) fn collect(&mut self) -> Result<Passed, Refusal>
+    pub fn collect(&mut self) -> Result<Passed, Refusal>
         ensures step { Does self.old.world (Make Collect) result self.new.world }
         // An object cached afterwards was cached before, under the same key. So an empty key stays empty.
         ensures kept { (key a : ℕ) → cached self.new key ≡ Some a → cached self.old key ≡ Some a }
@@ -130,14 +130,14 @@ impl Cache {
     }
 
     /// The next entry for a caller that took `taken` entries before.
-    pub(crate) fn next(&self, taken: u64) -> Option<Entry>
+    pub fn next(&self, taken: u64) -> Option<Entry>
         ensures { result ≡ slice_get self.now.world.queue taken }
     {
         self.world.next(taken)
     }
 
     /// Finishes an entry.
-    pub(crate) fn finish(&mut self, entry: &Entry) -> Result<(), Refusal>
+    pub fn finish(&mut self, entry: &Entry) -> Result<(), Refusal>
         ensures step { Does self.old.world (Finish entry.now) result self.new.world }
         ensures same { KeepsCached self.old.world self.new.world }
         ensures keys { self.new.keys ≡ self.old.keys }

@@ -1,6 +1,6 @@
 //! A graph of numbered objects whose finalizers ask questions, as those of a host in C do.
 
-use crate::hosts::equal::must_be;
+use crate::equal::must_be;
 use fz_finalizers::{Cleanup, Entry, Finalizer, Kind, LinkKind, Passed, Root};
 use fz_machine::{Ask, BATCH, Machine, Next, Question};
 use own_heap::FIELDS;

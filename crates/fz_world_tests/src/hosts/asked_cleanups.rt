@@ -1,12 +1,9 @@
 //! Cleanups of finalizers that ask questions: the worked rows, random graphs, and passes that are answered in parts or abandoned.
 
+use crate::equal::{at, must_be};
 use crate::hosts::asked::Asked;
 use crate::hosts::beside::Random;
-use crate::hosts::cleanups::{
-    BROUGHT_BACK, DATA_LEADS_TO_THE_OBJECT, NUMBERS_AND_RANKS, Plain,
-    SHORT_BEFORE_AND_LONG_AFTER_A_FINALIZER, Step, TWO_OF_ONE_OBJECT, drawn, due, found, retained,
-};
-use crate::hosts::equal::must_be;
+use crate::hosts::cleanups::{Plain, ROWS, Step, drawn, due, found, retained};
 use crate::hosts::why::{COUNT, has, push};
 use fz_finalizers::{Cleanup, Entry, Finalizer, Kind, LinkKind};
 use fz_machine::{BATCH, Machine, Next};
@@ -43,7 +40,7 @@ fn make(rt: &impl Abort, objects: &mut Objects) {
 /// The number of an object, or 0 of none.
 fn number_of(rt: &impl Abort, objects: &Objects, object: Option<usize>) -> u64 {
     match object {
-        Some(object) => objects.ids.get(object).copied().expect(rt, "an object"),
+        Some(object) => at(rt, objects.ids.as_slice(), object),
         None => 0,
     }
 }
@@ -135,21 +132,15 @@ fn carry_out(rt: &impl Abort, objects: &mut Objects, step: Step) {
     }
 }
 
-/// Carries out a row over a new graph.
-fn run(rt: &impl Abort, alloc: Global, steps: &[Step]) {
-    let mut objects = objects_of(rt, alloc);
-    for each in steps {
-        carry_out(rt, &mut objects, *each);
-    }
-}
-
+/// The same rows over a graph.
 #[test]
 fn the_rows_of_cleanups_are_those_of_questions(rt: HostRuntime) {
-    run(&rt, rt.alloc(), &TWO_OF_ONE_OBJECT);
-    run(&rt, rt.alloc(), &SHORT_BEFORE_AND_LONG_AFTER_A_FINALIZER);
-    run(&rt, rt.alloc(), &DATA_LEADS_TO_THE_OBJECT);
-    run(&rt, rt.alloc(), &BROUGHT_BACK);
-    run(&rt, rt.alloc(), &NUMBERS_AND_RANKS);
+    for steps in ROWS {
+        let mut objects = objects_of(&rt, rt.alloc());
+        for step in steps {
+            carry_out(&rt, &mut objects, *step);
+        }
+    }
 }
 
 /// The objects of a graph as lists. Numbers are given to registrations and cleanups in the order of the objects.

@@ -1,8 +1,8 @@
 //! The heap of records, and a graph whose finalizers ask questions, compared with a world: for the same graphs they queue the same objects and retain the
 //! same.
 
+use crate::equal::{at, must_be};
 use crate::hosts::asked::{Asked, number_of};
-use crate::hosts::equal::must_be;
 use fz_finalizers::{Finalizer, Kind};
 use fz_model::LinkKind::{Long, Short};
 use fz_model::ObjKind::Scanned;
@@ -69,10 +69,7 @@ fn objects(rt: &impl Abort, alloc: Global) -> All {
 
 /// A record's name, by the number of its object.
 fn id_of(rt: &impl Abort, all: &All, object: u64) -> RecordId {
-    all.ids
-        .get(object as usize)
-        .copied()
-        .expect(rt, "an object")
+    at(rt, all.ids.as_slice(), object as usize)
 }
 
 /// Stores a reference to an object in a field of another.

@@ -1,7 +1,7 @@
 //! Cleanups of records: worked rows, and random graphs whose queues a plain reading checks.
 
+use crate::equal::{at, must_be};
 use crate::hosts::beside::Random;
-use crate::hosts::equal::must_be;
 use crate::hosts::why::{COUNT, has, push, set};
 use fz_finalizers::{Cleanup, Entry, Finalizer, Kind, LinkKind};
 use fz_model::LinkKind::{Long, Short};
@@ -12,7 +12,7 @@ use std::process::Abort;
 use std::test::*;
 
 /// A step of a row. Records are named by their numbers, in the order in which they were made.
-#[derive(Clone, Copy, Debug, PartialEq, Eq)]
+#[derive(Clone, Copy)]
 pub(crate) enum Step {
     /// Makes a record.
     Make,
@@ -62,7 +62,7 @@ fn make(rt: &impl Abort, records: &mut Records) {
 
 /// The name of a record.
 fn id_of(rt: &impl Abort, records: &Records, record: usize) -> RecordId {
-    records.ids.get(record).copied().expect(rt, "a record")
+    at(rt, records.ids.as_slice(), record)
 }
 
 /// The address of a record, or 0 of none.
@@ -161,16 +161,8 @@ fn carry_out(rt: &impl Abort, records: &mut Records, step: Step) {
     }
 }
 
-/// Carries out a row in a new heap.
-fn run(rt: &impl Abort, alloc: Global, steps: &[Step]) {
-    let mut records = heap_of(rt, alloc);
-    for each in steps {
-        carry_out(rt, &mut records, *each);
-    }
-}
-
 /// An object has two cleanups, and is reclaimed in their pass. A new object at its address has none.
-pub(crate) const TWO_OF_ONE_OBJECT: [Step; 13] = [
+const TWO_OF_ONE_OBJECT: [Step; 13] = [
     Step::Make,
     Step::Attach(0, Long, 1, None, 0),
     Step::Attach(0, Long, 2, None, 0),
@@ -187,7 +179,7 @@ pub(crate) const TWO_OF_ONE_OBJECT: [Step; 13] = [
 ];
 
 /// A short one comes before the finalizer, and a long one once the object is gone.
-pub(crate) const SHORT_BEFORE_AND_LONG_AFTER_A_FINALIZER: [Step; 15] = [
+const SHORT_BEFORE_AND_LONG_AFTER_A_FINALIZER: [Step; 15] = [
     Step::Make,
     Step::Register(0, 7),
     Step::Attach(0, Short, 1, None, 0),
@@ -206,7 +198,7 @@ pub(crate) const SHORT_BEFORE_AND_LONG_AFTER_A_FINALIZER: [Step; 15] = [
 ];
 
 /// Client data that leads to the object retains it, until the cleanup is cancelled.
-pub(crate) const DATA_LEADS_TO_THE_OBJECT: [Step; 12] = [
+const DATA_LEADS_TO_THE_OBJECT: [Step; 12] = [
     Step::Make,
     Step::Make,
     Step::Refer(1, 0),
@@ -222,7 +214,7 @@ pub(crate) const DATA_LEADS_TO_THE_OBJECT: [Step; 12] = [
 ];
 
 /// A finalizer brings the object back: the short one came, and the long one comes at last.
-pub(crate) const BROUGHT_BACK: [Step; 16] = [
+const BROUGHT_BACK: [Step; 16] = [
     Step::Make,
     Step::Register(0, 7),
     Step::Attach(0, Long, 2, None, 0),
@@ -242,7 +234,7 @@ pub(crate) const BROUGHT_BACK: [Step; 16] = [
 ];
 
 /// The order is by rank, then number, whichever the objects.
-pub(crate) const NUMBERS_AND_RANKS: [Step; 12] = [
+const NUMBERS_AND_RANKS: [Step; 12] = [
     Step::Make,
     Step::Make,
     Step::Attach(1, Long, 1, None, 0),
@@ -257,29 +249,24 @@ pub(crate) const NUMBERS_AND_RANKS: [Step; 12] = [
     Step::Stands(1, false),
 ];
 
-#[test]
-fn an_object_has_two_cleanups(rt: HostRuntime) {
-    run(&rt, rt.alloc(), &TWO_OF_ONE_OBJECT);
-}
+/// The worked rows.
+pub(crate) const ROWS: [&[Step]; 5] = [
+    &TWO_OF_ONE_OBJECT,
+    &SHORT_BEFORE_AND_LONG_AFTER_A_FINALIZER,
+    &DATA_LEADS_TO_THE_OBJECT,
+    &BROUGHT_BACK,
+    &NUMBERS_AND_RANKS,
+];
 
+/// The steps of each row are carried out in a new heap.
 #[test]
-fn a_finalizer_comes_between_cleanups(rt: HostRuntime) {
-    run(&rt, rt.alloc(), &SHORT_BEFORE_AND_LONG_AFTER_A_FINALIZER);
-}
-
-#[test]
-fn client_data_of_a_cleanup_retains(rt: HostRuntime) {
-    run(&rt, rt.alloc(), &DATA_LEADS_TO_THE_OBJECT);
-}
-
-#[test]
-fn a_long_cleanup_waits_for_an_object_that_is_brought_back(rt: HostRuntime) {
-    run(&rt, rt.alloc(), &BROUGHT_BACK);
-}
-
-#[test]
-fn cleanups_come_by_rank_then_number(rt: HostRuntime) {
-    run(&rt, rt.alloc(), &NUMBERS_AND_RANKS);
+fn cleanups_of_worked_rows(rt: HostRuntime) {
+    for steps in ROWS {
+        let mut records = heap_of(&rt, rt.alloc());
+        for step in steps {
+            carry_out(&rt, &mut records, *step);
+        }
+    }
 }
 
 /// How many ranks a random graph has.

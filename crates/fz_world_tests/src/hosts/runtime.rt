@@ -1,6 +1,6 @@
 //! Tests of a heap with finalizers.
 
-use crate::hosts::equal::must_be;
+use crate::equal::must_be;
 use fz_finalizers::{Finalizer, Kind, LinkKind};
 use own_heap::Field::{Nothing, Number, Reference};
 use own_heap::{FIELDS, Field, OUTSIDE, RecordId, Runtime};

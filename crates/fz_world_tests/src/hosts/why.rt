@@ -1,7 +1,7 @@
 //! Why records aren't finalized: worked rows, and random graphs whose answers a plain reading checks.
 
+use crate::equal::{at, must_be};
 use crate::hosts::beside::Random;
-use crate::hosts::equal::must_be;
 use fz_finalizers::{Finalizer, Kind, LinkKind};
 use fz_model::Addr;
 use fz_why::{Reason, RootOf};
@@ -12,7 +12,7 @@ use std::process::Abort;
 use std::test::*;
 
 /// A step of a row. Records are named by their numbers.
-#[derive(Clone, Copy, Debug, PartialEq, Eq)]
+#[derive(Clone, Copy)]
 enum Step {
     /// The field of a record refers to another.
     Refer(usize, usize, usize),
@@ -29,6 +29,8 @@ enum Step {
     Collect(u64),
     /// Takes and finishes an entry of a record.
     Finish(usize),
+    /// What is told of a record, and the records on its path.
+    Tells(usize, Told, &'static [usize]),
 }
 
 /// What is told of a record, without its path.
@@ -45,6 +47,7 @@ enum Told {
 /// A heap, and its records by number.
 #[derive(Drop)]
 struct Records {
+    alloc: Global,
     runtime: Runtime,
     ids: Vec<RecordId>,
 }
@@ -52,6 +55,7 @@ struct Records {
 /// A heap with as many records.
 fn heap_of(rt: &impl Abort, alloc: Global, count: usize) -> Records {
     let mut made = Records {
+        alloc,
         runtime: Runtime::new(alloc, 16).expect(rt, "a runtime"),
         ids: Vec::new(alloc),
     };
@@ -64,7 +68,7 @@ fn heap_of(rt: &impl Abort, alloc: Global, count: usize) -> Records {
 
 /// The name of a record.
 fn id_of(rt: &impl Abort, records: &Records, record: usize) -> RecordId {
-    records.ids.get(record).copied().expect(rt, "a record")
+    at(rt, records.ids.as_slice(), record)
 }
 
 /// The number of the record with this address.
@@ -146,16 +150,13 @@ fn carry_out(rt: &impl Abort, records: &mut Records, step: Step) {
             must_be(rt, records.runtime.collect().picked, picked, "picked");
         }
         Step::Finish(record) => finish(rt, records, record),
+        Step::Tells(record, want, path) => must_tell(rt, records, record, want, path),
     }
 }
 
 /// What is told of a record, and the numbers of the records on its path.
-fn answer_of(
-    rt: &impl Abort,
-    alloc: Global,
-    records: &Records,
-    record: usize,
-) -> (Told, Vec<usize>) {
+fn answer_of(rt: &impl Abort, records: &Records, record: usize) -> (Told, Vec<usize>) {
+    let alloc = records.alloc;
     let id = id_of(rt, records, record);
     let reason = records.runtime.why(alloc, id).expect(rt, "memory");
     let (told, path) = match reason {
@@ -175,137 +176,110 @@ fn answer_of(
 }
 
 /// Checks what is told of a record.
-fn must_tell(
-    rt: &impl Abort,
-    alloc: Global,
-    records: &Records,
-    record: usize,
-    want: Told,
-    path: &[usize],
-) {
-    let (found, numbers) = answer_of(rt, alloc, records, record);
+fn must_tell(rt: &impl Abort, records: &Records, record: usize, want: Told, path: &[usize]) {
+    let (found, numbers) = answer_of(rt, records, record);
     must_be(rt, found, want, "the answer");
     must_be(rt, numbers.as_slice() == path, true, "its path");
 }
 
-/// Carries out steps.
-fn run(rt: &impl Abort, records: &mut Records, steps: &[Step]) {
-    for each in steps {
-        carry_out(rt, records, *each);
-    }
-}
-
 const NORMAL: Kind = Kind::Normal;
 
-#[test]
-fn a_child_waits_for_its_parent(rt: HostRuntime) {
-    let alloc = rt.alloc();
-    let mut all = heap_of(&rt, alloc, 2);
-    let steps = [
-        Step::Refer(0, 0, 1),
-        Step::Root(0),
-        Step::Register(0, NORMAL, None),
-        Step::Register(1, NORMAL, None),
-    ];
-    run(&rt, &mut all, &steps);
-    must_tell(&rt, alloc, &all, 1, Told::Found(RootOf::Host(0)), &[0, 1]);
-    carry_out(&rt, &mut all, Step::Unroot);
-    must_tell(&rt, alloc, &all, 0, Told::Ready, &[]);
-    must_tell(&rt, alloc, &all, 1, Told::Waits, &[0, 1]);
-    carry_out(&rt, &mut all, Step::Collect(1));
-    must_tell(&rt, alloc, &all, 0, Told::Queued(0), &[]);
-    let held = Told::Found(RootOf::HeldObject(0));
-    must_tell(&rt, alloc, &all, 1, held, &[0, 1]);
-    carry_out(&rt, &mut all, Step::Finish(0));
-    must_tell(&rt, alloc, &all, 0, Told::Unregistered, &[]);
-    must_tell(&rt, alloc, &all, 1, Told::Ready, &[]);
-}
+const A_CHILD_WAITS_FOR_ITS_PARENT: [Step; 14] = [
+    Step::Refer(0, 0, 1),
+    Step::Root(0),
+    Step::Register(0, NORMAL, None),
+    Step::Register(1, NORMAL, None),
+    Step::Tells(1, Told::Found(RootOf::Host(0)), &[0, 1]),
+    Step::Unroot,
+    Step::Tells(0, Told::Ready, &[]),
+    Step::Tells(1, Told::Waits, &[0, 1]),
+    Step::Collect(1),
+    Step::Tells(0, Told::Queued(0), &[]),
+    Step::Tells(1, Told::Found(RootOf::HeldObject(0)), &[0, 1]),
+    Step::Finish(0),
+    Step::Tells(0, Told::Unregistered, &[]),
+    Step::Tells(1, Told::Ready, &[]),
+];
 
-#[test]
-fn a_ring_of_one_is_told_and_may_be_ignored(rt: HostRuntime) {
-    let alloc = rt.alloc();
-    let mut all = heap_of(&rt, alloc, 1);
-    let steps = [Step::Refer(0, 0, 0), Step::Register(0, NORMAL, None)];
-    run(&rt, &mut all, &steps);
-    must_tell(&rt, alloc, &all, 0, Told::Ring, &[0, 0]);
-    carry_out(&rt, &mut all, Step::Collect(0));
-    must_tell(&rt, alloc, &all, 0, Told::Ring, &[0, 0]);
-    carry_out(&rt, &mut all, Step::Register(0, Kind::IgnoreSelf, None));
-    must_tell(&rt, alloc, &all, 0, Told::Ready, &[]);
-    carry_out(&rt, &mut all, Step::Collect(1));
-}
+const A_RING_OF_ONE_MAY_BE_IGNORED: [Step; 8] = [
+    Step::Refer(0, 0, 0),
+    Step::Register(0, NORMAL, None),
+    Step::Tells(0, Told::Ring, &[0, 0]),
+    Step::Collect(0),
+    Step::Tells(0, Told::Ring, &[0, 0]),
+    Step::Register(0, Kind::IgnoreSelf, None),
+    Step::Tells(0, Told::Ready, &[]),
+    Step::Collect(1),
+];
 
-#[test]
-fn own_client_data_retains(rt: HostRuntime) {
-    let alloc = rt.alloc();
-    let mut all = heap_of(&rt, alloc, 2);
-    let steps = [Step::Refer(1, 0, 0), Step::Register(0, NORMAL, Some(1))];
-    run(&rt, &mut all, &steps);
-    let data = Told::Found(RootOf::RegisteredData(0));
-    must_tell(&rt, alloc, &all, 0, data, &[1, 0]);
-    carry_out(&rt, &mut all, Step::Collect(0));
-}
+const OWN_CLIENT_DATA_RETAINS: [Step; 4] = [
+    Step::Refer(1, 0, 0),
+    Step::Register(0, NORMAL, Some(1)),
+    Step::Tells(0, Told::Found(RootOf::RegisteredData(0)), &[1, 0]),
+    Step::Collect(0),
+];
 
-#[test]
-fn kinds_decide_which_first_steps_count(rt: HostRuntime) {
-    let alloc = rt.alloc();
-    let mut ring = heap_of(&rt, alloc, 2);
-    let steps = [
-        Step::Refer(0, 0, 1),
-        Step::Refer(1, 0, 0),
-        Step::Register(0, NORMAL, None),
-        Step::Register(1, Kind::NoOrder, None),
-    ];
-    run(&rt, &mut ring, &steps);
-    must_tell(&rt, alloc, &ring, 0, Told::Ring, &[0, 1, 0]);
-    must_tell(&rt, alloc, &ring, 1, Told::Waits, &[0, 1]);
+const THE_FIRST_STEPS_OF_A_NORMAL_ONE_COUNT: [Step; 6] = [
+    Step::Refer(0, 0, 1),
+    Step::Refer(1, 0, 0),
+    Step::Register(0, NORMAL, None),
+    Step::Register(1, Kind::NoOrder, None),
+    Step::Tells(0, Told::Ring, &[0, 1, 0]),
+    Step::Tells(1, Told::Waits, &[0, 1]),
+];
 
-    let mut free = heap_of(&rt, alloc, 2);
-    let steps = [
-        Step::Refer(0, 0, 1),
-        Step::Register(0, Kind::NoOrder, None),
-        Step::Register(1, NORMAL, None),
-    ];
-    run(&rt, &mut free, &steps);
-    must_tell(&rt, alloc, &free, 0, Told::Ready, &[]);
-    must_tell(&rt, alloc, &free, 1, Told::Ready, &[]);
-    carry_out(&rt, &mut free, Step::Register(1, Kind::Unreachable, None));
-    must_tell(&rt, alloc, &free, 1, Told::Waits, &[0, 1]);
-    carry_out(&rt, &mut free, Step::Collect(1));
-}
+const AN_UNREACHABLE_ONE_WAITS_FOR_ALL: [Step; 8] = [
+    Step::Refer(0, 0, 1),
+    Step::Register(0, Kind::NoOrder, None),
+    Step::Register(1, NORMAL, None),
+    Step::Tells(0, Told::Ready, &[]),
+    Step::Tells(1, Told::Ready, &[]),
+    Step::Register(1, Kind::Unreachable, None),
+    Step::Tells(1, Told::Waits, &[0, 1]),
+    Step::Collect(1),
+];
 
-#[test]
-fn a_dead_short_link_cuts_a_ring(rt: HostRuntime) {
-    let alloc = rt.alloc();
-    let mut all = heap_of(&rt, alloc, 2);
-    let steps = [
-        Step::Refer(0, 0, 1),
-        Step::Refer(1, 0, 0),
-        Step::Register(0, NORMAL, None),
-        Step::Register(1, NORMAL, None),
-        Step::Link(0, 0, 1),
-    ];
-    run(&rt, &mut all, &steps);
-    must_tell(&rt, alloc, &all, 1, Told::Ready, &[]);
-    must_tell(&rt, alloc, &all, 0, Told::Waits, &[1, 0]);
-    carry_out(&rt, &mut all, Step::Collect(1));
-}
+const A_DEAD_SHORT_LINK_CUTS_A_RING: [Step; 8] = [
+    Step::Refer(0, 0, 1),
+    Step::Refer(1, 0, 0),
+    Step::Register(0, NORMAL, None),
+    Step::Register(1, NORMAL, None),
+    Step::Link(0, 0, 1),
+    Step::Tells(1, Told::Ready, &[]),
+    Step::Tells(0, Told::Waits, &[1, 0]),
+    Step::Collect(1),
+];
 
+const A_LINK_OUTSIDE_OF_THE_HEAP_CUTS_NO_RING: [Step; 8] = [
+    Step::Refer(0, 0, 1),
+    Step::Refer(1, 0, 0),
+    Step::Register(0, NORMAL, None),
+    Step::LinkOutside(0),
+    Step::LinkOutside(1),
+    Step::Tells(0, Told::Ring, &[0, 1, 0]),
+    Step::Tells(1, Told::Unregistered, &[]),
+    Step::Collect(0),
+];
+
+const ROWS: [&[Step]; 7] = [
+    &A_CHILD_WAITS_FOR_ITS_PARENT,
+    &A_RING_OF_ONE_MAY_BE_IGNORED,
+    &OWN_CLIENT_DATA_RETAINS,
+    &THE_FIRST_STEPS_OF_A_NORMAL_ONE_COUNT,
+    &AN_UNREACHABLE_ONE_WAITS_FOR_ALL,
+    &A_DEAD_SHORT_LINK_CUTS_A_RING,
+    &A_LINK_OUTSIDE_OF_THE_HEAP_CUTS_NO_RING,
+];
+
+/// The steps of each row are carried out in a new heap of two records.
 #[test]
-fn a_link_outside_of_the_heap_cuts_no_ring(rt: HostRuntime) {
-    let alloc = rt.alloc();
-    let mut all = heap_of(&rt, alloc, 2);
-    let steps = [
-        Step::Refer(0, 0, 1),
-        Step::Refer(1, 0, 0),
-        Step::Register(0, NORMAL, None),
-        Step::LinkOutside(0),
-        Step::LinkOutside(1),
-    ];
-    run(&rt, &mut all, &steps);
-    must_tell(&rt, alloc, &all, 0, Told::Ring, &[0, 1, 0]);
-    must_tell(&rt, alloc, &all, 1, Told::Unregistered, &[]);
-    carry_out(&rt, &mut all, Step::Collect(0));
+fn reasons_of_worked_rows(rt: HostRuntime) {
+    for steps in ROWS {
+        let mut all = heap_of(&rt, rt.alloc(), 2);
+        for step in steps {
+            carry_out(&rt, &mut all, *step);
+        }
+    }
 }
 
 /// How many records a random graph has.
@@ -536,7 +510,7 @@ fn compare(rt: &impl Abort, alloc: Global, plain: &Plain) {
     let mut ready = 0_u64;
     for (record, kind, _) in plain.registered.iter() {
         let want = read(plain, &found, *record, *kind);
-        let (told, path) = answer_of(rt, alloc, &all, *record);
+        let (told, path) = answer_of(rt, &all, *record);
         must_be(
             rt,
             is_told(plain, &found, *record, told, path.as_slice()),

@@ -1,5 +1,6 @@
 //! Calls as a program writes them, with their results.
 
+use crate::equal::must_be;
 use fz_model::LinkKind::Long;
 use fz_model::ObjKind::{Atomic, Scanned};
 use fz_model::RegKind::{NoOrder, Normal};
@@ -42,7 +43,7 @@ fn a_word_is_read_back(rt: HostRuntime) {
         birth: 2,
     };
     let want = (HEAP_START + 128, 2, HEAP_START + 128, Some(object));
-    assert_eq!(rt; words(rt.alloc()), Ok(want));
+    must_be(&rt, words(rt.alloc()), Ok(want), "words");
 }
 
 /// The number of objects, of their words, and of free words.
@@ -56,7 +57,12 @@ fn counts(alloc: Global) -> Result<(u64, u64, u64), Refusal> {
 
 #[test]
 fn objects_and_words_are_counted(rt: HostRuntime) {
-    assert_eq!(rt; counts(rt.alloc()), Ok((2, 3, 4 * BLOCK_WORDS - 3)));
+    must_be(
+        &rt,
+        counts(rt.alloc()),
+        Ok((2, 3, 4 * BLOCK_WORDS - 3)),
+        "counts",
+    );
 }
 
 /// A link is registered, moved from the first word to the second, and removed.
@@ -73,7 +79,7 @@ fn links(alloc: Global) -> Result<(LinkAnswer, MoveAnswer, Option<Addr>, bool), 
 fn a_link_moves_and_goes(rt: HostRuntime) {
     let target = Some(HEAP_START + 64);
     let want = (LinkAnswer::Success, MoveAnswer::Success, target, true);
-    assert_eq!(rt; links(rt.alloc()), Ok(want));
+    must_be(&rt, links(rt.alloc()), Ok(want), "links");
 }
 
 /// The second object is registered, registered again by a call as a value, and then unregistered.
@@ -111,7 +117,7 @@ fn a_registration_is_replaced_and_removed(rt: HostRuntime) {
         Some(stands),
         Some(old),
     );
-    assert_eq!(rt; registrations(rt.alloc()), Ok(want));
+    must_be(&rt, registrations(rt.alloc()), Ok(want), "registrations");
 }
 
 /// The first object is dropped. A cycle in steps queues its entry, whose object is stored in its slot again.
@@ -137,7 +143,7 @@ fn a_cycle_queues_and_a_hold_brings_back(rt: HostRuntime) {
         reclaimed: 0,
     };
     let want = (Progress::Done, passed, HEAP_START, true);
-    assert_eq!(rt; cycle(rt.alloc()), Ok(want));
+    must_be(&rt, cycle(rt.alloc()), Ok(want), "a cycle");
 }
 
 /// A closed world queues nothing.
@@ -160,5 +166,10 @@ fn a_closed_world_reclaims_what_is_not_registered(rt: HostRuntime) {
         picked: 0,
         reclaimed: 1,
     };
-    assert_eq!(rt; closing(rt.alloc()), Ok((Reply::Passed(passed), 1, 1)));
+    must_be(
+        &rt,
+        closing(rt.alloc()),
+        Ok((Reply::Passed(passed), 1, 1)),
+        "a closed world",
+    );
 }

@@ -1,6 +1,7 @@
 //! Allocations that collect if there is no room.
 
 use super::tests::{opened, registered};
+use crate::equal::must_be;
 use fz_model::ObjKind::{Atomic, Scanned};
 use fz_model::RegKind::Normal;
 use fz_model::{Addr, BLOCK_WORDS, HEAP_START, Passed, Refusal};
@@ -48,12 +49,22 @@ fn an_allocation_leaves_an_open_cycle(rt: HostRuntime) {
         picked: 0,
         reclaimed: 1,
     };
-    assert_eq!(rt; in_an_open_cycle(rt.alloc()), Ok(([true; 3], passed)));
+    must_be(
+        &rt,
+        in_an_open_cycle(rt.alloc()),
+        Ok(([true; 3], passed)),
+        "in an open cycle",
+    );
 }
 
 #[test]
 fn an_allocation_collects(rt: HostRuntime) {
-    assert_eq!(rt; allocations_answer(rt.alloc()), Ok([true; 3]));
+    must_be(
+        &rt,
+        allocations_answer(rt.alloc()),
+        Ok([true; 3]),
+        "allocations",
+    );
 }
 
 /// Finishes all waiting entries, and forgets them.
@@ -86,8 +97,10 @@ fn made_where_all_is_registered(alloc: Global) -> Result<(Addr, u64), Refusal> {
 
 #[test]
 fn a_second_collection_reclaims_what_the_first_queued(rt: HostRuntime) {
-    assert_eq!(rt;
+    must_be(
+        &rt,
         made_where_all_is_registered(rt.alloc()),
-        Ok((HEAP_START, 1))
+        Ok((HEAP_START, 1)),
+        "the object",
     );
 }

@@ -1,6 +1,7 @@
 //! The limits of a world's size, its slots, and a queue, which has none.
 
 use super::tests::opened;
+use crate::equal::must_be;
 use fz_model::{MAX_BLOCKS, MAX_FRAMES, ObjKind, Refusal, RegKind, SLOTS};
 use fz_world::World;
 use std::alloc::Global;
@@ -20,7 +21,12 @@ fn first_opened(alloc: Global, counts: &[(u64, u64)]) -> Option<usize> {
 /// Worlds can be opened with 1 to 8 frames and 1 to 4,096 blocks.
 #[test]
 fn limits_of_an_opening(rt: HostRuntime) {
-    assert_eq!(rt; first_opened(rt.alloc(), &BAD_COUNTS), None);
+    must_be(
+        &rt,
+        first_opened(rt.alloc(), &BAD_COUNTS),
+        None,
+        "the first that opens",
+    );
 }
 
 /// What calls on the last slot, and beyond it, return.
@@ -41,7 +47,7 @@ fn all_slots_answer(alloc: Global) -> Result<bool, Refusal> {
 /// A world has at most 8 frames of 16 slots.
 #[test]
 fn limits_of_frames(rt: HostRuntime) {
-    assert_eq!(rt; all_slots_answer(rt.alloc()), Ok(true));
+    must_be(&rt, all_slots_answer(rt.alloc()), Ok(true), "the slots");
 }
 
 /// How many objects are queued in a round.
@@ -83,5 +89,10 @@ fn queued_in_rounds(alloc: Global, rounds: u64) -> Result<(u64, usize, u64), Ref
 #[test]
 fn a_long_queue_grows_with_ample_memory(rt: HostRuntime) {
     let queued = queued_in_rounds(rt.alloc(), 9);
-    assert_eq!(rt; queued, Ok((270_000, 270_000, 0)));
+    must_be(
+        &rt,
+        queued,
+        Ok((270_000, 270_000, 0)),
+        "queued, remembered and held",
+    );
 }

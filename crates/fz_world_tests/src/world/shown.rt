@@ -1,5 +1,6 @@
 //! What the readers of a world return, compared with what its calls returned.
 
+use crate::equal::must_be;
 use fz_model::{Addr, Entry, HEAP_START, LinkKind, ObjKind, Refusal, RegKind, Registration, Word};
 use fz_world::{Config, Object, World};
 use std::alloc::Global;
@@ -55,7 +56,7 @@ fn objects(alloc: Global) -> Result<[Option<Object>; 5], Refusal> {
 #[test]
 fn objects_in_order(rt: HostRuntime) {
     let want = [Some(ATOMIC), Some(SCANNED), None, Some(SCANNED), None];
-    assert_eq!(rt; objects(rt.alloc()), Ok(want));
+    must_be(&rt, objects(rt.alloc()), Ok(want), "objects");
 }
 
 fn starts(alloc: Global) -> Result<[Option<Addr>; 3], Refusal> {
@@ -67,7 +68,7 @@ fn starts(alloc: Global) -> Result<[Option<Addr>; 3], Refusal> {
 #[test]
 fn starts_in_order(rt: HostRuntime) {
     let want = [Some(HEAP_START), Some(HEAP_START + 64), None];
-    assert_eq!(rt; starts(rt.alloc()), Ok(want));
+    must_be(&rt, starts(rt.alloc()), Ok(want), "addresses");
 }
 
 fn words(alloc: Global) -> Result<[Result<Word, Refusal>; 5], Refusal> {
@@ -90,7 +91,7 @@ fn words_of_slots_and_objects(rt: HostRuntime) {
         Err(Refusal::OutsideObject),
         Err(Refusal::NotPointer),
     ];
-    assert_eq!(rt; words(rt.alloc()), Ok(want));
+    must_be(&rt, words(rt.alloc()), Ok(want), "words");
 }
 
 fn registrations(alloc: Global) -> Result<[Option<(Addr, Registration)>; 2], Refusal> {
@@ -104,7 +105,7 @@ fn registrations(alloc: Global) -> Result<[Option<(Addr, Registration)>; 2], Ref
 #[test]
 fn registrations_in_order(rt: HostRuntime) {
     let want = [Some((HEAP_START, REGISTRATION)), None];
-    assert_eq!(rt; registrations(rt.alloc()), Ok(want));
+    must_be(&rt, registrations(rt.alloc()), Ok(want), "registrations");
 }
 
 fn links(alloc: Global) -> Result<[Option<(Addr, Addr)>; 3], Refusal> {
@@ -119,7 +120,7 @@ fn links(alloc: Global) -> Result<[Option<(Addr, Addr)>; 3], Refusal> {
 #[test]
 fn links_in_order(rt: HostRuntime) {
     let want = [Some((HEAP_START + 65, HEAP_START)), None, None];
-    assert_eq!(rt; links(rt.alloc()), Ok(want));
+    must_be(&rt, links(rt.alloc()), Ok(want), "links");
 }
 
 /// The held entry of a world after its pass, found from number 0 and from number 1 on, and after it is finished.
@@ -147,5 +148,10 @@ fn held_entries_in_order(rt: HostRuntime) {
         proc: 7,
         cd: 8,
     };
-    assert_eq!(rt; held(rt.alloc()), Ok([Some(entry), None, None]));
+    must_be(
+        &rt,
+        held(rt.alloc()),
+        Ok([Some(entry), None, None]),
+        "held entries",
+    );
 }

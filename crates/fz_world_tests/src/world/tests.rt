@@ -2,6 +2,7 @@
 //! as if there had been enough: `tests/refused-allocations` makes allocations of these tests fail, up to four in a row. Tests whose names end in
 //! `with_ample_memory` make each call once, so that they fail if a call needs memory without reason.
 
+use crate::equal::must_be;
 use fz_model::LinkKind::{Long, Short};
 use fz_model::ObjKind::{Atomic, Scanned};
 use fz_model::Progress::{Done, More};
@@ -200,6 +201,7 @@ fn first_wrong_of(made: Result<World, Refusal>, steps: &[Step]) -> Result<Option
     Ok(first_wrong(&mut world, steps))
 }
 
+/// An object is allocated, registered, dropped, finalized, stored in a slot again, dropped and reclaimed.
 const ONE_OBJECT_LIFE: [Step; 13] = [
     New(0, 2, Scanned, Ok(HEAP_START)),
     Register(0, Normal, 0, 0),
@@ -216,13 +218,7 @@ const ONE_OBJECT_LIFE: [Step; 13] = [
     Collect(4, 0, 1),
 ];
 
-/// An object is allocated, registered, dropped, finalized, stored in a slot again, dropped and reclaimed.
-#[test]
-fn one_object_life(rt: HostRuntime) {
-    let made = opened(rt.alloc(), 4, 1);
-    assert_eq!(rt; first_wrong_of(made, &ONE_OBJECT_LIFE), Ok(None));
-}
-
+/// A finished entry is forgotten; an unfinished one keeps its number, even if it is the first.
 const FORGOTTEN_ENTRIES: [Step; 27] = [
     Forget(0, 0),
     New(0, 1, Scanned, Ok(HEAP_START)),
@@ -253,13 +249,7 @@ const FORGOTTEN_ENTRIES: [Step; 27] = [
     Forget(0, 3),
 ];
 
-/// A finished entry is forgotten; an unfinished one keeps its number, even if it is the first.
-#[test]
-fn forgotten_entries(rt: HostRuntime) {
-    let made = opened(rt.alloc(), 4, 1);
-    assert_eq!(rt; first_wrong_of(made, &FORGOTTEN_ENTRIES), Ok(None));
-}
-
+/// An object that points to another is queued first, whatever their ranks are.
 const CHAIN_IN_ORDER: [Step; 12] = [
     New(0, 1, Scanned, Ok(HEAP_START)),
     New(1, 1, Scanned, Ok(HEAP_START + 1)),
@@ -275,13 +265,7 @@ const CHAIN_IN_ORDER: [Step; 12] = [
     Finish(1, Ok(HEAP_START + 1)),
 ];
 
-/// An object that points to another is queued first, whatever their ranks are.
-#[test]
-fn chain_in_order(rt: HostRuntime) {
-    let made = opened(rt.alloc(), 4, 1);
-    assert_eq!(rt; first_wrong_of(made, &CHAIN_IN_ORDER), Ok(None));
-}
-
+/// One pass queues by rank, and objects of equal rank by address.
 const RANKS_IN_ORDER: [Step; 17] = [
     New(0, 1, Scanned, Ok(HEAP_START)),
     New(1, 1, Scanned, Ok(HEAP_START + 1)),
@@ -302,13 +286,7 @@ const RANKS_IN_ORDER: [Step; 17] = [
     Finish(3, Ok(HEAP_START)),
 ];
 
-/// One pass queues by rank, and objects of equal rank by address.
-#[test]
-fn ranks_in_order(rt: HostRuntime) {
-    let made = opened(rt.alloc(), 4, 1);
-    assert_eq!(rt; first_wrong_of(made, &RANKS_IN_ORDER), Ok(None));
-}
-
+/// The word of a short link is cleared before the order is decided: of two registered objects that point to each other one is queued.
 const SHORT_LINK_BREAKS_A_CYCLE: [Step; 13] = [
     New(0, 1, Scanned, Ok(HEAP_START)),
     New(1, 1, Scanned, Ok(HEAP_START + 1)),
@@ -325,13 +303,7 @@ const SHORT_LINK_BREAKS_A_CYCLE: [Step; 13] = [
     Finish(1, Ok(HEAP_START)),
 ];
 
-/// The word of a short link is cleared before the order is decided: of two registered objects that point to each other one is queued.
-#[test]
-fn short_link_breaks_a_cycle(rt: HostRuntime) {
-    let made = opened(rt.alloc(), 4, 1);
-    assert_eq!(rt; first_wrong_of(made, &SHORT_LINK_BREAKS_A_CYCLE), Ok(None));
-}
-
+/// Of two links to a queued object, the short one's word is cleared at once, and the long one's when the object is reclaimed.
 const LONG_LINK_WAITS_FOR_ITS_TARGET: [Step; 16] = [
     New(0, 2, Atomic, Ok(HEAP_START)),
     New(1, 1, Scanned, Ok(HEAP_START + BLOCK_WORDS)),
@@ -351,16 +323,7 @@ const LONG_LINK_WAITS_FOR_ITS_TARGET: [Step; 16] = [
     Unlink(Long, 0, 1, false),
 ];
 
-/// Of two links to a queued object, the short one's word is cleared at once, and the long one's when the object is reclaimed.
-#[test]
-fn long_link_waits_for_its_target(rt: HostRuntime) {
-    let made = opened(rt.alloc(), 4, 1);
-    assert_eq!(rt;
-        first_wrong_of(made, &LONG_LINK_WAITS_FOR_ITS_TARGET),
-        Ok(None)
-    );
-}
-
+/// A moved link clears the word at its last place.
 const MOVED_LINK: [Step; 12] = [
     New(0, 2, Atomic, Ok(HEAP_START)),
     New(1, 1, Scanned, Ok(HEAP_START + BLOCK_WORDS)),
@@ -376,13 +339,7 @@ const MOVED_LINK: [Step; 12] = [
     Load(0, 1, 2, Ok(0)),
 ];
 
-/// A moved link clears the word at its last place.
-#[test]
-fn moved_link(rt: HostRuntime) {
-    let made = opened(rt.alloc(), 4, 1);
-    assert_eq!(rt; first_wrong_of(made, &MOVED_LINK), Ok(None));
-}
-
+/// A link is removed with the object that contains it: a new object at the same address has none.
 const LINK_IN_GARBAGE: [Step; 9] = [
     New(0, 1, Scanned, Ok(HEAP_START)),
     New(1, 1, Scanned, Ok(HEAP_START + 1)),
@@ -395,13 +352,7 @@ const LINK_IN_GARBAGE: [Step; 9] = [
     Unlink(Long, 0, 0, false),
 ];
 
-/// A link is removed with the object that contains it: a new object at the same address has none.
-#[test]
-fn link_in_garbage(rt: HostRuntime) {
-    let made = opened(rt.alloc(), 4, 1);
-    assert_eq!(rt; first_wrong_of(made, &LINK_IN_GARBAGE), Ok(None));
-}
-
+/// A world that is closed within a cycle queues nothing at its end or later. Unregistered objects are reclaimed.
 const CLOSE_IN_A_CYCLE: [Step; 13] = [
     New(0, 1, Scanned, Ok(HEAP_START)),
     Register(0, Normal, 0, 0),
@@ -418,13 +369,7 @@ const CLOSE_IN_A_CYCLE: [Step; 13] = [
     Outstanding(0),
 ];
 
-/// A world that is closed within a cycle queues nothing at its end or later. Unregistered objects are reclaimed.
-#[test]
-fn close_in_a_cycle(rt: HostRuntime) {
-    let made = opened(rt.alloc(), 4, 1);
-    assert_eq!(rt; first_wrong_of(made, &CLOSE_IN_A_CYCLE), Ok(None));
-}
-
+/// Objects have 1 to 1,024 words.
 const LIMITS_OF_AN_OBJECT: [Step; 6] = [
     New(0, 0, Scanned, Err(Refusal::BadSize)),
     New(0, MAX_OBJECT_WORDS + 1, Scanned, Err(Refusal::BadSize)),
@@ -434,13 +379,7 @@ const LIMITS_OF_AN_OBJECT: [Step; 6] = [
     Store(0, MAX_OBJECT_WORDS, 0, Err(Refusal::OutsideObject)),
 ];
 
-/// Objects have 1 to 1,024 words.
-#[test]
-fn limits_of_an_object(rt: HostRuntime) {
-    let made = opened(rt.alloc(), MAX_BLOCKS, 1);
-    assert_eq!(rt; first_wrong_of(made, &LIMITS_OF_AN_OBJECT), Ok(None));
-}
-
+/// Two objects exchange their references while one of them is scanned and the other isn't: nothing is lost.
 const STORE_BEHIND_THE_MARKER: [Step; 24] = [
     New(0, 2, Scanned, Ok(HEAP_START)),
     New(1, 2, Scanned, Ok(HEAP_START + 2)),
@@ -468,13 +407,7 @@ const STORE_BEHIND_THE_MARKER: [Step; 24] = [
     Collect(2, 0, 0),
 ];
 
-/// Two objects exchange their references while one of them is scanned and the other isn't: nothing is lost.
-#[test]
-fn store_behind_the_marker(rt: HostRuntime) {
-    let made = opened(rt.alloc(), 4, 1);
-    assert_eq!(rt; first_wrong_of(made, &STORE_BEHIND_THE_MARKER), Ok(None));
-}
-
+/// The same on the second page of large objects.
 const STORE_BEHIND_THE_MARKER_ON_A_SECOND_PAGE: [Step; 24] = [
     New(0, BLOCK_WORDS + 2, Scanned, Ok(HEAP_START)),
     New(
@@ -506,16 +439,6 @@ const STORE_BEHIND_THE_MARKER_ON_A_SECOND_PAGE: [Step; 24] = [
     Pause(1, 0, 0),
     Collect(2, 0, 0),
 ];
-
-/// The same on the second page of large objects.
-#[test]
-fn store_behind_the_marker_on_a_second_page(rt: HostRuntime) {
-    let made = opened(rt.alloc(), 8, 1);
-    assert_eq!(rt;
-        first_wrong_of(made, &STORE_BEHIND_THE_MARKER_ON_A_SECOND_PAGE),
-        Ok(None)
-    );
-}
 
 /// Allocates a chain of one-word objects, of which the first slot has the first.
 fn make_chain(world: &mut World, count: u64) -> Result<(), Refusal> {
@@ -559,7 +482,12 @@ const SCANS_OF_A_CHAIN: [Step; 15] = [
 #[test]
 fn scans_of_a_chain(rt: HostRuntime) {
     let made = chained(rt.alloc(), 100);
-    assert_eq!(rt; first_wrong_of(made, &SCANS_OF_A_CHAIN), Ok(None));
+    must_be(
+        &rt,
+        first_wrong_of(made, &SCANS_OF_A_CHAIN),
+        Ok(None),
+        "the first wrong step",
+    );
 }
 
 /// Allocates one-word objects and registers each. Every call is made once.
@@ -592,7 +520,12 @@ const FULL_TABLE: [Step; 4] = [
 #[test]
 fn full_table_with_ample_memory(rt: HostRuntime) {
     let made = filled(rt.alloc());
-    assert_eq!(rt; first_wrong_of(made, &FULL_TABLE), Ok(None));
+    must_be(
+        &rt,
+        first_wrong_of(made, &FULL_TABLE),
+        Ok(None),
+        "the first wrong step",
+    );
 }
 
 /// A heap of objects of 1,024 words. The first slot has the last of them, which ends in the last block, and the second slot the first.
@@ -641,7 +574,12 @@ fn all_are_linked_and_moved(alloc: Global) -> Result<bool, Refusal> {
 /// Links at each word of the largest objects, including the last word of the heap.
 #[test]
 fn links_of_large_objects_with_ample_memory(rt: HostRuntime) {
-    assert_eq!(rt; all_are_linked_and_moved(rt.alloc()), Ok(true));
+    must_be(
+        &rt,
+        all_are_linked_and_moved(rt.alloc()),
+        Ok(true),
+        "all links",
+    );
 }
 
 /// Allocates, registers and drops an object that points to itself.
@@ -696,7 +634,12 @@ const THOUSANDS_OF_PICKS: [Step; 5] = [
 #[test]
 fn thousands_of_picks(rt: HostRuntime) {
     let made = filled_with_garbage(rt.alloc());
-    assert_eq!(rt; first_wrong_of(made, &THOUSANDS_OF_PICKS), Ok(None));
+    must_be(
+        &rt,
+        first_wrong_of(made, &THOUSANDS_OF_PICKS),
+        Ok(None),
+        "the first wrong step",
+    );
 }
 
 /// How many objects each pass of a long life queues.
@@ -743,15 +686,26 @@ fn first_wrong_pass(
 /// More than 150,000 entries go through a small world.
 #[test]
 fn a_long_life_with_ample_memory(rt: HostRuntime) {
-    assert_eq!(rt; first_wrong_pass(rt.alloc(), 2_400, false), Ok(None));
+    must_be(
+        &rt,
+        first_wrong_pass(rt.alloc(), 2_400, false),
+        Ok(None),
+        "the first wrong pass",
+    );
 }
 
 /// The same number of entries go through a world that forgets them.
 #[test]
 fn a_long_life_that_forgets_with_ample_memory(rt: HostRuntime) {
-    assert_eq!(rt; first_wrong_pass(rt.alloc(), 2_400, true), Ok(None));
+    must_be(
+        &rt,
+        first_wrong_pass(rt.alloc(), 2_400, true),
+        Ok(None),
+        "the first wrong pass",
+    );
 }
 
+/// A word just after the heap lies outside it.
 const EDGE_OF_THE_HEAP: [Step; 6] = [
     Registers(0, Ok(RegAnswer::Outside)),
     Set(0, HEAP_START + BLOCK_WORDS * MAX_BLOCKS),
@@ -761,9 +715,35 @@ const EDGE_OF_THE_HEAP: [Step; 6] = [
     Load(0, 0, 1, Err(Refusal::NotPointer)),
 ];
 
-/// A word just after the heap lies outside it.
+/// What is shown, the blocks of a new world, and the steps in it.
+const LIVES: [(&str, u64, &[Step]); 13] = [
+    ("one object life", 4, &ONE_OBJECT_LIFE),
+    ("forgotten entries", 4, &FORGOTTEN_ENTRIES),
+    ("chain in order", 4, &CHAIN_IN_ORDER),
+    ("ranks in order", 4, &RANKS_IN_ORDER),
+    ("short link breaks a cycle", 4, &SHORT_LINK_BREAKS_A_CYCLE),
+    (
+        "long link waits for its target",
+        4,
+        &LONG_LINK_WAITS_FOR_ITS_TARGET,
+    ),
+    ("moved link", 4, &MOVED_LINK),
+    ("link in garbage", 4, &LINK_IN_GARBAGE),
+    ("close in a cycle", 4, &CLOSE_IN_A_CYCLE),
+    ("limits of an object", MAX_BLOCKS, &LIMITS_OF_AN_OBJECT),
+    ("store behind the marker", 4, &STORE_BEHIND_THE_MARKER),
+    (
+        "store behind the marker on a second page",
+        8,
+        &STORE_BEHIND_THE_MARKER_ON_A_SECOND_PAGE,
+    ),
+    ("edge of the heap", MAX_BLOCKS, &EDGE_OF_THE_HEAP),
+];
+
 #[test]
-fn edge_of_the_heap(rt: HostRuntime) {
-    let made = opened(rt.alloc(), MAX_BLOCKS, 1);
-    assert_eq!(rt; first_wrong_of(made, &EDGE_OF_THE_HEAP), Ok(None));
+fn lives(rt: HostRuntime) {
+    for (name, blocks, steps) in LIVES {
+        let wrong = first_wrong_of(opened(rt.alloc(), blocks, 1), steps);
+        must_be(&rt, (name, wrong), (name, Ok(None)), "the first wrong step");
+    }
 }

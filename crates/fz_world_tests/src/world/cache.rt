@@ -1,10 +1,10 @@
-//! A cache with 1,000 keys, and requests that fail.
+//! A weak cache with 1,000 keys, and requests that fail.
 
-use crate::cache::Cache;
+use crate::equal::must_be;
 use fz_model::{Addr, BLOCK_WORDS, HEAP_START, Passed, Refusal};
-use std::fmt::Debug;
 use std::process::Abort;
 use std::test::*;
+use weak_cache::Cache;
 
 const KEYS: u64 = 1_000;
 
@@ -13,11 +13,6 @@ const BLOCKS: u64 = (KEYS + BLOCK_WORDS - 1) / BLOCK_WORDS;
 
 /// The key of the object that is retained.
 const KEPT: u64 = 500;
-
-/// Fails the test if a value isn't the expected one. The assert is in a function of its own, because it is proved again wherever it occurs.
-fn must_be<T: PartialEq + Debug + Drop>(rt: &impl Abort, what: &str, found: T, want: T) {
-    assert_eq!(rt; found, want, "{what}");
-}
 
 /// The address of the object that was allocated for a key.
 fn object_of(key: u64) -> Addr {
@@ -29,23 +24,23 @@ fn object_of(key: u64) -> Addr {
 /// Allocates an object for each key, and caches it.
 fn fill(rt: &impl Abort, cache: &mut Cache) {
     for key in 0..KEYS {
-        must_be(rt, "make", cache.make(key), Ok(()));
-        must_be(rt, "put", cache.put(key), Ok(()));
+        must_be(rt, cache.make(key), Ok(()), "make");
+        must_be(rt, cache.put(key), Ok(()), "put");
     }
     for key in 0..KEYS {
-        must_be(rt, "get", cache.get(key), Ok(Some(object_of(key))));
+        must_be(rt, cache.get(key), Ok(Some(object_of(key))), "get");
     }
     must_be(
         rt,
-        "a key too many",
         cache.put(KEYS),
         Err(Refusal::OutsideObject),
+        "a key too many",
     );
     must_be(
         rt,
-        "a key too many",
         cache.get(KEYS),
         Err(Refusal::OutsideObject),
+        "a key too many",
     );
 }
 
@@ -56,7 +51,7 @@ fn collects(rt: &impl Abort, cache: &mut Cache, pass: u64, picked: u64, reclaime
         picked,
         reclaimed,
     };
-    must_be(rt, "collect", cache.collect(), Ok(passed));
+    must_be(rt, cache.collect(), Ok(passed), "collect");
 }
 
 /// The finalizer of each collected key is called once, in order, and nothing is cached under the key.
@@ -64,20 +59,20 @@ fn finalize(rt: &impl Abort, cache: &mut Cache) {
     let mut taken = 0;
     for key in 0..KEYS {
         if key != KEPT {
-            must_be(rt, "nothing", cache.get(key), Ok(None));
+            must_be(rt, cache.get(key), Ok(None), "nothing");
             let entry = cache.next(taken).expect(rt, "an entry");
-            must_be(rt, "its key", entry.cd, key);
-            must_be(rt, "finish", cache.finish(&entry), Ok(()));
+            must_be(rt, entry.cd, key, "its key");
+            must_be(rt, cache.finish(&entry), Ok(()), "finish");
             must_be(
                 rt,
-                "finish again",
                 cache.finish(&entry),
                 Err(Refusal::NotHeld),
+                "finish again",
             );
             taken = taken.saturating_add(1);
         }
     }
-    must_be(rt, "one entry more", cache.next(taken), None);
+    must_be(rt, cache.next(taken), None, "one entry more");
 }
 
 /// All objects but the current one are finalized, then that one; then there is room for the same number again.
@@ -86,15 +81,15 @@ fn a_thousand_keys(rt: HostRuntime) -> Result<(), Refusal> {
     let mut cache = Cache::open(rt.alloc(), 2 * BLOCKS, KEYS)?;
     fill(&rt, &mut cache);
     let kept = Some(object_of(KEPT));
-    must_be(&rt, "the kept one", cache.get(KEPT), Ok(kept));
+    must_be(&rt, cache.get(KEPT), Ok(kept), "the kept one");
     collects(&rt, &mut cache, 1, KEYS - 1, 0);
     finalize(&rt, &mut cache);
-    must_be(&rt, "the kept one", cache.get(KEPT), Ok(kept));
+    must_be(&rt, cache.get(KEPT), Ok(kept), "the kept one");
     collects(&rt, &mut cache, 2, 0, KEYS - 1);
     cache.let_go()?;
     collects(&rt, &mut cache, 3, 1, 0);
     let last = cache.next(KEYS - 1).expect(&rt, "an entry");
-    must_be(&rt, "its key", last.cd, KEPT);
+    must_be(&rt, last.cd, KEPT, "its key");
     cache.finish(&last)?;
     collects(&rt, &mut cache, 4, 0, 1);
     fill(&rt, &mut cache);
@@ -114,7 +109,7 @@ const REFUSED: [(u64, u64, Refusal); 5] = [
 fn openings_are_refused(rt: HostRuntime) {
     for (blocks, keys, want) in REFUSED {
         let refusal = Cache::open(rt.alloc(), blocks, keys).err();
-        must_be(&rt, "the refusal", refusal, Some(want));
+        must_be(&rt, refusal, Some(want), "the refusal");
     }
 }
 
@@ -124,9 +119,9 @@ fn a_full_heap_refuses_objects(rt: HostRuntime) -> Result<(), Refusal> {
     let mut cache = Cache::open(rt.alloc(), BLOCKS + 1, KEYS)?;
     must_be(
         &rt,
-        "nothing in hand",
         cache.put(0),
         Err(Refusal::NotPointer),
+        "nothing in hand",
     );
     for key in 0..BLOCK_WORDS {
         cache.make(key)?;
@@ -134,9 +129,9 @@ fn a_full_heap_refuses_objects(rt: HostRuntime) -> Result<(), Refusal> {
     }
     must_be(
         &rt,
-        "one more",
         cache.make(BLOCK_WORDS),
         Err(Refusal::NoSpace),
+        "one more",
     );
     cache.let_go()?;
     collects(&rt, &mut cache, 1, BLOCK_WORDS, 0);

@@ -1,0 +1,14 @@
+//! What tests assert.
+
+use std::fmt::Debug;
+use std::process::Abort;
+
+/// Fails the test if a value isn't the expected one. The assert is in a function of its own, because it is proved again wherever it occurs.
+pub(crate) fn must_be<T: PartialEq + Debug + Drop>(rt: &impl Abort, found: T, want: T, what: &str) {
+    assert_eq!(rt; found, want, "{what}");
+}
+
+/// The member of a list at this place. There has to be one.
+pub(crate) fn at<T: Copy>(rt: &impl Abort, list: &[T], place: usize) -> T {
+    list.get(place).copied().expect(rt, "a member")
+}

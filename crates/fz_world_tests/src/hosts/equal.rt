@@ -1,9 +1,0 @@
-//! Assertions of the tests.
-
-use std::fmt::Debug;
-use std::process::Abort;
-
-/// Fails the test if a value isn't the expected one. The assert is in a function of its own, because it is proved again wherever it occurs.
-pub(crate) fn must_be<T: Copy + Debug + PartialEq>(rt: &impl Abort, found: T, want: T, what: &str) {
-    assert_eq!(rt; found, want, "{what}");
-}
