@@ -38,11 +38,14 @@ fn serves_one_each<O: Opening + Send + Sync, R: Abort + Wait + Threads + Sync>(
     let gate = Rounds::of(workers);
     let seats = service.run_workers(seats, &mut [], &gate, &stop, rt);
     let end = ended(rt, service, seats);
-    assert_eq!(rt;
-        (end.taken, end.finished, gate.missed()),
-        (workers, workers, false),
-        "with {workers} workers"
+    let counts = (workers, end.taken, end.finished);
+    same(
+        rt,
+        "workers, taken and finished",
+        counts,
+        (workers, workers, workers),
     );
+    same(rt, "waited in vain", gate.missed(), false);
 }
 
 #[test]

@@ -215,11 +215,12 @@ fn a_program_has_lists_of_unequal_lengths(rt: HostRuntime) -> Result<(), Fail> {
     let ((), end) = with_service(alloc, config, 2, procs, &rt, Queues).expect(&rt, "memory");
     same(&rt, "finished", end.finished, 5);
     same(&rt, "waited in vain", arrivals.missed(), false);
-    are_one_of(&rt, (first.count(), second.count()), [(1, 6), (2, 1)]);
+    are_called(&rt, first.count(), second.count());
     Ok(())
 }
 
-/// One of two pairs.
-fn are_one_of(rt: &impl Abort, got: (u64, u64), wanted: [(u64, u64); 2]) {
-    assert!(rt; got == wanted[0] || got == wanted[1], "{got:?}");
+/// The first worker has the first entry, and the second one the rest; or the other way round.
+fn are_called(rt: &impl Abort, first: u64, second: u64) {
+    let wanted = if first == 1 { (1, 6) } else { (2, 1) };
+    same(rt, "calls", (first, second), wanted);
 }

@@ -62,13 +62,15 @@ fn runs<R: Abort + Threads + Wait + Sync + Alloc<A = Global>>(
 ) {
     let frames = config.frames;
     let lists = Vec::new(rt.alloc());
-    match with_service(rt.alloc(), config, workers, lists, rt, Allocates { frames }) {
-        Ok((made, end)) => {
-            same(rt, "address and birth", made, Ok((HEAP_START, 0)));
-            same(rt, "passes", end.passes, 0);
-        }
-        Err(error) => panic!(rt; "{error} with {workers} workers"),
-    }
+    let ran = with_service(rt.alloc(), config, workers, lists, rt, Allocates { frames });
+    let (made, end) = ran.expect(rt, "a service");
+    same(rt, "address and birth", made, Ok((HEAP_START, 0)));
+    same(
+        rt,
+        "workers and passes",
+        (workers, end.passes),
+        (workers, 0),
+    );
 }
 
 #[test]

@@ -237,7 +237,12 @@ fn lives<R: Abort + Wait + Print + Alloc<A = Global>>(rt: &R, way: Way) {
         }
         refusals = refusals.saturating_add(1);
     }
-    assert!(rt; refusals <= MOST_REFUSALS, "{refusals} calls are refused");
+    same(
+        rt,
+        "too many refusals",
+        refusals.saturating_sub(MOST_REFUSALS),
+        0,
+    );
 }
 
 /// The overflow queue is published, and two seats take everything.

@@ -2,7 +2,7 @@
 
 ghost use Rattle.std.specs.Prelude.{◌≡◌};
 
-use super::wanted::{accepted, count_seats};
+use super::wanted::{accepted, count_seats, same};
 use super::{ended, make_and_drop, must_finish, must_take, opened, prepared};
 use fz_model::Entry;
 use fz_service::{Duty, Final, Opening, Prepared, Seat, Service};
@@ -61,21 +61,29 @@ fn step_by_turns<O: Opening, R: Abort + Wait>(
 /// The counts of a service that ended after this many steps.
 fn counts(rt: &impl Abort, steps: u64, end: &Final, taken: u64, finished: u64) {
     let forfeited = taken.wrapping_sub(finished);
-    assert_eq!(rt;
-        (end.enqueued, end.taken, end.finished, end.forfeited),
-        (ENTRIES, taken, finished, forfeited),
-        "after {steps} steps"
-    );
+    let got = (steps, end.enqueued, end.taken, end.finished, end.forfeited);
+    let want = (steps, ENTRIES, taken, finished, forfeited);
+    same(rt, "the steps and the end's counts", got, want);
 }
 
 /// All entries from this number on, in order.
 fn lists_the_rest(rt: &impl Abort, steps: u64, left: &[Entry], taken: u64) {
     let mut seq = taken;
     for entry in left {
-        assert_eq!(rt; entry.seq, seq, "after {steps} steps");
+        same(
+            rt,
+            "the steps and an entry",
+            (steps, entry.seq),
+            (steps, seq),
+        );
         seq = seq.wrapping_add(1);
     }
-    assert_eq!(rt; seq, ENTRIES, "after {steps} steps");
+    same(
+        rt,
+        "the steps and the last entry",
+        (steps, seq),
+        (steps, ENTRIES),
+    );
 }
 
 /// Of every four steps, the first two are takes and the last two are finishes, so the counts are known wherever the service stops.
@@ -93,8 +101,8 @@ fn stops_after<O: Opening, R: Abort + Wait>(rt: &R, prepared: Prepared, steps: u
     let finished = steps / 4 * 2 + (steps % 4).saturating_sub(2);
     counts(rt, steps, &end, taken, finished);
     lists_the_rest(rt, steps, end.left.as_slice(), end.taken);
-    let room = end.left.capacity();
-    assert_eq!(rt; room, end.left.len(), "room after {steps} steps");
+    let room = (steps, end.left.capacity());
+    same(rt, "the steps and the room", room, (steps, end.left.len()));
 }
 
 #[test]

@@ -27,8 +27,8 @@ pub(crate) fn put_back<O: Opening>(rt: &impl Abort, seats: &mut Vec<Seat<O>>, se
 pub(crate) fn count_seats<O: Opening>(rt: &impl Abort, seats: &[Seat<O>], count: usize)
     ensures { length seats.now ≡ count }
 {
-    let length = seats.len();
-    assert!(rt; length == count, "{length} seats, not {count}");
+    same(rt, "seats", seats.len(), count);
+    assert!(rt; seats.len() == count);
 }
 
 /// A collection has to carry out this pass, after which every entry is sent.
@@ -45,5 +45,5 @@ pub(crate) fn collects<O: Opening>(
         reclaimed,
     };
     same(rt, "collect", locked.collect(), Ok(passed));
-    assert_eq!(rt; locked.outbox().len(), 0, "not sent after pass {pass}");
+    same(rt, "not sent", locked.outbox().len(), 0);
 }
