@@ -4,7 +4,7 @@ use Rattle.std.specs.Prelude.{◌≡◌, ◌⊎◌, ℕ, ◌-◌, ◌++◌, ◌&
 use Rattle.fz_why.specs.declared.room.NoMemory.{NoMemory}
 use Rattle.fz_why.specs.declared.snapshot.listing.Cell.{Cell}
 use Rattle.fz_why.specs.Snapshot.{Copy, DoesOrNot, Keeps, Lists, holder_of, is_taken}
-use Rattle.fz_c.specs.declared.machine.codes.TheConstants.{OK, IS_OPEN, NO_MEMORY, TAKEN}
+use Rattle.fz_c.specs.declared.machine.codes.TheConstants.{OK, IS_OPEN, NO_MEMORY, OVERLAP}
 use Rattle.fz_c.specs.declared.machine.snapshot.session.SnapshotSession.{SnapshotSession}
 
 -- an open handle keeps what it has
@@ -15,7 +15,7 @@ Opens None None code = code ≡ NO_MEMORY
 
 abbrev pub code_for : Result Bool NoMemory → ℕ
 code_for (Ok true) = OK
-code_for (Ok false) = TAKEN
+code_for (Ok false) = OVERLAP
 code_for (Err e) = NO_MEMORY
 
 abbrev pub link_for : ℕ → Option ℕ

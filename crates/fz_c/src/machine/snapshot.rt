@@ -10,7 +10,7 @@ mod handle;
 mod session;
 
 use crate::handle::{behind, put, take};
-use crate::machine::codes::{Code, EMPTY, IS_OPEN, NO_MEMORY, NOT_OPEN, OK, TAKEN};
+use crate::machine::codes::{Code, EMPTY, IS_OPEN, NO_MEMORY, NOT_OPEN, OK, OVERLAP};
 use fz_why::{Listed, NoMemory, Snapshot};
 pub use handle::SnapshotHandle;
 pub use session::SnapshotSession;
@@ -22,7 +22,7 @@ fn code_for(reply: Result<bool, NoMemory>) -> Code
 {
     match reply {
         Ok(true) => OK,
-        Ok(false) => TAKEN,
+        Ok(false) => OVERLAP,
         Err(_) => NO_MEMORY,
     }
 }
