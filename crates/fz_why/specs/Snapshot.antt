@@ -1,5 +1,5 @@
 -- A copy of a host's heap: the words that were listed, each with its object, and the links that denote them.
--- code: fz_why/src/snapshot.rt, snapshot/listing.rt
+-- code: fz_why/src/snapshot.rt; fz_why/src/snapshot/listing.rt
 use Rattle.std.specs.Prelude.{◌≡◌, ℕ, ◌+◌, ◌-◌, ◌^◌, ◌<◌, ◌++◌, ◌||◌, Bool, true, false, if◌then◌else◌, is_some, nat_eq, List, [], ◌∷◌, length, slice_get, Option, Some, None, Result, Ok, Err, option_map, option_and_then}
 use Rattle.std.specs.FinMap.{get, insert, empty}
 use Rattle.std.specs.Map.{lookup}

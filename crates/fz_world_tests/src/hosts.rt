@@ -5,6 +5,7 @@ mod asked;
 mod asked_cleanups;
 mod beside;
 mod cleanups;
+mod copy;
 mod equal;
 mod runtime;
 mod why;
