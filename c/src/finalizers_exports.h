@@ -105,6 +105,6 @@ rattle_tried rattle_realloc(void *memory, size_t kept, size_t size, size_t align
 void rattle_dealloc(void *memory);
 
 /* What finalizers.c has for why.c: the exports that this thread calls from now on take memory by the allocator. NULL: it makes no such call. */
-void finalizers_memory_by(const derrimas_allocator *allocator);
+void rattle_memory_by(const derrimas_allocator *allocator);
 
 #endif

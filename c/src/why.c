@@ -20,11 +20,11 @@ typedef struct walk {
 /* ---- memory, which is the handle's allocator's */
 
 /* The call of an export that may take memory, or free it. */
-#define BY_ALLOCATOR(it, call) (finalizers_memory_by(&(it)->finalizers->allocator), after_call((uint8_t)(call)))
+#define BY_ALLOCATOR(it, call) (rattle_memory_by(&(it)->finalizers->allocator), after_call((uint8_t)(call)))
 
 static code after_call(uint8_t returned)
 {
-    finalizers_memory_by(NULL);
+    rattle_memory_by(NULL);
     return (code)returned;
 }
 
@@ -212,9 +212,9 @@ code derrimas_finalizers_why(derrimas_finalizers *finalizers, uint64_t object, c
     asked = list_heap(&it);
     if (asked == DERRIMAS_FINALIZERS_OK)
         asked = ask(&it, object, why, path, room);
-    finalizers_memory_by(&finalizers->allocator);
+    rattle_memory_by(&finalizers->allocator);
     fz_snapshot_destroy(&it.copy);
-    finalizers_memory_by(NULL);
+    rattle_memory_by(NULL);
     if (it.to_list)
         finalizers->allocator.release(finalizers->allocator.data, it.to_list);
     return asked;
