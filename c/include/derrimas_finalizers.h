@@ -33,8 +33,8 @@
  *   cleanups: a pass asks whether the object is marked, and a new object of the same number would inherit them. A pass that
  *   ends has queued the cleanups of all objects that it left unmarked.
  *
- * Memory is taken by derrimas_finalizers_open, .._reserve, .._shrink, .._register, .._link and .._add_cleanup alone, by the
- * handle's allocator; and it is freed by those and by .._destroy alone. All other calls may be made while other threads are
+ * Memory is taken by derrimas_finalizers_open, .._reserve, .._shrink, .._register, .._link, .._add_cleanup and .._why alone,
+ * by the handle's allocator; and it is freed by those and by .._destroy alone. All other calls may be made while other threads are
  * stopped at any place. By .._reserve memory comes beforehand, but none for cleanups. A registration in place of another
  * takes no room, also where its kind is another. Each new registration and each cleanup takes room for its entry, so that a
  * pass, a take and a move of a link never lack memory; so a cleanup uses up the room that was reserved for one
@@ -73,7 +73,8 @@ typedef enum derrimas_finalizers_code {
     DERRIMAS_FINALIZERS_BAD_COUNT = 14,   /* the number of workers isn't from 1 to DERRIMAS_MAX_WORKERS */
     DERRIMAS_FINALIZERS_NO_THREAD = 15,   /* the system starts no thread */
     DERRIMAS_FINALIZERS_IN_PROCEDURE = 16, /* one of these workers made the call, from within its procedure */
-    DERRIMAS_FINALIZERS_PENDING = 17      /* the time is over: entries are pending, or a worker has not ended */
+    DERRIMAS_FINALIZERS_PENDING = 17,     /* the time is over: entries are pending, or a worker has not ended */
+    DERRIMAS_FINALIZERS_OVERLAP = 18      /* two words of the host's objects have one number */
 } derrimas_finalizers_code;
 
 /* When the finalizer of an unreachable object is ready: GC_register_finalizer, .._ignore_self, .._no_order, and
@@ -411,6 +412,65 @@ derrimas_finalizers_code derrimas_finalizers_cleanups(const derrimas_finalizers 
                                                       derrimas_finalizers_cleanup_at *buffer, size_t room, size_t *count)
     DERRIMAS_NONNULL(1, 2, 5);
 
+/* ---- why an object isn't finalized */
+
+/* Why an object isn't finalized, or that it is ready. Each object of a path is one to which a word of the object before
+ * points. First steps are those that kinds count: of IGNORE_SELF no word that points to the object itself, and of NO_ORDER
+ * none, but all of them towards an object of kind UNREACHABLE. Words count as they are once a pass has cleared those of
+ * short links to unreachable targets. */
+typedef enum derrimas_why_reason {
+    DERRIMAS_WHY_UNREGISTERED = 0, /* it has no finalizer, and no entry */
+    DERRIMAS_WHY_QUEUED = 1,       /* its entry waits or is held */
+    DERRIMAS_WHY_FOUND = 2,        /* it is reachable: the path goes from the object to which the root points to it */
+    DERRIMAS_WHY_WAITS = 3,        /* it is unreachable and on no ring: the path goes from another such object with a
+                                    * finalizer, by a first step, to it, and that one comes first */
+    DERRIMAS_WHY_RING = 4,         /* it is unreachable: the path goes from it, by a first step, back to it, so no pass
+                                    * queues it as long as the words on the path stay */
+    DERRIMAS_WHY_READY = 5         /* the next pass queues it, if nothing changes before */
+} derrimas_why_reason;
+
+/* What a root is, and which of its kind `number` says. */
+typedef enum derrimas_why_root {
+    DERRIMAS_WHY_HOST_ROOT = 0,       /* a root of the host's, by the number that derrimas_paths.root was given */
+    DERRIMAS_WHY_REGISTERED_DATA = 1, /* the client data of the registration with this number */
+    DERRIMAS_WHY_CLEANUP_DATA = 2,    /* the client data of the cleanup with this number */
+    DERRIMAS_WHY_HELD_OBJECT = 3,     /* the object of the unfinished entry with this place in the queue */
+    DERRIMAS_WHY_HELD_DATA = 4        /* its client data */
+} derrimas_why_root;
+
+/* An answer: the reason; for FOUND the root; for QUEUED the entry; and the path's length, which is 0 where there is none.
+ * What isn't for the reason is 0. */
+typedef struct derrimas_why {
+    derrimas_why_reason reason;
+    derrimas_why_root root;
+    uint64_t number;
+    derrimas_finalizers_entry entry;
+    size_t length;
+} derrimas_why;
+
+/* How a host lists its heap, as it is when nothing is cleared. Nothing has to be marked. The functions are called with
+ * `data` first; n counts from 0 on until they return false. They make no call that changes the handle, and return.
+ * - child: the n-th word of an object that may point to another. *child is the object to which it points, or 0. *word is
+ *   the word's number, by which .._link makes a link of it, or 0 if it is never one's. An object with n words takes the n
+ *   numbers from its own on, and at least one, and no two objects share one. No object is 2^64 - 1.
+ * - root: *root is the object to which the n-th root of the host's points, or 0. The finalizers' own are known.
+ * - is_object: whether client data is the number of an object. It may be NULL: then none is. An object that is client data
+ *   is reachable by it, as for a host that marks what all three sorts of derrimas_finalizers_roots yield. */
+typedef struct derrimas_paths {
+    bool (*child)(void *data, uint64_t object, uint64_t n, uint64_t *word, uint64_t *child);
+    bool (*root)(void *data, uint64_t n, uint64_t *root);
+    bool (*is_object)(void *data, uint64_t client_data);
+} derrimas_paths;
+
+/* Tells in *why why an object isn't finalized, with a path as evidence: path, which has `room` places and may be NULL where
+ * `room` is 0, gets the path's first objects, as many as fit. The registered objects, and the targets of short links, are
+ * the host's objects. It changes nothing but memory, which it takes by the handle's allocator and frees again: for each
+ * word of the objects that roots, registered objects and short links reach; and time by these, for a search of them.
+ * Refused: NOT_OPEN, PASS_OPEN; OVERLAP, NO_MEMORY, whichever comes first. */
+DERRIMAS_CHECKED derrimas_finalizers_code derrimas_finalizers_why(derrimas_finalizers *finalizers, uint64_t object,
+                                                                  const derrimas_paths *paths, void *data, derrimas_why *why,
+                                                                  uint64_t *path, size_t room) DERRIMAS_NONNULL(1, 3, 5);
+
 /* ---- what happens, for tools */
 
 /* Tells the host of what happens from now on: *trace stays where it is until another takes its place. NULL, as at first:
@@ -433,6 +493,9 @@ const char *derrimas_finalizers_name(derrimas_finalizers_code code);
 
 /* What a code means: "no pass is open". */
 const char *derrimas_finalizers_strerror(derrimas_finalizers_code code);
+
+/* The name of a reason ("Ring"), or "?" where it is none. */
+const char *derrimas_finalizers_reason_name(derrimas_why_reason reason);
 
 /* ---- a host's procedures, and a pass that they drive */
 

@@ -17,8 +17,11 @@
 
 #include "derrimas_error.hpp"
 #include "derrimas_finalizers.h"
+#include <exception>
 #include <optional>
+#include <type_traits>
 #include <utility>
+#include <vector>
 
 namespace derrimas {
 
@@ -51,6 +54,15 @@ public:
     using passed = derrimas_finalizers_passed;
     using question = derrimas_question;
     using ask = derrimas_ask;
+
+    enum class reason {
+        unregistered = DERRIMAS_WHY_UNREGISTERED, queued = DERRIMAS_WHY_QUEUED, found = DERRIMAS_WHY_FOUND, waits = DERRIMAS_WHY_WAITS,
+        ring = DERRIMAS_WHY_RING, ready = DERRIMAS_WHY_READY
+    };
+    enum class why_root {
+        host_root = DERRIMAS_WHY_HOST_ROOT, registered_data = DERRIMAS_WHY_REGISTERED_DATA, cleanup_data = DERRIMAS_WHY_CLEANUP_DATA,
+        held_object = DERRIMAS_WHY_HELD_OBJECT, held_data = DERRIMAS_WHY_HELD_DATA
+    };
 
     /* A new registration: its number, and what it replaced. */
     struct registered {
@@ -205,6 +217,39 @@ public:
         return answers;
     }
 
+    /* Why an object isn't finalized: the reason; of `found` the root; of `queued` the entry; and the path. */
+    struct told {
+        finalizers::reason reason;
+        why_root root;
+        std::uint64_t number;
+        finalizers::entry entry;
+        std::vector<std::uint64_t> path;
+    };
+
+    /* A word of an object that may point to another: its number, or 0, and the object to which it points, or 0. */
+    struct pointer {
+        std::uint64_t word, child;
+    };
+
+    /* By the members of `host`: std::optional<pointer> child(object, n), std::optional<std::uint64_t> root(n), bool is_object(client_data). Where one throws,
+     * so does this. */
+    template <typename Host> told why(std::uint64_t object, Host &&host)
+    {
+        using lists = listing<std::remove_reference_t<Host>>;
+        static constexpr derrimas_paths paths = {lists::child, lists::root, lists::is_object};
+        lists listed{host, nullptr};
+        derrimas_why why{};
+        std::vector<std::uint64_t> path(PART);
+        for (bool is_whole = false; !is_whole; path.resize(why.length)) {
+            const derrimas_finalizers_code code = derrimas_finalizers_why(&handle_, object, &paths, &listed, &why, path.data(), path.size());
+            if (listed.thrown)
+                std::rethrow_exception(listed.thrown);
+            check(code);
+            is_whole = why.length <= path.size();
+        }
+        return {static_cast<reason>(why.reason), static_cast<why_root>(why.root), why.number, why.entry, path};
+    }
+
     std::uint64_t queue_all()
     {
         std::uint64_t queued;
@@ -321,6 +366,44 @@ public:
 
 private:
     static constexpr std::size_t PART = 64; /* of a walk */
+
+    /* A host that lists its heap for the library, which can't be left by what a member throws. */
+    template <typename Host> struct listing {
+        Host &host;
+        std::exception_ptr thrown;
+
+        template <typename List> static bool listed(void *data, List list) noexcept
+        {
+            auto &own = *static_cast<listing *>(data);
+            try {
+                return !own.thrown && list(own.host);
+            } catch (...) {
+                own.thrown = std::current_exception();
+                return false;
+            }
+        }
+        static bool child(void *data, std::uint64_t object, std::uint64_t n, std::uint64_t *word, std::uint64_t *child)
+        {
+            return listed(data, [&](Host &host) {
+                const std::optional<pointer> it = host.child(object, n);
+                if (it)
+                    *word = it->word, *child = it->child;
+                return it.has_value();
+            });
+        }
+        static bool root(void *data, std::uint64_t n, std::uint64_t *root)
+        {
+            return listed(data, [&](Host &host) {
+                const std::optional<std::uint64_t> it = host.root(n);
+                *root = it.value_or(0);
+                return it.has_value();
+            });
+        }
+        static bool is_object(void *data, std::uint64_t cd)
+        {
+            return listed(data, [&](Host &host) { return host.is_object(cd); });
+        }
+    };
 
     static derrimas_finalizers_link_kind of(link_kind kind) noexcept { return static_cast<derrimas_finalizers_link_kind>(kind); }
 

@@ -3,7 +3,7 @@
 CC = cc
 AR = ar
 CFLAGS = -O2
-SIDES = derrimas finalizers workers dump
+SIDES = derrimas finalizers why workers dump
 MAJOR := $(shell sed -n 's/^.define DERRIMAS_VERSION_MAJOR //p' include/derrimas_common.h)
 EXCEPTIONS = -fexceptions
 COMPILE = $(CC) -std=c99 $(CFLAGS) -fno-tree-slp-vectorize $(EXCEPTIONS) -fPIC -Iinclude -Isrc -c

@@ -132,6 +132,8 @@ void rattle_dealloc(void *memory)
     current = own;
 }
 
+void rattle_memory_by(const derrimas_allocator *allocator) { current = allocator; }
+
 /* What a call returns that took or freed memory by the handle's allocator: it has ended. */
 static code after_memory(code it)
 {

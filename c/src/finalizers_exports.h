@@ -1,4 +1,4 @@
-/* The exports of crates/fz_c for finalizers, which are proved. finalizers.c alone calls them, and c/build hides their names. c/tests/header.py compares these
+/* The exports of crates/fz_c for finalizers, which are proved. finalizers.c and why.c alone call them, and c/build hides their names. c/tests/header.py compares these
  * declarations with the crate's own. Of a handle they use `inside` alone. All exports take memory by the three calls at the end, which finalizers.c has. */
 #ifndef DERRIMAS_FINALIZERS_EXPORTS_H
 #define DERRIMAS_FINALIZERS_EXPORTS_H
@@ -44,6 +44,17 @@ typedef struct fz_machine_some_cleanups {
     uint64_t count;
 } fz_machine_some_cleanups;
 
+/* A copy of a host's heap, which starts as {0}. */
+typedef struct fz_snapshot {
+    void *inside;
+} fz_snapshot;
+
+typedef struct fz_machine_told {
+    derrimas_finalizers_entry entry;
+    uint64_t number, length;
+    uint8_t reason, root;
+} fz_machine_told;
+
 uint8_t fz_machine_open(derrimas_finalizers *finalizers);
 void fz_machine_destroy(derrimas_finalizers *finalizers);
 uint8_t fz_machine_reserve(derrimas_finalizers *finalizers, uint64_t registrations, uint64_t shorts, uint64_t longs);
@@ -73,6 +84,14 @@ uint8_t fz_machine_cleanups(derrimas_finalizers *finalizers, uint64_t from, fz_m
 uint8_t fz_machine_cleanup(derrimas_finalizers *finalizers, uint64_t number, fz_machine_cleanup_at *cleanup);
 uint8_t fz_machine_registration(derrimas_finalizers *finalizers, uint64_t object, fz_machine_registration_at *registration);
 uint8_t fz_machine_target(derrimas_finalizers *finalizers, bool is_long, uint64_t word, uint64_t *target);
+uint8_t fz_machine_why(derrimas_finalizers *finalizers, fz_snapshot *snapshot, uint64_t object, fz_machine_told *told);
+uint8_t fz_snapshot_open(fz_snapshot *snapshot);
+void fz_snapshot_destroy(fz_snapshot *snapshot);
+uint8_t fz_snapshot_object(fz_snapshot *snapshot, uint64_t object, uint64_t value, uint64_t link);
+uint8_t fz_snapshot_word(fz_snapshot *snapshot, uint64_t word, uint64_t value, uint64_t link);
+uint8_t fz_snapshot_root(fz_snapshot *snapshot, uint64_t word);
+uint8_t fz_snapshot_holder(fz_snapshot *snapshot, uint64_t word, uint64_t *object);
+uint8_t fz_snapshot_step(fz_snapshot *snapshot, uint64_t index, uint64_t *object);
 
 /* What the proved part calls for memory: it is taken by the allocator of the handle whose call this thread makes, and outside of such a call by the C library's.
  * An alignment divides 16. A block that isn't had is still where it was, and as it was. */
@@ -84,5 +103,8 @@ typedef struct rattle_tried {
 rattle_tried rattle_alloc(size_t size, size_t align);
 rattle_tried rattle_realloc(void *memory, size_t kept, size_t size, size_t align);
 void rattle_dealloc(void *memory);
+
+/* What finalizers.c has for why.c: the exports that this thread calls from now on take memory by the allocator. NULL: it makes no such call. */
+void rattle_memory_by(const derrimas_allocator *allocator);
 
 #endif

@@ -437,7 +437,7 @@ static void texts(void)
         }
     IS(strcmp(derrimas_finalizers_name(DERRIMAS_FINALIZERS_PASS_OPEN), "PassOpen"), 0);
     IS(strcmp(derrimas_finalizers_strerror(DERRIMAS_FINALIZERS_NO_PASS), "no pass is open"), 0);
-    IS(strcmp(derrimas_finalizers_name((derrimas_finalizers_code)(DERRIMAS_FINALIZERS_PENDING + 1)), "?"), 0);
+    IS(strcmp(derrimas_finalizers_name((derrimas_finalizers_code)(DERRIMAS_FINALIZERS_OVERLAP + 1)), "?"), 0);
     IS(strcmp(derrimas_finalizers_strerror((derrimas_finalizers_code)255), "no code of derrimas_finalizers.h"), 0);
 }
 

@@ -19,20 +19,22 @@ class Worlds:
     parts, refusals = ['entry', 'old', 'world/**/*', 'line/**/*'], 'crates/fz_model/src/refusal.rt'
     prefix, own = 'derrimas_', 70  # the first code of the C side
     refused = range(15)  # the refusals that come to C
+    shared = set()
     types = {'WorldHandle': 'derrimas_world', 'LineHandle': 'derrimas_line', 'SeatHandle': 'derrimas_seat'}
     alone = [*types.values(), 'derrimas_scope', 'derrimas_allocator']  # structs that no export has, and handles
 
 
 class Finalizers:
-    headers, exports, sides = ['derrimas_finalizers.h'], 'finalizers_exports.h', ['finalizers.c', 'dump.c']
+    headers, exports, sides = ['derrimas_finalizers.h'], 'finalizers_exports.h', ['finalizers.c', 'why.c', 'dump.c']
     parts, refusals = ['old', 'machine/**/*'], 'crates/fz_c/src/machine/codes.rt'
     prefix, own = 'derrimas_finalizers_', 11
     refused = range(11)
-    types = {'MachineHandle': 'derrimas_finalizers', 'HostEntry': 'derrimas_finalizers_entry', 'Linked': 'derrimas_finalizers_link_at',
+    shared = {'OVERLAP'}  # codes from there on that an export returns
+    types = {'MachineHandle': 'derrimas_finalizers', 'SnapshotHandle': 'fz_snapshot', 'Told': 'fz_machine_told', 'HostEntry': 'derrimas_finalizers_entry', 'Linked': 'derrimas_finalizers_link_at',
              'RegistrationAt': 'fz_machine_registration_at', 'CleanupAt': 'fz_machine_cleanup_at', 'Question': 'derrimas_question', 'u32': 'derrimas_ask',
              **{name: f'fz_machine_some_{name.lower()}' for name in ('Registrations', 'Links', 'Cleanups')},
              **{name: f'fz_machine_{name.lower()}' for name in ('Registered', 'Words')}}
-    alone = ['rattle_tried', 'derrimas_finalizers', 'derrimas_finalizers_registration_at', 'derrimas_finalizers_cleanup_at', 'derrimas_host', 'derrimas_trace',
+    alone = ['rattle_tried', 'derrimas_finalizers', 'fz_snapshot', 'derrimas_why', 'derrimas_paths', 'derrimas_finalizers_registration_at', 'derrimas_finalizers_cleanup_at', 'derrimas_host', 'derrimas_trace',
              'derrimas_finalizers_options', 'derrimas_finalizers_ages']
 
 
@@ -108,7 +110,7 @@ def structs_of_c(text, of):
 
 def codes_of_c(text, of):
     rows = re.search(rf'typedef enum {of.prefix}code \{{(.*?)\}}', text, re.S)[1]
-    return {name: int(number) for name, number in re.findall(rf'\b{of.prefix.upper()}(\w+) = (\d+)', rows) if int(number) < of.own}
+    return {name: int(number) for name, number in re.findall(rf'\b{of.prefix.upper()}(\w+) = (\d+)', rows) if int(number) < of.own or name in of.shared}
 
 
 def codes_of_rust(refusals, crate, of):

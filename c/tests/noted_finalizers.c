@@ -6,6 +6,7 @@
 #include <cpuid.h>
 #define __get_cpuid noted_cpuid
 #include "../src/finalizers.c"
+#include "../src/why.c"
 #undef __get_cpuid
 #include <string.h>
 
@@ -196,6 +197,31 @@ uint8_t fz_machine_target(derrimas_finalizers *f, bool is_long, uint64_t word, u
 {
     (void)f;
     return FILLED(noted("target %d" N, is_long, word), target, uint64_t, V(0));
+}
+
+uint8_t fz_snapshot_open(fz_snapshot *s)
+{
+    uint8_t code = noted("snapshot_open");
+
+    s->inside = code == DERRIMAS_FINALIZERS_OK ? s : NULL;
+    return code;
+}
+
+void fz_snapshot_destroy(fz_snapshot *s) { s->inside = NULL; }
+uint8_t fz_snapshot_object(fz_snapshot *s, uint64_t object, uint64_t value, uint64_t link) { return (void)s, noted("snapshot_object" N N N, object, value, link); }
+uint8_t fz_snapshot_word(fz_snapshot *s, uint64_t word, uint64_t value, uint64_t link) { return (void)s, noted("snapshot_word" N N N, word, value, link); }
+uint8_t fz_snapshot_root(fz_snapshot *s, uint64_t word) { return (void)s, noted("snapshot_root" N, word); }
+uint8_t fz_snapshot_holder(fz_snapshot *s, uint64_t word, uint64_t *object) { return (void)s, FILLED(noted("snapshot_holder" N, word), object, uint64_t, V(0)); }
+uint8_t fz_snapshot_step(fz_snapshot *s, uint64_t index, uint64_t *object) { return (void)s, FILLED(noted("snapshot_step" N, index), object, uint64_t, V(10) + index); }
+
+/* The reason follows from the value; a path has two objects. */
+uint8_t fz_machine_why(derrimas_finalizers *f, fz_snapshot *s, uint64_t object, fz_machine_told *told)
+{
+    const bool is_queued = V(0) == DERRIMAS_WHY_QUEUED, is_found = V(0) == DERRIMAS_WHY_FOUND, has_path = V(0) >= 2 && V(0) <= 4;
+    const fz_machine_told it = {{is_queued ? V(1) : 0, 0, 0, 0, 0, 0}, is_found ? V(7) : 0, has_path ? 2 : 0, (uint8_t)V(0), is_found ? DERRIMAS_WHY_HELD_DATA : 0};
+
+    (void)f, (void)s;
+    return noted_filled(noted("why" N, object), told, &it, sizeof it);
 }
 
 /* ---- workers: no thread is started; to publish is to run an entry, as a worker does */

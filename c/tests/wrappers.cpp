@@ -254,6 +254,31 @@ template <typename Member> static string in_pass(finalizers &f, const arguments 
     return member();
 }
 
+/* A host of one root and one object, whose one word points to none. */
+struct listing_host {
+    bool throws;
+
+    std::optional<finalizers::pointer> child(std::uint64_t object, std::uint64_t n) const
+    {
+        if (throws)
+            throw std::runtime_error("thrown");
+        return n == 0 ? std::optional(finalizers::pointer{object + 1, 0}) : std::nullopt;
+    }
+    std::optional<std::uint64_t> root(std::uint64_t n) const { return n == 0 ? std::optional<std::uint64_t>(80) : std::nullopt; }
+    bool is_object(std::uint64_t client_data) const { return client_data % 2 == 1; }
+};
+
+/* An answer: the reason, the root and its number, the entry's place, and the path. */
+static string reasoned(finalizers &f, const arguments &a)
+{
+    const finalizers::told told = f.why(a.number(0), listing_host{a.words.size() > 1});
+    string text = std::to_string(static_cast<int>(told.reason)) + "," + std::to_string(static_cast<int>(told.root)) + "," + std::to_string(told.number) + ","
+                  + std::to_string(told.entry.seq);
+    for (std::uint64_t object : told.path)
+        text += "+" + std::to_string(object);
+    return text;
+}
+
 /* Tells from now on of all that happens, by no function, or nothing. */
 static void tell(finalizers &f, const string &how)
 {
@@ -380,6 +405,7 @@ static const std::map<string, member> members = {
     {"finalizers_abandon", [](fixture &f, const arguments &) { return abandoned(f.finalizers, false); }},
     {"finalizers_next", [](fixture &f, const arguments &a) { return asked(f.finalizers, a.number(0)); }},
     {"finalizers_pass", SHOWN(f.finalizers.pass(noting_host{a.is("throws")}))},
+    {"finalizers_why", [](fixture &f, const arguments &a) { return reasoned(f.finalizers, a); }},
     {"finalizers_queue_all", SHOWN(f.finalizers.queue_all())},
     {"finalizers_queue_cleanups", SHOWN(f.finalizers.queue_cleanups())},
     {"finalizers_take", SHOWN_IN_PASS(shown(f.finalizers.take()))},

@@ -216,6 +216,30 @@ class Hooks:
         self._noted(LIBRARY.noted_finished, ctypes.byref(entry))
 
 
+class ListingHost:
+    """A host of one root and one object, whose one word points to none."""
+
+    def __init__(self, throws):
+        self.throws = throws
+
+    def children(self, object):
+        if self.throws:
+            raise (OSError if self.throws == 'throws' else KeyboardInterrupt)(1)
+        return [(object + 1, 0)]
+
+    def roots(self):
+        return [80]
+
+    def is_object(self, client_data):
+        return client_data % 2 == 1
+
+
+def reasoned(finalizers, object, throws=None):
+    """An answer: the reason, the root and its number, the entry's place, and the path."""
+    why = finalizers.why(object, ListingHost(throws))
+    return '+'.join([f'{why.reason:d},{why.root or 0:d},{why.number},{why.entry.seq if why.entry else 0}', *map(str, why.path)])
+
+
 def traced(finalizers, how, call, *rest):
     """What a call returns, behind one that tells of what happens: by no method where it is `lacking`, and nothing where it is `none`."""
     finalizers.trace(object() if how == 'lacking' else Hooks(how))
@@ -322,6 +346,7 @@ MEMBERS_OF_FINALIZERS = {
     'abandon': lambda it: abandoned(it, False),
     'next': asked,
     'pass': lambda it, how: shown(it.run_pass(Host(how))),
+    'why': reasoned,
     'queue_all': lambda it: shown(it.queue_all()),
     'queue_cleanups': lambda it: shown(it.queue_cleanups()),
     'take': in_pass(lambda it: shown(it.take())),

@@ -134,7 +134,7 @@ static bool holder_is_marked(void *data, uint64_t word)
     return holder_of(word)->is_marked;
 }
 
-/* ---- collections and entries */
+/* ---- collections */
 
 /* The finalizers' own roots come in pieces of a buffer. */
 static void mark_roots_of_finalizers(own_heap *heap, derrimas_finalizers_root sort)
@@ -160,6 +160,45 @@ size_t own_heap_collect(own_heap *heap)
     (void)derrimas_finalizers_pass(&heap->finalizers, &host, heap, NULL); /* can't fail: it is open, and no answer calls it */
     return sweep(heap);
 }
+
+/* ---- why an object isn't finalized */
+
+static bool child_of(void *data, uint64_t what, uint64_t n, uint64_t *word, uint64_t *child)
+{
+    const object *it = object_at(what);
+
+    (void)data;
+    if (!it->is_scanned || n >= it->count)
+        return false;
+    *word = own_heap_word(it->words, n);
+    *child = is_address(it->words[n]) ? it->words[n] : 0;
+    return true;
+}
+
+static bool root_of(void *data, uint64_t n, uint64_t *root)
+{
+    const own_heap *heap = data;
+
+    if (n >= heap->root_count)
+        return false;
+    *root = is_address(heap->roots[n]) ? heap->roots[n] : 0;
+    return true;
+}
+
+static bool is_object(void *data, uint64_t word)
+{
+    (void)data;
+    return is_address(word);
+}
+
+derrimas_finalizers_code own_heap_why(own_heap *heap, const uint64_t *object, derrimas_why *why, uint64_t *path, size_t room)
+{
+    static const derrimas_paths paths = {child_of, root_of, is_object};
+
+    return derrimas_finalizers_why(&heap->finalizers, own_heap_number(object), &paths, heap, why, path, room);
+}
+
+/* ---- entries */
 
 size_t own_heap_run(own_heap *heap, void (*run)(const derrimas_finalizers_entry *entry))
 {

@@ -37,6 +37,9 @@ size_t own_heap_collect(own_heap *heap);
 /* Takes each entry that waits, calls the procedure for it, and finishes it: until then it keeps its object. Returns how many. */
 size_t own_heap_run(own_heap *heap, void (*run)(const derrimas_finalizers_entry *entry));
 
+/* Why an object isn't finalized, with up to `room` objects of the path, as derrimas_finalizers_why tells and refuses. */
+derrimas_finalizers_code own_heap_why(own_heap *heap, const uint64_t *object, derrimas_why *why, uint64_t *path, size_t room);
+
 /* The numbers by which the library knows an object, and a word of it, one of the first 65,536: its object's address and its place, so
  * that the heap needs no search for the object. An address has 48 bits. */
 static inline uint64_t own_heap_number(const uint64_t *object) { return (uint64_t)(uintptr_t)object; }

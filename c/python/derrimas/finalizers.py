@@ -18,7 +18,7 @@ Finalizers from one thread at a time. The library is libderrimas.so.1: that of t
 from __future__ import annotations
 import contextlib, ctypes, enum
 from ctypes import CFUNCTYPE, POINTER, Structure, byref, c_bool, c_char_p, c_size_t, c_uint8, c_uint32, c_uint64, c_void_p
-from typing import Any, Callable, Dict, Iterator, List, Optional
+from typing import Any, Callable, Dict, Iterator, List, NamedTuple, Optional
 from ._library import Error, declare, load, struct
 
 EMPTY = 10
@@ -56,6 +56,16 @@ class Ask(enum.IntEnum):
     IS_MARKED, MARK_CHILDREN, MARK_OTHERS, MARK, MARK_ALONE, CLEAR, HOLDER_IS_MARKED = range(1, 8)
 
 
+class Reason(enum.IntEnum):
+    """Why an object isn't finalized, or that it is ready."""
+    UNREGISTERED, QUEUED, FOUND, WAITS, RING, READY = range(6)
+
+
+class WhyRoot(enum.IntEnum):
+    """What the root is by which an object is found."""
+    HOST_ROOT, REGISTERED_DATA, CLEANUP_DATA, HELD_OBJECT, HELD_DATA = range(5)
+
+
 class Refused(Error):
     """A call of finalizers was refused, and changed nothing."""
 
@@ -67,6 +77,9 @@ ALLOCATE = CFUNCTYPE(c_void_p, c_void_p, c_size_t)
 REALLOCATE = CFUNCTYPE(c_void_p, c_void_p, c_void_p, c_size_t)
 RELEASE = CFUNCTYPE(None, c_void_p, c_void_p)
 LINE = CFUNCTYPE(None, c_void_p, c_char_p)
+CHILD = CFUNCTYPE(c_bool, c_void_p, c_uint64, c_uint64, POINTER(c_uint64), POINTER(c_uint64))
+ROOT = CFUNCTYPE(c_bool, c_void_p, c_uint64, POINTER(c_uint64))
+IS_OBJECT = CFUNCTYPE(c_bool, c_void_p, c_uint64)
 Allocator = struct("Allocator", "An allocator's functions, in C.", ("allocate", ALLOCATE), ("reallocate", REALLOCATE), ("release", RELEASE), ("data", c_void_p))
 Options = struct("Options", "What a handle is opened with.", ("size", c_size_t), ("allocator", Allocator))
 Handle = struct("Handle", "What stands for finalizers in C.", ("inside", c_void_p), "waiting", ("allocator", Allocator), ("trace", c_void_p), ("ages", c_uint64 * 11))
@@ -82,7 +95,19 @@ Cleanup = struct("Cleanup", "A cleanup that stands: `when` is a When.", "number"
 Counts = struct("Counts", "How many registrations, links, cleanups, waiting and held entries there are; how many entries and passes there ever were.",
                 "registrations", "short_links", "long_links", "cleanups", "waiting", "held", "queued", "passes")
 Passed = struct("Passed", "What a pass did: its number, and the entries that it queued.", "number", "picked")
+CWhy = struct("CWhy", "Why an object isn't finalized, in C.", ("reason", c_uint32), ("root", c_uint32), "number", ("entry", Entry), ("length", c_size_t))
+Paths = struct("Paths", "How a host lists its heap, in C.", ("child", CHILD), ("root", ROOT), ("is_object", IS_OBJECT))
 CQuestion = struct("CQuestion", "A question, in C.", ("what", c_uint64 * BATCH), "count", ("ask", c_uint32))
+
+
+class Why(NamedTuple):
+    """Why an object isn't finalized: the reason; if it is found the root, with its number; if it is queued the entry; and the path."""
+
+    reason: Reason
+    root: Optional[WhyRoot]
+    number: int
+    entry: Optional[Entry]
+    path: List[int]
 
 
 class Question:
@@ -103,6 +128,7 @@ def library() -> ctypes.CDLL:
         "cleanup": [n, POINTER(Cleanup)], "begin": [], "next": [n, POINTER(CQuestion), POINTER(Passed)], "abandon": [], "queue_all": [POINTER(n)], "take": [POINTER(Entry)],
         "take_finished": [POINTER(Entry)], "finish": [POINTER(Entry)], "roots": [kind, *walk], "registrations": walk, "links": [kind, *walk],
         "registration": [n, POINTER(Registration)], "target": [kind, n, POINTER(n)], "unfinished": [n, POINTER(Entry)], "count": [POINTER(Counts)],
+        "why": [n, POINTER(Paths), c_void_p, POINTER(CWhy), POINTER(n), c_size_t],
     }.items():
         declare(lib, f"derrimas_finalizers_{name}", c_uint32, [POINTER(Handle), *types])
     for name in ("name", "strerror"):
@@ -234,6 +260,27 @@ class Finalizers:
                 question = questions.next(answers_of(host, question))
             return questions.did
 
+    def why(self, object: int, host: Any) -> Why:
+        """Why an object isn't finalized, by the methods of the host: children(object) yields for each of its words the word's number, or 0, and the object to
+        which it points, or 0; roots() yields the objects to which roots point; is_object(client_data) says whether that is an object. What one raises is raised
+        here."""
+        listing, raised = Listing(host), []
+        paths = Paths(CHILD(guarded(raised, listing.child)), ROOT(guarded(raised, listing.root)), IS_OBJECT(guarded(raised, listing.is_object)))
+        told, room = CWhy(), PART
+        while True:
+            path = (c_uint64 * room)()
+            try:
+                self._call("why", object, byref(paths), None, byref(told), path, room)
+            finally:
+                if raised:
+                    raise raised[0]
+            if told.length <= room:
+                break
+            room = told.length
+        reason = Reason(told.reason)
+        return Why(reason, WhyRoot(told.root) if reason == Reason.FOUND else None, told.number,
+                   Entry.from_buffer_copy(told.entry) if reason == Reason.QUEUED else None, list(path[:told.length]))
+
     def queue_all(self) -> int:
         """Queues all that is registered; how many."""
         return self._answer(c_uint64, "queue_all")
@@ -334,6 +381,44 @@ class Finalizers:
         lines: List[str] = []
         LIBRARY.derrimas_finalizers_dump(byref(self.handle), LINE(lambda _, text: lines.append(text.decode())), None)
         return lines
+
+
+class Listing:
+    """A host's heap, as the library has it listed: by an object and a number."""
+
+    def __init__(self, host: Any) -> None:
+        self.host, self.objects, self.all_roots = host, {}, None
+
+    def child(self, _: Any, object: int, n: int, word: Any, child: Any) -> bool:
+        if object not in self.objects:
+            self.objects = {object: list(self.host.children(object))}
+        listed = self.objects[object]
+        if n < len(listed):
+            word[0], child[0] = listed[n]
+        return n < len(listed)
+
+    def root(self, _: Any, n: int, root: Any) -> bool:
+        if self.all_roots is None or n == 0:
+            self.all_roots = list(self.host.roots())
+        if n < len(self.all_roots):
+            root[0] = self.all_roots[n]
+        return n < len(self.all_roots)
+
+    def is_object(self, _: Any, client_data: int) -> bool:
+        return bool(self.host.is_object(client_data))
+
+
+def guarded(raised: List[BaseException], function: Callable[..., bool]) -> Callable[..., bool]:
+    """The function, which returns False instead of what it raises, and from then on."""
+
+    def call(*arguments: Any) -> bool:
+        try:
+            return not raised and function(*arguments)
+        except BaseException as error:  # it is raised once the library has returned
+            raised.append(error)
+            return False
+
+    return call
 
 
 class OpenPass:

@@ -18,3 +18,5 @@ pub mod MachineChanges
 pub mod MachinePassing
 pub mod MachineEntries
 pub mod MachineShows
+pub mod Snapshots
+pub mod MachineWhy

@@ -20,8 +20,8 @@ code_of PassOpen = 6
 code_of NoPass = 7
 code_of (Finalizers r) = code_of_refused r
 
--- a call through a handle: what it does to the finalizers, or nothing if there are none
-abbrev pub Behind : Option Machine → Option Machine → ℕ → Type 0 → (Machine → Machine → Type 0) → Type 0
+-- a call through a handle: what it does to the finalizers or the copy behind it, or nothing if there are none
+abbrev pub Behind : {X : Type 0} → Option X → Option X → ℕ → Type 0 → (X → X → Type 0) → Type 0
 Behind (Some old) (Some new) code kept does = does old new
 Behind (Some old) None code kept does = ⊥
 Behind None new code kept does = (new ≡ None) × (code ≡ NOT_OPEN) × kept

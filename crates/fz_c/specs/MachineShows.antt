@@ -87,7 +87,7 @@ ShowsCleanups v from code old told =
     × ShowsFrom PART (map cleanup_told v.order.cleanups) (λ (t : Cleanups). t.count) (λ (t : Cleanups). t.cleanups) from code old told
 
 -- what is found is stored in C's variable; if nothing is found, the variable is unchanged
-abbrev ShowsFound : {X Told : Type 0} → Option X → (X → Told) → ℕ → Told → Told → Type 0
+abbrev pub ShowsFound : {X Told : Type 0} → Option X → (X → Told) → ℕ → Told → Told → Type 0
 ShowsFound None tell code old told = (code ≡ EMPTY) × (told ≡ old)
 ShowsFound (Some x) tell code old told = (code ≡ OK) × (told ≡ tell x)
 

@@ -2,6 +2,7 @@
 //! `c/include/derrimas_finalizers.h` declares what C calls; it is implemented over these exports.
 
 mod adding;
+mod asking;
 mod codes;
 mod entries;
 mod handle;
@@ -11,10 +12,12 @@ mod passing;
 mod registering;
 mod session;
 mod shown;
+mod snapshot;
 mod walks;
 
 pub use crate::old::Old;
 pub use adding::{fz_machine_add_cleanup, fz_machine_cancel};
+pub use asking::{Told, fz_machine_why};
 pub use codes::Code;
 pub use entries::{
     HostEntry, fz_machine_finish, fz_machine_take, fz_machine_take_finished, fz_machine_unfinished,
@@ -31,6 +34,10 @@ pub use session::MachineSession;
 pub use shown::{
     CleanupAt, Counts, RegistrationAt, Words, fz_machine_cleanup, fz_machine_count,
     fz_machine_registration, fz_machine_roots, fz_machine_target,
+};
+pub use snapshot::{
+    SnapshotHandle, SnapshotSession, fz_snapshot_destroy, fz_snapshot_holder, fz_snapshot_object,
+    fz_snapshot_open, fz_snapshot_root, fz_snapshot_step, fz_snapshot_word,
 };
 pub use walks::{
     Cleanups, Linked, Links, Registrations, fz_machine_cleanups, fz_machine_links,

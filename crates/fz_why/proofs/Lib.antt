@@ -5,9 +5,10 @@ pub mod Spreading
 pub mod Reached
 pub mod Holding
 pub mod Judged
-pub mod Hosts
 pub mod Looping
 pub mod Rooted
 pub mod Held
 pub mod Told
 pub mod Back
+pub mod Cells
+pub mod Whole

@@ -2,3 +2,6 @@ pub mod Paths
 pub mod Why
 pub mod Trail
 pub mod Laws
+pub mod Snapshot
+pub mod Hosts
+pub mod Listing

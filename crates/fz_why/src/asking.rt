@@ -90,9 +90,9 @@ fn why_unreachable<H: Paths>(
     registration: Registration,
 ) -> Result<Reason, NoMemory>
     requires sound { IsSound (H.objects host.now) finalizers.now.state }
-    requires unfound { IsUnfound H.place (H.objects host.now) finalizers.now.state (has found.now) object registration }
+    requires unfound { IsUnfound (H.place host.now) (H.objects host.now) finalizers.now.state (has found.now) object registration }
     requires reached { Computes (has found.now) (IsReached (H.objects host.now) (H.roots host.now) finalizers.now.state) }
-    ensures told { IfOk result (λ reason. IsToldOf H.place (H.objects host.now) (H.roots host.now) finalizers.now.state reason object) }
+    ensures told { IfOk result (λ reason. IsToldOf (H.place host.now) (H.objects host.now) (H.roots host.now) finalizers.now.state reason object) }
 {
     let circle = ring(alloc, finalizers, host, found, object, registration)?;
     if let Some(path) = circle {
@@ -116,7 +116,7 @@ fn why_registered<H: Paths>(
 ) -> Result<Reason, NoMemory>
     requires sound { IsSound (H.objects host.now) finalizers.now.state }
     requires registered { get finalizers.now.state.registrations object ≡ Some registration }
-    ensures told { IfOk result (λ reason. IsToldOf H.place (H.objects host.now) (H.roots host.now) finalizers.now.state reason object) }
+    ensures told { IfOk result (λ reason. IsToldOf (H.place host.now) (H.objects host.now) (H.roots host.now) finalizers.now.state reason object) }
 {
     let found = find(alloc, finalizers, host)?;
     let rooted = root_path(alloc, &found, object)?;
@@ -154,7 +154,7 @@ pub fn why<H: Paths>(
     requires short { AreTargets (H.objects host.now) finalizers.now.state.short }
     // A cleared word points to nothing.
     requires zero { points (H.objects host.now) 0 ≡ None }
-    ensures told { IfOk result (λ reason. IsToldOf H.place (H.objects host.now) (H.roots host.now) finalizers.now.state reason object) }
+    ensures told { IfOk result (λ reason. IsToldOf (H.place host.now) (H.objects host.now) (H.roots host.now) finalizers.now.state reason object) }
 {
     match finalizers.registration(object) {
         Some(registration) => {

@@ -10,6 +10,7 @@ mod reason;
 mod room;
 mod rooting;
 mod searching;
+mod snapshot;
 mod trail;
 mod waiting;
 
@@ -18,3 +19,4 @@ pub use law::{answers, rings};
 pub use paths::{Paths, Pointer};
 pub use reason::{Reason, RootOf};
 pub use room::NoMemory;
+pub use snapshot::{Cell, Listed, Snapshot, why_of};

@@ -13,7 +13,7 @@ use fz_model::{Addr, RegKind};
 
 /// Whether a word doesn't count, since it is a short link's whose target wasn't found. Where nothing was looked for yet, each word counts.
 fn is_cut<H: Paths>(finalizers: &Finalizers, host: &H, found: Option<&Trail>, word: Addr) -> bool
-    ensures { result ≡ is_cut H.link finalizers.now.state (option_copied found.entry) word }
+    ensures { result ≡ is_cut (H.link host.now) finalizers.now.state (option_copied found.entry) word }
 {
     let Some(found) = found else {
         return false;
@@ -69,7 +69,7 @@ fn add_step<H: Paths>(
     origin: Origin,
     trail: &mut Trail,
 ) -> Result<(), NoMemory>
-    ensures added { OnOk result (Adds (IsByPointer (H.objects host.now) (is_cut H.link finalizers.now.state (option_copied found.entry)) pointer except origin) trail.old trail.new) }
+    ensures added { OnOk result (Adds (IsByPointer (H.objects host.now) (is_cut (H.link host.now) finalizers.now.state (option_copied found.entry)) pointer except origin) trail.old trail.new) }
 {
     if is_cut(finalizers, host, found, pointer.word) {
         return Ok(());
@@ -93,7 +93,7 @@ fn add_steps<H: Paths>(
     origin: Origin,
     trail: &mut Trail,
 ) -> Result<(), NoMemory>
-    ensures added { OnOk result (Adds (IsBySteps (H.objects host.now) (is_cut H.link finalizers.now.state (option_copied found.entry)) (H.pointers host.now from) except origin) trail.old trail.new) }
+    ensures added { OnOk result (Adds (IsBySteps (H.objects host.now) (is_cut (H.link host.now) finalizers.now.state (option_copied found.entry)) (H.pointers host.now from) except origin) trail.old trail.new) }
 {
     for index in 0..usize::MAX {
         match host.pointer(from, index) {
@@ -113,7 +113,7 @@ pub(crate) fn add_first_steps<H: Paths>(
     kind: RegKind,
     trail: &mut Trail,
 ) -> Result<(), NoMemory>
-    ensures added { OnOk result (Adds (IsByFirst (H.objects host.now) (is_cut H.link finalizers.now.state (option_copied found.entry)) (H.pointers host.now from) from kind) trail.old trail.new) }
+    ensures added { OnOk result (Adds (IsByFirst (H.objects host.now) (is_cut (H.link host.now) finalizers.now.state (option_copied found.entry)) (H.pointers host.now from) from kind) trail.old trail.new) }
 {
     let origin = Origin::First(from);
     match kind {
@@ -136,7 +136,7 @@ pub(crate) fn spread<H: Paths>(
     found: Option<&Trail>,
     trail: &mut Trail,
 ) -> Result<(), NoMemory>
-    ensures spread { OnOk result (SpreadsAll (λ a b. IsStepBy (H.objects host.now) (is_cut H.link finalizers.now.state (option_copied found.entry)) (H.pointers host.now a) b) trail.old trail.new) }
+    ensures spread { OnOk result (SpreadsAll (λ a b. IsStepBy (H.objects host.now) (is_cut (H.link host.now) finalizers.now.state (option_copied found.entry)) (H.pointers host.now a) b) trail.old trail.new) }
 {
     for place in 0..usize::MAX {
         match trail.at(place) {

@@ -32,7 +32,7 @@ fn add_other<H: Paths>(
     kind: RegKind,
     trail: &mut Trail,
 ) -> Result<(), NoMemory>
-    ensures added { OnOk result (Adds (IsByUnfound (H.objects host.now) (is_cut H.link finalizers.now.state (Some found.now)) (H.pointers host.now from) found.now object from kind) trail.old trail.new) }
+    ensures added { OnOk result (Adds (IsByUnfound (H.objects host.now) (is_cut (H.link host.now) finalizers.now.state (Some found.now)) (H.pointers host.now from) found.now object from kind) trail.old trail.new) }
 {
     if from == object {
         return Ok(());
@@ -53,7 +53,7 @@ fn add_others<H: Paths>(
     late: bool,
     trail: &mut Trail,
 ) -> Result<(), NoMemory>
-    ensures added { OnOk result (Adds (IsByOther H.link (H.objects host.now) finalizers.now.state found.now (H.pointers host.now) late object) trail.old trail.new) }
+    ensures added { OnOk result (Adds (IsByOther (H.link host.now) (H.objects host.now) finalizers.now.state found.now (H.pointers host.now) late object) trail.old trail.new) }
 {
     for (from, registration) in finalizers.iter() {
         let kind = kind_toward(late, registration.kind);
@@ -72,7 +72,7 @@ fn reach_itself<H: Paths>(
     kind: RegKind,
 ) -> Result<Trail, NoMemory>
     requires { IsSound (H.objects host.now) finalizers.now.state }
-    ensures reached { IfOk result (λ t. let heap = cleared (placed H.place finalizers.now.state.short) (has found.now) (H.objects host.now) in IsReachedTrail heap (IsByRing heap object kind) t) }
+    ensures reached { IfOk result (λ t. let heap = cleared (placed (H.place host.now) finalizers.now.state.short) (has found.now) (H.objects host.now) in IsReachedTrail heap (IsByRing heap object kind) t) }
 {
     let mut trail = Trail::new(alloc);
     add_first_steps(finalizers, host, Some(found), object, kind, &mut trail)?;
@@ -90,7 +90,7 @@ fn reach_others<H: Paths>(
     late: bool,
 ) -> Result<Trail, NoMemory>
     requires { IsSound (H.objects host.now) finalizers.now.state }
-    ensures reached { IfOk result (λ t. IsReachedTrail (cleared (placed H.place finalizers.now.state.short) (has found.now) (H.objects host.now)) (IsByWait H.place (H.objects host.now) finalizers.now.state (has found.now) late object) t) }
+    ensures reached { IfOk result (λ t. IsReachedTrail (cleared (placed (H.place host.now) finalizers.now.state.short) (has found.now) (H.objects host.now)) (IsByWait (H.place host.now) (H.objects host.now) finalizers.now.state (has found.now) late object) t) }
 {
     let mut trail = Trail::new(alloc);
     add_others(finalizers, host, found, object, late, &mut trail)?;
@@ -108,8 +108,8 @@ pub(crate) fn ring<H: Paths>(
     registration: Registration,
 ) -> Result<Option<Vec<Addr>>, NoMemory>
     requires sound { IsSound (H.objects host.now) finalizers.now.state }
-    requires unfound { IsUnfound H.place (H.objects host.now) finalizers.now.state (has found.now) object registration }
-    ensures path { IfOk result (λ told. TellsRing H.place (H.objects host.now) finalizers.now.state (has found.now) object (option_map (λ path. path.items) told)) }
+    requires unfound { IsUnfound (H.place host.now) (H.objects host.now) finalizers.now.state (has found.now) object registration }
+    ensures path { IfOk result (λ told. TellsRing (H.place host.now) (H.objects host.now) finalizers.now.state (has found.now) object (option_map (λ path. path.items) told)) }
 {
     let trail = reach_itself(alloc, finalizers, host, found, object, registration.kind)?;
     let told = path_to(alloc, &trail, object)?;
@@ -129,7 +129,7 @@ pub(crate) fn wait<H: Paths>(
     late: bool,
 ) -> Result<Option<Vec<Addr>>, NoMemory>
     requires { IsSound (H.objects host.now) finalizers.now.state }
-    ensures path { IfOk result (λ told. TellsWait H.place (H.objects host.now) finalizers.now.state (has found.now) late object (option_map (λ path. path.items) told)) }
+    ensures path { IfOk result (λ told. TellsWait (H.place host.now) (H.objects host.now) finalizers.now.state (has found.now) late object (option_map (λ path. path.items) told)) }
 {
     let trail = reach_others(alloc, finalizers, host, found, object, late)?;
     let told = path_to(alloc, &trail, object)?;

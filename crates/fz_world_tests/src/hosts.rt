@@ -5,5 +5,6 @@ mod asked;
 mod asked_cleanups;
 mod beside;
 mod cleanups;
+mod copy;
 mod runtime;
 mod why;

@@ -7,7 +7,7 @@ use Rattle.std.specs.FinMap.{get}
 use Rattle.fz_model.specs.State.{Map, Object}
 use Rattle.fz_why.specs.declared.paths.Pointer.{Pointer}
 use Rattle.fz_why.specs.Paths.{all_pointers}
-use Rattle.fz_why.proofs.Hosts.{all_are, all_none, all_at}
+use Rattle.fz_why.specs.Hosts.{all_are, all_none, all_at}
 use Rattle.own_heap.specs.declared.record.Field.{Field}
 use Rattle.own_heap.specs.declared.record.Field.TheVariants.{Nothing}
 use Rattle.own_heap.specs.declared.record.Record.{Record}

@@ -8,7 +8,7 @@ use Rattle.fz_model.specs.declared.kinds.ObjKind.TheVariants.{Scanned, Atomic}
 use Rattle.fz_model.specs.State.{Map, Object}
 use Rattle.fz_why.specs.declared.paths.Pointer.{Pointer}
 use Rattle.fz_why.specs.Paths.{AreLinks, ArePointers, all_pointers}
-use Rattle.fz_why.proofs.Hosts.{are_all}
+use Rattle.fz_why.specs.Hosts.{are_all}
 use Rattle.own_heap.specs.Outside.{place_of_link, place_itself}
 
 -- all words of an object, if it is scanned

@@ -10,11 +10,15 @@ use fz_model::{Addr, Word};
 use fz_why::{Paths, Pointer};
 
 impl Paths for Heap {
+    ghost objects = { λ h. objects_of h.records.slots.items };
+
     ghost pointers = { λ h a. words_listed (objects_of h.records.slots.items) a };
 
     ghost roots = { λ h. addresses_of h.roots.items };
 
-    ghost link = { place_of_link };
+    ghost place = { λ h. place_of_link };
+
+    ghost link = { λ h. place_of_link };
 
     fn pointer(&self, object: Addr, index: usize) -> Option<Pointer> {
         let field = self.records.at(object)?.fields.get(index)?;
@@ -38,5 +42,5 @@ impl Paths for Heap {
 
     ghost are_pointers = { λ h a. records_point (objects_of h.records.slots.items) a };
 
-    ghost are_links = { links_found };
+    ghost are_links = { λ h. links_found };
 }

@@ -20,6 +20,9 @@ pub(crate) const IS_OPEN: Code = 9;
 /// Nothing is left.
 pub(crate) const EMPTY: Code = 10;
 
+/// Another word has the address or the link of one that is to be listed, or no word comes right before it.
+pub(crate) const OVERLAP: Code = 18;
+
 /// Out of memory.
 pub(crate) const NO_MEMORY: Code = 4;
 

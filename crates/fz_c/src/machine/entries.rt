@@ -25,7 +25,7 @@ pub struct HostEntry {
 }
 
 impl HostEntry {
-    fn of(entry: fz_finalizers::Entry) -> HostEntry
+    pub(crate) fn of(entry: fz_finalizers::Entry) -> HostEntry
         ensures { TellsEntry entry result }
     {
         HostEntry {

@@ -6,6 +6,6 @@ use Rattle.fz_why.proofs.rooting.add_attached.Given as goal
 
 abbrev pub invariant-loop-each : goal.invariant-loop-each
 invariant-loop-each g l = record {
-  added : Adds (ByAny l.yielded (ByAttached (g.H.Host.objects l.host))) l.initial.trail l.trail;
+  added : Adds (ByAny l.yielded (ByAttached (g.H.Paths.objects l.host))) l.initial.trail l.trail;
   rest : l.yielded ++ l.each-iterator ≡ l.initial.each-iterator;
 }

@@ -7,6 +7,6 @@ use Rattle.fz_why.proofs.rooting.add_entries.Given as goal
 
 abbrev pub invariant-loop-entry : goal.invariant-loop-entry
 invariant-loop-entry g l = record {
-  added : Adds (ByAny l.yielded (ByHeld (g.H.Host.objects l.host))) l.initial.trail l.trail;
+  added : Adds (ByAny l.yielded (ByHeld (g.H.Paths.objects l.host))) l.initial.trail l.trail;
   rest : l.yielded ++ somes l.entry-iterator ≡ somes l.initial.entry-iterator;
 }

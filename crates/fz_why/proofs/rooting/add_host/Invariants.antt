@@ -5,4 +5,4 @@ use Rattle.fz_why.proofs.Looping.{ByBelow, ByHostRoot}
 use Rattle.fz_why.proofs.rooting.add_host.Given as goal
 
 abbrev pub invariant-loop-index : goal.invariant-loop-index
-invariant-loop-index g l = Adds (ByBelow l.index (g.H.Paths.roots l.host) (ByHostRoot (g.H.Host.objects l.host))) l.initial.trail l.trail × (l.index ≤ 2 ^ 63)
+invariant-loop-index g l = Adds (ByBelow l.index (g.H.Paths.roots l.host) (ByHostRoot (g.H.Paths.objects l.host))) l.initial.trail l.trail × (l.index ≤ 2 ^ 63)

@@ -8,12 +8,12 @@ use Rattle.fz_why.proofs.rooting.add_registered.Goals as goal
 
 pub loop-each-init : goal.loop-each-init
 loop-each-init g c =
-    let R = ByData (g.H.Host.objects c.args.host.now) in
+    let R = ByData (g.H.Paths.objects c.args.host.now) in
     record { added = adds_nothing (ByAny [] R) _ (any_none R); rest = refl }
 
 pub loop-each-preserved : goal.loop-each-preserved
 loop-each-preserved g c =
-    let R = ByData (g.H.Host.objects c.args.host.now) in
+    let R = ByData (g.H.Paths.objects c.args.host.now) in
     let inv = c.loop-each.invariant in
     record {
       added = adds_on (ByAny (c.loop-each.yielded ++ c.in-Some.each ∷ []) R) inv.added c.in_ok-add_root.ensures.added (any_more R c.loop-each.yielded c.in-Some.each);
@@ -23,7 +23,7 @@ loop-each-preserved g c =
 pub returns : goal.returns
 returns g c = record {
   added =
-      let objects = g.H.Host.objects c.args.host.now in
+      let objects = g.H.Paths.objects c.args.host.now in
       let es = c.iter-each-items.result in
       let all : c.loop-each.yielded ≡ es = all_of c.loop-each.yielded _ es (c.loop-each.invariant.rest ∙ c.into_iter-each-iterator.ensures.into_iter_gives) c.in-None.ensures.steps.0 in
       adds_as _ (subst (λ (ys : List (ℕ × Registration)). Adds (ByAny ys (ByData objects)) c.args.trail.now c.loop-each.trail) all c.loop-each.invariant.added)

@@ -12,7 +12,7 @@ use Rattle.fz_why.proofs.rooting.find.Goals as goal
 pub returns : goal.returns
 returns g c = record {
   found =
-      let objects = g.H.Host.objects c.args.host.now in
+      let objects = g.H.Paths.objects c.args.host.now in
       let roots = g.H.Paths.roots c.args.host.now in
       let s = c.args.finalizers.now.state in
       let pointers = g.H.Paths.pointers c.args.host.now in

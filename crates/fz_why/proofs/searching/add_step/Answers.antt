@@ -10,7 +10,7 @@ use Rattle.fz_why.proofs.searching.add_step.Goals as goal
 pub returns-then-is_cut : goal.returns-then-is_cut
 returns-then-is_cut g c = record {
   added =
-      adds_nothing _ _ (λ o b h. both_ways (is_cut g.H.Paths.link c.args.finalizers.now.state (option_copied c.args.found) c.args.pointer.word) h.1 (sym c.is_cut.ensures ∙ c.if-is_cut.true));
+      adds_nothing _ _ (λ o b h. both_ways (is_cut (g.H.Paths.link c.args.host.now) c.args.finalizers.now.state (option_copied c.args.found) c.args.pointer.word) h.1 (sym c.is_cut.ensures ∙ c.if-is_cut.true));
 }
 
 pub returns-in_ok-add_but-in-Some : goal.returns-in_ok-add_but-in-Some

@@ -1,5 +1,5 @@
 -- The steps by the words so far were added.
-use Rattle.std.proofs.Common.{◌^◌, ◌≤◌}
+use Rattle.std.proofs.Common.{◌^◌, ◌+◌, ◌<◌}
 use Rattle.std.specs.Option.{option_copied}
 use Rattle.fz_why.specs.Trail.{Adds, is_cut}
 use Rattle.fz_why.proofs.Looping.{ByBelow, ByPointer}
@@ -7,6 +7,6 @@ use Rattle.fz_why.proofs.searching.add_steps.Given as goal
 
 abbrev pub invariant-loop-index : goal.invariant-loop-index
 invariant-loop-index g l =
-    Adds (ByBelow l.index (g.H.Paths.pointers l.host l.from) (ByPointer (g.H.Host.objects l.host) (is_cut g.H.Paths.link l.finalizers.state (option_copied l.found)) l.except l.origin))
+    Adds (ByBelow l.index (g.H.Paths.pointers l.host l.from) (ByPointer (g.H.Paths.objects l.host) (is_cut (g.H.Paths.link l.host) l.finalizers.state (option_copied l.found)) l.except l.origin))
     l.initial.trail l.trail
-    × (l.index ≤ 2 ^ 63)
+    × (l.index + 1 < 2 ^ 64)

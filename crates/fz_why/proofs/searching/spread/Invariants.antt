@@ -6,6 +6,6 @@ use Rattle.fz_why.proofs.searching.spread.Given as goal
 
 abbrev pub invariant-loop-place : goal.invariant-loop-place
 invariant-loop-place g l =
-    Spreads (λ a b. IsStepBy (g.H.Host.objects l.host) (is_cut g.H.Paths.link l.finalizers.state (option_copied l.found)) (g.H.Paths.pointers l.host a) b) l.place
+    Spreads (λ a b. IsStepBy (g.H.Paths.objects l.host) (is_cut (g.H.Paths.link l.host) l.finalizers.state (option_copied l.found)) (g.H.Paths.pointers l.host a) b) l.place
     l.initial.trail l.trail
     × (l.place ≤ 2 ^ 63)

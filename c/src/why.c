@@ -1,0 +1,228 @@
+/* derrimas_finalizers_why: it lists the host's objects, words and roots for a copy, by which the proved part answers. Nothing here is proved; c/tests runs each
+ * line of it.
+ */
+#include "finalizers_exports.h"
+
+typedef derrimas_finalizers_code code;
+
+enum { PART = 64 };
+
+/* A walk over the host's heap: the copy so far, and the objects that are still to be listed. */
+typedef struct walk {
+    derrimas_finalizers *finalizers;
+    const derrimas_paths *paths;
+    void *data;
+    fz_snapshot copy;
+    uint64_t *to_list;
+    size_t count, room;
+} walk;
+
+/* ---- memory, which is the handle's allocator's */
+
+/* The call of an export that may take memory, or free it. */
+#define BY_ALLOCATOR(it, call) (rattle_memory_by(&(it)->finalizers->allocator), after_call((uint8_t)(call)))
+
+static code after_call(uint8_t returned)
+{
+    rattle_memory_by(NULL);
+    return (code)returned;
+}
+
+static code make_room(walk *it)
+{
+    const derrimas_allocator *allocator = &it->finalizers->allocator;
+    const size_t room = it->room ? 2 * it->room : PART;
+    uint64_t *more = allocator->reallocate(allocator->data, it->to_list, room * sizeof *more);
+
+    if (!more)
+        return DERRIMAS_FINALIZERS_NO_MEMORY;
+    it->to_list = more;
+    it->room = room;
+    return DERRIMAS_FINALIZERS_OK;
+}
+
+/* ---- objects and their words */
+
+/* Lists an object later, unless it was. 0 is none. */
+static code list_later(walk *it, uint64_t object)
+{
+    uint64_t holder;
+
+    if (object == 0 || (fz_snapshot_holder(&it->copy, object, &holder) == DERRIMAS_FINALIZERS_OK && holder == object))
+        return DERRIMAS_FINALIZERS_OK;
+    if (it->count == it->room && make_room(it) != DERRIMAS_FINALIZERS_OK)
+        return DERRIMAS_FINALIZERS_NO_MEMORY;
+    it->to_list[it->count++] = object;
+    return DERRIMAS_FINALIZERS_OK;
+}
+
+/* The n-th word of an object. Its number matters only where a short link has it. */
+static code list_word(walk *it, uint64_t object, uint64_t n, uint64_t word, uint64_t child)
+{
+    uint64_t target;
+    const uint64_t link = word && fz_machine_target(it->finalizers, false, word, &target) == DERRIMAS_FINALIZERS_OK ? word : 0;
+
+    return n == 0 ? BY_ALLOCATOR(it, fz_snapshot_object(&it->copy, object, child, link)) : BY_ALLOCATOR(it, fz_snapshot_word(&it->copy, object + n, child, link));
+}
+
+static code list_words(walk *it, uint64_t object)
+{
+    uint64_t word = 0, child = 0, n = 0;
+
+    for (; it->paths->child(it->data, object, n, &word, &child); n++) {
+        code listed = list_word(it, object, n, word, child);
+
+        if (listed == DERRIMAS_FINALIZERS_OK)
+            listed = list_later(it, child);
+        if (listed != DERRIMAS_FINALIZERS_OK)
+            return listed;
+        word = child = 0;
+    }
+    return n == 0 ? list_word(it, object, 0, 0, 0) : DERRIMAS_FINALIZERS_OK;
+}
+
+/* Lists all objects that are to be listed, and those to which their words point. */
+static code list_all(walk *it)
+{
+    code listed = DERRIMAS_FINALIZERS_OK;
+
+    while (listed == DERRIMAS_FINALIZERS_OK && it->count > 0) {
+        const uint64_t object = it->to_list[--it->count];
+        uint64_t holder;
+
+        if (fz_snapshot_holder(&it->copy, object, &holder) != DERRIMAS_FINALIZERS_OK)
+            listed = list_words(it, object);
+        else if (holder != object)
+            listed = DERRIMAS_FINALIZERS_OVERLAP;
+    }
+    return listed;
+}
+
+/* ---- where a walk begins */
+
+static code list_roots(walk *it)
+{
+    code listed = DERRIMAS_FINALIZERS_OK;
+    uint64_t root = 0;
+
+    for (uint64_t n = 0; listed == DERRIMAS_FINALIZERS_OK && it->paths->root(it->data, n, &root); n++) {
+        listed = BY_ALLOCATOR(it, fz_snapshot_root(&it->copy, root));
+        if (listed == DERRIMAS_FINALIZERS_OK)
+            listed = list_later(it, root);
+        root = 0;
+    }
+    return listed;
+}
+
+/* An object, and client data if the host says that it is one. */
+static code list_with_data(walk *it, uint64_t object, uint64_t cd)
+{
+    code listed = list_later(it, object);
+
+    if (listed == DERRIMAS_FINALIZERS_OK && it->paths->is_object && it->paths->is_object(it->data, cd))
+        listed = list_later(it, cd);
+    return listed;
+}
+
+static code list_registered(walk *it)
+{
+    derrimas_finalizers_registration_at some[PART];
+    uint64_t from = 0;
+    size_t count;
+
+    while (derrimas_finalizers_registrations(it->finalizers, &from, some, PART, &count) == DERRIMAS_FINALIZERS_OK)
+        for (size_t n = 0; n < count; n++)
+            if (list_with_data(it, some[n].object, some[n].cd) != DERRIMAS_FINALIZERS_OK)
+                return DERRIMAS_FINALIZERS_NO_MEMORY;
+    return DERRIMAS_FINALIZERS_OK;
+}
+
+static code list_cleanups(walk *it)
+{
+    derrimas_finalizers_cleanup_at some[PART];
+    uint64_t from = 0;
+    size_t count;
+
+    while (derrimas_finalizers_cleanups(it->finalizers, &from, some, PART, &count) == DERRIMAS_FINALIZERS_OK)
+        for (size_t n = 0; n < count; n++)
+            if (list_with_data(it, 0, some[n].cd) != DERRIMAS_FINALIZERS_OK)
+                return DERRIMAS_FINALIZERS_NO_MEMORY;
+    return DERRIMAS_FINALIZERS_OK;
+}
+
+static code list_targets(walk *it)
+{
+    derrimas_finalizers_link_at some[PART];
+    uint64_t from = 0;
+    size_t count;
+
+    while (derrimas_finalizers_links(it->finalizers, DERRIMAS_FINALIZERS_SHORT, &from, some, PART, &count) == DERRIMAS_FINALIZERS_OK)
+        for (size_t n = 0; n < count; n++)
+            if (list_later(it, some[n].target) != DERRIMAS_FINALIZERS_OK)
+                return DERRIMAS_FINALIZERS_NO_MEMORY;
+    return DERRIMAS_FINALIZERS_OK;
+}
+
+static code list_entries(walk *it)
+{
+    derrimas_finalizers_entry entry;
+
+    for (uint64_t from = 0; fz_machine_unfinished(it->finalizers, from, &entry) == DERRIMAS_FINALIZERS_OK; from = entry.seq + 1)
+        if (list_with_data(it, entry.obj, entry.cd) != DERRIMAS_FINALIZERS_OK)
+            return DERRIMAS_FINALIZERS_NO_MEMORY;
+    return DERRIMAS_FINALIZERS_OK;
+}
+
+static code list_heap(walk *it)
+{
+    code (*const parts[])(walk *) = {list_roots, list_registered, list_cleanups, list_targets, list_entries, list_all};
+    code listed = DERRIMAS_FINALIZERS_OK;
+
+    for (size_t n = 0; listed == DERRIMAS_FINALIZERS_OK && n < sizeof parts / sizeof *parts; n++)
+        listed = parts[n](it);
+    return listed;
+}
+
+/* ---- the answer */
+
+static code ask(walk *it, uint64_t object, derrimas_why *why, uint64_t *path, size_t room)
+{
+    fz_machine_told told;
+    const code asked = BY_ALLOCATOR(it, fz_machine_why(it->finalizers, &it->copy, object, &told));
+
+    if (asked != DERRIMAS_FINALIZERS_OK)
+        return asked;
+    *why = (derrimas_why){(derrimas_why_reason)told.reason, (derrimas_why_root)told.root, told.number, told.entry, (size_t)told.length};
+    for (size_t n = 0; n < why->length && n < room; n++)
+        (void)fz_snapshot_step(&it->copy, n, &path[n]);
+    return asked;
+}
+
+code derrimas_finalizers_why(derrimas_finalizers *finalizers, uint64_t object, const derrimas_paths *paths, void *data, derrimas_why *why, uint64_t *path,
+                             size_t room)
+{
+    walk it = {.finalizers = finalizers, .paths = paths, .data = data};
+    derrimas_finalizers_old unwanted;
+    code asked = (code)fz_machine_unregister(finalizers, 0, &unwanted); /* no object is 0: it is only refused, where the handle or a pass is open */
+
+    if (asked == DERRIMAS_FINALIZERS_OK)
+        asked = BY_ALLOCATOR(&it, fz_snapshot_open(&it.copy));
+    if (asked != DERRIMAS_FINALIZERS_OK)
+        return asked;
+    asked = list_heap(&it);
+    if (asked == DERRIMAS_FINALIZERS_OK)
+        asked = ask(&it, object, why, path, room);
+    rattle_memory_by(&finalizers->allocator);
+    fz_snapshot_destroy(&it.copy);
+    rattle_memory_by(NULL);
+    if (it.to_list)
+        finalizers->allocator.release(finalizers->allocator.data, it.to_list);
+    return asked;
+}
+
+const char *derrimas_finalizers_reason_name(derrimas_why_reason reason)
+{
+    static const char *const names[] = {"Unregistered", "Queued", "Found", "Waits", "Ring", "Ready"};
+
+    return (unsigned)reason < sizeof names / sizeof *names ? names[reason] : "?";
+}

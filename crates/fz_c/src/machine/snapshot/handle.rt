@@ -1,0 +1,27 @@
+//! What C holds of a copy.
+
+ghost use Rattle.std.specs.Prelude.{Option};
+ghost use Rattle.std.specs.Coded.{coded_option};
+ghost use Rattle.fz_c.specs.Pointers.{maybe_owns};
+ghost use Rattle.fz_c.specs.contracts.machine.snapshot.session.SnapshotSession as Behind;
+
+mod pointers;
+
+use std::alloc::Global;
+use std::marker::Model;
+
+/// A boxed session as a raw pointer, or null if there is none. C initializes it to null and never copies it.
+#[repr(C)]
+#[derive(Drop)]
+pub struct SnapshotHandle {
+    at: *mut u8,
+    alloc: Global,
+    pub ghost value: { Option Behind.the_row.Denot } by { coded_option Behind.the_row.coded },
+}
+
+impl Model for SnapshotHandle {
+    ghost also_owns = { λ h. maybe_owns Behind.the_row h.alloc h.at h.value };
+}
+
+// What a handle owns may be sent to another thread: `proofs/machine/snapshot/handle/SnapshotHandle/TheSendSync/Send.antt`.
+unsafe impl Send for SnapshotHandle {}

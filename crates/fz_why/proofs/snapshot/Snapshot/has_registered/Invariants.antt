@@ -1,0 +1,12 @@
+-- The objects so far were listed.
+use Rattle.std.proofs.Common.{◌≡◌, ◌++◌, ℕ, Contains, IsTrue}
+use Rattle.std.specs.FinMap.{contains_key}
+use Rattle.fz_model.specs.declared.answers.Registration.{Registration}
+use Rattle.fz_why.specs.Snapshot.{objects_of}
+use Rattle.fz_why.proofs.snapshot.Snapshot.has_registered.Given as goal
+
+abbrev pub invariant-loop-each : goal.invariant-loop-each
+invariant-loop-each l = record {
+  has : (e : ℕ × Registration) → Contains l.yielded e → IsTrue (contains_key (objects_of l.self.cells) e.0);
+  rest : l.yielded ++ l.each-iterator ≡ l.initial.each-iterator;
+}
