@@ -59,34 +59,40 @@ static uint64_t *numbers(uint64_t n, uint64_t apart, bool random)
     return of;
 }
 
-static double entered(uint64_t n, uint64_t apart, bool random, bool linked)
+typedef enum { REGISTERED, LINKED, CLEANED } how;
+
+static double entered(uint64_t n, uint64_t apart, bool random, how how)
 {
     uint64_t *of = numbers(n, apart, random);
     derrimas_finalizers_linked answer;
     double t = now();
 
     for (uint64_t i = 0; i < n; i++)
-        if (linked)
+        if (how == LINKED)
             must(derrimas_finalizers_link(&finalizers, DERRIMAS_FINALIZERS_SHORT, of[i], of[i], &answer));
-        else
+        else if (how == REGISTERED)
             must(derrimas_finalizers_register(&finalizers, of[i], DERRIMAS_FINALIZERS_NORMAL, 1, i, 0, NULL, NULL));
+        else
+            must(derrimas_finalizers_add_cleanup(&finalizers, of[i], DERRIMAS_FINALIZERS_LONG, 1, i, 0, NULL));
     t = now() - t;
     free(of);
     return t;
 }
 
-static double registered(uint64_t n) { return entered(n, 16, false, false); }
-static double registered_adjacent(uint64_t n) { return entered(n, 1, false, false); }
-static double registered_random(uint64_t n) { return entered(n, 16, true, false); }
-static double linked(uint64_t n) { return entered(n, 16, false, true); }
-static double linked_random(uint64_t n) { return entered(n, 16, true, true); }
+static double registered(uint64_t n) { return entered(n, 16, false, REGISTERED); }
+static double registered_adjacent(uint64_t n) { return entered(n, 1, false, REGISTERED); }
+static double registered_random(uint64_t n) { return entered(n, 16, true, REGISTERED); }
+static double linked(uint64_t n) { return entered(n, 16, false, LINKED); }
+static double linked_random(uint64_t n) { return entered(n, 16, true, LINKED); }
+static double added(uint64_t n) { return entered(n, 16, false, CLEANED); }
+static double added_random(uint64_t n) { return entered(n, 16, true, CLEANED); }
 
 static double taken(uint64_t n)
 {
     derrimas_finalizers_entry entry;
     uint64_t queued;
 
-    entered(n, 16, false, false);
+    entered(n, 16, false, REGISTERED);
     must(derrimas_finalizers_queue_all(&finalizers, &queued));
     double t = now();
     for (uint64_t i = 0; i < n; i++) {
@@ -96,28 +102,24 @@ static double taken(uint64_t n)
     return now() - t;
 }
 
-static double bytes_registered(uint64_t n)
+static double bytes_entered(uint64_t n, how how)
 {
     uint64_t before = bytes;
 
-    entered(n, 16, false, false);
+    entered(n, 16, false, how);
     return (double)(bytes - before);
 }
+
+static double bytes_registered(uint64_t n) { return bytes_entered(n, REGISTERED); }
+static double bytes_linked(uint64_t n) { return bytes_entered(n, LINKED); }
+static double bytes_added(uint64_t n) { return bytes_entered(n, CLEANED); }
 
 static double bytes_finished(uint64_t n)
 {
     uint64_t before = bytes;
 
     taken(n);
-    entered(n, 16, false, false);
-    return (double)(bytes - before);
-}
-
-static double bytes_linked(uint64_t n)
-{
-    uint64_t before = bytes;
-
-    entered(n, 16, false, true);
+    entered(n, 16, false, REGISTERED);
     return (double)(bytes - before);
 }
 
@@ -160,22 +162,27 @@ static double children(uint64_t n, bool alternate)
 static double one_by_one(uint64_t n) { return children(n, true); }
 static double in_batches(uint64_t n) { return children(n, false); }
 
-/* A whole pass, all of whose objects are marked. */
-static double live(uint64_t n)
+/* A whole pass, whose objects are all marked, or all unmarked. Those are queued. */
+static double whole_pass(uint64_t n, how how, bool marked)
 {
     derrimas_question question;
-    uint64_t asked = 0;
+    derrimas_finalizers_passed passed;
 
-    register_all(n, false);
+    entered(n, 16, false, how);
     double t = now();
     must(derrimas_finalizers_begin(&finalizers));
-    while (derrimas_finalizers_next(&finalizers, UINT64_MAX, &question, NULL) == DERRIMAS_FINALIZERS_OK)
-        asked += question.count;
+    while (derrimas_finalizers_next(&finalizers, marked ? UINT64_MAX : 0, &question, &passed) == DERRIMAS_FINALIZERS_OK)
+        continue;
     t = now() - t;
-    if (asked != n)
-        fail("other questions");
+    if (passed.picked != (marked ? 0 : n))
+        fail("another pass");
     return t;
 }
+
+static double live(uint64_t n) { return whole_pass(n, REGISTERED, true); }
+static double live_cleanups(uint64_t n) { return whole_pass(n, CLEANED, true); }
+static double queued(uint64_t n) { return whole_pass(n, REGISTERED, false); }
+static double queued_cleanups(uint64_t n) { return whole_pass(n, CLEANED, false); }
 
 /* The client data of all registrations, as a host marks from it once a collection. */
 static double roots(uint64_t n)
@@ -196,9 +203,10 @@ static double roots(uint64_t n)
 
 static const struct { const char *name; double (*turn)(uint64_t n); } tests[] = {
     {"register", registered}, {"register_adjacent", registered_adjacent}, {"register_random", registered_random},
-    {"link", linked}, {"link_random", linked_random}, {"take_and_finish", taken},
-    {"bytes_registered", bytes_registered}, {"bytes_finished", bytes_finished}, {"bytes_linked", bytes_linked},
-    {"one_by_one", one_by_one}, {"in_batches", in_batches}, {"live", live}, {"roots", roots},
+    {"link", linked}, {"link_random", linked_random}, {"add", added}, {"add_random", added_random}, {"take_and_finish", taken},
+    {"bytes_registered", bytes_registered}, {"bytes_finished", bytes_finished}, {"bytes_linked", bytes_linked}, {"bytes_added", bytes_added},
+    {"one_by_one", one_by_one}, {"in_batches", in_batches}, {"live", live}, {"live_cleanups", live_cleanups},
+    {"queued", queued}, {"queued_cleanups", queued_cleanups}, {"roots", roots},
 };
 
 int main(int count, char **words)

@@ -4,15 +4,15 @@
 
 enum { ANY_NUMBER = 100, MOST_FILES = 16 };
 
-/* ---- files: a port has a place in this table, and its file is closed once, by hand or by its finalizer */
+/* ---- files: a port has a place in this table, and its file is closed once, by hand or by the port's cleanup */
 
-static FILE *files[MOST_FILES];
+static struct { FILE *file; uint64_t cleanup; } files[MOST_FILES];
 static uint64_t opened, closed, most_open;
 
 void close_file(uint64_t file)
 {
-    fclose(files[file]);
-    files[file] = NULL;
+    fclose(files[file].file);
+    files[file].file = NULL;
     closed++;
 }
 
@@ -38,13 +38,13 @@ static value open_port(value arguments)
         collect();
     if (opened - closed == MOST_FILES)
         fail("too many open files", "");
-    while (files[file])
+    while (files[file].file)
         file++;
     value port = make(PORT, 1, (value[]){integer(file)});
-    on_collect(port, CLOSE_FILE, file); /* before the file: where this fails, no open file is left behind */
-    files[file] = fopen(name, "r");
-    if (!files[file]) {
-        never_mind(port);
+    files[file].cleanup = when_gone(port, CLOSE_FILE, file); /* before the file: where this fails, no open file is left behind */
+    files[file].file = fopen(name, "r");
+    if (!files[file].file) {
+        never_mind(port, files[file].cleanup);
         fail("can't open ", name);
     }
     opened++;
@@ -55,7 +55,7 @@ static value open_port(value arguments)
 static value read_line(value arguments)
 {
     char line[MOST_TEXT] = "";
-    FILE *file = files[file_of(car(arguments))];
+    FILE *file = files[file_of(car(arguments))].file;
     size_t length = 0;
     int c;
 
@@ -72,7 +72,7 @@ static value close_port(value arguments)
     uint64_t file = file_of(car(arguments));
 
     set_field(car(arguments), PORT, 1, FALSE);
-    never_mind(car(arguments));
+    never_mind(car(arguments), files[file].cleanup);
     close_file(file);
     return VOID;
 }
@@ -101,21 +101,37 @@ static value is_less(value list) { return truth((int64_t)bits(car(list)) < (int6
 static value is_same(value list) { return truth(car(list) == second(list)); }
 static value is_false(value list) { return truth(car(list) == FALSE); }
 static value is_nil(value list) { return truth(car(list) == NIL); }
-static value has_rest(value list) { return truth(is_pair(car(list))); }
+static value has_rest(value list) { return truth(is_pair(car(list)) || type_of(car(list)) == WEAK_PAIR); }
 static value all_of(value list) { return list; }
 static value pair_of(value list) { return cons(car(list), second(list)); }
-static value first_of(value list) { return car(car(list)); }
-static value rest_of(value list) { return cdr(car(list)); }
 static value set_first(value list) { return set_field(car(list), PAIR, 1, second(list)); }
 static value set_rest(value list) { return set_field(car(list), PAIR, 2, second(list)); }
-static value weak_box(value list) { return make_weak_box(car(list)); }
+static value weak_box(value list) { return make_weak_box(car(list), false); }
+static value weak_pair(value list) { return make(WEAK_PAIR, 2, (value[]){make_weak_box(car(list), true), second(list)}); }
+static value guardian(value list) { return (void)list, make_guardian(); }
 static value error(value list) { fail("", copy_text(car(list), (char[MOST_TEXT]){0})); }
 
-static value weak_value(value list)
+static value in_box(value box)
 {
-    value v = field(car(list), WEAK_BOX, 1);
+    value v = field(box, WEAK_BOX, 1);
 
     return v == NOTHING ? FALSE : v;
+}
+
+static value weak_value(value list) { return in_box(car(list)); }
+
+static value first_of(value list)
+{
+    value pair = car(list);
+
+    return type_of(pair) == WEAK_PAIR ? in_box(field(pair, WEAK_PAIR, 1)) : car(pair);
+}
+
+static value rest_of(value list)
+{
+    value pair = car(list);
+
+    return type_of(pair) == WEAK_PAIR ? field(pair, WEAK_PAIR, 2) : cdr(pair);
 }
 
 static value print(value list)
@@ -126,12 +142,30 @@ static value print(value list)
     return VOID;
 }
 
-static value call_on_collect(value list)
+/* In a world a port has a finalizer already, which closes its file. */
+static value finalize_by(const char *name, value object, value by)
 {
-    if (!is_object(car(list)) || type_of(car(list)) == PORT)
-        fail("on-collect wants an object that is no port", "");
-    on_collect(car(list), CALL_LISP, make(FINALIZER, 3, (value[]){second(list), NOTHING, NIL}));
+    if (!is_object(object) || type_of(object) == PORT)
+        fail(name, " wants an object that is no port");
+    on_collect(object, by);
     return VOID;
+}
+
+static value call_on_collect(value list) { return finalize_by("on-collect", car(list), second(list)); }
+
+/* (guardian object): it has the object once nothing else leads to it. (guardian): the first that it has, and has no more then, or #f. */
+value call_guardian(value guardian, value arguments)
+{
+    value first = first_guarded(guardian);
+
+    if (length(arguments) > 1)
+        fail("another number of arguments is wanted by ", "a guardian");
+    if (arguments != NIL)
+        return finalize_by("a guardian", car(arguments), guardian);
+    if (first == NIL)
+        return FALSE;
+    remove_first_guarded(guardian);
+    return field(first, FINALIZER, 2);
 }
 
 static value collect_all(value list)
@@ -150,6 +184,7 @@ static const struct { const char *name; uint64_t arguments; value (*call)(value 
     {"car", 1, first_of},               {"cdr", 1, rest_of},
     {"set-car!", 2, set_first},         {"set-cdr!", 2, set_rest},
     {"weak-box", 1, weak_box},          {"weak-value", 1, weak_value},
+    {"weak-cons", 2, weak_pair},        {"make-guardian", 0, guardian},
     {"on-collect", 2, call_on_collect}, {"collect", 0, collect_all},
     {"print", ANY_NUMBER, print},       {"error", 1, error},
     {"open", 1, open_port},             {"read-line", 1, read_line},

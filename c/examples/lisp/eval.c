@@ -165,7 +165,7 @@ static const struct { const char *name; void (*carry_out)(value rest); } forms[F
 /* Stops what is evaluated, if an object is gone, for the procedure of its finalizer: one at a time. */
 static void evaluate_step(void)
 {
-    value expr = get(EXPR), ready = finalizing ? NIL : get(READY);
+    value expr = get(EXPR), ready = finalizing ? NIL : first_guarded(get(READY));
 
     if (ready != NIL) {
         wait(THEN_FINALIZED, expr);
@@ -213,7 +213,7 @@ static void resume(value then)
         call(get(VAL), kept);
         break;
     case THEN_FINALIZED:
-        finish_finalizer();
+        remove_first_guarded(get(READY));
         finalizing = false;
         state = EVALUATE;
         break;
@@ -239,8 +239,8 @@ static void apply_step(void)
 {
     set(ARGS, reversed(get(ARGS)));
     value procedure = car(get(ARGS)), arguments = cdr(get(ARGS));
-    if (is_builtin(procedure)) {
-        give(call_builtin(procedure, arguments));
+    if (is_builtin(procedure) || type_of(procedure) == GUARDIAN) {
+        give(is_builtin(procedure) ? call_builtin(procedure, arguments) : call_guardian(procedure, arguments));
         return;
     }
     value code = field(procedure, CLOSURE, 1);

@@ -76,14 +76,16 @@ const char *copy_text(value string, char *text)
 }
 
 /* The word of a box is a link where the value is an object, so that a collection clears it. */
-value make_weak_box(value v)
+value make_weak_box(value v, bool is_long)
 {
     value box = make(WEAK_BOX, 1, &v);
 
-    if (is_object(v) && !heap->link(box, 1, v))
+    if (is_object(v) && !heap->link(box, 1, v, is_long))
         fail("too many weak boxes", "");
     return box;
 }
+
+value make_guardian(void) { return make(GUARDIAN, 2, (value[]){NIL, NIL}); }
 
 /* ---- the stack: objects of a block, each with the one below; a field that isn't in use keeps nothing */
 
@@ -107,29 +109,50 @@ value pop(void)
     return v;
 }
 
-/* ---- collections and finalizers */
+/* ---- guardians: each has a list of FINALIZERs whose objects are gone, and which keep these */
 
-/* An object is gone: closes its file, or has its procedure of Lisp wait for the machine, behind those that wait. */
+value first_guarded(value guardian) { return field(guardian, GUARDIAN, 1); }
+
+static void append_guarded(value guardian, value finalizer)
+{
+    value last = field(guardian, GUARDIAN, 2);
+
+    if (last == NIL)
+        set_field(guardian, GUARDIAN, 1, finalizer);
+    else
+        set_field(last, FINALIZER, 3, finalizer);
+    set_field(guardian, GUARDIAN, 2, finalizer);
+}
+
+void remove_first_guarded(value guardian)
+{
+    value rest = field(first_guarded(guardian), FINALIZER, 3);
+
+    set_field(guardian, GUARDIAN, 1, rest);
+    if (rest == NIL)
+        set_field(guardian, GUARDIAN, 2, NIL);
+}
+
+/* ---- collections, finalizers and cleanups */
+
+/* An object is gone, and is 0 of a cleanup: closes its file, or puts its finalizers into their guardians; for procedures of Lisp that
+ * is the machine's. A port that is there may be in use again. */
 void finalize(uint64_t procedure, value object, value data)
 {
     if (procedure == CLOSE_FILE) {
+        if (object)
+            set_field(object, PORT, 1, FALSE);
         close_file(data);
         return;
     }
-    set_field(data, FINALIZER, 2, object);
-    if (get(READY) == NIL)
-        set(READY, data);
-    else
-        set_field(get(LAST), FINALIZER, 3, data);
-    set(LAST, data);
-}
+    for (value next; data != NIL; data = next) {
+        value by = field(data, FINALIZER, 1);
 
-/* The first that is ready goes, which kept its object and its procedure. */
-void finish_finalizer(void)
-{
-    set(READY, field(get(READY), FINALIZER, 3));
-    if (get(READY) == NIL)
-        set(LAST, NIL);
+        next = field(data, FINALIZER, 3);
+        set_field(data, FINALIZER, 2, object);
+        set_field(data, FINALIZER, 3, NIL);
+        append_guarded(type_of(by) == GUARDIAN ? by : get(READY), data);
+    }
 }
 
 uint64_t collect(void)
@@ -138,16 +161,29 @@ uint64_t collect(void)
     return heap->collect();
 }
 
-/* Has a procedure called once nothing else leads to the object: in any order, since Lisp's objects lead to
- * each other in rings. The data is kept: for a procedure of Lisp a FINALIZER, so that nothing is made for it later. */
-void on_collect(value object, uint64_t procedure, value data)
+/* Has a procedure of Lisp called with the object, or a guardian have it, once nothing else leads to it: in any order, since
+ * Lisp's objects lead to each other in rings. The FINALIZER is made now, so that nothing is made for it later. Those of one
+ * object are a list, the last first, since a heap has one finalizer of an object. */
+void on_collect(value object, value by)
 {
-    if (!heap->on_collect(object, procedure, data))
+    value finalizer = make(FINALIZER, 3, (value[]){by, NOTHING, NIL}), before;
+
+    if (!heap->on_collect(object, CALL_LISP, finalizer, &before))
         fail("too many finalizers", "");
+    set_field(finalizer, FINALIZER, 3, before);
 }
 
-/* No procedure is called for the object. */
-void never_mind(value object) { heap->never_mind(object); }
+/* Has a procedure called with a small number once the object is gone. Returns how never_mind is to name that. */
+uint64_t when_gone(value object, uint64_t procedure, uint64_t number)
+{
+    uint64_t cleanup;
+
+    if (!heap->when_gone(object, procedure, number, &cleanup))
+        fail("too many cleanups", "");
+    return cleanup;
+}
+
+void never_mind(value object, uint64_t cleanup) { heap->never_mind(object, cleanup); }
 
 /* ---- the heap as a whole */
 
@@ -156,8 +192,7 @@ void open_heap(const struct heap *chosen, uint64_t blocks, bool stress)
     heap = chosen;
     if (!heap->open(blocks))
         fail("there is no heap of so many blocks", "");
-    set(READY, NIL);
-    set(LAST, NIL);
+    set(READY, make_guardian());
     set(GLOBALS, make(GLOBAL, MOST_SYMBOLS, (value[MOST_SYMBOLS]){NOTHING}));
     set(STACK, make(PART, PART_FIELDS, (value[PART_FIELDS]){NIL}));
     set(ENV, NIL);

@@ -1,5 +1,5 @@
-/* What Lisp wants of a heap: objects of words, registers that keep what they lead to, links and finalizers. world.c has it
- * from a world of derrimas.h, and own.c from the heap of ../own_heap. */
+/* What Lisp wants of a heap: objects of words, registers that keep what they lead to, links, finalizers and cleanups. world.c
+ * has it from a world of derrimas.h, and own.c from the heap of ../own_heap. */
 #ifndef HEAP_H
 #define HEAP_H
 
@@ -10,7 +10,7 @@ struct heap {
     uint64_t blocks; /* of 64 words: how many it has where nobody says */
 
     bool (*open)(uint64_t blocks);
-    void (*close)(void); /* calls `finalize` for all files that are registered, and frees all */
+    void (*close)(void); /* calls `finalize` for all open files, and frees all */
 
     value (*get)(enum reg reg);
     void (*set)(enum reg reg, value v);
@@ -18,12 +18,18 @@ struct heap {
     void (*write)(value object, uint64_t offset, value v);
     value (*alloc)(uint64_t words, bool is_scanned); /* 0 where there is no room; the register NEW keeps it */
 
-    /* A collection that finds that nothing leads to the target writes 0 to the word. The object isn't scanned. */
-    bool (*link)(value object, uint64_t offset, value target);
+    /* A collection that finds that nothing leads to the target writes 0 to the word; if it is long, one by which the target
+     * goes. The object isn't scanned. */
+    bool (*link)(value object, uint64_t offset, value target, bool is_long);
 
-    /* The first collection that finds that nothing else leads to the object calls `finalize`, in any order. */
-    bool (*on_collect)(value object, uint64_t procedure, value data);
-    void (*never_mind)(value object);
+    /* The first collection that finds that nothing else leads to the object calls `finalize` with it, in any order. The data
+     * takes the place of that of before, which is in *before, or NIL. */
+    bool (*on_collect)(value object, uint64_t procedure, value data, value *before);
+
+    /* The same without the object, which has no use any more. It is freed by the same collection, if there are cleanups. A heap
+     * may have none: then the object has no other finalizer. */
+    bool (*when_gone)(value object, uint64_t procedure, uint64_t number, uint64_t *cleanup);
+    void (*never_mind)(value object, uint64_t cleanup);
     uint64_t (*collect)(void); /* returns how many objects it freed */
 };
 

@@ -31,14 +31,16 @@ enum type {
     TRUE,
     FALSE,
     VOID,
-    PAIR,     /* first, rest */
-    CLOSURE,  /* pair of names and body, environment */
-    STRING,   /* bytes, up to a 0 */
-    PORT,     /* place in the table of files, or FALSE since it was closed */
-    WEAK_BOX, /* the value, or NOTHING since that is gone */
-    PART,     /* the part of the stack below it, or NIL; values */
-    GLOBAL,   /* for each symbol a pair, whose first is the value where the environment has none */
-    FINALIZER /* the procedure, the object since it is gone, the next one that waits */
+    PAIR,      /* first, rest */
+    CLOSURE,   /* pair of names and body, environment */
+    STRING,    /* bytes, up to a 0 */
+    PORT,      /* place in the table of files, or FALSE since it was closed */
+    WEAK_BOX,  /* the value, or NOTHING since that is gone */
+    WEAK_PAIR, /* a weak box with the first, rest */
+    GUARDIAN,  /* the first and the last FINALIZER that it has, or NIL */
+    PART,      /* the part of the stack below it, or NIL; values */
+    GLOBAL,    /* for each symbol a pair, whose first is the value where the environment has none */
+    FINALIZER  /* the procedure or the guardian, the object since it is gone, the next one */
 };
 
 /* Those before PART stand in a table of names, and then the symbols: the forms' first, then the builtins'. A
@@ -46,11 +48,10 @@ enum type {
 enum { FIRST_SYMBOL = PART, FORMS = 8, MOST_SYMBOLS = 1000, MOST_TEXT = 1024 };
 enum { FIRST_BUILTIN = FIRST_SYMBOL + FORMS + MOST_SYMBOLS };
 
-/* The registers. READY is the first finalizer that Lisp is to call, and LAST the last, or NIL. Those from NEW on are
- * heap.c's own. */
-enum reg { EXPR, VAL, ARGS, ENV, STACK, GLOBALS, READY, LAST, NEW, FIELDS, REGISTERS = FIELDS + 2 };
+/* The registers. READY is a guardian whose procedures the machine is to call. Those from NEW on are heap.c's own. */
+enum reg { EXPR, VAL, ARGS, ENV, STACK, GLOBALS, READY, NEW, FIELDS, REGISTERS = FIELDS + 2 };
 
-/* The procedures of finalizers: a file's, by its place in the table, and Lisp's. */
+/* The procedures of cleanups and finalizers: a file's, by its place in the table, and Lisp's. */
 enum { CLOSE_FILE, CALL_LISP };
 
 /* ---- heap.c */
@@ -67,16 +68,19 @@ value set_field(value object, enum type type, uint64_t number, value v); /* retu
 /* These keep the values that they are given. It is an error of Lisp if memory is short. */
 value make(enum type type, uint64_t count, const value *fields);
 value make_string(const char *text);
-value make_weak_box(value v);
+value make_weak_box(value v, bool is_long); /* long: the value is gone once no finalizer keeps it */
+value make_guardian(void);
 const char *copy_text(value string, char *text);
 
 void push(value v);
 value pop(void);
 
 uint64_t collect(void); /* returns how many objects it freed */
-void on_collect(value object, uint64_t procedure, value data);
-void never_mind(value object);
-void finish_finalizer(void); /* the first that is ready */
+void on_collect(value object, value by);
+uint64_t when_gone(value object, uint64_t procedure, uint64_t number);
+void never_mind(value object, uint64_t cleanup);
+value first_guarded(value guardian); /* a FINALIZER, or NIL */
+void remove_first_guarded(value guardian);
 
 struct heap;
 void open_heap(const struct heap *chosen, uint64_t blocks, bool stress);
@@ -99,6 +103,7 @@ uint64_t length(value list);
 
 void name_builtins(void);
 value call_builtin(value builtin, value arguments);
+value call_guardian(value guardian, value arguments);
 void close_file(uint64_t file);
 bool are_files_closed(void);
 

@@ -15,21 +15,36 @@ static value read_word(value object, uint64_t offset) { return words_of(object)[
 static void write_word(value object, uint64_t offset, value v) { words_of(object)[offset] = v; }
 static value alloc(uint64_t words, bool is_scanned) { return registers[NEW] = own_heap_number(own_heap_alloc(&heap, words, is_scanned)); }
 
-static bool link_word(value object, uint64_t offset, value target)
+static bool link_word(value object, uint64_t offset, value target, bool is_long)
 {
-    uint64_t word = own_heap_word(words_of(object), offset);
+    derrimas_finalizers_link_kind kind = is_long ? DERRIMAS_FINALIZERS_LONG : DERRIMAS_FINALIZERS_SHORT;
 
-    return derrimas_finalizers_link(&heap.finalizers, DERRIMAS_FINALIZERS_SHORT, word, target, NULL) == DERRIMAS_FINALIZERS_OK;
+    return derrimas_finalizers_link(&heap.finalizers, kind, own_heap_word(words_of(object), offset), target, NULL) == DERRIMAS_FINALIZERS_OK;
 }
 
-static bool on_collect_object(value object, uint64_t procedure, value data)
+static bool on_collect_object(value object, uint64_t procedure, value data, value *before)
 {
     derrimas_finalizers_kind kind = DERRIMAS_FINALIZERS_NO_ORDER;
+    derrimas_finalizers_old old = {0, 0, false};
+    bool is_made = derrimas_finalizers_register(&heap.finalizers, object, kind, procedure, data, 0, NULL, &old) == DERRIMAS_FINALIZERS_OK;
 
-    return derrimas_finalizers_register(&heap.finalizers, object, kind, procedure, data, 0, NULL, NULL) == DERRIMAS_FINALIZERS_OK;
+    *before = old.was ? old.cd : NIL;
+    return is_made;
 }
 
-static void never_mind_object(value object) { (void)derrimas_finalizers_unregister(&heap.finalizers, object, NULL); }
+static bool when_object_gone(value object, uint64_t procedure, uint64_t number, uint64_t *cleanup)
+{
+    derrimas_finalizers_when when = DERRIMAS_FINALIZERS_LONG;
+
+    return derrimas_finalizers_add_cleanup(&heap.finalizers, object, when, procedure, number, 0, cleanup) == DERRIMAS_FINALIZERS_OK;
+}
+
+static void never_mind_object(value object, uint64_t cleanup)
+{
+    (void)object;
+    (void)derrimas_finalizers_cancel(&heap.finalizers, cleanup, NULL);
+}
+
 static void run(const derrimas_finalizers_entry *entry) { finalize(entry->proc, entry->obj, entry->cd); }
 
 static uint64_t collect_own(void)
@@ -44,12 +59,12 @@ static bool open_own(uint64_t blocks) { return blocks <= SIZE_MAX / BLOCK && own
 
 static void close_own(void)
 {
-    (void)derrimas_finalizers_queue_all(&heap.finalizers, NULL);
+    (void)derrimas_finalizers_queue_cleanups(&heap.finalizers, NULL);
     (void)own_heap_run(&heap, run);
     own_heap_close(&heap);
 }
 
 const struct heap over_own = {
     "own", BLOCKS, open_own, close_own, get_register, set_register, read_word, write_word, alloc,
-    link_word, on_collect_object, never_mind_object, collect_own,
+    link_word, on_collect_object, when_object_gone, never_mind_object, collect_own,
 };

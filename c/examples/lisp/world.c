@@ -54,21 +54,34 @@ static value alloc(uint64_t words, bool is_scanned)
     return derrimas_alloc(&world, at(NEW), words, is_scanned ? DERRIMAS_SCANNED : DERRIMAS_ATOMIC, &made) == DERRIMAS_OK ? made.address : 0;
 }
 
-static bool link_word(value object, uint64_t offset, value target)
+static bool link_word(value object, uint64_t offset, value target, bool is_long)
 {
     set_slot(HOLDER, object);
     set_slot(WORD, target);
-    return derrimas_link(&world, DERRIMAS_SHORT, at(HOLDER), offset, at(WORD), NULL) == DERRIMAS_OK;
+    return derrimas_link(&world, is_long ? DERRIMAS_LONG : DERRIMAS_SHORT, at(HOLDER), offset, at(WORD), NULL) == DERRIMAS_OK;
 }
 
-static bool on_collect_object(value object, uint64_t procedure, value data)
+static bool on_collect_object(value object, uint64_t procedure, value data, value *before)
 {
+    derrimas_registered registered = {.made = false};
+
     set_slot(HOLDER, object);
-    return derrimas_register_no_order(&world, at(HOLDER), procedure, data) == DERRIMAS_OK;
+    bool is_made = derrimas_register_object(&world, at(HOLDER), DERRIMAS_NO_ORDER, procedure, data, 0, &registered) == DERRIMAS_OK;
+    *before = registered.replaced.was ? registered.replaced.cd : NIL;
+    return is_made;
 }
 
-static void never_mind_object(value object)
+/* A world has no cleanups: a finalizer keeps the object for one collection more. */
+static bool when_object_gone(value object, uint64_t procedure, uint64_t number, uint64_t *cleanup)
 {
+    *cleanup = 0;
+    set_slot(HOLDER, object);
+    return derrimas_register_no_order(&world, at(HOLDER), procedure, number) == DERRIMAS_OK;
+}
+
+static void never_mind_object(value object, uint64_t cleanup)
+{
+    (void)cleanup;
     set_slot(HOLDER, object);
     must(derrimas_unregister(&world, at(HOLDER), NULL));
 }
@@ -106,5 +119,5 @@ static void close_world(void)
 
 const struct heap over_world = {
     "world", DERRIMAS_MAX_BLOCKS, open_world, close_world, get_register, set_register, read_word, write_word, alloc,
-    link_word, on_collect_object, never_mind_object, collect_world,
+    link_word, on_collect_object, when_object_gone, never_mind_object, collect_world,
 };

@@ -1,14 +1,14 @@
 //! A heap of records.
 
-ghost use Rattle.std.specs.Prelude.{◌≡◌, ◌+◌, ◌^◌, ◌<◌, ◌≤◌, ◌⊎◌, [], ℕ, false, is_some, length, option_map, replicate, slice_set, IfOk, IfSome, MatchOption, None, Some};
-ghost use Rattle.std.specs.FinMap.{retain_keys};
+ghost use Rattle.std.specs.Prelude.{◌≡◌, ◌+◌, ◌^◌, ◌<◌, ◌≤◌, ◌⊎◌, [], ℕ, false, is_some, length, option_map, replicate, slice_set, IfOk, IfSome, IsTrue, MatchOption, None, Some};
+ghost use Rattle.std.specs.FinMap.{get, retain_keys};
 ghost use Rattle.std.specs.Option.{option_copied};
 ghost use Rattle.fz_pass.specs.Marks.{IsClosed, Marks as MarksOf};
-ghost use Rattle.own_heap.specs.Records.{objects_of, slot, with_field, IsFull, IsLedByRoot, IsLedByWord, IsMade};
+ghost use Rattle.own_heap.specs.Records.{address_of, objects_of, slot, with_field, IsFull, IsLedByRoot, IsLedByWord, IsMade};
 ghost use Rattle.own_heap.specs.Marking.{is_marked};
 
 use crate::marks::Marks;
-use crate::record::{FIELDS, Field, Record, RecordId};
+use crate::record::{FIELDS, Field, Record, RecordId, place_of};
 use crate::records::Records;
 use fz_model::Addr;
 use std::alloc::{AllocError, Global};
@@ -83,6 +83,21 @@ impl Heap {
         ensures { result ≡ is_some (slot self.now.records.slots.items id.place) }
     {
         self.get(id).is_some()
+    }
+
+    /// The record at an address, which an entry or a link has, or `None` if none is there.
+    pub fn find(&self, address: Addr) -> Option<RecordId>
+        ensures none { result ≡ None → get (objects_of self.now.records.slots.items) address ≡ None }
+        ensures found { IfSome result (λ id. (address_of id.place ≡ address) × IsTrue (is_some (slot self.now.records.slots.items id.place))) }
+    {
+        let at = place_of(address)?;
+        if at >= self.records.slots.len() {
+            return None;
+        }
+        if self.records.slots[at].is_none() {
+            return None;
+        }
+        Some(RecordId { place: at as u32 })
     }
 
     /// Writes a field of a record. Does nothing if the record was swept.
