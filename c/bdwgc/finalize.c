@@ -212,9 +212,16 @@ static void *reallocate(void *nothing, void *memory, size_t size)
 
 static derrimas_finalizers finalizers; /* opened by the first registration or link; until then all calls are refused, and nothing stands */
 
+/* Marks of objects by their index say nothing of places: then the library asks of each object by itself. */
+#ifdef MARK_BIT_PER_OBJ
+#define HAS_MARKS false
+#else
+#define HAS_MARKS true
+#endif
+
 static GC_bool is_open(void)
 {
-    static const derrimas_finalizers_options options = {sizeof options, {allocate, reallocate, release, NULL}};
+    static const derrimas_finalizers_options options = {sizeof options, {allocate, reallocate, release, NULL}, HAS_MARKS};
     static GC_bool opened;
 
     if (!opened)
@@ -533,6 +540,42 @@ GC_INLINE bool holder_is_marked(struct lookup *last, ptr_t link)
     return last->is_marked;
 }
 
+/* The marks of 64 granules of a block, from one on. */
+GC_INLINE uint64_t marks_from(const hdr *header, word granule)
+{
+#ifdef USE_MARK_BYTES
+    uint64_t marks = 0, eight, i;
+
+    for (i = 0; i < 64; i += 8) { /* bytes, each of which is 0 or 1: the product has their bits in its highest byte */
+        memcpy(&eight, header->hb_marks + granule + i, sizeof eight);
+        marks |= eight * UINT64_C(0x0102040810204080) >> 56 << i;
+    }
+    return marks;
+#else
+    return header->hb_marks[divWORDSZ(granule)];
+#endif
+}
+
+/* The word of a region, which lies in one block: a block has a multiple of 64 granules. Where a block is free or gone, or is a further one of a large object,
+ * no object begins. */
+GC_INLINE uint64_t marks_in(struct lookup *last, ptr_t first)
+{
+    const hdr *header = header_of(last, first);
+
+    if (IS_FORWARDING_ADDR_OR_NIL(header) || HBLK_IS_FREE(header))
+        return 0;
+    return marks_from(header, BYTES_TO_GRANULES(first - (ptr_t)last->block));
+}
+
+static void answer_marks(derrimas_question *question)
+{
+    struct lookup last = {NULL, NULL, NULL, 0, false};
+    uint64_t i;
+
+    for (i = 0; i < question->count; i++)
+        question->marks[i] = marks_in(&last, SHOW(question->what[i]));
+}
+
 /* The answers about all objects or words of a question. Each of its uses is a loop of its own. */
 __attribute__((always_inline)) GC_INLINE uint64_t each(const derrimas_question *question, bool (*answer)(struct lookup *, ptr_t))
 {
@@ -544,7 +587,7 @@ __attribute__((always_inline)) GC_INLINE uint64_t each(const derrimas_question *
     return answers;
 }
 
-static uint64_t answers_to(const derrimas_question *question)
+static uint64_t answers_to(derrimas_question *question)
 {
     switch (question->ask) {
     case DERRIMAS_ASK_IS_MARKED:
@@ -561,6 +604,9 @@ static uint64_t answers_to(const derrimas_question *question)
         return each(question, clear);
     case DERRIMAS_ASK_HOLDER_IS_MARKED:
         return each(question, holder_is_marked);
+    case DERRIMAS_ASK_MARKS:
+        answer_marks(question);
+        return 0;
     }
     return 0;
 }
