@@ -70,6 +70,7 @@ impl Machine {
     {
         self.check()?;
         reserving::shrink(&mut self.finalizers, &mut self.walk);
+        self.regions.shrink();
         Ok(())
     }
 
@@ -91,6 +92,7 @@ impl Machine {
         ensures follows { OnOk result (IsIdle self.new × Follows self.old.finalizers.state (Register object finalizer) self.new.finalizers.state) }
     {
         self.check()?;
+        self.regions.note(object);
         match reserving::register(&mut self.finalizers, &mut self.walk, object, finalizer) {
             Ok(answer) => Ok(answer),
             Err(refused) => Err(Refused::Finalizers(refused)),

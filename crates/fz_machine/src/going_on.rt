@@ -12,27 +12,57 @@ use crate::item::Item;
 use crate::listing::begin;
 use crate::phase::Phase;
 use crate::question::{Ask, BATCH};
+use crate::regions::Regions;
+use crate::sifting::settle;
 use crate::walk::Walk;
 use fz_finalizers::Finalizers;
 use fz_model::Addr;
 
+/// Skips what isn't asked about, and returns whether something is left.
+fn skip_by(
+    finalizers: &mut Finalizers,
+    walk: &mut Walk,
+    regions: &mut Regions,
+    phase: Phase,
+) -> bool {
+    if settle(finalizers, regions) {
+        return true;
+    }
+    skip(finalizers, walk, phase);
+    walk.first().is_some()
+}
+
+/// Lists what a phase processes: registrations by regions, if they are complete.
+fn begin_by(finalizers: &Finalizers, walk: &mut Walk, regions: &mut Regions, phase: Phase) {
+    if phase == Phase::Objects && regions.is_complete() {
+        walk.clear();
+        regions.begin();
+        return;
+    }
+    begin(finalizers, walk, phase);
+}
+
 /// Proceeds to the first phase with something to ask, and returns it, or to the end of the pass.
-pub(crate) fn go_on(finalizers: &mut Finalizers, walk: &mut Walk, phase: Phase) -> Option<Phase>
+pub(crate) fn go_on(
+    finalizers: &mut Finalizers,
+    walk: &mut Walk,
+    regions: &mut Regions,
+    phase: Phase,
+) -> Option<Phase>
     requires room { HasRoom finalizers.old.state walk.old.room }
     ensures goes { GoesOn phase (going finalizers.old walk.old) result (going finalizers.new walk.new) }
     ensures room { HasRoom finalizers.new.state walk.new.room }
 {
     let mut phase = phase;
     loop {
-        skip(finalizers, walk, phase);
-        if walk.first().is_some() {
+        if skip_by(finalizers, walk, regions, phase) {
             return Some(phase);
         }
         let Some(next) = phase.next() else {
             return None;
         };
         phase = next;
-        begin(finalizers, walk, phase);
+        begin_by(finalizers, walk, regions, phase);
     }
 }
 

@@ -44,6 +44,21 @@ impl Item {
         }
     }
 
+    /// An object's registration, by its kind and rank.
+    pub(crate) fn of_registration(object: Addr, kind: Kind, rank: u8) -> Item {
+        let rank = u16::from(rank);
+        Item {
+            object,
+            word: 0,
+            kind,
+            turn: if kind == Kind::Unreachable {
+                256 + rank
+            } else {
+                rank
+            },
+        }
+    }
+
     /// An object's registration.
     pub(crate) fn of_stored(object: Addr, stored: &Stored) -> Item
         ensures { result ≡ of_stored (object, stored.now) }

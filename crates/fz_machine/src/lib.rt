@@ -14,8 +14,10 @@ mod pass;
 mod phase;
 mod question;
 mod refused;
+mod regions;
 mod reserving;
 mod responding;
+mod sifting;
 mod walk;
 
 pub use item::Item;
@@ -25,5 +27,5 @@ pub use pass::{Next, Step};
 pub use phase::Phase;
 pub use question::{Ask, BATCH, Question};
 pub use refused::Refused;
-pub use responding::respond;
+pub use responding::{respond, respond_marks};
 pub use walk::Walk;

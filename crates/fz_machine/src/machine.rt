@@ -4,6 +4,7 @@ ghost use Rattle.std.specs.Prelude.{◌≡◌, ◌≤◌, ◌+◌, None, is_some
 ghost use Rattle.fz_finalizers.specs.States.{opening};
 
 use crate::phase::Phase;
+use crate::regions::Regions;
 use crate::walk::Walk;
 use fz_finalizers::{Finalizers, Refused};
 use std::alloc::Global;
@@ -15,8 +16,9 @@ use std::marker::Model;
 pub struct Machine {
     pub(crate) finalizers: Finalizers,
     pub(crate) walk: Walk,
+    pub(crate) regions: Regions,
     pub(crate) phase: Option<Phase>,
-    /// How many items the last question was about.
+    /// How many items the last question was about: none if it was about regions.
     pub(crate) asked: usize,
     /// How many entries had been queued when the pass began.
     pub(crate) before: u64,
@@ -28,6 +30,7 @@ impl Drop for Machine {
         let Machine {
             finalizers: _,
             walk: _,
+            regions: _,
             phase: _,
             asked: _,
             before: _,
@@ -55,10 +58,23 @@ impl Machine {
         ensures finalizers { IfOk result (λ m. m.finalizers.state ≡ opening) }
         ensures phase { IfOk result (λ m. m.phase ≡ None) }
     {
+        Machine::opening(alloc, false)
+    }
+
+    /// The same, but a pass asks for the marks of regions (`Ask::Marks`), not about each registered object. So it takes no time for an object that is
+    /// marked. A new registration takes a little more memory, at most 32 bytes and a bit for each. Where that can't be allocated, the registration succeeds, and
+    /// passes ask about objects from then on.
+    pub fn with_regions(alloc: Global) -> Result<Machine, Refused> {
+        Machine::opening(alloc, true)
+    }
+
+    /// Finalizers without registrations, which are noted or not.
+    fn opening(alloc: Global, noted: bool) -> Result<Machine, Refused> {
         let finalizers = Finalizers::new(alloc)?;
         Ok(Machine {
             finalizers,
             walk: Walk::new(alloc),
+            regions: Regions::new(alloc, noted),
             phase: None,
             asked: 0,
             before: 0,

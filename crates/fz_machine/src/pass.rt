@@ -15,6 +15,7 @@ use crate::machine::Machine;
 use crate::phase::Phase;
 use crate::question::{Ask, BATCH, Question};
 use crate::refused::Refused;
+use crate::sifting::hear_marks;
 use fz_finalizers::{Addr, Passed};
 
 /// What a pass returns next.
@@ -73,17 +74,34 @@ impl Machine {
             phase,
             &answers[..heard],
         );
-        self.phase = go_on(&mut self.finalizers, &mut self.walk, phase);
+        Ok(self.ask(phase, about))
+    }
+
+    /// Proceeds to the next question, whose objects, words or regions it writes, or to the end.
+    fn ask(&mut self, phase: Phase, about: &mut [Addr; BATCH]) -> Step {
+        self.phase = go_on(
+            &mut self.finalizers,
+            &mut self.walk,
+            &mut self.regions,
+            phase,
+        );
         self.asked = 0;
         let Some(phase) = self.phase else {
-            return Ok(Step::Ended(Passed {
+            return Step::Ended(Passed {
                 pass: self.finalizers.passes(),
                 picked: self.finalizers.queued().saturating_sub(self.before),
-            }));
+            });
         };
+        let count = self.regions.ask(about);
+        if count > 0 {
+            return Step::Asks {
+                ask: Ask::Marks,
+                count,
+            };
+        }
         let (ask, count) = question(phase, self.walk.left(), about);
         self.asked = count;
-        Ok(Step::Asks { ask, count })
+        Step::Asks { ask, count }
     }
 
     /// Processes the answers to the last question, and returns what comes next: another question or the end. For `IsMarked` and `IsHolderMarked` the answers
@@ -116,5 +134,21 @@ impl Machine {
     {
         let answers = answers_in(answers, self.asked);
         self.proceed(&answers, about)
+    }
+
+    /// Processes the answers to a question about regions: the word at each index has the marks of the region at that index of the question. Returns what comes
+    /// next, and writes the objects, words or regions of a question, as `next_bits` does. If the last question wasn't about regions, it is repeated.
+    ///
+    /// Takes no memory. Fails with `NoPass` if no pass is open.
+    pub fn next_marks(
+        &mut self,
+        marks: &[u64; BATCH],
+        about: &mut [Addr; BATCH],
+    ) -> Result<Step, Refused> {
+        let Some(phase) = self.phase else {
+            return Err(Refused::NoPass);
+        };
+        hear_marks(&self.finalizers, &mut self.walk, &mut self.regions, marks);
+        Ok(self.ask(phase, about))
     }
 }

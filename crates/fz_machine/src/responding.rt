@@ -3,6 +3,7 @@
 ghost use Rattle.fz_machine.specs.Graph.{MayAsk, Answers, graph_of};
 
 use crate::question::Ask;
+use crate::regions::{PLACES, bit, object_at};
 use fz_model::Addr;
 use fz_pass::Host;
 
@@ -36,5 +37,17 @@ pub fn respond<H: Host>(host: &mut H, ask: Ask, subject: Addr) -> bool
             false
         }
         Ask::IsHolderMarked => host.is_holder_marked(subject),
+        Ask::Marks => false,
     }
+}
+
+/// Asks a host that can be called for the marks of a region, which is told by its first address.
+pub fn respond_marks<H: Host>(host: &H, region: Addr) -> u64 {
+    let mut marks = 0;
+    for place in 0..PLACES {
+        if host.is_marked(object_at(region, place)) {
+            marks |= bit(place);
+        }
+    }
+    marks
 }

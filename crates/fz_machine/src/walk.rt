@@ -139,6 +139,21 @@ impl Walk {
         self.place += 1;
     }
 
+    /// Removes all items.
+    pub(crate) fn clear(&mut self) {
+        self.items.clear();
+        self.kept = 0;
+        self.place = 0;
+    }
+
+    /// Keeps another item. The list has room for it, and has none left.
+    pub(crate) fn keep(&mut self, item: Item) {
+        self.items.truncate(self.kept);
+        let _ = self.items.push(item);
+        self.kept = self.items.len();
+        self.place = self.kept;
+    }
+
     /// Starts again with the kept items.
     pub(crate) fn again(&mut self)
         ensures kept { self.new.kept ≡ [] }

@@ -6,5 +6,6 @@ mod asked_cleanups;
 mod beside;
 mod cleanups;
 mod equal;
+mod regions;
 mod runtime;
 mod why;
