@@ -74,8 +74,8 @@ static void *reallocate(void *data, void *at, size_t size)
     return other;
 }
 
-static const derrimas_finalizers_options options = {sizeof options, {allocate, reallocate, release, &first}};
-static const derrimas_finalizers_options other_options = {sizeof other_options, {allocate, reallocate, release, &second}};
+static const derrimas_finalizers_options options = {sizeof options, {allocate, reallocate, release, &first}, false};
+static const derrimas_finalizers_options other_options = {sizeof other_options, {allocate, reallocate, release, &second}, false};
 
 static derrimas_finalizers_counts counted(void)
 {

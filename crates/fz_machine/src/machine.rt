@@ -88,6 +88,11 @@ impl Machine {
         &self.finalizers
     }
 
+    /// Whether the last question was about regions, so that `next_marks` takes its answers.
+    pub fn asks_marks(&self) -> bool {
+        self.regions.asked() > 0
+    }
+
     /// Whether a pass is open.
     pub fn is_open(&self) -> bool
         ensures { result ≡ is_some self.now.phase }

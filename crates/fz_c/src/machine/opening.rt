@@ -12,16 +12,25 @@ use crate::machine::session::MachineSession;
 use fz_machine::Machine;
 use std::alloc::Global;
 
-/// Creates finalizers in an empty handle.
+/// Creates finalizers in an empty handle. With `marks` their passes ask about regions.
 #[unsafe(no_mangle)]
-pub extern "C" fn fz_machine_open(alloc: Global, finalizers: &mut MachineHandle) -> Code
+pub extern "C" fn fz_machine_open(
+    alloc: Global,
+    finalizers: &mut MachineHandle,
+    marks: bool,
+) -> Code
     ensures { Opens finalizers.old.value finalizers.new.value result }
 {
     if let Some(session) = take(finalizers, alloc) {
         put(finalizers, session);
         return IS_OPEN;
     }
-    let Ok(machine) = Machine::new(alloc) else {
+    let made = if marks {
+        Machine::with_regions(alloc)
+    } else {
+        Machine::new(alloc)
+    };
+    let Ok(machine) = made else {
         return NO_MEMORY;
     };
     let Ok(session) = Box::new(alloc, MachineSession { machine }) else {

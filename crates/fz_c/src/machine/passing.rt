@@ -21,6 +21,7 @@ pub struct Question {
     pub what: [u64; BATCH],
     pub count: u64,
     pub ask: u32,
+    pub marks: [u64; BATCH],
 }
 
 /// What a pass has done.
@@ -55,7 +56,7 @@ pub extern "C" fn fz_machine_abandon(alloc: Global, finalizers: &mut MachineHand
     }
 }
 
-/// `Machine::next_bits`.
+/// `Machine::next_bits`, or `Machine::next_marks` if the last question was about regions.
 #[unsafe(no_mangle)]
 pub extern "C" fn fz_machine_next(
     alloc: Global,
@@ -66,12 +67,13 @@ pub extern "C" fn fz_machine_next(
 ) -> Code
     ensures { Behind finalizers.old.value finalizers.new.value result ((question.new ≡ question.old) × (passed.new ≡ passed.old)) (λ m n. AsksNext m (bits_of answers) n result question.old question.new passed.old passed.new) }
 {
-    let reply = behind!(
-        alloc,
-        finalizers,
-        NOT_OPEN,
-        |it| it.machine.next_bits(answers, &mut question.what)
-    );
+    let reply = behind!(alloc, finalizers, NOT_OPEN, |it| {
+        if it.machine.asks_marks() {
+            it.machine.next_marks(&question.marks, &mut question.what)
+        } else {
+            it.machine.next_bits(answers, &mut question.what)
+        }
+    });
     match reply {
         Ok(Step::Asks { ask, count }) => {
             question.count = count as u64;
