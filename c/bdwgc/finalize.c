@@ -562,7 +562,9 @@ GC_INLINE uint64_t marks_in(struct lookup *last, ptr_t first)
 {
     const hdr *header = header_of(last, first);
 
-    if (IS_FORWARDING_ADDR_OR_NIL(header) || HBLK_IS_FREE(header))
+    if (IS_FORWARDING_ADDR_OR_NIL(header))
+        return 0;
+    if (HBLK_IS_FREE(header))
         return 0;
     return marks_from(header, BYTES_TO_GRANULES(first - (ptr_t)last->block));
 }
