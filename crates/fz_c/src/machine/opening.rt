@@ -19,7 +19,7 @@ pub extern "C" fn fz_machine_open(
     finalizers: &mut MachineHandle,
     marks: bool,
 ) -> Code
-    ensures { Opens finalizers.old.value finalizers.new.value result }
+    ensures { Opens marks finalizers.old.value finalizers.new.value result }
 {
     if let Some(session) = take(finalizers, alloc) {
         put(finalizers, session);
