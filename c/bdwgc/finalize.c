@@ -259,6 +259,12 @@ static GC_bool found_memory(size_t size)
     return found != NULL;
 }
 
+/* How many registrations, cleanups and entries that wait have client data. */
+static word with_data;
+
+static word is_data(uint64_t cd) { return SHOW(cd) != NULL; }
+static word had_data(const derrimas_finalizers_old *old) { return old->was ? is_data(old->cd) : 0; }
+
 /* ---- registrations */
 
 /* Registers or removes, under the lock. FALSE: there was no memory. */
@@ -267,11 +273,13 @@ static GC_bool change(uint64_t object, GC_finalization_proc proc, uint64_t cd, d
     if (proc == 0) {
         (void)derrimas_finalizers_unregister(&finalizers, object, old);
         GC_fo_entries -= old->was;
+        with_data -= had_data(old);
         return TRUE;
     }
     if (!is_open() || derrimas_finalizers_register(&finalizers, object, kind, (uint64_t)(word)proc, cd, 0, NULL, old) != DERRIMAS_FINALIZERS_OK)
         return FALSE;
     GC_fo_entries += !old->was;
+    with_data += is_data(cd) - had_data(old);
     return TRUE;
 }
 
@@ -341,6 +349,7 @@ GC_API unsigned long long GC_CALL GC_add_cleanup(void *object, GC_cleanup_when w
     done = HDR(object) != 0
            && (add(hidden, when, proc, data, &number)
                || (found_memory(sizeof(derrimas_finalizers_cleanup_at)) && add(hidden, when, proc, data, &number)));
+    with_data += done ? is_data(data) : 0;
     GC_reachable_here(object);
     GC_reachable_here(cd);
     UNLOCK();
@@ -354,6 +363,7 @@ GC_API int GC_CALL GC_cancel_cleanup(unsigned long long number)
 
     LOCK();
     (void)derrimas_finalizers_cancel(&finalizers, number - 1, &old);
+    with_data -= had_data(&old);
     UNLOCK();
     return old.was;
 }
@@ -450,7 +460,8 @@ GC_API void GC_CALL GC_push_finalizer_structures(void)
 {
     push_roots(DERRIMAS_FINALIZERS_HELD_OBJECTS);
     push_roots(DERRIMAS_FINALIZERS_HELD_DATA);
-    push_roots(DERRIMAS_FINALIZERS_REGISTERED_DATA);
+    if (with_data > 0)
+        push_roots(DERRIMAS_FINALIZERS_REGISTERED_DATA);
 }
 
 /* ---- the answers to a pass */
@@ -674,6 +685,7 @@ static GC_bool take(struct taken *taken)
         taken->cd = SHOW(entry.cd);
         taken->proc = (GC_finalization_proc)(word)entry.proc;
         taken->freed = GC_bytes_freed;
+        with_data -= is_data(entry.cd);
     }
     tell_waiting();
     UNLOCK();

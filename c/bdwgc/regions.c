@@ -5,7 +5,7 @@
 
 enum { OBJECTS = 3000, ROUNDS = 8, SIZES = 14, SMALL = 9, FEW = 20, PROCESSES = 4 };
 
-static const size_t sizes[SIZES] = {16, 32, 48, 64, 80, 112, 1008, 1024, 1040, 2048, 4000, 4096, 8200, 100000};
+static const size_t sizes[SIZES] = {8, 24, 40, 56, 72, 104, 1000, 1016, 1032, 2040, 4000, 4088, 8200, 100000}; /* in bdwgc at least a byte more */
 
 /* The objects that stay are a root. What is known of each that ever was isn't scanned: its address is hidden. */
 static void **objects;
