@@ -1,5 +1,6 @@
 /* Memory of a host's own, by its options. Each allocation is refused once, after which nothing has changed; no call but those that derrimas_finalizers.h names
- * asks for memory or gives any back; calls that take a const handle write to none of it, which is then read-only; and each handle has its own.
+ * asks for memory or gives any back; calls that take a const handle write to none of it, which is then read-only; and each handle has its own. All of this
+ * without the option `marks` and with it.
  */
 #define _DEFAULT_SOURCE /* for MAP_ANONYMOUS */
 #include "finalizers_host.h"
@@ -74,8 +75,8 @@ static void *reallocate(void *data, void *at, size_t size)
     return other;
 }
 
-static const derrimas_finalizers_options options = {sizeof options, {allocate, reallocate, release, &first}, false};
-static const derrimas_finalizers_options other_options = {sizeof other_options, {allocate, reallocate, release, &second}, false};
+static derrimas_finalizers_options options = {sizeof options, {allocate, reallocate, release, &first}, false};
+static derrimas_finalizers_options other_options = {sizeof other_options, {allocate, reallocate, release, &second}, false};
 
 static derrimas_finalizers_counts counted(void)
 {
@@ -364,6 +365,49 @@ static void shrinks(void)
     }
 }
 
+/* How many objects of a graph are queued, where so many allocations are granted before one is refused, which comes in the registrations; and whether one was. */
+static uint64_t queued_with(long granted, bool *was_refused)
+{
+    derrimas_finalizers_code code;
+    uint64_t picked = 0;
+
+    *was_refused = false;
+    memset(&all, 0, sizeof all);
+    OK(derrimas_finalizers_open(&finalizers, &options));
+    first.granted = granted;
+    for (size_t n = 0; n < 300; n++)
+        do {
+            objects[n].is_root = n % 3 == 0;
+            code = derrimas_finalizers_register(&finalizers, number_of(&objects[n]), DERRIMAS_FINALIZERS_NORMAL, n, n, 0, NULL, NULL);
+            *was_refused |= first.granted == 0;
+            first.granted = *was_refused ? -1 : first.granted;
+        } while (code == DERRIMAS_FINALIZERS_NO_MEMORY);
+    first.granted = -1;
+    picked += collect(&all, &finalizers).picked;
+    for (size_t n = 0; n < 300; n++)
+        objects[n].is_root = false;
+    picked += 1000 * collect(&all, &finalizers).picked;
+    IS(counted().registrations, 0);
+    closes();
+    return picked;
+}
+
+/* Whichever allocation is refused in the registrations, passes queue the same. Without memory for a region they ask of each object. */
+static void refused_regions(void)
+{
+    uint64_t by_regions = 0, by_objects = 0;
+    bool was_refused = true;
+
+    options.marks = true;
+    for (long granted = 0; was_refused; granted++) {
+        IS(queued_with(granted, &was_refused), 100200);
+        by_regions += all.asked[DERRIMAS_ASK_MARKS] > 0;
+        by_objects += all.asked[DERRIMAS_ASK_MARKS] == 0;
+        IS(all.asked[DERRIMAS_ASK_MARKS] > 0 || was_refused, true);
+    }
+    IS(by_regions > 1 && by_objects > 0, true);
+}
+
 static uint64_t cleanups[2][OBJECTS]; /* their numbers */
 
 static void fill(void)
@@ -571,18 +615,22 @@ int main(void)
     second.memory = mmap(NULL, ROOM, PROT_READ | PROT_WRITE, MAP_PRIVATE | MAP_ANONYMOUS, -1, 0);
     if (first.memory == MAP_FAILED || second.memory == MAP_FAILED)
         return 2;
-    opening();
-    refusals();
-    for (int kind = 0; kind < 16; kind++)
-        replacing((derrimas_finalizers_kind)(kind / 4), (derrimas_finalizers_kind)(kind % 4));
-    too_much();
-    reserved();
-    reserved_in_fuzz();
-    shrinks();
-    others();
-    constant();
-    in_turn();
-    nested();
-    at_the_same_time();
+    for (unsigned marks = 0; marks < 2; marks++) {
+        options.marks = other_options.marks = marks;
+        opening();
+        refusals();
+        for (int kind = 0; kind < 16; kind++)
+            replacing((derrimas_finalizers_kind)(kind / 4), (derrimas_finalizers_kind)(kind % 4));
+        too_much();
+        reserved();
+        reserved_in_fuzz();
+        shrinks();
+        others();
+        constant();
+        in_turn();
+        nested();
+        at_the_same_time();
+    }
+    refused_regions();
     return told();
 }
