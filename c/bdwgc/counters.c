@@ -50,17 +50,18 @@ APART static void make_all(void)
     }
 }
 
-/* Registers large objects, frees them, and registers a small one that stays. Their blocks were marked in a collection, and are free. */
+/* Registers large objects, frees them, and registers a small one that stays. Their blocks were marked in a collection, and are free, with others between them. */
 APART static void make_and_free(void **stays)
 {
     void *large[LARGE];
 
     for (unsigned n = 0; n < LARGE; n++) {
         large[n] = GC_malloc(LARGE_SIZE);
-        GC_register_finalizer(large[n], note, 0, 0, 0);
+        if (n % 2)
+            GC_register_finalizer(large[n], note, 0, 0, 0);
     }
     collect();
-    for (unsigned n = 0; n < LARGE; n++) {
+    for (unsigned n = 1; n < LARGE; n += 2) {
         GC_register_finalizer(large[n], 0, 0, 0, 0);
         GC_free(large[n]);
     }
@@ -77,6 +78,38 @@ APART static void free_all(void **stays)
     collect();
     wrong += regions > 1;
     printf("freed: asked about %s, wrong %u\n", regions > 1 ? "others" : "what stays", wrong);
+}
+
+/* Registers the object, in the place of what it has, and without data or with data that nothing else leads to. */
+APART static void give(void *object, void **data, bool has)
+{
+    void *given = has ? GC_malloc(SIZE) : 0;
+
+    GC_register_finalizer(object, note, given, 0, 0);
+    (void)GC_unregister_long_link(data);
+    *data = given;
+    if (has && GC_register_long_link(data, given) != GC_SUCCESS)
+        fail("a link");
+}
+
+/* Client data is retained while its registration stands or its entry waits, whatever there was before. */
+static void retain_data(void **object, void **data)
+{
+    static const bool has[] = {false, true, false, true, true};
+
+    *object = GC_malloc(SIZE);
+    for (unsigned n = 0; n < sizeof has / sizeof *has; n++) {
+        give(*object, data, has[n]);
+        collect();
+        wrong += (*data != 0) != has[n];
+    }
+    *object = 0;
+    collect();
+    wrong += !*data;
+    (void)GC_invoke_finalizers();
+    collect();
+    wrong += *data != 0;
+    printf("data: retained and reclaimed, wrong %u\n", wrong);
 }
 
 APART static void drop(unsigned first, unsigned after)
@@ -118,5 +151,6 @@ int main(void)
     drop(0, OBJECTS);
     collect();
     free_all(&objects[0]);
+    retain_data(&objects[1], calloc(1, sizeof(void *)));
     return 0;
 }
