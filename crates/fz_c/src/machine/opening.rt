@@ -11,7 +11,8 @@ use crate::handle::{behind, put, take};
 use crate::machine::codes::{Code, IS_OPEN, NO_MEMORY, NOT_OPEN, OK, code_of};
 use crate::machine::handle::MachineHandle;
 use crate::machine::session::MachineSession;
-use fz_machine::{Machine, Refused};
+use fz_finalizers::Refused;
+use fz_machine::Machine;
 use std::alloc::Global;
 
 /// Finalizers without registrations, whose passes ask about regions or not.
