@@ -39,7 +39,8 @@
  * takes no room, also where its kind is another. Each new registration and each cleanup takes room for its entry, so that a
  * pass, a take and a move of a link never lack memory; so a cleanup uses up the room that was reserved for one
  * registration. Where the list of a pass has no room left, .._register, .._link and .._add_cleanup make it grow, even if
- * they replace what there is or are refused.
+ * they replace what there is or are refused. With the option `marks` .._register may also ask for memory for the object's
+ * region, even if room is reserved; where there is none it is accepted all the same, and later passes ask of each object.
  *
  * Unless a comment says otherwise a call takes constant time: .._register, .._link and .._add_cleanup amortized over the
  * growth of tables, .._move_link over as many moves as there are links of its kind. */
@@ -235,7 +236,8 @@ DERRIMAS_CHECKED derrimas_finalizers_code derrimas_finalizers_reserve(derrimas_f
 
 /* Gives back the memory that isn't needed for what is registered, linked, added, waits or is held; also what was reserved.
  * Where the allocator has no memory to make something smaller, that stays as it is. No other call does this but .._destroy.
- * Takes time by what there is.
+ * With the option `marks` the regions of what was removed are forgotten by the next pass, and not by this call. Takes time
+ * by what there is.
  * Refused: NOT_OPEN, PASS_OPEN. */
 derrimas_finalizers_code derrimas_finalizers_shrink(derrimas_finalizers *finalizers) DERRIMAS_NONNULL(1);
 

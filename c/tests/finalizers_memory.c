@@ -208,7 +208,7 @@ static void adding_without_memory(void)
         REFUSED(DERRIMAS_FINALIZERS_NO_MEMORY, number, derrimas_finalizers_add_cleanup(&finalizers, 8, DERRIMAS_FINALIZERS_LONG, 1, 2, 3, &number));
 }
 
-/* Up to what is reserved, no memory is asked for but for cleanups. */
+/* Up to what is reserved, no memory is asked for but for cleanups and for regions, without which registrations are accepted. */
 static void reserved(void)
 {
     unsigned refused = 0, before;
@@ -226,7 +226,7 @@ static void reserved(void)
         OK(derrimas_finalizers_link(&finalizers, DERRIMAS_FINALIZERS_SHORT, word_of(&objects[n], 1), number_of(&objects[n + 1]), NULL));
     for (size_t n = 0; n < 1100; n++)
         OK(derrimas_finalizers_link(&finalizers, DERRIMAS_FINALIZERS_LONG, word_of(&objects[n], 2), number_of(&objects[n + 1]), NULL));
-    IS(first.asked, before);
+    IS(first.asked == before || (options.marks && first.asked - before < 10), true);
     first.granted = -1;
     closes();
 }
@@ -322,6 +322,20 @@ static bool finds_cleanup(uint64_t number)
     return derrimas_finalizers_cleanup(&finalizers, number, &it) == DERRIMAS_FINALIZERS_OK;
 }
 
+/* A pass in which the objects up to this one are marked, and all words' holders: it forgets the regions of others. */
+static void forgets_regions(uint64_t left)
+{
+    derrimas_question question;
+
+    OK(derrimas_finalizers_begin(&finalizers));
+    while (derrimas_finalizers_next(&finalizers, UINT64_MAX, &question, NULL) == DERRIMAS_FINALIZERS_OK)
+        for (uint64_t n = 0; question.ask == DERRIMAS_ASK_MARKS && n < question.count; n++) {
+            question.marks[n] = 0;
+            for (uint64_t i = 0; i < 64; i++)
+                question.marks[n] |= (uint64_t)(question.what[n] + 16 * i <= 8 * left) << i;
+        }
+}
+
 /* After a peak and a shrink no more bytes are allocated than one and a half times those of a fresh handle. Refused memory, it changes nothing that is seen. */
 static uint64_t of_peak(uint64_t peak, uint64_t left, bool shrinks, long granted)
 {
@@ -340,6 +354,7 @@ static uint64_t of_peak(uint64_t peak, uint64_t left, bool shrinks, long granted
         OK(derrimas_finalizers_unlink(&finalizers, DERRIMAS_FINALIZERS_LONG, 8 * n, NULL));
         OK(derrimas_finalizers_cancel(&finalizers, 2 * n - 1, NULL));
     }
+    forgets_regions(left);
     first.granted = granted;
     if (shrinks)
         OK(derrimas_finalizers_shrink(&finalizers));
