@@ -4,16 +4,17 @@ ghost use Rattle.std.specs.Prelude.{◌≡◌, ◌≤◌, ◌<◌, ◌∷◌, []
 ghost use Rattle.fz_machine.specs.declared.item.Item.{Item};
 ghost use Rattle.fz_machine.specs.declared.question.TheConstants.{BATCH};
 ghost use Rattle.fz_machine.specs.Phases.{asks, subject};
-ghost use Rattle.fz_machine.specs.Going.{going, HasRoom};
-ghost use Rattle.fz_machine.specs.Steps.{GoesOn, IsQuestion};
+ghost use Rattle.fz_machine.specs.Going.{going_by, walk_by, HasFirst, HasRoom, IsInOrder};
+ghost use Rattle.fz_machine.specs.Regions.{AreNoted};
+ghost use Rattle.fz_machine.specs.Steps.{Begins, GoesOn, IsQuestion, skip};
 
 use crate::asking::skip;
 use crate::item::Item;
 use crate::listing::begin;
+use crate::marks::settle;
 use crate::phase::Phase;
 use crate::question::{Ask, BATCH};
 use crate::regions::Regions;
-use crate::sifting::settle;
 use crate::walk::Walk;
 use fz_finalizers::Finalizers;
 use fz_model::Addr;
@@ -24,7 +25,15 @@ fn skip_by(
     walk: &mut Walk,
     regions: &mut Regions,
     phase: Phase,
-) -> bool {
+) -> bool
+    requires order { IsInOrder finalizers.old.state walk.old regions.old (Some phase) 0 }
+    ensures skipped { going_by finalizers.new walk.new regions.new ≡ skip phase (going_by finalizers.old walk.old regions.old) }
+    ensures some { result ≡ is_some (slice_get (walk_by finalizers.new.state walk.new regions.new).left 0) }
+    ensures order { IsInOrder finalizers.new.state walk.new regions.new (Some phase) 0 }
+    ensures first { HasFirst finalizers.new.state regions.new }
+    ensures none { IsFalse result → regions.new.left ≡ [] }
+    ensures same { regions.new.complete ≡ regions.old.complete }
+{
     if settle(finalizers, regions) {
         return true;
     }
@@ -32,8 +41,15 @@ fn skip_by(
     walk.first().is_some()
 }
 
-/// Lists what a phase processes: registrations by regions, if they are complete.
-fn begin_by(finalizers: &Finalizers, walk: &mut Walk, regions: &mut Regions, phase: Phase) {
+/// Lists what a phase processes: registrations by regions, if these are complete.
+fn begin_by(finalizers: &Finalizers, walk: &mut Walk, regions: &mut Regions, phase: Phase)
+    requires none { regions.old.left ≡ [] }
+    requires room { HasRoom finalizers.now.state walk.old.room }
+    requires noted { IsTrue regions.old.complete → AreNoted finalizers.now.state regions.old.order }
+    ensures begins { Begins phase (going_by finalizers.now walk.old regions.old) (going_by finalizers.now walk.new regions.new) }
+    ensures order { IsInOrder finalizers.now.state walk.new regions.new (Some phase) 0 }
+    ensures same { regions.new.complete ≡ regions.old.complete }
+{
     if phase == Phase::Objects && regions.is_complete() {
         walk.clear();
         regions.begin();
@@ -49,9 +65,11 @@ pub(crate) fn go_on(
     regions: &mut Regions,
     phase: Phase,
 ) -> Option<Phase>
-    requires room { HasRoom finalizers.old.state walk.old.room }
-    ensures goes { GoesOn phase (going finalizers.old walk.old) result (going finalizers.new walk.new) }
-    ensures room { HasRoom finalizers.new.state walk.new.room }
+    requires order { IsInOrder finalizers.old.state walk.old regions.old (Some phase) 0 }
+    ensures goes { GoesOn phase (going_by finalizers.old walk.old regions.old) result (going_by finalizers.new walk.new regions.new) }
+    ensures order { IsInOrder finalizers.new.state walk.new regions.new result 0 }
+    ensures first { HasFirst finalizers.new.state regions.new }
+    ensures same { regions.new.complete ≡ regions.old.complete }
 {
     let mut phase = phase;
     loop {

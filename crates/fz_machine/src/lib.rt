@@ -10,6 +10,7 @@ mod item;
 mod law;
 mod listing;
 mod machine;
+mod marks;
 mod pass;
 mod phase;
 mod question;
@@ -17,7 +18,6 @@ mod refused;
 mod regions;
 mod reserving;
 mod responding;
-mod sifting;
 mod walk;
 
 pub use item::Item;

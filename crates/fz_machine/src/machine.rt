@@ -1,6 +1,6 @@
 //! Finalizers whose pass asks questions, and their parts.
 
-ghost use Rattle.std.specs.Prelude.{◌≡◌, ◌≤◌, ◌+◌, None, is_some, IfOk, IfErr};
+ghost use Rattle.std.specs.Prelude.{◌≡◌, None, true, false, is_some, IfOk, IfErr};
 ghost use Rattle.fz_finalizers.specs.States.{opening};
 
 use crate::phase::Phase;
@@ -39,16 +39,25 @@ impl Drop for Machine {
 }
 
 impl Model for Machine {
+    ghost use Rattle.std.specs.Prelude.{take};
     ghost use Rattle.fz_machine.specs.Machines.{Machine, machine_code};
-    ghost use Rattle.fz_machine.specs.Going.{HasRoom};
+    ghost use Rattle.fz_machine.specs.Going.{walk_by, IsInOrder};
 
     ghost Value = { Machine };
 
     ghost coded = { machine_code };
 
-    ghost view = { λ m. record { finalizers = m.finalizers; walk = m.walk; phase = m.phase; asked = m.asked; before = m.before } };
+    ghost view = { λ m. record {
+      finalizers = m.finalizers;
+      walk = walk_by m.finalizers.state m.walk m.regions;
+      phase = m.phase;
+      asked = m.asked;
+      before = m.before;
+      regions = take m.regions.asked m.regions.left;
+      noted = m.regions.complete;
+    } };
 
-    ghost invariant = { λ m. HasRoom m.finalizers.state m.walk.room };
+    ghost invariant = { λ m. IsInOrder m.finalizers.state m.walk m.regions m.phase m.asked };
 }
 
 impl Machine {
@@ -57,19 +66,30 @@ impl Machine {
         ensures refused { IfErr result (λ r. r ≡ Refused.NoMemory) }
         ensures finalizers { IfOk result (λ m. m.finalizers.state ≡ opening) }
         ensures phase { IfOk result (λ m. m.phase ≡ None) }
+        ensures noted { IfOk result (λ m. m.noted ≡ false) }
     {
         Machine::opening(alloc, false)
     }
 
     /// The same, but a pass asks for the marks of regions (`Ask::Marks`), not about each registered object. So it takes no time for an object that is
-    /// marked. A new registration takes a little more memory, at most 32 bytes and a bit for each. Where that can't be allocated, the registration succeeds, and
-    /// passes ask about objects from then on.
-    pub fn with_regions(alloc: Global) -> Result<Machine, Refused> {
+    /// marked. A new registration may take more memory, at most 40 bytes. If that can't be allocated, the registration succeeds, and from then on passes ask
+    /// about each object. Fails with `NoMemory` if an allocation fails.
+    pub fn with_regions(alloc: Global) -> Result<Machine, Refused>
+        ensures refused { IfErr result (λ r. r ≡ Refused.NoMemory) }
+        ensures finalizers { IfOk result (λ m. m.finalizers.state ≡ opening) }
+        ensures phase { IfOk result (λ m. m.phase ≡ None) }
+        ensures noted { IfOk result (λ m. m.noted ≡ true) }
+    {
         Machine::opening(alloc, true)
     }
 
-    /// Finalizers without registrations, which are noted or not.
-    fn opening(alloc: Global, noted: bool) -> Result<Machine, Refused> {
+    /// Finalizers without registrations, whose objects are noted or not.
+    fn opening(alloc: Global, noted: bool) -> Result<Machine, Refused>
+        ensures refused { IfErr result (λ r. r ≡ Refused.NoMemory) }
+        ensures finalizers { IfOk result (λ m. m.finalizers.state ≡ opening) }
+        ensures phase { IfOk result (λ m. m.phase ≡ None) }
+        ensures noted { IfOk result (λ m. m.noted ≡ noted) }
+    {
         let finalizers = Finalizers::new(alloc)?;
         Ok(Machine {
             finalizers,

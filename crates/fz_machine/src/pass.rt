@@ -4,6 +4,7 @@ ghost use Rattle.std.specs.Prelude.{◌≡◌, ◌+◌, [], take, None, Some, On
 ghost use Rattle.fz_finalizers.specs.Follows.{next_pass};
 ghost use Rattle.fz_machine.specs.Asks.{bits_of};
 ghost use Rattle.fz_machine.specs.Causes.{IsJudgedBy};
+ghost use Rattle.fz_machine.specs.Regions.{marks_say};
 ghost use Rattle.fz_machine.specs.Machines.{IsBegun, GoesTo, Writes, next_of};
 ghost use Rattle.fz_machine.specs.declared.refused.Refused.TheVariants.{NoPass};
 
@@ -12,10 +13,10 @@ use crate::asking::hear;
 use crate::going_on::{go_on, question};
 use crate::listing::begin;
 use crate::machine::Machine;
+use crate::marks::hear_marks;
 use crate::phase::Phase;
 use crate::question::{Ask, BATCH, Question};
 use crate::refused::Refused;
-use crate::sifting::hear_marks;
 use fz_finalizers::{Addr, Passed};
 
 /// What a pass returns next.
@@ -78,7 +79,11 @@ impl Machine {
     }
 
     /// Proceeds to the next question, whose objects, words or regions it writes, or to the end.
-    fn ask(&mut self, phase: Phase, about: &mut [Addr; BATCH]) -> Step {
+    fn ask(&mut self, phase: Phase, about: &mut [Addr; BATCH]) -> Step
+        requires { self.old.phase ≡ Some phase }
+        ensures goes { GoesTo self.old [] self.new (next_of result about.new) }
+        ensures written { Writes result about.old about.new }
+    {
         self.phase = go_on(
             &mut self.finalizers,
             &mut self.walk,
@@ -144,7 +149,12 @@ impl Machine {
         &mut self,
         marks: &[u64; BATCH],
         about: &mut [Addr; BATCH],
-    ) -> Result<Step, Refused> {
+    ) -> Result<Step, Refused>
+        ensures refused { OnErr result ((self.old.phase ≡ None) × (self.new ≡ self.old) × (about.new ≡ about.old)) }
+        ensures cause { IfErr result (λ r. r ≡ NoPass) }
+        ensures goes { IfOk result (λ step. GoesTo self.old (marks_say self.old.finalizers.state self.old.regions marks.now) self.new (next_of step about.new)) }
+        ensures written { IfOk result (λ step. Writes step about.old about.new) }
+    {
         let Some(phase) = self.phase else {
             return Err(Refused::NoPass);
         };
