@@ -13,6 +13,7 @@
 enum { TURNS = 9, FEW_TURNS = 2, MANY = 2000000, HEAD = 16 };
 
 static derrimas_finalizers finalizers;
+static bool by_regions; /* whether it is opened with the option `marks` */
 
 static void fail(const char *what) { fprintf(stderr, "questions: %s\n", what); exit(1); }
 static void must(derrimas_finalizers_code code) { if (code != DERRIMAS_FINALIZERS_OK) fail("a call was refused"); }
@@ -167,14 +168,16 @@ static double whole_pass(uint64_t n, how how, bool marked)
 {
     derrimas_question question;
     derrimas_finalizers_passed passed;
+    uint64_t asked = 0;
 
+    memset(question.marks, marked ? 255 : 0, sizeof question.marks);
     entered(n, 16, false, how);
     double t = now();
     must(derrimas_finalizers_begin(&finalizers));
     while (derrimas_finalizers_next(&finalizers, marked ? UINT64_MAX : 0, &question, &passed) == DERRIMAS_FINALIZERS_OK)
-        continue;
+        asked += question.count;
     t = now() - t;
-    if (passed.picked != (marked ? 0 : n))
+    if (passed.picked != (marked ? 0 : n) || (how == REGISTERED && marked && asked != (by_regions ? n / 64 + 1 : n)))
         fail("another pass");
     return t;
 }
@@ -201,12 +204,14 @@ static double roots(uint64_t n)
     return t;
 }
 
-static const struct { const char *name; double (*turn)(uint64_t n); } tests[] = {
-    {"register", registered}, {"register_adjacent", registered_adjacent}, {"register_random", registered_random},
-    {"link", linked}, {"link_random", linked_random}, {"add", added}, {"add_random", added_random}, {"take_and_finish", taken},
-    {"bytes_registered", bytes_registered}, {"bytes_finished", bytes_finished}, {"bytes_linked", bytes_linked}, {"bytes_added", bytes_added},
-    {"one_by_one", one_by_one}, {"in_batches", in_batches}, {"live", live}, {"live_cleanups", live_cleanups},
-    {"queued", queued}, {"queued_cleanups", queued_cleanups}, {"roots", roots},
+static const struct { const char *name; double (*turn)(uint64_t n); bool marks; } tests[] = {
+    {"register", registered, false}, {"register_adjacent", registered_adjacent, false}, {"register_random", registered_random, false},
+    {"register_by_regions", registered, true}, {"register_random_by_regions", registered_random, true},
+    {"link", linked, false}, {"link_random", linked_random, false}, {"add", added, false}, {"add_random", added_random, false},
+    {"take_and_finish", taken, false}, {"bytes_registered", bytes_registered, false}, {"bytes_registered_by_regions", bytes_registered, true},
+    {"bytes_finished", bytes_finished, false}, {"bytes_linked", bytes_linked, false}, {"bytes_added", bytes_added, false},
+    {"one_by_one", one_by_one, false}, {"in_batches", in_batches, false}, {"live", live, false}, {"live_by_regions", live, true},
+    {"live_cleanups", live_cleanups, false}, {"queued", queued, false}, {"queued_cleanups", queued_cleanups, false}, {"roots", roots, false},
 };
 
 int main(int count, char **words)
@@ -218,9 +223,11 @@ int main(int count, char **words)
         if (!strcmp(tests[i].name, words[1])) {
             double least = INFINITY;
             bool counts = !strncmp(words[1], "bytes", 5);
-            derrimas_finalizers_options counting = {sizeof counting, {allocate, reallocate, release, NULL}};
+            derrimas_finalizers_options counting = {sizeof counting, {allocate, reallocate, release, NULL}, tests[i].marks};
+            derrimas_finalizers_options plain = {.size = sizeof plain, .marks = tests[i].marks};
+            by_regions = tests[i].marks;
             for (int turn = 0; turn < (counts ? 1 : turns); turn++) {
-                must(derrimas_finalizers_open(&finalizers, counts ? &counting : NULL));
+                must(derrimas_finalizers_open(&finalizers, counts ? &counting : &plain));
                 least = fmin(least, tests[i].turn(n));
                 derrimas_finalizers_destroy(&finalizers);
             }

@@ -6,6 +6,20 @@
 typedef derrimas_finalizers handle;
 typedef derrimas_finalizers_code code;
 
+/* ---- the opening: whether passes ask about regions. A program may wrap it, or the questions, itself. */
+
+static bool asks(bool marks) { return marks; }
+
+code __real_derrimas_finalizers_open(handle *finalizers, const derrimas_finalizers_options *options);
+
+__attribute__((weak)) code __wrap_derrimas_finalizers_open(handle *finalizers, const derrimas_finalizers_options *options)
+{
+    derrimas_finalizers_options between = *options;
+
+    between.marks = asks(between.marks);
+    return __real_derrimas_finalizers_open(finalizers, &between);
+}
+
 /* ---- the pass: questions that aren't asked, questions that are altered, and answers that are */
 
 static bool is_left_out(const derrimas_question *question)
@@ -28,7 +42,7 @@ static uint64_t altered(derrimas_ask ask, uint64_t count, uint64_t answers)
 
 code __real_derrimas_finalizers_next(handle *finalizers, uint64_t answers, derrimas_question *question, derrimas_finalizers_passed *passed);
 
-code __wrap_derrimas_finalizers_next(handle *finalizers, uint64_t answers, derrimas_question *question, derrimas_finalizers_passed *passed)
+__attribute__((weak)) code __wrap_derrimas_finalizers_next(handle *finalizers, uint64_t answers, derrimas_question *question, derrimas_finalizers_passed *passed)
 {
     static derrimas_ask ask;
     static uint64_t count;

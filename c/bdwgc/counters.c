@@ -1,15 +1,33 @@
 /* counters: the counts of finalization by which bdwgc paces its collections, over the replaced library alone: how many objects are registered, and how many
- * bytes a collection queued. The program reads them from bdwgc's own variables.
+ * bytes a collection queued. The program reads them from bdwgc's own variables. And how many regions a collection asks about, by the linker's --wrap.
  */
 #include "private/gc_priv.h"
 #undef GC_MALLOC
 #include "graph.h"
+#include "derrimas_finalizers.h"
 #include <gc/javaxfc.h>
 
-enum { OBJECTS = 900, SIZE = 64 };
+enum { OBJECTS = 900, SIZE = 64, LARGE = 100, LARGE_SIZE = 6000 };
 
 static unsigned wrong;
 static void **objects;
+
+derrimas_finalizers_code __real_derrimas_finalizers_next(derrimas_finalizers *finalizers, uint64_t answers, derrimas_question *question,
+                                                         derrimas_finalizers_passed *passed);
+derrimas_finalizers_code __wrap_derrimas_finalizers_next(derrimas_finalizers *finalizers, uint64_t answers, derrimas_question *question,
+                                                         derrimas_finalizers_passed *passed);
+
+static uint64_t regions;
+
+derrimas_finalizers_code __wrap_derrimas_finalizers_next(derrimas_finalizers *finalizers, uint64_t answers, derrimas_question *question,
+                                                         derrimas_finalizers_passed *passed)
+{
+    derrimas_finalizers_code code = __real_derrimas_finalizers_next(finalizers, answers, question, passed);
+
+    if (code == DERRIMAS_FINALIZERS_OK && question->ask == DERRIMAS_ASK_MARKS)
+        regions += question->count;
+    return code;
+}
 
 static void note(void *object, void *cd)
 {
@@ -30,6 +48,68 @@ APART static void make_all(void)
         objects[n] = GC_malloc(SIZE);
         GC_register_finalizer(objects[n], note, 0, 0, 0);
     }
+}
+
+/* Registers large objects, frees them, and registers a small one that stays. Their blocks were marked in a collection, and are free, with others between them. */
+APART static void make_and_free(void **stays)
+{
+    void *large[LARGE];
+
+    for (unsigned n = 0; n < LARGE; n++) {
+        large[n] = GC_malloc(LARGE_SIZE);
+        if (n % 2)
+            GC_register_finalizer(large[n], note, 0, 0, 0);
+    }
+    collect();
+    for (unsigned n = 1; n < LARGE; n += 2) {
+        GC_register_finalizer(large[n], 0, 0, 0, 0);
+        GC_free(large[n]);
+    }
+    *stays = GC_malloc(SIZE);
+    GC_register_finalizer(*stays, note, 0, 0, 0);
+}
+
+/* Of a region without a registered object a pass asks once more at most. */
+APART static void free_all(void **stays)
+{
+    make_and_free(stays);
+    collect();
+    regions = 0;
+    collect();
+    wrong += regions > 1;
+    printf("freed: asked about %s, wrong %u\n", regions > 1 ? "others" : "what stays", wrong);
+}
+
+/* Registers the object, in the place of what it has, and without data or with data that nothing else leads to. */
+APART static void give(void *object, void **data, bool has)
+{
+    void *given = has ? GC_malloc(SIZE) : 0;
+
+    GC_register_finalizer(object, note, given, 0, 0);
+    (void)GC_unregister_long_link(data);
+    *data = given;
+    if (has && GC_register_long_link(data, given) != GC_SUCCESS)
+        fail("a link");
+}
+
+/* Client data is retained while its registration stands or its entry waits, whatever there was before. */
+static void retain_data(void **object, void **data)
+{
+    static const bool has[] = {false, true, false, true, true};
+
+    *object = GC_malloc(SIZE);
+    for (unsigned n = 0; n < sizeof has / sizeof *has; n++) {
+        give(*object, data, has[n]);
+        collect();
+        wrong += (*data != 0) != has[n];
+    }
+    *object = 0;
+    collect();
+    wrong += !*data;
+    (void)GC_invoke_finalizers();
+    collect();
+    wrong += *data != 0;
+    printf("data: retained and reclaimed, wrong %u\n", wrong);
 }
 
 APART static void drop(unsigned first, unsigned after)
@@ -68,5 +148,9 @@ int main(void)
     waited = OBJECTS - 100 - waited;
     GC_finalize_all();
     tell("all at the end", 0, GRANULES_TO_BYTES(waited));
+    drop(0, OBJECTS);
+    collect();
+    free_all(&objects[0]);
+    retain_data(&objects[1], calloc(1, sizeof(void *)));
     return 0;
 }

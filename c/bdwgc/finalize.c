@@ -212,9 +212,16 @@ static void *reallocate(void *nothing, void *memory, size_t size)
 
 static derrimas_finalizers finalizers; /* opened by the first registration or link; until then all calls are refused, and nothing stands */
 
+/* Marks of objects by their index say nothing of places: then the library asks of each object by itself. */
+#ifdef MARK_BIT_PER_OBJ
+#define HAS_MARKS false
+#else
+#define HAS_MARKS true
+#endif
+
 static GC_bool is_open(void)
 {
-    static const derrimas_finalizers_options options = {sizeof options, {allocate, reallocate, release, NULL}};
+    static const derrimas_finalizers_options options = {sizeof options, {allocate, reallocate, release, NULL}, HAS_MARKS};
     static GC_bool opened;
 
     if (!opened)
@@ -252,6 +259,12 @@ static GC_bool found_memory(size_t size)
     return found != NULL;
 }
 
+/* How many registrations, cleanups and entries that wait have client data. */
+static word with_data;
+
+static word is_data(uint64_t cd) { return SHOW(cd) != NULL; }
+static word had_data(const derrimas_finalizers_old *old) { return old->was ? is_data(old->cd) : 0; }
+
 /* ---- registrations */
 
 /* Registers or removes, under the lock. FALSE: there was no memory. */
@@ -260,11 +273,13 @@ static GC_bool change(uint64_t object, GC_finalization_proc proc, uint64_t cd, d
     if (proc == 0) {
         (void)derrimas_finalizers_unregister(&finalizers, object, old);
         GC_fo_entries -= old->was;
+        with_data -= had_data(old);
         return TRUE;
     }
     if (!is_open() || derrimas_finalizers_register(&finalizers, object, kind, (uint64_t)(word)proc, cd, 0, NULL, old) != DERRIMAS_FINALIZERS_OK)
         return FALSE;
     GC_fo_entries += !old->was;
+    with_data += is_data(cd) - had_data(old);
     return TRUE;
 }
 
@@ -334,6 +349,7 @@ GC_API unsigned long long GC_CALL GC_add_cleanup(void *object, GC_cleanup_when w
     done = HDR(object) != 0
            && (add(hidden, when, proc, data, &number)
                || (found_memory(sizeof(derrimas_finalizers_cleanup_at)) && add(hidden, when, proc, data, &number)));
+    with_data += done ? is_data(data) : 0;
     GC_reachable_here(object);
     GC_reachable_here(cd);
     UNLOCK();
@@ -347,6 +363,7 @@ GC_API int GC_CALL GC_cancel_cleanup(unsigned long long number)
 
     LOCK();
     (void)derrimas_finalizers_cancel(&finalizers, number - 1, &old);
+    with_data -= had_data(&old);
     UNLOCK();
     return old.was;
 }
@@ -443,7 +460,8 @@ GC_API void GC_CALL GC_push_finalizer_structures(void)
 {
     push_roots(DERRIMAS_FINALIZERS_HELD_OBJECTS);
     push_roots(DERRIMAS_FINALIZERS_HELD_DATA);
-    push_roots(DERRIMAS_FINALIZERS_REGISTERED_DATA);
+    if (with_data > 0)
+        push_roots(DERRIMAS_FINALIZERS_REGISTERED_DATA);
 }
 
 /* ---- the answers to a pass */
@@ -533,6 +551,44 @@ GC_INLINE bool holder_is_marked(struct lookup *last, ptr_t link)
     return last->is_marked;
 }
 
+/* The marks of 64 granules of a block, from one on. */
+GC_INLINE uint64_t marks_from(const hdr *header, word granule)
+{
+#ifdef USE_MARK_BYTES
+    uint64_t marks = 0, eight, i;
+
+    for (i = 0; i < 64; i += 8) { /* bytes, each of which is 0 or 1: the product has their bits in its highest byte */
+        memcpy(&eight, header->hb_marks + granule + i, sizeof eight);
+        marks |= eight * UINT64_C(0x0102040810204080) >> 56 << i;
+    }
+    return marks;
+#else
+    return header->hb_marks[divWORDSZ(granule)];
+#endif
+}
+
+/* The word of a region, which lies in one block: a block has a multiple of 64 granules. Where a block is free or gone, or is a further one of a large object,
+ * no object begins. */
+GC_INLINE uint64_t marks_in(struct lookup *last, ptr_t first)
+{
+    const hdr *header = header_of(last, first);
+
+    if (IS_FORWARDING_ADDR_OR_NIL(header))
+        return 0;
+    if (HBLK_IS_FREE(header))
+        return 0;
+    return marks_from(header, BYTES_TO_GRANULES(first - (ptr_t)last->block));
+}
+
+static void answer_marks(derrimas_question *question)
+{
+    struct lookup last = {NULL, NULL, NULL, 0, false};
+    uint64_t i;
+
+    for (i = 0; i < question->count; i++)
+        question->marks[i] = marks_in(&last, SHOW(question->what[i]));
+}
+
 /* The answers about all objects or words of a question. Each of its uses is a loop of its own. */
 __attribute__((always_inline)) GC_INLINE uint64_t each(const derrimas_question *question, bool (*answer)(struct lookup *, ptr_t))
 {
@@ -544,7 +600,7 @@ __attribute__((always_inline)) GC_INLINE uint64_t each(const derrimas_question *
     return answers;
 }
 
-static uint64_t answers_to(const derrimas_question *question)
+static uint64_t answers_to(derrimas_question *question)
 {
     switch (question->ask) {
     case DERRIMAS_ASK_IS_MARKED:
@@ -561,6 +617,9 @@ static uint64_t answers_to(const derrimas_question *question)
         return each(question, clear);
     case DERRIMAS_ASK_HOLDER_IS_MARKED:
         return each(question, holder_is_marked);
+    case DERRIMAS_ASK_MARKS:
+        answer_marks(question);
+        return 0;
     }
     return 0;
 }
@@ -626,6 +685,7 @@ static GC_bool take(struct taken *taken)
         taken->cd = SHOW(entry.cd);
         taken->proc = (GC_finalization_proc)(word)entry.proc;
         taken->freed = GC_bytes_freed;
+        with_data -= is_data(entry.cd);
     }
     tell_waiting();
     UNLOCK();

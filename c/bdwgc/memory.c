@@ -32,6 +32,7 @@ derrimas_finalizers_code __wrap_derrimas_finalizers_open(derrimas_finalizers *fi
     own = options->allocator;
     between.allocator.allocate = allocate;
     between.allocator.reallocate = reallocate;
+    between.marks = false; /* a registration that lacks memory for its region alone is accepted */
     return __real_derrimas_finalizers_open(finalizers, &between);
 }
 

@@ -39,7 +39,8 @@
  * takes no room, also where its kind is another. Each new registration and each cleanup takes room for its entry, so that a
  * pass, a take and a move of a link never lack memory; so a cleanup uses up the room that was reserved for one
  * registration. Where the list of a pass has no room left, .._register, .._link and .._add_cleanup make it grow, even if
- * they replace what there is or are refused.
+ * they replace what there is or are refused. With the option `marks` .._register may also ask for memory for the object's
+ * region, even if room is reserved; where there is none it is accepted all the same, and later passes ask of each object.
  *
  * Unless a comment says otherwise a call takes constant time: .._register, .._link and .._add_cleanup amortized over the
  * growth of tables, .._move_link over as many moves as there are links of its kind. */
@@ -100,15 +101,18 @@ typedef derrimas_link_answer derrimas_finalizers_linked;
 #define DERRIMAS_FINALIZERS_NOT_FOUND DERRIMAS_LINK_NOT_FOUND
 #define DERRIMAS_FINALIZERS_GC_ANSWER(answer) DERRIMAS_GC_ANSWER(answer)
 
-#define DERRIMAS_FINALIZERS_BATCH 64 /* the most objects or words of a question */
+#define DERRIMAS_FINALIZERS_BATCH 64 /* the most objects, words or regions of a question */
 
 /* ---- types */
 
 /* What a handle is opened with. `size` is sizeof(derrimas_finalizers_options), by which the library knows which fields
- * there are. All three functions of the allocator are given. */
+ * there are; those that a smaller struct of an older header lacks are 0. Either all three functions of the allocator are
+ * given, or none, and then memory is the C library's. With `marks` a pass asks of registered objects by regions, with
+ * DERRIMAS_ASK_MARKS: for a host whose marks of neighbouring objects lie together, so that one word has those of many. */
 typedef struct derrimas_finalizers_options {
     size_t size;
     derrimas_allocator allocator;
+    bool marks;
 } derrimas_finalizers_options;
 
 typedef struct derrimas_finalizers_entry derrimas_finalizers_entry;
@@ -130,13 +134,14 @@ typedef struct derrimas_finalizers_ages {
 } derrimas_finalizers_ages;
 
 /* The handle. Start it as {0}. There may be any number of them, each with its own memory. `waiting` is how many entries
- * wait, for derrimas_finalizers_has_waiting alone. */
+ * wait, for derrimas_finalizers_has_waiting alone. `asks_marks` is the option `marks`, for derrimas_finalizers_pass alone. */
 typedef struct derrimas_finalizers {
     void *inside;
     uint64_t waiting;
     derrimas_allocator allocator;
     const derrimas_trace *trace;
     derrimas_finalizers_ages ages;
+    bool asks_marks;
 } derrimas_finalizers;
 
 /* The procedure and the client data of a registration or a cleanup that went away, and whether there was one: else both
@@ -183,7 +188,7 @@ typedef struct derrimas_finalizers_passed {
     uint64_t pass, picked;
 } derrimas_finalizers_passed;
 
-/* What a question asks of each of its objects or words. */
+/* What a question asks of each of its objects, words or regions. */
 typedef enum derrimas_ask {
     DERRIMAS_ASK_IS_MARKED = 1,        /* is the object marked? */
     DERRIMAS_ASK_MARK_CHILDREN = 2,    /* mark the objects to which its words lead, and all that those lead to */
@@ -191,23 +196,30 @@ typedef enum derrimas_ask {
     DERRIMAS_ASK_MARK = 4,             /* mark the object and all that it leads to: it has an entry from now on */
     DERRIMAS_ASK_MARK_ALONE = 5,       /* mark the object, where all else that it leads to is marked: it has an entry */
     DERRIMAS_ASK_CLEAR = 6,            /* write zero to the word; its link goes */
-    DERRIMAS_ASK_HOLDER_IS_MARKED = 7  /* is the object that has the word marked, or has no object the word? else its link
+    DERRIMAS_ASK_HOLDER_IS_MARKED = 7, /* is the object that has the word marked, or has no object the word? else its link
                                         * goes, and the word stays as it is */
+    DERRIMAS_ASK_MARKS = 8             /* which objects are marked that begin in the region? only with the option `marks` */
 } derrimas_ask;
 
-/* A question about `count` objects or words, 1 to DERRIMAS_FINALIZERS_BATCH, to be answered or carried out one after
- * another; the places behind them are undefined. For IS_MARKED and HOLDER_IS_MARKED bit i of the answers, counted from
- * the lowest, is the answer about what[i]. For the others the answers are ignored. */
+/* A question about `count` objects, words or regions, 1 to DERRIMAS_FINALIZERS_BATCH, to be answered or carried out one
+ * after another; the places behind them are undefined. For IS_MARKED and HOLDER_IS_MARKED bit i of the answers, counted
+ * from the lowest, is the answer about what[i]. For the others the answers are ignored.
+ * MARKS alone is answered in `marks`, which nothing else reads or writes. what[j] is where a region begins, which has 64
+ * places, 16 apart. Bit i of marks[j] says whether the object that begins at what[j] + 16 * i is marked. Of a place where
+ * none begins any value will do, and so of a region whose memory is gone: say 0 there. An object that begins off the
+ * multiples of 16 is in a region that does so too, so what[j] need be no object and no multiple of 16, and may be 0. */
 typedef struct derrimas_question {
     uint64_t what[DERRIMAS_FINALIZERS_BATCH];
     uint64_t count;
     derrimas_ask ask;
+    uint64_t marks[DERRIMAS_FINALIZERS_BATCH];
 } derrimas_question;
 
 /* ---- opening */
 
-/* Opens a handle: nothing is registered. The options may be NULL: then memory is the C library's, by malloc, realloc and
- * free. They are copied. It takes memory.
+/* Opens a handle: nothing is registered. The options may be NULL, which is the same as all 0 behind the size: then memory
+ * is the C library's, by malloc, realloc and free, and a pass asks of each object by itself. They are copied. It takes
+ * memory.
  * Refused: BAD_PROCESSOR, BAD_OPTIONS, IS_OPEN, NO_MEMORY. */
 DERRIMAS_CHECKED derrimas_finalizers_code derrimas_finalizers_open(derrimas_finalizers *finalizers,
                                                                    const derrimas_finalizers_options *options)
@@ -225,7 +237,8 @@ DERRIMAS_CHECKED derrimas_finalizers_code derrimas_finalizers_reserve(derrimas_f
 
 /* Gives back the memory that isn't needed for what is registered, linked, added, waits or is held; also what was reserved.
  * Where the allocator has no memory to make something smaller, that stays as it is. No other call does this but .._destroy.
- * Takes time by what there is.
+ * With the option `marks` the regions of what was removed are forgotten by the next pass, and not by this call. Takes time
+ * by what there is.
  * Refused: NOT_OPEN, PASS_OPEN. */
 derrimas_finalizers_code derrimas_finalizers_shrink(derrimas_finalizers *finalizers) DERRIMAS_NONNULL(1);
 
@@ -295,10 +308,11 @@ derrimas_finalizers_code derrimas_finalizers_cancel(derrimas_finalizers *finaliz
  * Refused: NOT_OPEN, PASS_OPEN. */
 derrimas_finalizers_code derrimas_finalizers_begin(derrimas_finalizers *finalizers) DERRIMAS_NONNULL(1);
 
-/* Takes the answers to the question before (at first any), and puts the next question into *question. EMPTY: there is none,
- * and the pass has ended; what it did is in *passed, which may be NULL. A pass takes time by the registrations, the links
- * and the cleanups, and to sort the unmarked objects and the cleanups; a single call may take as much, where it goes on to
- * another list.
+/* Takes the answers to the question before (at first any), and puts the next question into *question. If the question before
+ * was MARKS, its answers are in question->marks. EMPTY: there is none, and the pass has ended; what it did is in *passed,
+ * which may be NULL. A pass takes time by the registrations, the links and the cleanups, and to sort the unmarked objects
+ * and the cleanups; a single call may take as much, where it goes on to another list. With the option `marks` it takes time
+ * by the regions of registered objects and the unmarked ones, in the place of the registrations.
  * Refused: NOT_OPEN, NO_PASS; EMPTY. */
 derrimas_finalizers_code derrimas_finalizers_next(derrimas_finalizers *finalizers, uint64_t answers,
                                                   derrimas_question *question, derrimas_finalizers_passed *passed)
@@ -500,10 +514,11 @@ const char *derrimas_finalizers_reason_name(derrimas_why_reason reason);
 /* ---- a host's procedures, and a pass that they drive */
 
 /* A host: what it does for each question. `data` is what derrimas_finalizers_pass was given. What is promised of a pass
- * holds if there are a graph and a set of marked objects such that: is_marked tells whether the object is in the set; the
- * three marks add to the set what the questions say, or more; nothing else changes the set in the pass; and at the
- * beginning and after each mark the set has all that its objects reach. With but_itself, mark_children passes over words
- * that point to the object itself. */
+ * holds if there are a graph and a set of marked objects such that: is_marked tells whether the object is in the set; so
+ * does each bit of marks, of the object that begins at its place; the three marks add to the set what the questions say, or
+ * more; nothing else changes the set in the pass; and at the beginning and after each mark the set has all that its objects
+ * reach. With but_itself, mark_children passes over words that point to the object itself. marks returns the word of the
+ * region that begins at `first`; it is NULL in a host that doesn't open with the option `marks`. */
 typedef struct derrimas_host {
     bool (*is_marked)(void *data, uint64_t object);
     void (*mark_children)(void *data, uint64_t object, bool but_itself);
@@ -511,10 +526,11 @@ typedef struct derrimas_host {
     void (*mark_alone)(void *data, uint64_t object);
     void (*clear)(void *data, uint64_t word);
     bool (*holder_is_marked)(void *data, uint64_t word);
+    uint64_t (*marks)(void *data, uint64_t first);
 } derrimas_host;
 
-/* Answers a question by the host's procedures. */
-static inline uint64_t derrimas_host_answers(const derrimas_host *host, void *data, const derrimas_question *question)
+/* Answers a question by the host's procedures: MARKS in question->marks, the others by what is returned. */
+static inline uint64_t derrimas_host_answers(const derrimas_host *host, void *data, derrimas_question *question)
 {
     uint64_t answers = 0;
     uint64_t i;
@@ -530,21 +546,26 @@ static inline uint64_t derrimas_host_answers(const derrimas_host *host, void *da
         case DERRIMAS_ASK_MARK_ALONE: host->mark_alone(data, what); break;
         case DERRIMAS_ASK_CLEAR: host->clear(data, what); break;
         case DERRIMAS_ASK_HOLDER_IS_MARKED: answers |= (uint64_t)host->holder_is_marked(data, what) << i; break;
+        case DERRIMAS_ASK_MARKS: question->marks[i] = host->marks(data, what); break;
         }
     }
     return answers;
 }
 
 /* A whole pass, driven by the procedures of a host. They may make the calls that take a const handle, and must return.
- * *passed, which may be NULL, is what it did.
- * Refused: NOT_OPEN, PASS_OPEN. */
+ * *passed, which may be NULL, is what it did. BAD_OPTIONS: the handle was opened with the option `marks`, and the host has
+ * no `marks`; is_marked can't stand in for it, since a place of a region may hold no object.
+ * Refused: BAD_OPTIONS, NOT_OPEN, PASS_OPEN. */
 static inline derrimas_finalizers_code derrimas_finalizers_pass(derrimas_finalizers *finalizers, const derrimas_host *host,
                                                                 void *data, derrimas_finalizers_passed *passed)
 {
     derrimas_question question;
     uint64_t answers = 0;
-    derrimas_finalizers_code code = derrimas_finalizers_begin(finalizers);
+    derrimas_finalizers_code code;
 
+    if (finalizers->asks_marks && !host->marks)
+        return DERRIMAS_FINALIZERS_BAD_OPTIONS;
+    code = derrimas_finalizers_begin(finalizers);
     if (code != DERRIMAS_FINALIZERS_OK)
         return code;
     while ((code = derrimas_finalizers_next(finalizers, answers, &question, passed)) == DERRIMAS_FINALIZERS_OK)

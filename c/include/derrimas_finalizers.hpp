@@ -83,9 +83,10 @@ public:
     };
 
     finalizers() { check(derrimas_finalizers_open(&handle_, nullptr)); }
-    explicit finalizers(const allocator &memory)
+    /* With an allocator, {} being the C library's. With `marks` a pass asks about regions of objects. */
+    explicit finalizers(const allocator &memory, bool marks = false)
     {
-        const derrimas_finalizers_options options = {sizeof options, memory};
+        const derrimas_finalizers_options options = {sizeof options, memory, marks};
         check(derrimas_finalizers_open(&handle_, &options));
     }
     ~finalizers() { derrimas_finalizers_destroy(&handle_); }
@@ -174,7 +175,8 @@ public:
         open_pass(const open_pass &) = delete;
         open_pass &operator=(const open_pass &) = delete;
 
-        /* Takes the answers to the question before, at first any, and tells whether there is a further one, which is in *question then. */
+        /* Takes the answers to the question before, at first any, and tells whether there is a further one, which is in *question then. Those to
+         * DERRIMAS_ASK_MARKS are in question->marks. */
         bool next(std::uint64_t answers, question *question)
         {
             derrimas_finalizers_code code = derrimas_finalizers_next(handle_, answers, question, &did_);
@@ -198,9 +200,12 @@ public:
     };
 
     /* A whole pass, whose questions the members of `host` answer and carry out: bool is_marked(object), mark_children(object, but_itself), mark(object),
-     * mark_alone(object), clear(word), bool holder_is_marked(word). Where one throws, the pass is abandoned. */
+     * mark_alone(object), clear(word), bool holder_is_marked(word). Where one throws, the pass is abandoned. Over finalizers that ask about regions the host has
+     * std::uint64_t marks(first) too, or the pass is refused with BadOptions. */
     template <typename Host> passed pass(Host &&host)
     {
+        if (handle_.asks_marks && !has_marks<Host>::value)
+            throw refused(DERRIMAS_FINALIZERS_BAD_OPTIONS);
         open_pass open(*this);
         question question;
         for (std::uint64_t answers = 0; open.next(answers, &question);)
@@ -208,12 +213,15 @@ public:
         return open.did();
     }
 
-    /* The answers to a question by the members of a host. */
-    template <typename Host> static std::uint64_t answers_of(Host &&host, const question &question)
+    /* The answers to a question by the members of a host. Those to DERRIMAS_ASK_MARKS go into question.marks. */
+    template <typename Host> static std::uint64_t answers_of(Host &&host, question &question)
     {
         std::uint64_t answers = 0;
         for (std::uint64_t n = 0; n < question.count; n++)
-            answers |= static_cast<std::uint64_t>(answer_of(host, question.ask, question.what[n])) << n;
+            if (question.ask == DERRIMAS_ASK_MARKS)
+                question.marks[n] = marks_of(host, question.what[n]);
+            else
+                answers |= static_cast<std::uint64_t>(answer_of(host, question.ask, question.what[n])) << n;
         return answers;
     }
 
@@ -428,6 +436,19 @@ private:
         return found(take(&handle_, &entry)) ? std::optional(entry) : std::nullopt;
     }
 
+    /* Whether a host has a member `marks`, and its word of a region. */
+    template <typename Host, typename = void> struct has_marks : std::false_type {};
+    template <typename Host>
+    struct has_marks<Host, std::void_t<decltype(std::declval<Host &>().marks(std::uint64_t{}))>> : std::true_type {};
+
+    template <typename Host> static std::uint64_t marks_of(Host &host, std::uint64_t first)
+    {
+        if constexpr (has_marks<Host>::value)
+            return host.marks(first);
+        else
+            throw refused(DERRIMAS_FINALIZERS_BAD_OPTIONS);
+    }
+
     /* The answer about one object or word; what is only to be done has none. */
     template <typename Host> static bool answer_of(Host &host, ask ask, std::uint64_t what)
     {
@@ -439,6 +460,7 @@ private:
         case DERRIMAS_ASK_MARK_ALONE: host.mark_alone(what); break;
         case DERRIMAS_ASK_CLEAR: host.clear(what); break;
         case DERRIMAS_ASK_HOLDER_IS_MARKED: return host.holder_is_marked(what);
+        case DERRIMAS_ASK_MARKS: break; /* answered by a word */
         }
         return false;
     }

@@ -163,23 +163,31 @@ static const derrimas_allocator libc = {allocate_by_libc, reallocate_by_libc, re
 
 /* ---- opening */
 
-static bool is_known(const derrimas_finalizers_options *options)
+/* The sizes of the options: that of now, and that of a header without `marks`. */
+enum { SIZE = sizeof(derrimas_finalizers_options), SIZE_WITHOUT_MARKS = offsetof(derrimas_finalizers_options, marks) };
+
+/* All functions, or none: then memory is the C library's. */
+static bool is_whole(const derrimas_allocator *memory)
 {
-    return options->size == sizeof *options && options->allocator.allocate && options->allocator.reallocate && options->allocator.release;
+    return memory->allocate ? memory->reallocate && memory->release : !memory->reallocate && !memory->release;
 }
 
 code derrimas_finalizers_open(derrimas_finalizers *finalizers, const derrimas_finalizers_options *options)
 {
+    bool marks;
     code it;
 
     if (!is_right_processor())
         return DERRIMAS_FINALIZERS_BAD_PROCESSOR;
-    if (options && !is_known(options))
+    if (options && ((options->size != SIZE && options->size != SIZE_WITHOUT_MARKS) || !is_whole(&options->allocator)))
         return DERRIMAS_FINALIZERS_BAD_OPTIONS;
-    current = options ? &options->allocator : &libc;
-    it = fz_machine_open(finalizers);
-    if (it == DERRIMAS_FINALIZERS_OK)
+    marks = options && options->size == SIZE && options->marks;
+    current = options && options->allocator.allocate ? &options->allocator : &libc;
+    it = fz_machine_open(finalizers, marks);
+    if (it == DERRIMAS_FINALIZERS_OK) {
         finalizers->allocator = *current;
+        finalizers->asks_marks = marks;
+    }
     return after_memory(it);
 }
 
@@ -193,6 +201,7 @@ void derrimas_finalizers_destroy(derrimas_finalizers *finalizers)
     finalizers->allocator = none.allocator;
     finalizers->trace = NULL;
     finalizers->ages = none.ages;
+    finalizers->asks_marks = false;
     set_waiting(finalizers, 0);
 }
 

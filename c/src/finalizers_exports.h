@@ -55,7 +55,7 @@ typedef struct fz_machine_told {
     uint8_t reason, root;
 } fz_machine_told;
 
-uint8_t fz_machine_open(derrimas_finalizers *finalizers);
+uint8_t fz_machine_open(derrimas_finalizers *finalizers, bool marks);
 void fz_machine_destroy(derrimas_finalizers *finalizers);
 uint8_t fz_machine_reserve(derrimas_finalizers *finalizers, uint64_t registrations, uint64_t shorts, uint64_t longs);
 uint8_t fz_machine_shrink(derrimas_finalizers *finalizers);

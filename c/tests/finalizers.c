@@ -1,4 +1,6 @@
-/* Every call of derrimas_finalizers.h: each answer, each place that may be NULL, and each place that a refusal leaves as it was. */
+/* Every call of derrimas_finalizers.h: each answer, each place that may be NULL, and each place that a refusal leaves as it was. All that doesn't look at single
+ * questions about objects is tried with the option `marks` too.
+ */
 #include "finalizers_host.h"
 #include <stddef.h>
 #include <stdlib.h>
@@ -6,6 +8,7 @@
 static derrimas_finalizers finalizers;
 static host all;
 static object *const objects = all.objects;
+static bool by_regions; /* whether handles are opened with the option `marks` */
 
 /* ---- shorter names */
 
@@ -23,8 +26,11 @@ static void links(derrimas_finalizers_link_kind kind, object *it, size_t word, c
 
 static void opens(void)
 {
+    const derrimas_finalizers_options options = {sizeof options, {NULL, NULL, NULL, NULL}, by_regions};
+
     memset(&all, 0, sizeof all);
-    OK(derrimas_finalizers_open(&finalizers, NULL));
+    OK(derrimas_finalizers_open(&finalizers, &options));
+    IS(finalizers.asks_marks, by_regions);
 }
 
 static void closes(void)
@@ -187,10 +193,12 @@ static void options_are_refused(void)
 {
     const derrimas_finalizers before = finalizers;
     const derrimas_allocator whole = {allocates, reallocates, releases, NULL};
-    const size_t sizes[] = {0, 1, sizeof(size_t), sizeof(derrimas_finalizers_options) - 1, sizeof(derrimas_finalizers_options) + 1, SIZE_MAX};
-    derrimas_finalizers_options options = {sizeof options, whole};
+    const size_t without_marks = offsetof(derrimas_finalizers_options, marks);
+    const size_t sizes[] = {0, 1, sizeof(size_t), without_marks - 1, without_marks + 1, sizeof(derrimas_finalizers_options) - 1,
+                            sizeof(derrimas_finalizers_options) + 1, SIZE_MAX};
+    derrimas_finalizers_options options = {sizeof options, whole, by_regions};
 
-    for (unsigned given = 0; given < 7; given++) {
+    for (unsigned given = 1; given < 7; given++) {
         options.allocator.allocate = given & 1 ? allocates : NULL;
         options.allocator.reallocate = given & 2 ? reallocates : NULL;
         options.allocator.release = given & 4 ? releases : NULL;
@@ -202,9 +210,11 @@ static void options_are_refused(void)
         IS(derrimas_finalizers_open(&finalizers, &options), DERRIMAS_FINALIZERS_BAD_OPTIONS);
         IS(derrimas_finalizers_open(&finalizers, (const derrimas_finalizers_options *)(const void *)&sizes[n]), DERRIMAS_FINALIZERS_BAD_OPTIONS);
     }
-    options.size = sizeof options; /* its memory is refused; but an open handle is so first */
-    IS(derrimas_finalizers_open(&finalizers, &options), before.inside ? DERRIMAS_FINALIZERS_IS_OPEN : DERRIMAS_FINALIZERS_NO_MEMORY);
-    IS(memcmp(&finalizers, &before, sizeof before), 0);
+    for (options.size = sizeof options; options.size; options.size = options.size > without_marks ? without_marks : 0) {
+        /* its memory is refused; but an open handle is so first */
+        IS(derrimas_finalizers_open(&finalizers, &options), before.inside ? DERRIMAS_FINALIZERS_IS_OPEN : DERRIMAS_FINALIZERS_NO_MEMORY);
+        IS(memcmp(&finalizers, &before, sizeof before), 0);
+    }
 }
 
 /* Calls on a handle that isn't open. */
@@ -727,7 +737,7 @@ static void open_pass(void)
         answers = derrimas_host_answers(&procedures, &all, &question);
     }
     IS(passed.pass == 1 && passed.picked == 100, true);
-    IS(asked >= 400, true);
+    IS(asked >= (by_regions ? 300 : 400), true);
     taken = 100 - counted().waiting;
     IS(taken > 5 && taken < 100 && counted().registrations == 0 && counted().passes == 1 && counted().queued == 100, true);
     IS(derrimas_finalizers_has_waiting(&finalizers), true);
@@ -737,7 +747,8 @@ static void open_pass(void)
     closes();
 }
 
-_Static_assert(sizeof(derrimas_question) == 8 * DERRIMAS_FINALIZERS_BATCH + 16 && offsetof(derrimas_question, ask) == 8 * DERRIMAS_FINALIZERS_BATCH + 8, "derrimas_question");
+_Static_assert(sizeof(derrimas_question) == 16 * DERRIMAS_FINALIZERS_BATCH + 16 && offsetof(derrimas_question, ask) == 8 * DERRIMAS_FINALIZERS_BATCH + 8
+                   && offsetof(derrimas_question, marks) == 8 * DERRIMAS_FINALIZERS_BATCH + 16, "derrimas_question");
 
 static bool is_asked(const derrimas_question *question, derrimas_ask ask, uint64_t count, uint64_t first)
 {
@@ -792,6 +803,195 @@ static void endings(void)
     IS(derrimas_finalizers_next(&finalizers, UINT64_MAX, &question, NULL), DERRIMAS_FINALIZERS_EMPTY);
     IS(counted().passes, 2);
     closes();
+}
+
+/* ---- regions */
+
+static void registers_number(uint64_t object, uint64_t proc)
+{
+    OK(derrimas_finalizers_register(&finalizers, object, DERRIMAS_FINALIZERS_NORMAL, proc, proc + 1, 0, NULL, NULL));
+}
+
+/* A pass asks about regions where the options have `marks`; not where they lack it, and not where they are smaller, whatever stands behind them. */
+static void chosen(void)
+{
+    derrimas_finalizers_options options = {sizeof options, {NULL, NULL, NULL, NULL}, false};
+
+    for (unsigned way = 0; way < 3; way++) {
+        memset(&all, 0, sizeof all);
+        options.marks = way > 0;
+        options.size = way == 1 ? offsetof(derrimas_finalizers_options, marks) : sizeof options;
+        OK(derrimas_finalizers_open(&finalizers, &options));
+        IS(finalizers.asks_marks, way == 2);
+        registers(&objects[1], DERRIMAS_FINALIZERS_NORMAL, 10, 0);
+        objects[1].is_root = true;
+        IS(collect(&all, &finalizers).picked, 0);
+        IS(all.asked[DERRIMAS_ASK_MARKS] == (way == 2) && all.asked[DERRIMAS_ASK_IS_MARKED] == (way < 2), true);
+        objects[1].is_root = false;
+        IS(collect(&all, &finalizers).picked, 1);
+        IS(all.asked[DERRIMAS_ASK_MARKS], way == 2 ? 2 : 0);
+        RUNS(10);
+        closes();
+    }
+}
+
+/* A host without `marks` makes no pass over a handle that asks for them, and one with it any. */
+static void host_without_marks(void)
+{
+    derrimas_host lacking = procedures;
+    derrimas_finalizers_passed passed;
+
+    lacking.marks = NULL;
+    for (unsigned marks = 0; marks < 2; marks++) {
+        by_regions = marks;
+        opens();
+        registers(&objects[1], DERRIMAS_FINALIZERS_NORMAL, 10, 0);
+        if (marks) {
+            REFUSED(DERRIMAS_FINALIZERS_BAD_OPTIONS, passed, derrimas_finalizers_pass(&finalizers, &lacking, &all, &passed));
+            OK(derrimas_finalizers_begin(&finalizers));
+            REFUSED(DERRIMAS_FINALIZERS_BAD_OPTIONS, passed, derrimas_finalizers_pass(&finalizers, &lacking, &all, &passed));
+            OK(derrimas_finalizers_abandon(&finalizers));
+            IS(counted().registrations == 1 && counted().queued == 0, true);
+        }
+        OK(derrimas_finalizers_pass(&finalizers, marks ? &procedures : &lacking, &all, &passed));
+        IS(passed.picked == 1 && passed.pass == 1 + marks, true);
+        RUNS(10);
+        closes();
+    }
+    REFUSED(DERRIMAS_FINALIZERS_NOT_OPEN, passed, derrimas_finalizers_pass(&finalizers, &lacking, &all, &passed));
+}
+
+/* After the marks one object of this number alone was said to be unmarked: it is queued. */
+static void alone_is_queued(derrimas_question *question, uint64_t object)
+{
+    derrimas_finalizers_passed passed;
+
+    OK(derrimas_finalizers_next(&finalizers, 0, question, NULL));
+    IS(is_asked(question, DERRIMAS_ASK_MARK_CHILDREN, 1, object), true);
+    OK(derrimas_finalizers_next(&finalizers, 0, question, NULL));
+    IS(is_asked(question, DERRIMAS_ASK_IS_MARKED, 1, object), true);
+    OK(derrimas_finalizers_next(&finalizers, 0, question, NULL));
+    IS(is_asked(question, DERRIMAS_ASK_MARK_ALONE, 1, object), true);
+    IS(derrimas_finalizers_next(&finalizers, 0, question, &passed), DERRIMAS_FINALIZERS_EMPTY);
+    IS(passed.picked, 1);
+}
+
+/* Each bit of a word is of the object at its place, on the multiples of 16 and off them; no answer of a bit is read of it. */
+static void each_bit(void)
+{
+    static const uint64_t firsts[] = {1024, (UINT64_C(1) << 47) + 8, UINT64_MAX - 1023, 5 * 1024 + 15};
+    derrimas_question question;
+
+    by_regions = true;
+    for (unsigned first = 0; first < 4; first++)
+        for (unsigned n = 0; n < 64; n++) {
+            opens();
+            for (uint64_t i = 0; i < 64; i++)
+                registers_number(firsts[first] + 16 * (i * 7 % 64), i + 1);
+            OK(derrimas_finalizers_begin(&finalizers));
+            OK(derrimas_finalizers_next(&finalizers, 0, &question, NULL));
+            IS(is_asked(&question, DERRIMAS_ASK_MARKS, 1, firsts[first]), true);
+            question.marks[0] = ~(UINT64_C(1) << n);
+            alone_is_queued(&question, firsts[first] + 16 * n);
+            IS(counted().registrations, 63);
+            closes();
+        }
+}
+
+/* Each word is of the region at its place, and the next question is about the rest. */
+static void each_word(void)
+{
+    derrimas_question question;
+
+    by_regions = true;
+    for (unsigned n = 0; n <= DERRIMAS_FINALIZERS_BATCH; n++) {
+        uint64_t unmarked = 0, seen = 0;
+        opens();
+        for (uint64_t i = 1; i <= DERRIMAS_FINALIZERS_BATCH + 1; i++)
+            registers_number(1024 * i + 32, i);
+        OK(derrimas_finalizers_begin(&finalizers));
+        for (uint64_t asked = 0; asked <= DERRIMAS_FINALIZERS_BATCH; asked += question.count) {
+            OK(derrimas_finalizers_next(&finalizers, 0, &question, NULL));
+            IS(question.ask == DERRIMAS_ASK_MARKS && question.count == (asked ? 1 : DERRIMAS_FINALIZERS_BATCH), true);
+            for (uint64_t i = 0; i < question.count; i++) {
+                seen += question.what[i] / 1024;
+                question.marks[i] = asked + i == n ? 0 : 4; /* of the place of the object alone */
+                unmarked = asked + i == n ? question.what[i] + 32 : unmarked;
+            }
+        }
+        IS(seen, (DERRIMAS_FINALIZERS_BATCH + 1) * (DERRIMAS_FINALIZERS_BATCH + 2) / 2);
+        alone_is_queued(&question, unmarked);
+        closes();
+    }
+}
+
+/* Objects 1 apart are in 16 regions, and large and small numbers are in one each, which may begin at 0. */
+static void numbers(void)
+{
+    static const uint64_t some[] = {1, 2, 3, 15, 16, 1008, 1023, 1024, UINT64_C(1) << 63, UINT64_MAX - 1, UINT64_MAX};
+    derrimas_question question;
+    uint64_t marks = 0;
+
+    by_regions = true;
+    opens();
+    for (size_t n = 0; n < sizeof some / sizeof *some; n++)
+        registers_number(some[n], some[n]);
+    OK(derrimas_finalizers_begin(&finalizers));
+    OK(derrimas_finalizers_next(&finalizers, 0, &question, NULL));
+    IS(question.ask == DERRIMAS_ASK_MARKS && question.count == 9, true); /* 15 and 1023 are in one, and 16 and 1008 */
+    for (uint64_t n = 0; n < question.count; n++) {
+        IS(question.what[n] % 1024 < 16, true);
+        marks += question.what[n] == 0;
+        question.marks[n] = 0;
+    }
+    IS(marks, 1);
+    while (derrimas_finalizers_next(&finalizers, 0, &question, NULL) == DERRIMAS_FINALIZERS_OK)
+        IS(question.ask != DERRIMAS_ASK_MARKS, true);
+    for (size_t n = 0; n < sizeof some / sizeof *some; n++) {
+        derrimas_finalizers_entry entry;
+        OK(derrimas_finalizers_take_finished(&finalizers, &entry));
+        IS(entry.obj == some[n] && entry.proc == some[n], true);
+    }
+    closes();
+}
+
+/* A pass with these answers to its questions about regions, and no object marked among those that are unmarked there: how many regions it asked about. */
+static uint64_t regions_asked(uint64_t live, uint64_t others)
+{
+    derrimas_question question;
+    uint64_t count = 0;
+
+    OK(derrimas_finalizers_begin(&finalizers));
+    while (derrimas_finalizers_next(&finalizers, 0, &question, NULL) == DERRIMAS_FINALIZERS_OK)
+        for (uint64_t n = 0; question.ask == DERRIMAS_ASK_MARKS && n < question.count; n++, count++)
+            question.marks[n] = question.what[n] == live ? UINT64_MAX : others;
+    return count;
+}
+
+/* What isn't registered any more may be asked about, and any answer will do. After the answer 0 it isn't asked about again, until it is registered. */
+static void gone(void)
+{
+    by_regions = true;
+    for (unsigned way = 0; way < 3; way++) {
+        uint64_t asked;
+        opens();
+        IS(regions_asked(0, 0), 0);
+        for (uint64_t n = 1; n <= 20; n++)
+            registers_number(1024 * n + 16 * n, n);
+        registers_number(1024 * 99, 99);
+        for (uint64_t n = 1; n <= 20; n++)
+            OK(derrimas_finalizers_unregister(&finalizers, 1024 * n + 16 * n, NULL));
+        IS(regions_asked(1024 * 99, way == 0 ? 0 : way == 1 ? UINT64_MAX : 0x5555), 21);
+        asked = regions_asked(1024 * 99, 0);
+        IS(way < 2 ? asked == (way ? 21 : 1) : asked >= 1 && asked <= 8, true);
+        IS(regions_asked(1024 * 99, 0), 1);
+        registers_number(1024 * 3 + 16 * 3, 3);
+        IS(regions_asked(1024 * 99, UINT64_MAX), 2);
+        IS(counted().registrations == 2 && counted().queued == 0, true);
+        IS(regions_asked(1024 * 99, 0), 2);
+        IS(counted().registrations == 1 && counted().queued == 1, true);
+        closes();
+    }
 }
 
 /* ---- abandoned passes */
@@ -1153,7 +1353,8 @@ static void walks(void)
     closes();
 }
 
-int main(void)
+/* What is tried with regions and without. */
+static void both(void)
 {
     closed();
     opening();
@@ -1174,8 +1375,6 @@ int main(void)
     kinds();
     weak();
     open_pass();
-    each_answer();
-    endings();
     abandoned();
     entries();
     held();
@@ -1183,5 +1382,20 @@ int main(void)
     no_room();
     walks();
     closed();
+}
+
+int main(void)
+{
+    both();
+    each_answer();
+    endings();
+    chosen();
+    host_without_marks();
+    each_bit();
+    each_word();
+    numbers();
+    gone();
+    by_regions = true;
+    both();
     return told();
 }

@@ -22,7 +22,7 @@ static uint8_t noted(void *place, size_t size, uint64_t a, uint64_t b, uint64_t 
     return answer;
 }
 
-uint8_t fz_machine_open(derrimas_finalizers *f) { return noted(NULL, 0, f == &finalizers, 0, 0, 0, 0); }
+uint8_t fz_machine_open(derrimas_finalizers *f, bool marks) { return noted(NULL, 0, f == &finalizers, 49 + marks, 0, 0, 0); }
 void fz_machine_destroy(derrimas_finalizers *f) { (void)noted(NULL, 0, f == &finalizers, 0, 0, 0, 0); }
 uint8_t fz_machine_reserve(derrimas_finalizers *f, uint64_t a, uint64_t b, uint64_t c) { return noted(NULL, 0, f == &finalizers, a, b, c, 0); }
 uint8_t fz_machine_shrink(derrimas_finalizers *f) { return noted(NULL, 0, f == &finalizers, 46, 0, 0, 0); }
@@ -244,6 +244,26 @@ static void answers_of_links(void)
     link_answer = 0;
 }
 
+/* Without options, of the size of now and of one without `marks`, whose byte isn't read then: what the handle and its export are told. */
+static void opens(void)
+{
+    derrimas_finalizers_options options = {sizeof options, libc, true};
+    const bool is_ok = answer == DERRIMAS_FINALIZERS_OK;
+
+    finalizers.asks_marks = false;
+    IS(derrimas_finalizers_open(&finalizers, &options), answer);
+    IS(given[0] == 1 && given[1] == 50 && finalizers.asks_marks == is_ok, true);
+    options.size = offsetof(derrimas_finalizers_options, marks);
+    IS(derrimas_finalizers_open(&finalizers, &options), answer);
+    IS(given[1] == 49 && !finalizers.asks_marks, true);
+    options.size = sizeof options;
+    options.marks = finalizers.asks_marks = false;
+    IS(derrimas_finalizers_open(&finalizers, &options), answer);
+    IS(given[1] == 49 && !finalizers.asks_marks, true);
+    IS(derrimas_finalizers_open(&finalizers, NULL), answer);
+    IS(given[1] == 49 && !finalizers.asks_marks, true);
+}
+
 static void changes(void)
 {
     THROUGH(number, derrimas_finalizers_register(&finalizers, 3, DERRIMAS_FINALIZERS_UNREACHABLE, 4, 5, 6, &number, NULL), 3, 3, 4, 5, 6);
@@ -266,8 +286,7 @@ static void changes(void)
     IS(derrimas_finalizers_move_link(&finalizers, DERRIMAS_FINALIZERS_LONG, 8, 9, NULL), answer);
     IS(derrimas_finalizers_unlink(&finalizers, DERRIMAS_FINALIZERS_SHORT, 8, NULL), answer);
     IS(derrimas_finalizers_register(&finalizers, 3, DERRIMAS_FINALIZERS_NORMAL, 4, 5, 6, NULL, NULL), answer);
-    IS(derrimas_finalizers_open(&finalizers, NULL), answer);
-    IS(derrimas_finalizers_open(&finalizers, &(derrimas_finalizers_options){sizeof(derrimas_finalizers_options), libc}), answer);
+    opens();
     IS(derrimas_finalizers_reserve(&finalizers, 11, 12, 13), answer);
     IS(given[1] == 11 && given[2] == 12 && given[3] == 13, true);
     IS(derrimas_finalizers_shrink(&finalizers), answer);

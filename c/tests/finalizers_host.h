@@ -14,7 +14,7 @@ typedef struct object {
 
 typedef struct host {
     object objects[OBJECTS];
-    uint64_t asked[DERRIMAS_ASK_HOLDER_IS_MARKED + 1]; /* how often what was asked */
+    uint64_t asked[DERRIMAS_ASK_MARKS + 1]; /* how often what was asked */
 } host;
 
 static inline uint64_t number_of(const object *it) { return (uint64_t)(uintptr_t)it; }
@@ -90,7 +90,23 @@ static bool holder_is_marked(void *data, uint64_t word)
     return !holder || holder->is_marked;
 }
 
-static const derrimas_host procedures = {answer_is_marked, mark_children, mark_it, mark_alone, clear, holder_is_marked};
+/* Of places where no object begins every second is said to be marked. */
+static uint64_t answer_marks(void *data, uint64_t first)
+{
+    host *all = data;
+    uint64_t marks = 0;
+
+    all->asked[DERRIMAS_ASK_MARKS]++;
+    for (uint64_t n = 0; n < 64; n++) {
+        const object *it = found(all, first + 16 * n);
+        const bool begins = it && number_of(it) == first + 16 * n;
+
+        marks |= (uint64_t)(begins ? it->is_marked : n % 2) << n;
+    }
+    return marks;
+}
+
+static const derrimas_host procedures = {answer_is_marked, mark_children, mark_it, mark_alone, clear, holder_is_marked, answer_marks};
 
 /* Marks from the host's roots, and from those of the finalizers. */
 static inline void mark_all(host *all, const derrimas_finalizers *finalizers)

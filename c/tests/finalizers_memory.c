@@ -1,5 +1,6 @@
 /* Memory of a host's own, by its options. Each allocation is refused once, after which nothing has changed; no call but those that derrimas_finalizers.h names
- * asks for memory or gives any back; calls that take a const handle write to none of it, which is then read-only; and each handle has its own.
+ * asks for memory or gives any back; calls that take a const handle write to none of it, which is then read-only; and each handle has its own. All of this
+ * without the option `marks` and with it.
  */
 #define _DEFAULT_SOURCE /* for MAP_ANONYMOUS */
 #include "finalizers_host.h"
@@ -74,8 +75,8 @@ static void *reallocate(void *data, void *at, size_t size)
     return other;
 }
 
-static const derrimas_finalizers_options options = {sizeof options, {allocate, reallocate, release, &first}};
-static const derrimas_finalizers_options other_options = {sizeof other_options, {allocate, reallocate, release, &second}};
+static derrimas_finalizers_options options = {sizeof options, {allocate, reallocate, release, &first}, false};
+static derrimas_finalizers_options other_options = {sizeof other_options, {allocate, reallocate, release, &second}, false};
 
 static derrimas_finalizers_counts counted(void)
 {
@@ -207,7 +208,7 @@ static void adding_without_memory(void)
         REFUSED(DERRIMAS_FINALIZERS_NO_MEMORY, number, derrimas_finalizers_add_cleanup(&finalizers, 8, DERRIMAS_FINALIZERS_LONG, 1, 2, 3, &number));
 }
 
-/* Up to what is reserved, no memory is asked for but for cleanups. */
+/* Up to what is reserved, no memory is asked for but for cleanups and for regions, without which registrations are accepted. */
 static void reserved(void)
 {
     unsigned refused = 0, before;
@@ -225,7 +226,7 @@ static void reserved(void)
         OK(derrimas_finalizers_link(&finalizers, DERRIMAS_FINALIZERS_SHORT, word_of(&objects[n], 1), number_of(&objects[n + 1]), NULL));
     for (size_t n = 0; n < 1100; n++)
         OK(derrimas_finalizers_link(&finalizers, DERRIMAS_FINALIZERS_LONG, word_of(&objects[n], 2), number_of(&objects[n + 1]), NULL));
-    IS(first.asked, before);
+    IS(first.asked == before || (options.marks && first.asked - before < 10), true);
     first.granted = -1;
     closes();
 }
@@ -321,6 +322,20 @@ static bool finds_cleanup(uint64_t number)
     return derrimas_finalizers_cleanup(&finalizers, number, &it) == DERRIMAS_FINALIZERS_OK;
 }
 
+/* A pass in which the objects up to this one are marked, and all words' holders: it forgets the regions of others. */
+static void forgets_regions(uint64_t left)
+{
+    derrimas_question question;
+
+    OK(derrimas_finalizers_begin(&finalizers));
+    while (derrimas_finalizers_next(&finalizers, UINT64_MAX, &question, NULL) == DERRIMAS_FINALIZERS_OK)
+        for (uint64_t n = 0; question.ask == DERRIMAS_ASK_MARKS && n < question.count; n++) {
+            question.marks[n] = 0;
+            for (uint64_t i = 0; i < 64; i++)
+                question.marks[n] |= (uint64_t)(question.what[n] + 16 * i <= 8 * left) << i;
+        }
+}
+
 /* After a peak and a shrink no more bytes are allocated than one and a half times those of a fresh handle. Refused memory, it changes nothing that is seen. */
 static uint64_t of_peak(uint64_t peak, uint64_t left, bool shrinks, long granted)
 {
@@ -339,6 +354,7 @@ static uint64_t of_peak(uint64_t peak, uint64_t left, bool shrinks, long granted
         OK(derrimas_finalizers_unlink(&finalizers, DERRIMAS_FINALIZERS_LONG, 8 * n, NULL));
         OK(derrimas_finalizers_cancel(&finalizers, 2 * n - 1, NULL));
     }
+    forgets_regions(left);
     first.granted = granted;
     if (shrinks)
         OK(derrimas_finalizers_shrink(&finalizers));
@@ -362,6 +378,49 @@ static void shrinks(void)
         for (long granted = 0; granted < 12; granted++)
             IS(of_peak(20000, left, true, granted) <= after_peak, true);
     }
+}
+
+/* How many objects of a graph are queued, where so many allocations are granted before one is refused, which comes in the registrations; and whether one was. */
+static uint64_t queued_with(long granted, bool *was_refused)
+{
+    derrimas_finalizers_code code;
+    uint64_t picked = 0;
+
+    *was_refused = false;
+    memset(&all, 0, sizeof all);
+    OK(derrimas_finalizers_open(&finalizers, &options));
+    first.granted = granted;
+    for (size_t n = 0; n < 300; n++)
+        do {
+            objects[n].is_root = n % 3 == 0;
+            code = derrimas_finalizers_register(&finalizers, number_of(&objects[n]), DERRIMAS_FINALIZERS_NORMAL, n, n, 0, NULL, NULL);
+            *was_refused |= first.granted == 0;
+            first.granted = *was_refused ? -1 : first.granted;
+        } while (code == DERRIMAS_FINALIZERS_NO_MEMORY);
+    first.granted = -1;
+    picked += collect(&all, &finalizers).picked;
+    for (size_t n = 0; n < 300; n++)
+        objects[n].is_root = false;
+    picked += 1000 * collect(&all, &finalizers).picked;
+    IS(counted().registrations, 0);
+    closes();
+    return picked;
+}
+
+/* Whichever allocation is refused in the registrations, passes queue the same. Without memory for a region they ask of each object. */
+static void refused_regions(void)
+{
+    uint64_t by_regions = 0, by_objects = 0;
+    bool was_refused = true;
+
+    options.marks = true;
+    for (long granted = 0; was_refused; granted++) {
+        IS(queued_with(granted, &was_refused), 100200);
+        by_regions += all.asked[DERRIMAS_ASK_MARKS] > 0;
+        by_objects += all.asked[DERRIMAS_ASK_MARKS] == 0;
+        IS(all.asked[DERRIMAS_ASK_MARKS] > 0 || was_refused, true);
+    }
+    IS(by_regions > 1 && by_objects > 0, true);
 }
 
 static uint64_t cleanups[2][OBJECTS]; /* their numbers */
@@ -571,18 +630,22 @@ int main(void)
     second.memory = mmap(NULL, ROOM, PROT_READ | PROT_WRITE, MAP_PRIVATE | MAP_ANONYMOUS, -1, 0);
     if (first.memory == MAP_FAILED || second.memory == MAP_FAILED)
         return 2;
-    opening();
-    refusals();
-    for (int kind = 0; kind < 16; kind++)
-        replacing((derrimas_finalizers_kind)(kind / 4), (derrimas_finalizers_kind)(kind % 4));
-    too_much();
-    reserved();
-    reserved_in_fuzz();
-    shrinks();
-    others();
-    constant();
-    in_turn();
-    nested();
-    at_the_same_time();
+    for (unsigned marks = 0; marks < 2; marks++) {
+        options.marks = other_options.marks = marks;
+        opening();
+        refusals();
+        for (int kind = 0; kind < 16; kind++)
+            replacing((derrimas_finalizers_kind)(kind / 4), (derrimas_finalizers_kind)(kind % 4));
+        too_much();
+        reserved();
+        reserved_in_fuzz();
+        shrinks();
+        others();
+        constant();
+        in_turn();
+        nested();
+        at_the_same_time();
+    }
+    refused_regions();
     return told();
 }

@@ -28,9 +28,11 @@ void noted_finalizers_run(const derrimas_finalizers_entry *it) { noted_procedure
 void noted_queued(uint64_t pass, uint64_t count) { noted_procedure("host.queued" N N, pass, count); }
 void noted_finished(const derrimas_finalizers_entry *it) { noted_procedure("host.finished" ENTRY, OF_ENTRY(it)); }
 
-uint8_t fz_machine_open(derrimas_finalizers *f)
+static bool asked_marks; /* the last question was about regions: the next call notes their words */
+
+uint8_t fz_machine_open(derrimas_finalizers *f, bool marks)
 {
-    uint8_t code = noted("open");
+    uint8_t code = noted(marks ? "open marks" : "open");
     rattle_tried tried;
 
     if (code != DERRIMAS_FINALIZERS_OK)
@@ -107,17 +109,23 @@ uint8_t fz_machine_cancel(derrimas_finalizers *f, uint64_t number, derrimas_fina
     return FILLED(noted("cancel" N, number), old, derrimas_finalizers_old, V(0), V(1), V(0) != 0);
 }
 
-uint8_t fz_machine_begin(derrimas_finalizers *f) { return (void)f, noted("begin"); }
+uint8_t fz_machine_begin(derrimas_finalizers *f)
+{
+    (void)f;
+    asked_marks = false;
+    return noted("begin");
+}
 
 /* A question about two objects, whose kind follows from the value. At the end of a pass what it did. */
 uint8_t fz_machine_next(derrimas_finalizers *f, uint64_t answers, derrimas_question *question, derrimas_finalizers_passed *passed)
 {
-    uint8_t code = noted("next" N, answers);
+    uint8_t code = asked_marks ? noted("next" N " marks" N N, answers, question->marks[0], question->marks[1]) : noted("next" N, answers);
 
     (void)f;
     if (code == DERRIMAS_FINALIZERS_EMPTY)
         *passed = (derrimas_finalizers_passed){V(0), V(1)};
-    return FILLED(code, question, derrimas_question, {V(0), V(1)}, 2, (derrimas_ask)(V(0) % 7 + 1));
+    asked_marks = code == DERRIMAS_FINALIZERS_OK && V(0) % 8 + 1 == DERRIMAS_ASK_MARKS;
+    return FILLED(code, question, derrimas_question, {V(0), V(1)}, 2, (derrimas_ask)(V(0) % 8 + 1), {0});
 }
 
 uint8_t fz_machine_abandon(derrimas_finalizers *f) { return (void)f, noted("abandon"); }

@@ -290,6 +290,42 @@ static void passes_of_finalizers()
     IS(collected(f, heap).picked == 0 && heap.outside == 0 && f.count().long_links == 0 && f.count().passes == 4);
 }
 
+/* The same, whose objects are told apart by regions, each of which has one place with an object here. */
+struct heap_of_regions : small_heap {
+    unsigned words_asked = 0;
+
+    std::uint64_t marks(std::uint64_t first)
+    {
+        words_asked++;
+        return first < 16 && marked[first] ? 1 : 0;
+    }
+};
+
+static void regions_of_finalizers()
+{
+    fin f({}, true), moved;
+    heap_of_regions heap;
+    small_heap lacking;
+    fin::question question;
+
+    f.register_object(3, fin::kind::normal, 5, 30);
+    f.register_object(7, fin::kind::no_order, 5, 70);
+    std::swap(f, moved);
+    IS(refusal([&] { moved.pass(lacking); }) == "BadOptions" && moved.count().passes == 0);
+    f.register_object(3, fin::kind::normal, 5, 30);
+    IS(f.pass(lacking).picked == 1 && f.pass(heap).picked == 0 && heap.words_asked == 0);
+    heap.mark(7);
+    IS(moved.pass(heap).picked == 1 && heap.words_asked == 2 && moved.take()->obj == 3);
+    {
+        fin::open_pass pass(moved);
+        IS(pass.next(0, &question) && question.ask == DERRIMAS_ASK_MARKS && question.count >= 1 && question.what[0] == 7);
+        IS(refusal([&] { fin::answers_of(lacking, question); }) == "BadOptions");
+        IS(fin::answers_of(heap, question) == 0 && question.marks[0] == 1 && !pass.next(0, &question) && pass.did().picked == 0);
+    }
+    heap.marked[7] = false;
+    IS(moved.pass(heap).picked == 1 && moved.take()->obj == 7 && moved.count().registrations == 0);
+}
+
 static void calls_of_finalizers()
 {
     fin f;
@@ -509,6 +545,7 @@ int main()
     moves_and_scopes();
     seats();
     passes_of_finalizers();
+    regions_of_finalizers();
     calls_of_finalizers();
     cleanups_of_finalizers();
     abandoned_passes();

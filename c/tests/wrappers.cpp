@@ -198,6 +198,11 @@ struct noting_host {
     bool holder_is_marked(std::uint64_t word) { return answer("holder_is_marked", word); }
 };
 
+/* The same, which also answers about regions. */
+struct noting_host_of_regions : noting_host {
+    std::uint64_t marks(std::uint64_t first) const { return answer("marks", first) + 10 * first; }
+};
+
 /* An allocator that notes its calls; one that `refuses` has no memory; and one that is `lacking` a function. */
 static void *allocated(void *refuses, std::size_t size)
 {
@@ -220,6 +225,8 @@ static void released(void *, void *memory)
 static finalizers opened_with(const string &memory)
 {
     static bool refuses = true;
+    if (memory == "marks")
+        return finalizers({}, true);
     return finalizers(finalizers::allocator{allocated, reallocated, memory == "lacking" ? nullptr : released, memory == "refuses" ? &refuses : nullptr});
 }
 
@@ -228,6 +235,13 @@ static string reserved(finalizers &f, const arguments &a)
     finalizers own = a.words.size() > 3 ? opened_with(a.words[3]) : std::move(f);
     own.reserve(a.number(0), a.number(1), a.number(2));
     return "done";
+}
+
+/* A pass by a host that lacks `marks` or has it, over finalizers that were opened with `marks` where the row says so. */
+static string pass_over(finalizers &f, const arguments &a)
+{
+    finalizers own = a.words.size() > 1 ? opened_with(a.words[1]) : std::move(f);
+    return shown(a.is("lacking") ? own.pass(noting_host{false}) : own.pass(noting_host_of_regions{{a.is("throws")}}));
 }
 
 static string asked(finalizers &f, std::uint64_t answers)
@@ -404,7 +418,7 @@ static const std::map<string, member> members = {
     {"finalizers_begin", [](fixture &f, const arguments &) { return abandoned(f.finalizers, true); }},
     {"finalizers_abandon", [](fixture &f, const arguments &) { return abandoned(f.finalizers, false); }},
     {"finalizers_next", [](fixture &f, const arguments &a) { return asked(f.finalizers, a.number(0)); }},
-    {"finalizers_pass", SHOWN(f.finalizers.pass(noting_host{a.is("throws")}))},
+    {"finalizers_pass", [](fixture &f, const arguments &a) { return pass_over(f.finalizers, a); }},
     {"finalizers_why", [](fixture &f, const arguments &a) { return reasoned(f.finalizers, a); }},
     {"finalizers_queue_all", SHOWN(f.finalizers.queue_all())},
     {"finalizers_queue_cleanups", SHOWN(f.finalizers.queue_cleanups())},

@@ -3,7 +3,7 @@
 call with each kind, result and code.
 
 And whether the table is whole: it has each call of both headers, with each code of which its comment says "Refused"."""
-import ctypes, os, re, sys
+import contextlib, ctypes, os, re, sys
 HERE = os.path.dirname(os.path.abspath(__file__))
 sys.path.insert(0, os.path.normpath(os.path.join(HERE, '..', 'python')))
 from derrimas import LIBRARY, Entry, Kind, LinkAnswer, Links, Refused, Words, World
@@ -170,6 +170,9 @@ class Host:
     def holder_is_marked(self, word):
         return self._answer(b'holder_is_marked', word)
 
+    def marks(self, first):
+        return self._answer(b'marks', first) + 10 * first
+
     def allocate(self, size):
         LIBRARY.noted_memory(b'allocate', size)
         if self.how in ('throws', 'interrupts'):
@@ -186,7 +189,9 @@ class Host:
 
 
 def opened_with(how=None):
-    """Finalizers with an allocator that is so: one that is `lacking` has no function."""
+    """Finalizers with an allocator that is so: one that is `lacking` has no function. Or ones that ask about regions."""
+    if how == 'marks':
+        return over.Finalizers(marks=True)
     return over.Finalizers(object() if how == 'lacking' else Host(how)) if how else over.Finalizers()
 
 
@@ -261,6 +266,17 @@ def in_pass(member):
 def abandoned(finalizers, by_scope):
     with finalizers.open_pass() as questions:
         return 'done' if by_scope else done(questions.abandon())
+
+
+class WithoutMarks(Host):
+    """The same without the answers about regions."""
+    marks = property()  # reading it raises AttributeError
+
+
+def passed(finalizers, how, opened=None):
+    """What a pass did, by a host that may be `lacking` marks, over finalizers that may be opened with them."""
+    with opened_with(opened) if opened else contextlib.nullcontext(finalizers) as own:
+        return shown(own.run_pass(WithoutMarks('returns') if how == 'lacking' else Host(how)))
 
 
 def asked(finalizers, answers):
@@ -345,7 +361,7 @@ MEMBERS_OF_FINALIZERS = {
     'begin': lambda it: abandoned(it, True),
     'abandon': lambda it: abandoned(it, False),
     'next': asked,
-    'pass': lambda it, how: shown(it.run_pass(Host(how))),
+    'pass': passed,
     'why': reasoned,
     'queue_all': lambda it: shown(it.queue_all()),
     'queue_cleanups': lambda it: shown(it.queue_cleanups()),

@@ -149,7 +149,7 @@ static void mark_roots_of_finalizers(own_heap *heap, derrimas_finalizers_root so
 
 size_t own_heap_collect(own_heap *heap)
 {
-    static const derrimas_host host = {is_marked, mark_children, mark, mark_alone, clear, holder_is_marked};
+    static const derrimas_host host = {is_marked, mark_children, mark, mark_alone, clear, holder_is_marked, NULL};
 
     for (size_t n = 0; n < heap->root_count; n++)
         mark_word(heap, heap->roots[n]);

@@ -13,16 +13,16 @@
         finalizers.invoke_finalizers()
 
 Objects, words, procedures and client data are numbers below 2^64. The heap answers a pass by six methods: is_marked(object), mark_children(object,
-but_itself), mark(object), mark_alone(object), clear(word), holder_is_marked(word). A refused call raises Refused, whose text is the library's sentence. Use
-Finalizers from one thread at a time. The library is libderrimas.so.1: that of the package, or the file that the variable DERRIMAS names."""
+but_itself), mark(object), mark_alone(object), clear(word), holder_is_marked(word). Over Finalizers(marks=True) it has marks(first) too, the word of a region
+of objects. A refused call raises Refused, whose text is the library's sentence. Use Finalizers from one thread at a time. The library is libderrimas.so.1: that of the package, or the file that the variable DERRIMAS names."""
 from __future__ import annotations
 import contextlib, ctypes, enum
 from ctypes import CFUNCTYPE, POINTER, Structure, byref, c_bool, c_char_p, c_size_t, c_uint8, c_uint32, c_uint64, c_void_p
-from typing import Any, Callable, Dict, Iterator, List, NamedTuple, Optional
+from typing import Any, Callable, Dict, Iterator, List, NamedTuple, Optional, Union
 from ._library import Error, declare, load, struct
 
-EMPTY = 10
-BATCH = 64  # the most objects or words of a question
+EMPTY, BAD_OPTIONS = 10, 12
+BATCH = 64  # the most objects, words or regions of a question
 PART = 64  # of a walk
 
 
@@ -52,8 +52,8 @@ class Root(enum.IntEnum):
 
 
 class Ask(enum.IntEnum):
-    """What a question asks of each of its objects or words."""
-    IS_MARKED, MARK_CHILDREN, MARK_OTHERS, MARK, MARK_ALONE, CLEAR, HOLDER_IS_MARKED = range(1, 8)
+    """What a question asks of each of its objects, words or regions."""
+    IS_MARKED, MARK_CHILDREN, MARK_OTHERS, MARK, MARK_ALONE, CLEAR, HOLDER_IS_MARKED, MARKS = range(1, 9)
 
 
 class Reason(enum.IntEnum):
@@ -81,8 +81,9 @@ CHILD = CFUNCTYPE(c_bool, c_void_p, c_uint64, c_uint64, POINTER(c_uint64), POINT
 ROOT = CFUNCTYPE(c_bool, c_void_p, c_uint64, POINTER(c_uint64))
 IS_OBJECT = CFUNCTYPE(c_bool, c_void_p, c_uint64)
 Allocator = struct("Allocator", "An allocator's functions, in C.", ("allocate", ALLOCATE), ("reallocate", REALLOCATE), ("release", RELEASE), ("data", c_void_p))
-Options = struct("Options", "What a handle is opened with.", ("size", c_size_t), ("allocator", Allocator))
-Handle = struct("Handle", "What stands for finalizers in C.", ("inside", c_void_p), "waiting", ("allocator", Allocator), ("trace", c_void_p), ("ages", c_uint64 * 11))
+Options = struct("Options", "What a handle is opened with.", ("size", c_size_t), ("allocator", Allocator), ("marks", c_bool))
+Handle = struct("Handle", "What stands for finalizers in C.", ("inside", c_void_p), "waiting", ("allocator", Allocator), ("trace", c_void_p), ("ages", c_uint64 * 11),
+                ("asks_marks", c_bool))
 Old = struct("Old", "A registration or a cleanup that went away, if there `was` one.", "proc", "cd", ("was", c_bool))
 Registered = struct("Registered", "A new registration: its number, and what it replaced.", "number", ("replaced", Old))
 Entry = struct("Entry", "An entry of the queue: its place, its pass, its registration or cleanup, its object (0 of a cleanup), procedure and client data.",
@@ -97,7 +98,8 @@ Counts = struct("Counts", "How many registrations, links, cleanups, waiting and 
 Passed = struct("Passed", "What a pass did: its number, and the entries that it queued.", "number", "picked")
 CWhy = struct("CWhy", "Why an object isn't finalized, in C.", ("reason", c_uint32), ("root", c_uint32), "number", ("entry", Entry), ("length", c_size_t))
 Paths = struct("Paths", "How a host lists its heap, in C.", ("child", CHILD), ("root", ROOT), ("is_object", IS_OBJECT))
-CQuestion = struct("CQuestion", "A question, in C.", ("what", c_uint64 * BATCH), "count", ("ask", c_uint32))
+CQuestion = struct("CQuestion", "A question, in C.", ("what", c_uint64 * BATCH), "count", ("ask", c_uint32), ("marks", c_uint64 * BATCH))
+Answers = Union[int, List[int]]
 
 
 class Why(NamedTuple):
@@ -111,7 +113,7 @@ class Why(NamedTuple):
 
 
 class Question:
-    """A question: what it asks, and of which objects or words."""
+    """A question: what it asks, and of which objects, words or regions, each of which is told by where it begins."""
 
     def __init__(self, asked: Any) -> None:
         self.ask, self.what = Ask(asked.ask), list(asked.what[:asked.count])
@@ -147,14 +149,17 @@ class Finalizers:
     """The finalizers of a heap. Leaving a `with` destroys them, and so does letting go of them.
 
     An allocator has the methods allocate(size), reallocate(memory, size) and release(memory), whose memory are addresses; None is no memory. What one raises
-    is raised by the call in which it came, once that has ended, and counts as no memory."""
+    is raised by the call in which it came, once that has ended, and counts as no memory. With `marks` a pass asks about regions of objects."""
 
-    def __init__(self, allocator: Any = None) -> None:
+    def __init__(self, allocator: Any = None, marks: bool = False) -> None:
         self.handle = Handle()
         self.procedures: Dict[int, Callable[[Finalizers, Any], Any]] = {}
         self.raised: List[BaseException] = []
-        self.options = Options(ctypes.sizeof(Options), self._functions(Allocator, allocator)) if allocator is not None else None
-        self._call("open", byref(self.options) if self.options else None)
+        memory = self._functions(Allocator, allocator) if allocator is not None else Allocator()
+        if allocator is not None and not memory.allocate:
+            raise Refused(BAD_OPTIONS)
+        self.options = Options(ctypes.sizeof(Options), memory, marks)
+        self._call("open", byref(self.options))
 
     def __enter__(self) -> Finalizers:
         return self
@@ -253,7 +258,10 @@ class Finalizers:
         return OpenPass(self)
 
     def run_pass(self, host: Any) -> Passed:
-        """A whole pass, which the methods of the host answer. Where one raises, the pass is abandoned: reclaim nothing before the next one has ended."""
+        """A whole pass, which the methods of the host answer. Where one raises, the pass is abandoned: reclaim nothing before the next one has ended. Finalizers
+        that ask about regions refuse a host without `marks`, as BadOptions."""
+        if self.handle.asks_marks and not hasattr(host, "marks"):
+            raise Refused(BAD_OPTIONS)
         with self.open_pass() as questions:
             question = questions.next()
             while question:
@@ -436,11 +444,14 @@ class OpenPass:
         if self.is_open:
             self.abandon()
 
-    def next(self, answers: int = 0) -> Optional[Question]:
-        """Takes the answers to the question before, at first any, and returns the next; None where the pass has ended: `did` is what it did then."""
+    def next(self, answers: Answers = 0) -> Optional[Question]:
+        """Takes the answers to the question before, at first any, and returns the next; None where the pass has ended: `did` is what it did then. The answers are
+        a number, and a list of words of regions after Ask.MARKS."""
         asked, self.is_open = CQuestion(), False
+        if not isinstance(answers, int):
+            asked.marks[:len(answers)] = answers
         try:
-            self.finalizers._call("next", answers, byref(asked), byref(self.did))
+            self.finalizers._call("next", answers if isinstance(answers, int) else 0, byref(asked), byref(self.did))
         except Refused as refused:
             if refused.code != EMPTY:
                 raise
@@ -454,8 +465,11 @@ class OpenPass:
         self.finalizers._call("abandon")
 
 
-def answers_of(host: Any, question: Question) -> int:
-    """The answers to a question by the methods of a host: bit i is the answer about what[i]. What is only to be done has none."""
+def answers_of(host: Any, question: Question) -> Answers:
+    """The answers to a question by the methods of a host: bit i is the answer about what[i], and item i of a list is the word of the region what[i]. What is only
+    to be done has none."""
+    if question.ask == Ask.MARKS:
+        return [host.marks(first) for first in question.what]
     if question.ask in (Ask.IS_MARKED, Ask.HOLDER_IS_MARKED):
         asked = host.is_marked if question.ask == Ask.IS_MARKED else host.holder_is_marked
         return sum(bool(asked(what)) << n for n, what in enumerate(question.what))

@@ -1,5 +1,5 @@
 -- Each answer that is heard leaves fewer to come.
-use Rattle.std.proofs.Common.{◌≡◌, ◌≤◌, ◌+◌, ◌-◌, ◌*◌, ◌∷◌, ◌∙◌, [], ℕ, suc, Bool, true, false, cond, List, length, map, Option, Some, None, sym, ap, subst, is_some, length-append, arith}
+use Rattle.std.proofs.Common.{◌≡◌, ◌≤◌, ◌+◌, ◌-◌, ◌*◌, ◌∷◌, ◌∙◌, [], ℕ, suc, Bool, true, false, cond, List, length, map, Option, Some, None, inl, inr, sym, ap, subst, is_some, length-append, arith}
 use Rattle.std.proofs.lemmas.List.{length-map}
 use Rattle.std.proofs.lemmas.Option.{none-some}
 use Rattle.std.proofs.lemmas.List.Sorted.{length_permutation}
@@ -18,13 +18,15 @@ use Rattle.fz_machine.specs.declared.pass.Next.TheVariants as told
 use Rattle.fz_machine.specs.declared.phase.Phase.{Phase}
 use Rattle.fz_machine.specs.declared.phase.Phase.TheVariants.{ShortCleanups, ShortTargets, ShortWords, Objects, Children, Again, Picks, LateAgain, LatePicks, LongTargets, LongWords, ShortHolders, LongHolders, LongCleanups}
 use Rattle.fz_machine.specs.Going.{going}
-use Rattle.fz_machine.specs.Heard.{Begun, Goes, Hears, Meanwhile, PassesEnd}
+use Rattle.fz_machine.specs.Heard.{Begun, Goes, Hears, Meanwhile, PassesEnd, covered}
 use Rattle.fz_machine.specs.Items.{AreCleanups, AreEntriesOf, AreLinks, AreObjects, of_cleanup, of_link, of_stored}
 use Rattle.fz_machine.specs.Machines.{IsWork, Machine, Tells}
 use Rattle.fz_machine.specs.Phases.{Lists, after, asks, keeps, next_phase}
+use Rattle.fz_machine.specs.Regions.{items_in}
 use Rattle.fz_machine.specs.Steps.{Asks, Ends, Going, GoesOn, Turns, skip, skipped, steps}
 use Rattle.fz_machine.proofs.Phasing.{kept_on}
 use Rattle.fz_machine.proofs.Due.{HasLong, fewer_long, long_few, short_few}
+use Rattle.fz_machine.proofs.Remaining.{items_same}
 use Rattle.fz_machine.proofs.Within.{IsWithin, still}
 use Rattle.fz_machine.proofs.Working.{work_apart}
 
@@ -157,11 +159,25 @@ module _ (r s g l c : ℕ) where
   record IsHearing (n : ℕ) (m : Machine) : Type 0 where
     within : IsWithin r s g (HasLong l) m.finalizers.state
     few : n + to_come m.phase (length m.walk.kept) (length m.walk.left) ≤ 6 * r + 3 * (s + g) + c
-    asked : (p : Phase) → m.phase ≡ Some p → m.asked ≤ length m.walk.left
+    asked : (p : Phase) → m.phase ≡ Some p → covered m ≤ length m.walk.left
 
-  asked_for : (m : Machine) (next : Next) → Tells m next → (p : Phase) → m.phase ≡ Some p → m.asked ≤ length m.walk.left
-  asked_for m (told.Asks question) (phase, was, is, count) p at = let within = is.within in omega (arith, within, count)
+  asked_for : (m : Machine) (next : Next) → Tells m next → (p : Phase) → m.phase ≡ Some p → covered m ≤ length m.walk.left
+  asked_for m (told.Asks question) (phase, was, inl items) p at =
+      let within = items.question.within in
+      let count = items.asked in
+      let none = ap (λ rs. length (items_in m.finalizers.state rs)) items.regions in
+      omega (arith, within, count, none)
+  asked_for m (told.Asks question) (phase, was, inr regions) p at =
+      let none = regions.asked in
+      let long = ap length regions.first.1 ∙ length-append (items_in m.finalizers.state m.regions) regions.first.0 in
+      omega (arith, none, long)
   asked_for m (told.Ended passed) (none, same, picked) p at = absurd (none-some p (sym none ∙ at))
+
+  -- a worker leaves what is covered
+  still_covered : (m n : Machine) (event : Event) → IsWork event → Follows m.finalizers.state event n.finalizers.state → n ≡ record m { finalizers = n.finalizers } → covered n ≡ covered m
+  still_covered m n event work follows keeps =
+      let apart = work_apart 0 [] m.finalizers.state n.finalizers.state event work follows in
+      ap covered keeps ∙ ap (λ xs. m.asked + length xs) (items_same m.finalizers.state n.finalizers.state (ap (λ (t : State). t.registrations) apart) (ap (λ (t : State). t.late) apart) m.regions)
 
   worked_within : (t u : State) (event : Event) → IsWork event → Follows t event u → IsWithin r s g (HasLong l) t → IsWithin r s g (HasLong l) u
   worked_within t u event work follows h =
@@ -185,7 +201,8 @@ module _ (r s g l c : ℕ) where
       record {
         within = now;
         few = subst (λ (k : Machine). n + to_come k.phase (length k.walk.kept) (length k.walk.left) ≤ 6 * r + 3 * (s + g) + c) (sym worked.keeps) was.few;
-        asked = subst (λ (k : Machine). (p : Phase) → k.phase ≡ Some p → k.asked ≤ length k.walk.left) (sym worked.keeps) was.asked;
+        asked = λ p at. subst (λ k. k ≤ length m.walk.left) (sym (still_covered old m worked.event worked.work worked.follows worked.keeps))
+            (subst (λ xs. covered old ≤ length xs) (sym (ap (λ (k : Machine). k.walk.left) worked.keeps)) (was.asked p (sym (ap (λ (k : Machine). k.phase) worked.keeps) ∙ at)));
       }
 
 pub passes_end : PassesEnd
@@ -202,7 +219,7 @@ passes_end old begun m n is hears =
     let start : IsHearing r (len t.short) (len t.long) l (len t.cleanups) 0 begun = record {
       within = subst (IsWithin r (len t.short) (len t.long) (HasLong l)) (sym same) (record { registered = omega arith; short = omega arith; long = omega arith; attached = long_few t.cleanups listed.0 listed.1 });
       few = subst (λ o. 0 + to_come r (len t.short) (len t.long) l (len t.cleanups) o (length begun.walk.kept) (length begun.walk.left) ≤ 6 * r + 3 * (len t.short + len t.long) + len t.cleanups) (sym is.phase) (omega (arith, many, kept));
-      asked = λ p at. let none = is.asked in omega (arith, none);
+      asked = λ p at. let none = is.asked in let no_items = ap (λ rs. length (items_in begun.finalizers.state rs)) is.regions in omega (arith, none, no_items);
     } in
     let end = (heard r (len t.short) (len t.long) l (len t.cleanups) begun m n start hears).few in
     omega (arith, end)

@@ -7,6 +7,13 @@ pub mod Stepping
 pub mod Rooms
 pub mod Ending
 pub mod Known
+pub mod Places
+pub mod Noting
+pub mod Regioned
+pub mod Remaining
+pub mod Marked
+pub mod Hearing
+pub mod Settling
 pub mod Among
 pub mod Sifting
 pub mod DeadWords

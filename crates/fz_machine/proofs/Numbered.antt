@@ -1,7 +1,7 @@
 -- What is asked is told by its number.
 use Rattle.std.proofs.Common.{◌≡◌, ℕ, zero, suc, refl, sym, ap, ◌∙◌}
 use Rattle.fz_machine.specs.declared.question.Ask.{Ask}
-use Rattle.fz_machine.specs.declared.question.Ask.TheVariants.{IsMarked, MarkChildren, MarkOthers, Mark, MarkAlone, Clear, IsHolderMarked}
+use Rattle.fz_machine.specs.declared.question.Ask.TheVariants.{IsMarked, MarkChildren, MarkOthers, Mark, MarkAlone, Clear, IsHolderMarked, Marks}
 use Rattle.fz_machine.specs.Asks.{number_of}
 
 abbrev ask_of : ℕ → Ask
@@ -12,7 +12,8 @@ ask_of (suc (suc (suc zero))) = MarkOthers
 ask_of (suc (suc (suc (suc zero)))) = Mark
 ask_of (suc (suc (suc (suc (suc zero))))) = MarkAlone
 ask_of (suc (suc (suc (suc (suc (suc zero)))))) = Clear
-ask_of (suc (suc (suc (suc (suc (suc (suc n))))))) = IsHolderMarked
+ask_of (suc (suc (suc (suc (suc (suc (suc zero))))))) = IsHolderMarked
+ask_of (suc (suc (suc (suc (suc (suc (suc (suc n)))))))) = Marks
 
 back : (ask : Ask) → ask_of (number_of ask) ≡ ask
 back IsMarked = refl
@@ -22,6 +23,7 @@ back Mark = refl
 back MarkAlone = refl
 back Clear = refl
 back IsHolderMarked = refl
+back Marks = refl
 
 pub same_ask : (a b : Ask) → number_of a ≡ number_of b → a ≡ b
 same_ask a b same = sym (back a) ∙ ap ask_of same ∙ back b

@@ -1,7 +1,8 @@
 -- A host's graph, and how an honest host responds to each question about it: as the trait `Host` of fz_pass requires of hosts that can be called.
 -- code: fz_machine/src/question.rt; fz_pass/src/host.rt
-use Rattle.std.specs.Prelude.{◌≡◌, ◌<◌, ◌^◌, ℕ, Bool, true, false, Option, Some, None, IsTrue}
+use Rattle.std.specs.Prelude.{◌≡◌, ◌<◌, ◌^◌, ◌+◌, ◌*◌, ℕ, List, [], ◌∷◌, Bool, true, false, Option, Some, None, IsTrue}
 use Rattle.std.specs.FinMap.{get, contains_key}
+use Rattle.fz_model.specs.Bits.{has_bit}
 use Rattle.fz_model.specs.Memory.{points}
 use Rattle.fz_model.specs.Reachability.{Leads}
 use Rattle.fz_model.specs.State.{Map, Object}
@@ -9,7 +10,7 @@ use Rattle.fz_pass.specs.Marks.{IsClosed, Marks, IsLeadingBut, IsLastToMark, Are
 use Rattle.fz_pass.specs.Places.{StandApart, written_at, is_held}
 use Rattle.fz_finalizers.specs.States.{State}
 use Rattle.fz_machine.specs.declared.question.Ask.{Ask}
-use Rattle.fz_machine.specs.declared.question.Ask.TheVariants.{IsMarked, MarkChildren, MarkOthers, Mark, MarkAlone, Clear, IsHolderMarked}
+use Rattle.fz_machine.specs.declared.question.Ask.TheVariants.{IsMarked, MarkChildren, MarkOthers, Mark, MarkAlone, Clear, IsHolderMarked, Marks as AskMarks}
 
 pub record Graph : Type 0 where
   pub objects : Map Object  -- by address
@@ -30,6 +31,7 @@ MayAsk Mark object g = CanMark g object
 MayAsk MarkAlone object g = CanMark g object × IsLastToMark g.objects g.marked object
 MayAsk Clear word g = Unit {0}
 MayAsk IsHolderMarked word g = Unit {0}
+MayAsk AskMarks region g = ⊥  -- no item is asked about by this: `IsHonestWord` has its answers
 
 -- if nothing is asked, nothing is required
 abbrev pub MayBeAsked : Option Ask → ℕ → Graph → Type 0
@@ -50,11 +52,22 @@ Answers Exact place Mark object old answer new = Gains Exact old new (Leads old.
 Answers Exact place MarkAlone object old answer new = Gains Exact old new (λ a. a ≡ object)
 Answers Exact place Clear word old answer new = new ≡ record old { objects = written_at place word old.objects }
 Answers Exact place IsHolderMarked word old answer new = (answer ≡ is_held place old.objects old.marked word) × (new ≡ old)
+Answers Exact place AskMarks region old answer new = ⊥
 
 -- the host is bound only if the question may be asked; if nothing is asked, nothing changes
 abbrev pub IsHonest : Type 0 → (ℕ → Option ℕ) → Option Ask → ℕ → Graph → Bool → Graph → Type 0
 IsHonest Exact place (Some ask) subject old answer new = MayAsk ask subject old → Answers Exact place ask subject old answer new
 IsHonest Exact place None subject old answer new = new ≡ old
+
+-- what an honest host answers about a region: for each object that begins at one of its places, whether it is marked; for other places, anything
+abbrev pub IsHonestWord : Graph → ℕ → ℕ → Type 0
+IsHonestWord g region word = (place : ℕ) → place < 64 → IsTrue (contains_key g.objects (region + 16 * place)) → has_bit word place ≡ g.marked (region + 16 * place)
+
+-- the same about regions, with a word for each
+abbrev pub AreHonestWords : Graph → List (ℕ × ℕ) → List ℕ → Type 0
+AreHonestWords g [] words = Unit {0}
+AreHonestWords g (r ∷ regions) [] = Unit {0}
+AreHonestWords g (r ∷ regions) (word ∷ words) = IsHonestWord g r.0 word × AreHonestWords g regions words
 
 -- when a pass may begin: marking is complete, registered objects and targets of links are objects of the graph, and no two links denote one word
 pub record MayBegin (place : ℕ → Option ℕ) (s : State) (g : Graph) : Type 0 where

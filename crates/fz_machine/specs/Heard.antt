@@ -5,12 +5,17 @@ use Rattle.std.specs.FinMap.{len}
 use Rattle.fz_finalizers.specs.Promises.{Past, IsReached}
 use Rattle.fz_finalizers.specs.States.{State}
 use Rattle.fz_machine.specs.declared.pass.Next.{Next}
+use Rattle.fz_machine.specs.Regions.{items_in}
 use Rattle.fz_machine.specs.Machines.{Machine, IsBegun, GoesTo, IsAbandoned, IsWorked}
+
+-- how many items the last question covers: those that it was about, or those in the regions that it was about
+abbrev pub covered : Machine → ℕ
+covered m = m.asked + length (items_in m.finalizers.state m.regions)
 
 -- this many answers were processed since a pass began, for each question no more than it asked for; meanwhile workers take and finish entries
 pub data Hears (begun : Machine) : Machine → ℕ → Type 0 where
   Begun : Hears begun begun 0
-  Goes : {m new : Machine} {next : Next} {n : ℕ} (answers : List Bool) → length answers ≤ m.asked → GoesTo m answers new next → Hears begun m n → Hears begun new (n + length answers)
+  Goes : {m new : Machine} {next : Next} {n : ℕ} (answers : List Bool) → length answers ≤ covered m → GoesTo m answers new next → Hears begun m n → Hears begun new (n + length answers)
   Meanwhile : {m new : Machine} {n : ℕ} → IsWorked m new → Hears begun m n → Hears begun new n
 
 -- six phases process registrations, three phases process the links of each kind, and one phase processes the cleanups of each moment

@@ -1,6 +1,7 @@
 pub mod Asks
 pub mod Items
 pub mod Phases
+pub mod Regions
 pub mod Walks
 pub mod Steps
 pub mod Going

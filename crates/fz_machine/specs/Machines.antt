@@ -1,17 +1,23 @@
 -- The model of finalizers whose pass asks questions.
 -- code: fz_machine/src/machine.rt, pass.rt
-use Rattle.std.specs.Prelude.{◌≡◌, ℕ, ◌-◌, zero, suc, Bool, List, [], length, Option, Some, None, is_some, IsTrue, refl}
-use Rattle.std.specs.Coded.{Coded, code_by, coded×, coded_ℕ, coded_option}
+use Rattle.std.specs.Prelude.{◌≡◌, ◌⊎◌, ℕ, ◌-◌, ◌<◌, ◌≤◌, zero, suc, Bool, List, [], ◌++◌, length, take, Option, Some, None, is_some, IsTrue, refl}
+use Rattle.std.specs.Coded.{Coded, code_by, coded×, coded_ℕ, coded_option, coded_list, coded_bool}
+use Rattle.std.specs.Map.{keys_of}
 use Rattle.fz_model.specs.declared.answers.Entry.{Entry}
 use Rattle.fz_finalizers.specs.States.{State, View, view_code, waiting}
 use Rattle.fz_machine.specs.declared.phase.Phase.{Phase}
 use Rattle.fz_machine.specs.declared.phase.Phase.TheVariants.{ShortCleanups, ShortTargets, ShortWords, Objects, Children, Again, Picks, LateAgain, LatePicks, LongTargets, LongWords, ShortHolders, LongHolders, LongCleanups}
+use Rattle.fz_machine.specs.declared.item.Item.{Item}
+use Rattle.fz_machine.specs.declared.question.Ask.TheVariants.{Marks}
+use Rattle.fz_machine.specs.declared.question.Question.{Question}
+use Rattle.fz_machine.specs.declared.question.TheConstants.{BATCH}
 use Rattle.fz_machine.specs.declared.pass.Next.{Next}
 use Rattle.fz_machine.specs.declared.pass.Step.{Step}
 use Rattle.fz_machine.specs.declared.pass.Step.TheVariants as written
 use Rattle.fz_machine.specs.declared.pass.Next.TheVariants.{Asks, Ended}
 use Rattle.fz_finalizers.specs.Follows.{Event, Follows, Take, TakeFinished, Finish, next_pass}
 use Rattle.fz_machine.specs.Going.{going}
+use Rattle.fz_machine.specs.Regions.{items_in}
 use Rattle.fz_machine.specs.Steps.{Begins, GoesOn, IsQuestion, steps}
 use Rattle.fz_machine.specs.Walks.{Walk, walk_code}
 
@@ -21,6 +27,8 @@ pub record Machine : Type 0 where
   pub phase : Option Phase  -- the phase of the open pass
   pub asked : ℕ  -- how many items the last question was about
   pub before : ℕ  -- how many entries had been queued when the pass began
+  pub regions : List (ℕ × ℕ)  -- the regions that the last question was about, each with the bits of its noted places
+  pub noted : Bool  -- whether each registered object is noted: if so, a pass asks about regions
 
 abbrev phase_code : Coded Phase
 phase_code = code_by ℕ coded_ℕ to back same
@@ -75,8 +83,9 @@ phase_code = code_by ℕ coded_ℕ to back same
 
 abbrev pub machine_code : Coded Machine
 machine_code =
-    code_by (View × (Walk × (Option Phase × (ℕ × ℕ)))) (coded× view_code (coded× walk_code (coded× (coded_option phase_code) (coded× coded_ℕ coded_ℕ)))) (λ m. (m.finalizers, (m.walk, (m.phase, (m.asked, m.before)))))
-    (λ p. record { finalizers = p.0; walk = p.1.0; phase = p.1.1.0; asked = p.1.1.1.0; before = p.1.1.1.1 }) (λ _. refl)
+    code_by (View × (Walk × (Option Phase × (ℕ × (ℕ × (List (ℕ × ℕ) × Bool)))))) (coded× view_code (coded× walk_code (coded× (coded_option phase_code) (coded× coded_ℕ (coded× coded_ℕ (coded× (coded_list (coded× coded_ℕ coded_ℕ)) coded_bool))))))
+    (λ m. (m.finalizers, (m.walk, (m.phase, (m.asked, (m.before, (m.regions, m.noted)))))))
+    (λ p. record { finalizers = p.0; walk = p.1.0; phase = p.1.1.0; asked = p.1.1.1.0; before = p.1.1.1.1.0; regions = p.1.1.1.1.1.0; noted = p.1.1.1.1.1.1 }) (λ _. refl)
 
 -- no pass is open
 abbrev pub IsIdle : Machine → Type 0
@@ -115,11 +124,31 @@ pub record IsBegun (old new : Machine) : Type 0 where
   pub finalizers : new.finalizers.state ≡ record old.finalizers.state { passes = next_pass old.finalizers.passes }
   pub begins : Begins ShortCleanups (record (going old.finalizers old.walk) { finalizers = new.finalizers.state }) (going new.finalizers new.walk)
   pub asked : new.asked ≡ 0
+  pub regions : new.regions ≡ []
   pub before : new.before ≡ length old.finalizers.queue
+  pub noted : new.noted ≡ old.noted
+
+-- a question about items
+pub record AsksItems (m : Machine) (phase : Phase) (q : Question) : Type 0 where
+  pub question : IsQuestion phase m.walk.left q
+  pub asked : m.asked ≡ q.count
+  pub regions : m.regions ≡ []
+
+-- a question about regions, as many as fit. The first remaining items are those of the registered objects in them, and there is at least one
+pub record AsksRegions (m : Machine) (phase : Phase) (q : Question) : Type 0 where
+  pub objects : phase ≡ Objects
+  pub noted : IsTrue m.noted
+  pub ask : q.ask ≡ Marks
+  pub some : 0 < length (items_in m.finalizers.state m.regions)
+  pub few : q.count ≤ BATCH
+  pub count : length m.regions ≡ q.count
+  pub about : take q.count q.about ≡ keys_of m.regions
+  pub first : (rest : List Item) × (m.walk.left ≡ items_in m.finalizers.state m.regions ++ rest) × (q.count < BATCH → rest ≡ [])
+  pub asked : m.asked ≡ 0
 
 -- what a pass returns: the question of its phase, or what it has done
 abbrev pub Tells : Machine → Next → Type 0
-Tells m (Asks question) = (phase : Phase) × (m.phase ≡ Some phase) × IsQuestion phase m.walk.left question × (m.asked ≡ question.count)
+Tells m (Asks question) = (phase : Phase) × (m.phase ≡ Some phase) × (AsksItems m phase question ⊎ AsksRegions m phase question)
 Tells m (Ended passed) = (m.phase ≡ None) × (passed.pass ≡ m.finalizers.passes) × (passed.picked ≡ length m.finalizers.queue - m.before)
 
 -- the same where the objects or words of a question are in an array
@@ -139,9 +168,11 @@ pub record GoesTo (old : Machine) (answers : List Bool) (new : Machine) (next : 
   pub goes : GoesOn phase (steps phase answers (going old.finalizers old.walk)) new.phase (going new.finalizers new.walk)
   pub tells : Tells new next
   pub before : new.before ≡ old.before
+  pub noted : new.noted ≡ old.noted
 
 -- an open pass is ended early: the finalizers are unchanged
 pub record IsAbandoned (old new : Machine) : Type 0 where
   pub was : IsTrue (is_some old.phase)
   pub idle : IsIdle new
   pub same : new.finalizers ≡ old.finalizers
+  pub noted : new.noted ≡ old.noted

@@ -23,6 +23,7 @@ impl Machine {
         }
         self.phase = None;
         self.asked = 0;
+        self.regions.stop();
         Ok(())
     }
 }

@@ -1,6 +1,6 @@
 //! The calls that change finalizers. While a pass is open only entries are taken and finished.
 
-ghost use Rattle.std.specs.Prelude.{◌≡◌, ◌≤◌, ◌+◌, ◌⊎◌, [], None, length, if◌then◌else◌, IfOk, IfErr, OnOk, OnErr};
+ghost use Rattle.std.specs.Prelude.{◌≡◌, ◌≤◌, ◌+◌, ◌⊎◌, [], None, length, if◌then◌else◌, IfOk, IfErr, OnOk, OnErr, IsTrue};
 ghost use Rattle.std.specs.FinMap.{get, len, contains_key, empty};
 ghost use Rattle.std.specs.FinSet.{contains};
 ghost use Rattle.fz_model.specs.Steps.{move_answer, old_of};
@@ -43,6 +43,7 @@ impl Machine {
         longs: usize,
     ) -> Result<(), Refused>
         ensures judged { IsJudgedOrLacks self.old.phase [] result }
+        ensures noted { self.new.noted ≡ self.old.noted }
         ensures wanting { IfErr result (λ r. r ≡ Refused.Finalizers NoMemory → HasRooms self.old.finalizers.rooms registrations shorts longs → HasRoomForMore self.old.finalizers.state registrations shorts longs self.old.walk.room → ⊥) }
         ensures same { (self.new.phase ≡ self.old.phase) × (self.new.finalizers.state ≡ self.old.finalizers.state) }
         ensures room { OnOk result (HasRooms self.new.finalizers.rooms registrations shorts longs × HasRoomForMore self.old.finalizers.state registrations shorts longs self.new.walk.room) }
@@ -63,6 +64,7 @@ impl Machine {
     /// Frees the memory that isn't needed, as `Finalizers::shrink` does, and that of the list that a pass processes. Fails with `PassOpen`.
     pub fn shrink(&mut self) -> Result<(), Refused>
         ensures judged { IsJudgedBy self.old.phase [] result }
+        ensures noted { self.new.noted ≡ self.old.noted }
         ensures refused { OnErr result (self.new ≡ self.old) }
         ensures idle { OnOk result (IsIdle self.new) }
         ensures state { self.new.finalizers.state ≡ self.old.finalizers.state }
@@ -70,6 +72,7 @@ impl Machine {
     {
         self.check()?;
         reserving::shrink(&mut self.finalizers, &mut self.walk);
+        self.regions.shrink();
         Ok(())
     }
 
@@ -82,6 +85,7 @@ impl Machine {
         finalizer: Finalizer,
     ) -> Result<(u64, Option<Old>), Refused>
         ensures judged { IsJudgedOrLacks self.old.phase (register_causes self.old.finalizers.registrations self.old.finalizers.next_number object) result }
+        ensures noted { IsTrue self.new.noted → IsTrue self.old.noted }
         // Only an object that isn't registered can run out of memory, and only if no room is reserved.
         ensures fresh { IfErr result (λ r. r ≡ Refused.Finalizers NoMemory → get self.old.finalizers.registrations object ≡ None) }
         ensures wanting { IfErr result (λ r. r ≡ Refused.Finalizers NoMemory → (self.old.finalizers.rooms.registrations ≡ 0) ⊎ (self.old.walk.room ≤ len self.old.finalizers.registrations)) }
@@ -91,6 +95,7 @@ impl Machine {
         ensures follows { OnOk result (IsIdle self.new × Follows self.old.finalizers.state (Register object finalizer) self.new.finalizers.state) }
     {
         self.check()?;
+        self.regions.note(object);
         match reserving::register(&mut self.finalizers, &mut self.walk, object, finalizer) {
             Ok(answer) => Ok(answer),
             Err(refused) => Err(Refused::Finalizers(refused)),
@@ -102,6 +107,7 @@ impl Machine {
     /// Fails with `PassOpen`, and then as `Finalizers::link` does.
     pub fn link(&mut self, kind: LinkKind, word: Addr, target: Addr) -> Result<LinkAnswer, Refused>
         ensures judged { IsJudgedOrLacks self.old.phase (link_causes (links_of self.old.finalizers.state kind) word target) result }
+        ensures noted { self.new.noted ≡ self.old.noted }
         // Only a new link can run out of memory, and only if no room is reserved.
         ensures fresh { IfErr result (λ r. r ≡ Refused.Finalizers NoMemory → get (links_of self.old.finalizers.state kind) word ≡ None) }
         ensures wanting { IfErr result (λ r. r ≡ Refused.Finalizers NoMemory → (room_of self.old.finalizers.rooms kind ≡ 0) ⊎ (self.old.walk.room ≤ len (links_of self.old.finalizers.state kind))) }
@@ -121,6 +127,7 @@ impl Machine {
     /// Fails with `PassOpen`, and then as `Finalizers::add_cleanup` does.
     pub fn add_cleanup(&mut self, object: Addr, cleanup: Cleanup) -> Result<u64, Refused>
         ensures judged { IsJudgedOrLacks self.old.phase (add_causes self.old.finalizers.cleanups self.old.finalizers.next_number object) result }
+        ensures noted { self.new.noted ≡ self.old.noted }
         // Only a call without reserved room can run out of memory.
         ensures wanting { IfErr result (λ r. r ≡ Refused.Finalizers NoMemory → (self.old.finalizers.rooms.cleanups ≡ 0) ⊎ (self.old.walk.room ≤ len self.old.finalizers.cleanups)) }
         ensures refused { OnErr result ((self.new.phase ≡ self.old.phase) × (self.new.finalizers.state ≡ self.old.finalizers.state)) }
@@ -137,6 +144,7 @@ impl Machine {
     /// Removes a cleanup, and returns it with its object. Returns none if it was queued or cancelled, or never added. Fails with `PassOpen`.
     pub fn cancel(&mut self, number: u64) -> Result<Option<Attached>, Refused>
         ensures judged { IsJudgedBy self.old.phase [] result }
+        ensures noted { self.new.noted ≡ self.old.noted }
         ensures refused { OnErr result (self.new ≡ self.old) }
         ensures answer { IfOk result (λ attached. attached ≡ get self.old.finalizers.cleanups number) }
         ensures follows { OnOk result (IsIdle self.new × Follows self.old.finalizers.state (Cancel number) self.new.finalizers.state) }
@@ -148,6 +156,7 @@ impl Machine {
     /// Removes an object's registration, and returns its procedure and client data, if it was registered. Fails with `PassOpen`.
     pub fn unregister(&mut self, object: Addr) -> Result<Option<Old>, Refused>
         ensures judged { IsJudgedBy self.old.phase [] result }
+        ensures noted { self.new.noted ≡ self.old.noted }
         ensures refused { OnErr result (self.new ≡ self.old) }
         ensures answer { IfOk result (λ old. old ≡ old_of self.old.finalizers.registrations object) }
         ensures follows { OnOk result (IsIdle self.new × Follows self.old.finalizers.state (Unregister object) self.new.finalizers.state) }
@@ -159,6 +168,7 @@ impl Machine {
     /// Removes the link of a word, and returns whether there was one. Fails with `PassOpen`.
     pub fn unlink(&mut self, kind: LinkKind, word: Addr) -> Result<bool, Refused>
         ensures judged { IsJudgedBy self.old.phase [] result }
+        ensures noted { self.new.noted ≡ self.old.noted }
         ensures refused { OnErr result (self.new ≡ self.old) }
         ensures answer { IfOk result (λ was. was ≡ contains_key (links_of self.old.finalizers.state kind) word) }
         ensures follows { OnOk result (IsIdle self.new × Follows self.old.finalizers.state (Unlink kind word) self.new.finalizers.state) }
@@ -170,6 +180,7 @@ impl Machine {
     /// Moves a link from one word to another; its target stays the same. Fails with, in this order: `PassOpen`, `Zero` if the other word is 0.
     pub fn move_link(&mut self, kind: LinkKind, word: Addr, to: Addr) -> Result<MoveAnswer, Refused>
         ensures judged { IsJudgedBy self.old.phase (move_causes to) result }
+        ensures noted { self.new.noted ≡ self.old.noted }
         ensures refused { OnErr result ((self.new.phase ≡ self.old.phase) × (self.new.finalizers.state ≡ self.old.finalizers.state)) }
         ensures answer { IfOk result (λ answer. answer ≡ move_answer (links_of self.old.finalizers.state kind) word to) }
         ensures follows { OnOk result (IsIdle self.new × Follows self.old.finalizers.state (Move kind word to) self.new.finalizers.state) }
@@ -187,6 +198,7 @@ impl Machine {
     /// with `PassOpen`.
     pub fn queue_all(&mut self) -> Result<u64, Refused>
         ensures judged { IsJudgedBy self.old.phase [] result }
+        ensures noted { self.new.noted ≡ self.old.noted }
         ensures refused { OnErr result (self.new ≡ self.old) }
         ensures queued { OnOk result (QueuesAll (length self.old.finalizers.queue) self.old.finalizers.registrations (contains self.old.finalizers.late) self.old.finalizers.queue self.new.finalizers.queue) }
         ensures follows { OnOk result (IsIdle self.new × Follows self.old.finalizers.state QueueAll self.new.finalizers.state) }
@@ -200,6 +212,7 @@ impl Machine {
     /// entries' pass is 0. Takes time proportional to the cleanups. Fails with `PassOpen`.
     pub fn queue_cleanups(&mut self) -> Result<u64, Refused>
         ensures judged { IsJudgedBy self.old.phase [] result }
+        ensures noted { self.new.noted ≡ self.old.noted }
         ensures refused { OnErr result (self.new ≡ self.old) }
         ensures idle { OnOk result (IsIdle self.new) }
         ensures queued { OnOk result (CleansAll self.old.finalizers.state self.new.finalizers.state) }

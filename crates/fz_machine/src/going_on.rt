@@ -4,35 +4,83 @@ ghost use Rattle.std.specs.Prelude.{◌≡◌, ◌≤◌, ◌<◌, ◌∷◌, []
 ghost use Rattle.fz_machine.specs.declared.item.Item.{Item};
 ghost use Rattle.fz_machine.specs.declared.question.TheConstants.{BATCH};
 ghost use Rattle.fz_machine.specs.Phases.{asks, subject};
-ghost use Rattle.fz_machine.specs.Going.{going, HasRoom};
-ghost use Rattle.fz_machine.specs.Steps.{GoesOn, IsQuestion};
+ghost use Rattle.fz_machine.specs.Going.{going_by, walk_by, HasFirst, HasRoom, IsInOrder};
+ghost use Rattle.fz_machine.specs.Regions.{AreNoted};
+ghost use Rattle.fz_machine.specs.Steps.{Begins, GoesOn, IsQuestion, skip};
 
 use crate::asking::skip;
 use crate::item::Item;
 use crate::listing::begin;
+use crate::marks::settle;
 use crate::phase::Phase;
 use crate::question::{Ask, BATCH};
+use crate::regions::Regions;
 use crate::walk::Walk;
 use fz_finalizers::Finalizers;
 use fz_model::Addr;
 
+/// Skips what isn't asked about, and returns whether something is left.
+fn skip_by(
+    finalizers: &mut Finalizers,
+    walk: &mut Walk,
+    regions: &mut Regions,
+    phase: Phase,
+) -> bool
+    requires order { IsInOrder finalizers.old.state walk.old regions.old (Some phase) 0 }
+    ensures skipped { going_by finalizers.new walk.new regions.new ≡ skip phase (going_by finalizers.old walk.old regions.old) }
+    ensures some { result ≡ is_some (slice_get (walk_by finalizers.new.state walk.new regions.new).left 0) }
+    ensures order { IsInOrder finalizers.new.state walk.new regions.new (Some phase) 0 }
+    ensures first { HasFirst finalizers.new.state regions.new }
+    ensures none { IsFalse result → regions.new.left ≡ [] }
+    ensures same { regions.new.complete ≡ regions.old.complete }
+{
+    if settle(finalizers, regions) {
+        return true;
+    }
+    skip(finalizers, walk, phase);
+    walk.first().is_some()
+}
+
+/// Lists what a phase processes: registrations by regions, if these are complete.
+fn begin_by(finalizers: &Finalizers, walk: &mut Walk, regions: &mut Regions, phase: Phase)
+    requires none { regions.old.left ≡ [] }
+    requires room { HasRoom finalizers.now.state walk.old.room }
+    requires noted { IsTrue regions.old.complete → AreNoted finalizers.now.state regions.old.order }
+    ensures begins { Begins phase (going_by finalizers.now walk.old regions.old) (going_by finalizers.now walk.new regions.new) }
+    ensures order { IsInOrder finalizers.now.state walk.new regions.new (Some phase) 0 }
+    ensures same { regions.new.complete ≡ regions.old.complete }
+{
+    if phase == Phase::Objects && regions.is_complete() {
+        walk.clear();
+        regions.begin();
+        return;
+    }
+    begin(finalizers, walk, phase);
+}
+
 /// Proceeds to the first phase with something to ask, and returns it, or to the end of the pass.
-pub(crate) fn go_on(finalizers: &mut Finalizers, walk: &mut Walk, phase: Phase) -> Option<Phase>
-    requires room { HasRoom finalizers.old.state walk.old.room }
-    ensures goes { GoesOn phase (going finalizers.old walk.old) result (going finalizers.new walk.new) }
-    ensures room { HasRoom finalizers.new.state walk.new.room }
+pub(crate) fn go_on(
+    finalizers: &mut Finalizers,
+    walk: &mut Walk,
+    regions: &mut Regions,
+    phase: Phase,
+) -> Option<Phase>
+    requires order { IsInOrder finalizers.old.state walk.old regions.old (Some phase) 0 }
+    ensures goes { GoesOn phase (going_by finalizers.old walk.old regions.old) result (going_by finalizers.new walk.new regions.new) }
+    ensures order { IsInOrder finalizers.new.state walk.new regions.new result 0 }
+    ensures first { HasFirst finalizers.new.state regions.new }
+    ensures same { regions.new.complete ≡ regions.old.complete }
 {
     let mut phase = phase;
     loop {
-        skip(finalizers, walk, phase);
-        if walk.first().is_some() {
+        if skip_by(finalizers, walk, regions, phase) {
             return Some(phase);
         }
         let Some(next) = phase.next() else {
             return None;
         };
         phase = next;
-        begin(finalizers, walk, phase);
+        begin_by(finalizers, walk, regions, phase);
     }
 }
 

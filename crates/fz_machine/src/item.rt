@@ -1,10 +1,10 @@
 //! The items that the phases of a pass process.
 
-ghost use Rattle.std.specs.Prelude.{◌≡◌};
-ghost use Rattle.fz_machine.specs.Items.{of_cleanup, of_link, of_stored};
+ghost use Rattle.std.specs.Prelude.{◌≡◌, if◌then◌else◌};
+ghost use Rattle.fz_machine.specs.Items.{of_cleanup, of_late, of_link, of_other, of_stored};
 
 use fz_finalizers::{Attached, Kind, Stored};
-use fz_model::Addr;
+use fz_model::{Addr, Registration};
 
 /// A link, a registration or a cleanup, as a phase processes it.
 #[derive(Clone, Copy, Debug, PartialEq, Eq)]
@@ -44,16 +44,23 @@ impl Item {
         }
     }
 
+    /// An object's registration, and whether its kind is `Unreachable`.
+    pub(crate) fn of_registration(object: Addr, registration: &Registration, is_late: bool) -> Item
+        ensures { result ≡ (if is_late then of_late (object, registration.now) else of_other (object, registration.now)) }
+    {
+        let rank = u16::from(registration.rank);
+        Item {
+            object,
+            word: 0,
+            kind: Kind::of_table(is_late, registration.kind),
+            turn: if is_late { 256 + rank } else { rank },
+        }
+    }
+
     /// An object's registration.
     pub(crate) fn of_stored(object: Addr, stored: &Stored) -> Item
         ensures { result ≡ of_stored (object, stored.now) }
     {
-        let rank = u16::from(stored.rank);
-        Item {
-            object,
-            word: 0,
-            kind: Kind::of_table(stored.unreachable, stored.kind),
-            turn: if stored.unreachable { 256 + rank } else { rank },
-        }
+        Item::of_registration(object, &stored.registration(), stored.unreachable)
     }
 }

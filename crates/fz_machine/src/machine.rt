@@ -1,9 +1,10 @@
 //! Finalizers whose pass asks questions, and their parts.
 
-ghost use Rattle.std.specs.Prelude.{◌≡◌, ◌≤◌, ◌+◌, None, is_some, IfOk, IfErr};
+ghost use Rattle.std.specs.Prelude.{◌≡◌, None, true, false, is_some, IfOk, IfErr};
 ghost use Rattle.fz_finalizers.specs.States.{opening};
 
 use crate::phase::Phase;
+use crate::regions::Regions;
 use crate::walk::Walk;
 use fz_finalizers::{Finalizers, Refused};
 use std::alloc::Global;
@@ -15,8 +16,9 @@ use std::marker::Model;
 pub struct Machine {
     pub(crate) finalizers: Finalizers,
     pub(crate) walk: Walk,
+    pub(crate) regions: Regions,
     pub(crate) phase: Option<Phase>,
-    /// How many items the last question was about.
+    /// How many items the last question was about: none if it was about regions.
     pub(crate) asked: usize,
     /// How many entries had been queued when the pass began.
     pub(crate) before: u64,
@@ -28,6 +30,7 @@ impl Drop for Machine {
         let Machine {
             finalizers: _,
             walk: _,
+            regions: _,
             phase: _,
             asked: _,
             before: _,
@@ -36,16 +39,25 @@ impl Drop for Machine {
 }
 
 impl Model for Machine {
+    ghost use Rattle.std.specs.Prelude.{take};
     ghost use Rattle.fz_machine.specs.Machines.{Machine, machine_code};
-    ghost use Rattle.fz_machine.specs.Going.{HasRoom};
+    ghost use Rattle.fz_machine.specs.Going.{walk_by, IsInOrder};
 
     ghost Value = { Machine };
 
     ghost coded = { machine_code };
 
-    ghost view = { λ m. record { finalizers = m.finalizers; walk = m.walk; phase = m.phase; asked = m.asked; before = m.before } };
+    ghost view = { λ m. record {
+      finalizers = m.finalizers;
+      walk = walk_by m.finalizers.state m.walk m.regions;
+      phase = m.phase;
+      asked = m.asked;
+      before = m.before;
+      regions = take m.regions.asked m.regions.left;
+      noted = m.regions.complete;
+    } };
 
-    ghost invariant = { λ m. HasRoom m.finalizers.state m.walk.room };
+    ghost invariant = { λ m. IsInOrder m.finalizers.state m.walk m.regions m.phase m.asked };
 }
 
 impl Machine {
@@ -54,11 +66,35 @@ impl Machine {
         ensures refused { IfErr result (λ r. r ≡ Refused.NoMemory) }
         ensures finalizers { IfOk result (λ m. m.finalizers.state ≡ opening) }
         ensures phase { IfOk result (λ m. m.phase ≡ None) }
+        ensures noted { IfOk result (λ m. m.noted ≡ false) }
+    {
+        Machine::opening(alloc, false)
+    }
+
+    /// The same, but a pass asks for the marks of regions (`Ask::Marks`), not about each registered object. So it takes no time for an object that is
+    /// marked. A new registration may take more memory, at most 40 bytes. If that can't be allocated, the registration succeeds, and from then on passes ask
+    /// about each object. Fails with `NoMemory` if an allocation fails.
+    pub fn with_regions(alloc: Global) -> Result<Machine, Refused>
+        ensures refused { IfErr result (λ r. r ≡ Refused.NoMemory) }
+        ensures finalizers { IfOk result (λ m. m.finalizers.state ≡ opening) }
+        ensures phase { IfOk result (λ m. m.phase ≡ None) }
+        ensures noted { IfOk result (λ m. m.noted ≡ true) }
+    {
+        Machine::opening(alloc, true)
+    }
+
+    /// Finalizers without registrations, whose objects are noted or not.
+    fn opening(alloc: Global, noted: bool) -> Result<Machine, Refused>
+        ensures refused { IfErr result (λ r. r ≡ Refused.NoMemory) }
+        ensures finalizers { IfOk result (λ m. m.finalizers.state ≡ opening) }
+        ensures phase { IfOk result (λ m. m.phase ≡ None) }
+        ensures noted { IfOk result (λ m. m.noted ≡ noted) }
     {
         let finalizers = Finalizers::new(alloc)?;
         Ok(Machine {
             finalizers,
             walk: Walk::new(alloc),
+            regions: Regions::new(alloc, noted),
             phase: None,
             asked: 0,
             before: 0,
@@ -70,6 +106,11 @@ impl Machine {
         ensures { result.now ≡ self.now.finalizers }
     {
         &self.finalizers
+    }
+
+    /// Whether the last question was about regions, so that `next_marks` takes its answers.
+    pub fn asks_marks(&self) -> bool {
+        self.regions.asked() > 0
     }
 
     /// Whether a pass is open.

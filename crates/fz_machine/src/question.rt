@@ -5,7 +5,7 @@ ghost use Rattle.fz_machine.specs.Asks.{number_of};
 
 use fz_model::Addr;
 
-/// The largest number of objects or words of one question.
+/// The largest number of objects, words or regions of one question.
 pub const BATCH: usize = 64;
 
 /// What is asked about each object or word of a question.
@@ -25,6 +25,9 @@ pub enum Ask {
     Clear,
     /// Is the object that contains the word marked, or does no object contain it?
     IsHolderMarked,
+    /// Which objects of a region are marked? The region is told by its first address, and has 64 places, 16 bytes apart from there on. The answer is a word:
+    /// its bit `i`, counted from the lowest, says whether the object that begins at place `i` is marked. If none begins there, the bit may have any value.
+    Marks,
 }
 
 impl Ask {
@@ -40,16 +43,17 @@ impl Ask {
             Ask::MarkAlone => 5,
             Ask::Clear => 6,
             Ask::IsHolderMarked => 7,
+            Ask::Marks => 8,
         }
     }
 }
 
-/// A question about the first `count` of these objects or words. They are answered or carried out one after another.
+/// A question about the first `count` of these objects, words or regions. They are answered or carried out one after another.
 #[derive(Clone, Copy, Debug, PartialEq, Eq)]
 pub struct Question {
     /// What is asked.
     pub ask: Ask,
-    /// The objects, or the words.
+    /// The objects, the words, or the first addresses of the regions.
     pub about: [Addr; BATCH],
     /// How many there are: at least one.
     pub count: usize,

@@ -1,8 +1,10 @@
 //! Answers of a host that can be called.
 
-ghost use Rattle.fz_machine.specs.Graph.{MayAsk, Answers, graph_of};
+ghost use Rattle.std.specs.Prelude.{◌+◌, ◌<◌, ◌^◌};
+ghost use Rattle.fz_machine.specs.Graph.{MayAsk, Answers, IsHonestWord, graph_of};
 
 use crate::question::Ask;
+use crate::regions::{PLACES, bit, object_at};
 use fz_model::Addr;
 use fz_pass::Host;
 
@@ -36,5 +38,21 @@ pub fn respond<H: Host>(host: &mut H, ask: Ask, subject: Addr) -> bool
             false
         }
         Ask::IsHolderMarked => host.is_holder_marked(subject),
+        Ask::Marks => false,
     }
+}
+
+/// Asks a host that can be called for the marks of a region, which is told by its first address.
+/// The last of its places has to have an address.
+pub fn respond_marks<H: Host>(host: &H, region: Addr) -> u64
+    requires { region + 1_008 < 2 ^ 64 }
+    ensures honest { IsHonestWord (graph_of (H.objects host.now) (H.marked host.now)) region result }
+{
+    let mut marks = 0;
+    for place in 0..PLACES {
+        if host.is_marked(object_at(region, place)) {
+            marks |= bit(place);
+        }
+    }
+    marks
 }

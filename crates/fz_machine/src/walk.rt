@@ -139,6 +139,29 @@ impl Walk {
         self.place += 1;
     }
 
+    /// Removes all items.
+    pub(crate) fn clear(&mut self)
+        ensures { self.new ≡ record self.old { kept = []; left = [] } }
+    {
+        self.items.clear();
+        self.kept = 0;
+        self.place = 0;
+    }
+
+    /// Keeps another item. The list has room for it, and has none left.
+    pub(crate) fn keep(&mut self, item: Item)
+        requires none { self.old.left ≡ [] }
+        requires room { length self.old.kept < self.old.room }
+        ensures kept { self.new.kept ≡ self.old.kept ++ item ∷ [] }
+        ensures left { self.new.left ≡ [] }
+        ensures room { self.old.room ≤ self.new.room }
+    {
+        self.items.truncate(self.kept);
+        let _ = self.items.push(item);
+        self.kept += 1;
+        self.place = self.kept;
+    }
+
     /// Starts again with the kept items.
     pub(crate) fn again(&mut self)
         ensures kept { self.new.kept ≡ [] }

@@ -6,5 +6,6 @@ mod asked_cleanups;
 mod beside;
 mod cleanups;
 mod copy;
+mod regions;
 mod runtime;
 mod why;

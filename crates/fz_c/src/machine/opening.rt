@@ -1,6 +1,8 @@
 //! Opening and freeing handles.
 
-ghost use Rattle.std.specs.Prelude.{◌≡◌, None};
+ghost use Rattle.std.specs.Prelude.{◌≡◌, None, IfOk};
+ghost use Rattle.fz_finalizers.specs.States.{opening};
+ghost use Rattle.fz_machine.specs.Machines.{IsIdle};
 ghost use Rattle.fz_c.specs.MachineChanges.{Reserves, Shrinks};
 ghost use Rattle.fz_c.specs.MachineCodes.{Behind};
 ghost use Rattle.fz_c.specs.MachineOpens.{Opens};
@@ -9,19 +11,37 @@ use crate::handle::{behind, put, take};
 use crate::machine::codes::{Code, IS_OPEN, NO_MEMORY, NOT_OPEN, OK, code_of};
 use crate::machine::handle::MachineHandle;
 use crate::machine::session::MachineSession;
+use fz_finalizers::Refused;
 use fz_machine::Machine;
 use std::alloc::Global;
 
-/// Creates finalizers in an empty handle.
+/// Finalizers without registrations, whose passes ask about regions or not.
+fn made(alloc: Global, marks: bool) -> Result<Machine, Refused>
+    ensures finalizers { IfOk result (λ m. m.finalizers.state ≡ opening) }
+    ensures idle { IfOk result (λ m. IsIdle m) }
+    ensures noted { IfOk result (λ m. m.noted ≡ marks) }
+{
+    if marks {
+        Machine::with_regions(alloc)
+    } else {
+        Machine::new(alloc)
+    }
+}
+
+/// Creates finalizers in an empty handle. With `marks` their passes ask about regions.
 #[unsafe(no_mangle)]
-pub extern "C" fn fz_machine_open(alloc: Global, finalizers: &mut MachineHandle) -> Code
-    ensures { Opens finalizers.old.value finalizers.new.value result }
+pub extern "C" fn fz_machine_open(
+    alloc: Global,
+    finalizers: &mut MachineHandle,
+    marks: bool,
+) -> Code
+    ensures { Opens marks finalizers.old.value finalizers.new.value result }
 {
     if let Some(session) = take(finalizers, alloc) {
         put(finalizers, session);
         return IS_OPEN;
     }
-    let Ok(machine) = Machine::new(alloc) else {
+    let Ok(machine) = made(alloc, marks) else {
         return NO_MEMORY;
     };
     let Ok(session) = Box::new(alloc, MachineSession { machine }) else {

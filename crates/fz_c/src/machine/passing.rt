@@ -1,17 +1,18 @@
 //! Passes.
 
-ghost use Rattle.std.specs.Prelude.{◌≡◌, []};
+ghost use Rattle.std.specs.Prelude.{◌≡◌, [], None, IfErr, IfOk, OnErr};
 ghost use Rattle.fz_machine.specs.Asks.{bits_of};
 ghost use Rattle.fz_machine.specs.Causes.{first_of};
-ghost use Rattle.fz_machine.specs.Machines.{IsBegun};
+ghost use Rattle.fz_machine.specs.Machines.{GoesTo, IsBegun, Writes, next_of};
+ghost use Rattle.fz_machine.specs.declared.refused.Refused.TheVariants.{NoPass};
 ghost use Rattle.fz_c.specs.MachineChanges.{QueuesAll, QueuesCleanups};
 ghost use Rattle.fz_c.specs.MachineCodes.{Answers, Behind};
-ghost use Rattle.fz_c.specs.MachinePassing.{Abandons, AsksNext};
+ghost use Rattle.fz_c.specs.MachinePassing.{Abandons, AsksNext, heard};
 
 use crate::handle::behind;
 use crate::machine::codes::{Code, EMPTY, NOT_OPEN, OK, code_of};
 use crate::machine::handle::MachineHandle;
-use fz_machine::{BATCH, Step};
+use fz_machine::{BATCH, Machine, Refused, Step};
 use std::alloc::Global;
 
 /// A question, as C represents it.
@@ -21,6 +22,7 @@ pub struct Question {
     pub what: [u64; BATCH],
     pub count: u64,
     pub ask: u32,
+    pub marks: [u64; BATCH],
 }
 
 /// What a pass has done.
@@ -55,7 +57,26 @@ pub extern "C" fn fz_machine_abandon(alloc: Global, finalizers: &mut MachineHand
     }
 }
 
-/// `Machine::next_bits`.
+/// Has a machine process the answers to its last question, of bits or of words, and proceed.
+fn proceed(
+    machine: &mut Machine,
+    answers: u64,
+    marks: &[u64; BATCH],
+    about: &mut [u64; BATCH],
+) -> Result<Step, Refused>
+    ensures refused { OnErr result ((machine.old.phase ≡ None) × (machine.new ≡ machine.old) × (about.new ≡ about.old)) }
+    ensures cause { IfErr result (λ r. r ≡ NoPass) }
+    ensures goes { IfOk result (λ step. GoesTo machine.old (heard machine.old (bits_of answers) marks.now) machine.new (next_of step about.new)) }
+    ensures written { IfOk result (λ step. Writes step about.old about.new) }
+{
+    if machine.asks_marks() {
+        machine.next_marks(marks, about)
+    } else {
+        machine.next_bits(answers, about)
+    }
+}
+
+/// `Machine::next_marks` if the last question was about regions, and else `Machine::next_bits`.
 #[unsafe(no_mangle)]
 pub extern "C" fn fz_machine_next(
     alloc: Global,
@@ -64,13 +85,18 @@ pub extern "C" fn fz_machine_next(
     question: &mut Question,
     passed: &mut Passed,
 ) -> Code
-    ensures { Behind finalizers.old.value finalizers.new.value result ((question.new ≡ question.old) × (passed.new ≡ passed.old)) (λ m n. AsksNext m (bits_of answers) n result question.old question.new passed.old passed.new) }
+    ensures { Behind finalizers.old.value finalizers.new.value result ((question.new ≡ question.old) × (passed.new ≡ passed.old)) (λ m n. AsksNext m (bits_of answers) question.old.marks n result question.old question.new passed.old passed.new) }
 {
     let reply = behind!(
         alloc,
         finalizers,
         NOT_OPEN,
-        |it| it.machine.next_bits(answers, &mut question.what)
+        |it| proceed(
+            &mut it.machine,
+            answers,
+            &question.marks,
+            &mut question.what
+        )
     );
     match reply {
         Ok(Step::Asks { ask, count }) => {

@@ -115,6 +115,8 @@ impl Graph {
                 }
                 false
             }
+            // `marks_of` answers this.
+            Ask::Marks => false,
         }
     }
 }

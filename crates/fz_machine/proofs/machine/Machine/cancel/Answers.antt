@@ -1,8 +1,16 @@
-use Rattle.std.proofs.Common.{sym, subst}
+use Rattle.std.proofs.Common.{[], sym, subst, ap, ◌∙◌}
 use Rattle.fz_finalizers.specs.States.{State}
 use Rattle.fz_machine.specs.Going.{HasRoom}
+use Rattle.fz_machine.specs.Causes.{first_of}
+use Rattle.fz_machine.specs.Machines.{Machine}
+use Rattle.fz_machine.proofs.Remaining.{calm, removed_fewer, same_fewer, none_fewer, unopened}
 use Rattle.fz_machine.proofs.Rooms.{cancelled}
 use Rattle.fz_machine.proofs.machine.Machine.cancel.Goals as goal
 
 pub invariant_of-self : goal.invariant_of-self
-invariant_of-self c = subst (λ (s : State). HasRoom s c.self.inside.walk.room) (sym c.cancel.ensures.follows) (cancelled c.self.inside.finalizers.state c.self.inside.walk.room c.self.invariant c.args.number)
+invariant_of-self c =
+    let s = c.self.inside.finalizers.state in
+    let room = subst (λ (t : State). HasRoom t c.self.inside.walk.room) (sym c.cancel.ensures.follows) (cancelled s c.self.inside.walk.room c.self.invariant.room c.args.number) in
+    calm s c.self.inside.walk c.self.inside.regions c.self.inside.phase c.self.inside.asked c.self.invariant (unopened c.self.inside.phase [] (ap (λ (m : Machine). first_of m.phase []) c.self.view_is ∙ c.in_ok-check.ensures))
+    c.cancel.new.self.state c.self.inside.walk room
+    (same_fewer s.registrations c.cancel.new.self.state.registrations (ap (λ (t : State). t.registrations) c.cancel.ensures.follows))

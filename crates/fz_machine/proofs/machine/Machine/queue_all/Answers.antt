@@ -1,7 +1,16 @@
+use Rattle.std.proofs.Common.{[], sym, subst, ap, ◌∙◌}
+use Rattle.fz_finalizers.specs.States.{State}
+use Rattle.fz_machine.specs.Going.{HasRoom}
+use Rattle.fz_machine.specs.Causes.{first_of}
+use Rattle.fz_machine.specs.Machines.{Machine}
+use Rattle.fz_machine.proofs.Remaining.{calm, removed_fewer, same_fewer, none_fewer, unopened}
 use Rattle.fz_machine.proofs.Rooms.{emptied}
 use Rattle.fz_machine.proofs.machine.Machine.queue_all.Goals as goal
 
 pub invariant_of-self : goal.invariant_of-self
 invariant_of-self c =
-    let does = c.queue_all.ensures.follows in
-    emptied c.self.inside.finalizers.state c.self.inside.walk.room c.self.invariant c.queue_all.new.self.state does.1 does.3 does.4 does.0.cleanups
+    let s = c.self.inside.finalizers.state in
+    let room = (let does = c.queue_all.ensures.follows in emptied s c.self.inside.walk.room c.self.invariant.room c.queue_all.new.self.state does.1 does.3 does.4 does.0.cleanups) in
+    calm s c.self.inside.walk c.self.inside.regions c.self.inside.phase c.self.inside.asked c.self.invariant (unopened c.self.inside.phase [] (ap (λ (m : Machine). first_of m.phase []) c.self.view_is ∙ c.in_ok-check.ensures))
+    c.queue_all.new.self.state c.self.inside.walk room
+    (none_fewer s.registrations c.queue_all.new.self.state.registrations c.queue_all.ensures.follows.1)

@@ -1,0 +1,16 @@
+use Rattle.std.proofs.Common.{ap, sym, subst, inl, ◌∙◌, true≢false, is_some}
+use Rattle.std.specs.FinMap.{get, get-empty}
+use Rattle.std.specs.Ordering.{nat_cmp}
+use Rattle.fz_finalizers.specs.States.{State}
+use Rattle.fz_machine.specs.Going.{HasRoom}
+use Rattle.fz_machine.specs.Regions.{Regions}
+use Rattle.fz_machine.proofs.Rooms.{opened}
+use Rattle.fz_machine.proofs.machine.Machine.opening.Goals as goal
+
+pub invariant_of-result : goal.invariant_of-result
+invariant_of-result c = record {
+  room = subst (λ (s : State). HasRoom s c.new-2.result.room) (sym c.in_ok-finalizers.ensures.opened) (opened c.new-2.result.room);
+  keeps = inl (ap (λ (r : Regions). r.left) c.new-3.ensures);
+  noted = λ complete object there. absurd (true≢false (sym there ∙ ap (λ (s : State). is_some (get s.registrations object)) c.in_ok-finalizers.ensures.opened ∙ ap is_some (get-empty nat_cmp object)));
+  during = inl (ap (λ (r : Regions). r.left) c.new-3.ensures);
+}

@@ -1,0 +1,105 @@
+//! Regions, processed by their marks.
+
+ghost use Rattle.std.specs.Prelude.{◌≡◌, ◌≤◌, ◌<◌, ◌+◌, ◌*◌, ◌⊎◌, ◌++◌, ◌&&◌, ◌||◌, ℕ, [], filter, not, take, length, is_some, slice_get, IsTrue, IsFalse};
+ghost use Rattle.std.specs.FinMap.{contains_key};
+ghost use Rattle.fz_model.specs.Bits.{has_bit};
+ghost use Rattle.fz_machine.specs.declared.phase.Phase.TheVariants.{Objects};
+ghost use Rattle.fz_machine.specs.Going.{going_by, HasFirst, HasRoomToKeep};
+ghost use Rattle.fz_machine.specs.Regions.{place_in, objects_in, item_at, items_of, items_in, marks_say, AreNoted};
+ghost use Rattle.fz_machine.specs.Steps.{steps};
+
+use crate::item::Item;
+use crate::question::BATCH;
+use crate::regions::{Regions, bit, lowest, object_at};
+use crate::walk::Walk;
+use fz_finalizers::{Finalizers, Kind};
+use fz_model::Addr;
+
+/// The item of an object, if it is registered.
+fn item_at(finalizers: &Finalizers, object: Addr) -> Option<Item>
+    ensures { result ≡ item_at finalizers.now.state object }
+{
+    let registration = finalizers.registration(object)?;
+    let is_late = finalizers.kind(object) == Some(Kind::Unreachable);
+    Some(Item::of_registration(object, &registration, is_late))
+}
+
+/// Whether a registered object begins at one of the places with these bits.
+fn has_registered(finalizers: &Finalizers, region: Addr, bits: u64) -> bool
+    requires { place_in region ≡ 0 }
+    ensures some { IsTrue result → 0 < length (items_of finalizers.now.state (objects_in (region, bits))) }
+    ensures none { IsFalse result → items_of finalizers.now.state (objects_in (region, bits)) ≡ [] }
+{
+    let mut rest = bits;
+    while rest != 0 {
+        let (place, others) = lowest(rest);
+        if finalizers.registration(object_at(region, place)).is_some() {
+            return true;
+        }
+        rest = others;
+    }
+    false
+}
+
+/// Removes regions without registered objects, up to the first with one. Returns whether there is one.
+pub(crate) fn settle(finalizers: &Finalizers, regions: &mut Regions) -> bool
+    ensures same { items_in finalizers.now.state regions.new.left ≡ items_in finalizers.now.state regions.old.left }
+    ensures others { (regions.new.asked ≡ regions.old.asked) × (regions.new.complete ≡ regions.old.complete) }
+    ensures some { result ≡ is_some (slice_get regions.new.left 0) }
+    ensures first { HasFirst finalizers.now.state regions.new }
+    ensures noted { AreNoted finalizers.now.state regions.old.order → AreNoted finalizers.now.state regions.new.order }
+{
+    while let Some((region, bits)) = regions.first() {
+        if has_registered(finalizers, region, bits) {
+            return true;
+        }
+        regions.pass_on(region, 0);
+    }
+    false
+}
+
+/// Keeps the registered objects of a region that aren't marked. Returns the bits that stay: all but those of unmarked places without a registered object.
+fn sift(finalizers: &Finalizers, walk: &mut Walk, region: Addr, bits: u64, marks: u64) -> u64
+    requires begin { place_in region ≡ 0 }
+    requires none { walk.old.left ≡ [] }
+    requires room { length walk.old.kept + length (items_of finalizers.now.state (objects_in (region, bits))) ≤ walk.old.room }
+    ensures kept { walk.new.kept ≡ walk.old.kept ++ filter (λ (item : Item). not (has_bit marks (place_in item.object))) (items_of finalizers.now.state (objects_in (region, bits))) }
+    ensures none { walk.new.left ≡ [] }
+    ensures room { walk.old.room ≤ walk.new.room }
+    ensures stay { (place : ℕ) → place < 64 → has_bit result place ≡ (has_bit bits place && (has_bit marks place || contains_key finalizers.now.registrations (region + 16 * place))) }
+{
+    let mut unmarked = bits & !marks;
+    let mut noted = bits & marks;
+    while unmarked != 0 {
+        let (place, others) = lowest(unmarked);
+        if let Some(item) = item_at(finalizers, object_at(region, place)) {
+            walk.keep(item);
+            noted |= bit(place);
+        }
+        unmarked = others;
+    }
+    noted
+}
+
+/// Processes the marks of the regions that the last question was about.
+pub(crate) fn hear_marks(
+    finalizers: &Finalizers,
+    walk: &mut Walk,
+    regions: &mut Regions,
+    marks: &[u64; BATCH],
+)
+    requires room { HasRoomToKeep finalizers.now.state walk.old regions.old }
+    ensures heard { going_by finalizers.now walk.new regions.new ≡ steps Objects (marks_say finalizers.now.state (take regions.old.asked regions.old.left) marks.now) (going_by finalizers.now walk.old regions.old) }
+    ensures room { HasRoomToKeep finalizers.now.state walk.new regions.new × (walk.old.room ≤ walk.new.room) }
+    ensures same { regions.new.complete ≡ regions.old.complete }
+    ensures noted { AreNoted finalizers.now.state regions.old.order → AreNoted finalizers.now.state regions.new.order }
+{
+    let asked = regions.asked().min(BATCH);
+    for word in &marks[..asked] {
+        let Some((region, bits)) = regions.first() else {
+            return;
+        };
+        let noted = sift(finalizers, walk, region, bits, *word);
+        regions.pass_on(region, noted);
+    }
+}

@@ -1,0 +1,316 @@
+//! Finalizers that ask for the marks of regions, beside the same that ask about each object: they queue the same entries, clear the same words, and mark the same.
+
+use crate::hosts::beside::Random;
+use crate::equal::must_be;
+use fz_finalizers::{Addr, Finalizer, Kind, LinkKind, Passed};
+use fz_machine::{Ask, BATCH, Machine, Step};
+use std::alloc::Global;
+use std::process::Abort;
+use std::test::*;
+
+/// The number of objects.
+const OBJECTS: usize = 90;
+
+/// The number of a link's word. An object's words have other numbers.
+const FIRST_WORD: u64 = 1 << 40;
+
+/// Objects, each with a word that refers to another object or to none.
+#[derive(Drop)]
+struct Heap {
+    starts: [Addr; OBJECTS],
+    words: [Option<usize>; OBJECTS],
+    marked: [bool; OBJECTS],
+    cleared: u64,
+}
+
+impl Heap {
+    /// Objects at these addresses, without references.
+    fn new(starts: [Addr; OBJECTS]) -> Heap {
+        Heap {
+            starts,
+            words: [None; OBJECTS],
+            marked: [false; OBJECTS],
+            cleared: 0,
+        }
+    }
+
+    /// The index of the object that begins at an address.
+    fn at(&self, start: Addr) -> Option<usize> {
+        self.starts.iter().position(|other| *other == start)
+    }
+
+    fn is_marked(&self, start: Addr) -> bool {
+        let Some(index) = self.at(start) else {
+            return false;
+        };
+        self.marked.get(index).copied().unwrap_or(false)
+    }
+
+    fn word(&self, index: usize) -> Option<usize> {
+        self.words.get(index).copied().unwrap_or(None)
+    }
+
+    fn mark_one(&mut self, index: usize) {
+        if let Some(marked) = self.marked.get_mut(index) {
+            *marked = true;
+        }
+    }
+
+    /// Marks an object, if there is one, and everything that it reaches.
+    fn mark(&mut self, index: Option<usize>) {
+        let mut next = index;
+        for _ in 0..OBJECTS {
+            let Some(index) = next else {
+                return;
+            };
+            self.mark_one(index);
+            next = self.word(index);
+        }
+    }
+
+    /// Marks the children of an object, optionally without the object itself.
+    fn mark_children(&mut self, start: Addr, but_itself: bool) {
+        let Some(index) = self.at(start) else {
+            return;
+        };
+        let child = self.word(index);
+        if !(but_itself && child == Some(index)) {
+            self.mark(child);
+        }
+    }
+
+    /// Answers a question about one object or word, or carries out a command.
+    fn answer(&mut self, ask: Ask, about: Addr) -> bool {
+        match ask {
+            Ask::IsMarked => return self.is_marked(about),
+            Ask::IsHolderMarked => return true,
+            Ask::MarkChildren => self.mark_children(about, false),
+            Ask::MarkOthers => self.mark_children(about, true),
+            Ask::Mark => self.mark(self.at(about)),
+            Ask::MarkAlone => {
+                if let Some(index) = self.at(about) {
+                    self.mark_one(index);
+                }
+            }
+            Ask::Clear => self.cleared = self.cleared.wrapping_mul(31).wrapping_add(about),
+            Ask::Marks => {}
+        }
+        false
+    }
+
+    /// The marks of a region. Where no object begins, every other place is told to be marked.
+    fn marks(&self, region: Addr) -> u64 {
+        let mut marks = 0x5555_5555_5555_5555;
+        for place in 0..64 {
+            let start = region.saturating_add(16 * place);
+            if self.at(start).is_some() {
+                marks &= !(1 << place);
+                if self.is_marked(start) {
+                    marks |= 1 << place;
+                }
+            }
+        }
+        marks
+    }
+}
+
+/// A heap with its finalizers, and how many questions of a pass were about regions, and about registered objects of `Objects`.
+#[derive(Drop)]
+struct Side {
+    heap: Heap,
+    machine: Machine,
+    by_regions: u64,
+}
+
+/// The answers to a question: in a word, or a word for each region.
+fn answer(side: &mut Side, ask: Ask, about: &[Addr]) -> (u64, [u64; BATCH]) {
+    let mut bits = 0;
+    let mut marks = [0; BATCH];
+    for (index, (word, subject)) in marks.iter_mut().zip(about.iter()).enumerate() {
+        if ask == Ask::Marks {
+            *word = side.heap.marks(*subject);
+        } else if side.heap.answer(ask, *subject) {
+            bits |= 1 << index;
+        }
+    }
+    (bits, marks)
+}
+
+/// A pass.
+fn pass(rt: &impl Abort, side: &mut Side) -> Passed {
+    side.machine.begin().expect(rt, "no other pass");
+    let mut about = [0; BATCH];
+    let mut step = side.machine.next_bits(0, &mut about);
+    for _ in 0..10_000 {
+        let Step::Asks { ask, count } = step.expect(rt, "an open pass") else {
+            break;
+        };
+        let (bits, marks) = answer(side, ask, &about[..count.min(BATCH)]);
+        step = if ask == Ask::Marks {
+            side.by_regions = side.by_regions.saturating_add(1);
+            side.machine.next_marks(&marks, &mut about)
+        } else {
+            side.machine.next_bits(bits, &mut about)
+        };
+    }
+    match step.expect(rt, "an open pass") {
+        Step::Ended(passed) => passed,
+        Step::Asks { .. } => {
+            must_be(rt, true, false, "a pass ends");
+            Passed { pass: 0, picked: 0 }
+        }
+    }
+}
+
+/// Two heaps with the same objects. One side asks for marks of regions.
+#[derive(Drop)]
+struct Both {
+    items: Side,
+    regions: Side,
+}
+
+fn two_sides(rt: &impl Abort, alloc: Global, starts: [Addr; OBJECTS]) -> Both {
+    Both {
+        items: Side {
+            heap: Heap::new(starts),
+            machine: Machine::new(alloc).expect(rt, "memory"),
+            by_regions: 0,
+        },
+        regions: Side {
+            heap: Heap::new(starts),
+            machine: Machine::with_regions(alloc).expect(rt, "memory"),
+            by_regions: 0,
+        },
+    }
+}
+
+/// A kind by its number.
+fn kind_of(number: u64) -> Kind {
+    match number {
+        0 => Kind::Unreachable,
+        1 => Kind::NoOrder,
+        2 => Kind::IgnoreSelf,
+        _ => Kind::Normal,
+    }
+}
+
+/// Registers or links an object, removes its registration, or changes its word, on both sides.
+fn change(rt: &impl Abort, both: &mut Both, random: &mut Random) {
+    let index = random.below(OBJECTS as u64) as usize;
+    let other = random.below(2 * OBJECTS as u64) as usize;
+    let (what, kind, rank) = (
+        random.below(8),
+        kind_of(random.below(6)),
+        random.below(3) as u8,
+    );
+    for side in [&mut both.items, &mut both.regions] {
+        let start = side.heap.starts.get(index).copied().unwrap_or(1);
+        if what < 4 {
+            let finalizer = Finalizer {
+                kind,
+                procedure: other as u64,
+                client_data: 0,
+                rank,
+            };
+            side.machine
+                .register(start, finalizer)
+                .expect(rt, "a registration");
+        } else if what == 4 {
+            side.machine.unregister(start).expect(rt, "no pass");
+        } else if what == 5 {
+            let link = if rank == 0 {
+                LinkKind::Long
+            } else {
+                LinkKind::Short
+            };
+            let word = FIRST_WORD.saturating_add(index as u64);
+            side.machine.link(link, word, start).expect(rt, "a link");
+        } else if let Some(word) = side.heap.words.get_mut(index) {
+            *word = if other < OBJECTS { Some(other) } else { None };
+        }
+    }
+}
+
+/// A collection on both sides, where the same of the objects are roots.
+fn collect(rt: &impl Abort, both: &mut Both, random: &mut Random, live: u64) {
+    let mut roots = [false; OBJECTS];
+    for root in roots.iter_mut() {
+        *root = random.below(100) < live;
+    }
+    for side in [&mut both.items, &mut both.regions] {
+        side.heap.marked = [false; OBJECTS];
+        for (index, root) in roots.iter().enumerate() {
+            if *root {
+                side.heap.mark(Some(index));
+            }
+        }
+    }
+    let items = pass(rt, &mut both.items);
+    let regions = pass(rt, &mut both.regions);
+    must_be(rt, regions, items, "the same are picked");
+    compare(rt, both);
+}
+
+/// Both sides have the same marks, cleared words, registrations, links and entries.
+fn compare(rt: &impl Abort, both: &mut Both) {
+    let same = both.regions.heap.marked == both.items.heap.marked;
+    must_be(rt, same, true, "the same marks");
+    let cleared = both.regions.heap.cleared == both.items.heap.cleared;
+    must_be(rt, cleared, true, "the same words are cleared");
+    for kind in [LinkKind::Short, LinkKind::Long].iter() {
+        let links = both.items.machine.finalizers().links(*kind);
+        let same = both.regions.machine.finalizers().links(*kind);
+        must_be(rt, same, links, "the same links");
+    }
+    let left = both.items.machine.finalizers().registrations();
+    let same = both.regions.machine.finalizers().registrations();
+    must_be(rt, same, left, "the same registrations");
+    for _ in 0..OBJECTS {
+        let entry = both.items.machine.take_finished();
+        let same = both.regions.machine.take_finished();
+        must_be(rt, same, entry, "the same entries");
+    }
+}
+
+/// Random changes and collections over objects at these addresses.
+fn run(rt: &impl Abort, alloc: Global, starts: [Addr; OBJECTS], seed: u64) {
+    let mut both = two_sides(rt, alloc, starts);
+    let mut random = Random(seed);
+    for round in 0..12 {
+        for _ in 0..random.below(80) {
+            change(rt, &mut both, &mut random);
+        }
+        collect(rt, &mut both, &mut random, 100 - 8 * round);
+    }
+    must_be(rt, both.regions.by_regions > 0, true, "regions were asked");
+    must_be(rt, both.items.by_regions, 0, "no regions were asked");
+}
+
+/// The addresses of objects at this distance from one another.
+fn apart(first: Addr, distance: u64) -> [Addr; OBJECTS] {
+    let mut starts = [0; OBJECTS];
+    for (index, start) in starts.iter_mut().enumerate() {
+        *start = first.saturating_add(distance.saturating_mul(index as u64));
+    }
+    starts
+}
+
+#[test]
+fn regions_give_what_objects_give(rt: HostRuntime) {
+    for (first, distance) in [
+        (16, 16),
+        (1, 1),
+        (1_000, 24),
+        (4_096, 48),
+        (5, 1_024),
+        (u64::MAX - 16 * 90, 16),
+        (u64::MAX - 90, 1),
+        (1 << 20, 272),
+    ]
+    .iter()
+    {
+        for seed in 0..6 {
+            run(&rt, rt.alloc(), apart(*first, *distance), seed);
+        }
+    }
+}
