@@ -476,10 +476,11 @@ typedef struct derrimas_paths {
     bool (*is_object)(void *data, uint64_t client_data);
 } derrimas_paths;
 
-/* Tells in *why why an object isn't finalized, with a path as evidence: path, which has `room` places and may be NULL where
- * `room` is 0, gets the path's first objects, as many as fit. The registered objects, and the targets of short links, are
- * the host's objects. It changes nothing but memory, which it takes by the handle's allocator and frees again: for each
- * word of the objects that roots, registered objects and short links reach; and time by these, for a search of them.
+/* Tells in *why why an object isn't finalized. The buffer `path`, which has `room` places and may be NULL where `room` is 0,
+ * gets the first objects of the path that is the evidence, as many as fit. The object may be any number; registered objects
+ * and the targets of short links are the host's objects. It changes nothing. By the handle's allocator it takes memory for
+ * each word of the objects that roots, registered objects and short links reach, and frees it again. It takes time by these
+ * words, and by what is registered and linked.
  * Refused: NOT_OPEN, PASS_OPEN; OVERLAP, NO_MEMORY, whichever comes first. */
 DERRIMAS_CHECKED derrimas_finalizers_code derrimas_finalizers_why(derrimas_finalizers *finalizers, uint64_t object,
                                                                   const derrimas_paths *paths, void *data, derrimas_why *why,

@@ -296,9 +296,17 @@ static bool child_next(void *data, uint64_t object, uint64_t n, uint64_t *word, 
     return object == BASE && n < 9; /* more words than there are numbers up to the next object */
 }
 
+/* The first object's word points into the object itself, behind its number. */
+static bool child_within(void *data, uint64_t object, uint64_t n, uint64_t *word, uint64_t *child)
+{
+    (void)data, (void)word;
+    *child = object + 1;
+    return n < 2;
+}
+
 static void refusals(void)
 {
-    const derrimas_paths longer = {child_next, root_of, NULL};
+    const derrimas_paths longer = {child_next, root_of, NULL}, within = {child_within, root_of, NULL};
     uint64_t few[2] = {1, 1};
     derrimas_question question;
     heap it;
@@ -314,6 +322,7 @@ static void refusals(void)
     IS(few[1], 1);
     registers(&it, 1, DERRIMAS_FINALIZERS_NORMAL, 0);
     REFUSED(DERRIMAS_FINALIZERS_OVERLAP, answer, derrimas_finalizers_why(&it.finalizers, number(1), &longer, &it, &answer, NULL, 0));
+    REFUSED(DERRIMAS_FINALIZERS_OVERLAP, answer, derrimas_finalizers_why(&it.finalizers, number(1), &within, &it, &answer, NULL, 0));
     it.words[0] = 0;
     OK(derrimas_finalizers_unregister(&it.finalizers, number(1), NULL));
     WHY(&it, 2, DERRIMAS_WHY_READY, );
@@ -376,6 +385,31 @@ static void ask_with_little(heap *it, unsigned object)
     }
     granted = UINT64_MAX;
     OK(code);
+}
+
+/* Where nothing else is registered, the first memory for what is to be listed is for a cleanup's data, a link's target or an entry. */
+static void little_memory(void)
+{
+    derrimas_finalizers_entry entry;
+    uint64_t cleanup;
+    heap it = {.count = 2};
+
+    OK(derrimas_finalizers_open(&it.finalizers, &counted));
+    OK(derrimas_finalizers_add_cleanup(&it.finalizers, number(0), DERRIMAS_FINALIZERS_LONG, 7, number(1), 0, &cleanup));
+    ask_with_little(&it, 0);
+    IS(answer.reason, DERRIMAS_WHY_UNREGISTERED);
+    OK(derrimas_finalizers_cancel(&it.finalizers, cleanup, NULL));
+    OK(derrimas_finalizers_link(&it.finalizers, DERRIMAS_FINALIZERS_SHORT, 5, number(1), NULL));
+    ask_with_little(&it, 0);
+    OK(derrimas_finalizers_unlink(&it.finalizers, DERRIMAS_FINALIZERS_SHORT, 5, NULL));
+    registers(&it, 0, DERRIMAS_FINALIZERS_NORMAL, 0);
+    OK(derrimas_finalizers_queue_all(&it.finalizers, NULL));
+    ask_with_little(&it, 0);
+    IS(answer.reason, DERRIMAS_WHY_QUEUED);
+    OK(derrimas_finalizers_take(&it.finalizers, &entry));
+    OK(derrimas_finalizers_finish(&it.finalizers, &entry));
+    derrimas_finalizers_destroy(&it.finalizers);
+    IS(blocks, 0);
 }
 
 /* ---- a plain reading of the header, by tables of what leads to what */
@@ -636,6 +670,7 @@ int main(int count, char **arguments)
         cut(way);
     kinds();
     refusals();
+    little_memory();
     for (unsigned n = 0; n < graphs; n++) {
         heap it;
 

@@ -5,7 +5,6 @@ use Rattle.fz_finalizers.specs.declared.refused.Refused as finalizers
 use Rattle.fz_finalizers.specs.declared.refused.Refused.TheVariants.{Zero, Exhausted, Full, NoMemory, NotHeld}
 use Rattle.fz_machine.specs.declared.refused.Refused.{Refused}
 use Rattle.fz_machine.specs.declared.refused.Refused.TheVariants.{PassOpen, NoPass, Finalizers}
-use Rattle.fz_machine.specs.Machines.{Machine}
 use Rattle.fz_c.specs.declared.machine.codes.TheConstants.{OK, NOT_OPEN, NO_MEMORY}
 
 abbrev pub code_of_refused : finalizers.Refused → ℕ

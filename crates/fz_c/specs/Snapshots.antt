@@ -1,9 +1,9 @@
 -- Copies of heaps behind handles, and what C lists in them.
 -- code: fz_c/src/machine/snapshot.rt
-use Rattle.std.specs.Prelude.{◌≡◌, ◌⊎◌, ℕ, ◌-◌, ◌++◌, ◌&&◌, zero, suc, Bool, true, false, not, is_some, List, [], ◌∷◌, Option, Some, None, Result, Ok, Err, IfOk, OnOk, OnErr}
+use Rattle.std.specs.Prelude.{◌≡◌, ◌⊎◌, ℕ, ◌-◌, ◌++◌, ◌&&◌, zero, suc, Bool, true, false, not, is_some, [], ◌∷◌, Option, Some, None, Result, Ok, Err, IfOk}
 use Rattle.fz_why.specs.declared.room.NoMemory.{NoMemory}
 use Rattle.fz_why.specs.declared.snapshot.listing.Cell.{Cell}
-use Rattle.fz_why.specs.Snapshot.{Copy, DoesOrNot, Keeps, Lists, holder_of, is_taken}
+use Rattle.fz_why.specs.Snapshot.{DoesOrNot, Keeps, Lists, holder_of, is_taken}
 use Rattle.fz_c.specs.declared.machine.codes.TheConstants.{OK, IS_OPEN, NO_MEMORY, OVERLAP}
 use Rattle.fz_c.specs.declared.machine.snapshot.session.SnapshotSession.{SnapshotSession}
 

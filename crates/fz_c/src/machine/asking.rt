@@ -1,8 +1,7 @@
 //! Why an object isn't finalized.
 
-ghost use Rattle.std.specs.Prelude.{◌≡◌, IfOk, MatchResult};
-ghost use Rattle.fz_machine.specs.Causes.{first_of};
-ghost use Rattle.fz_c.specs.MachineWhy.{AsksBehind, AsksWhy, IsReasoned, Tells, root_index, root_number, no_entry};
+ghost use Rattle.std.specs.Prelude.{◌≡◌};
+ghost use Rattle.fz_c.specs.MachineWhy.{AsksBehind, AsksWhy, IsReasoned, Tells, root_index, root_number};
 
 use crate::handle::behind;
 use crate::machine::codes::{Code, EMPTY, NOT_OPEN, OK, code_of};
