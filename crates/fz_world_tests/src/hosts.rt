@@ -6,5 +6,6 @@ mod asked_cleanups;
 mod beside;
 mod cleanups;
 mod equal;
+mod guardians;
 mod runtime;
 mod why;
