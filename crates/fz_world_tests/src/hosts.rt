@@ -6,6 +6,7 @@ mod asked_cleanups;
 mod beside;
 mod cleanups;
 mod copy;
+mod guardians;
 mod regions;
 mod runtime;
 mod why;
