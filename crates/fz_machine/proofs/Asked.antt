@@ -3,12 +3,12 @@ use Rattle.std.proofs.Common.{◌≡◌, ◌⊎◌, ◌∙◌, ◌≤◌, ◌<�
 use Rattle.std.proofs.lemmas.List.{length-take, length-drop, take-append-drop}
 use Rattle.std.proofs.lemmas.Option.{none-some, same_Some}
 use Rattle.std.specs.Map.{keys_of}
-use Rattle.fz_finalizers.specs.States.{State}
+use Rattle.fz_finalizers.specs.States.{State, View}
 use Rattle.fz_machine.specs.declared.item.Item.{Item}
 use Rattle.fz_machine.specs.declared.phase.Phase.{Phase}
 use Rattle.fz_machine.specs.declared.phase.Phase.TheVariants.{Objects}
 use Rattle.fz_machine.specs.declared.question.Ask.TheVariants.{Marks}
-use Rattle.fz_machine.specs.Going.{HasFirst, IsInOrder}
+use Rattle.fz_machine.specs.Going.{walk_by, HasFirst, IsInOrder}
 use Rattle.fz_machine.specs.Machines.{Machine, AsksRegions}
 use Rattle.fz_machine.specs.Regions.{Regions, items_in, items_of, objects_in}
 use Rattle.fz_machine.specs.Walks.{Walk}
@@ -71,3 +71,22 @@ module _ (s : State) (walk : Walk) (regions : Regions) (phase : Phase) (order : 
         ∙ append_assoc (items_in s (take count regions.left)) (items_in s (drop count regions.left)) walk.left,
     λ few. ap (λ rs. items_in s rs ++ walk.left) (none_behind regions.left count (omega (arith, is, few))) ∙ nothing,
   )
+
+  -- it is a question about regions
+  pub asks_regions : (f : View) (open_phase : Option Phase) (before : ℕ) (new : Regions) (about : List ℕ) → f.state ≡ s → new ≡ record regions { asked = count } → take count about ≡ keys_of (take count regions.left)
+      → AsksRegions (record { finalizers = f; walk = walk_by f.state walk new; phase = open_phase; asked = 0; before = before; regions = take new.asked new.left; noted = new.complete }) phase (record { ask = Marks; about = about; count = count })
+  asks_regions f open_phase before new about same new_is written =
+      subst
+      (λ (r : Regions). AsksRegions (record { finalizers = f; walk = walk_by f.state walk r; phase = open_phase; asked = 0; before = before; regions = take r.asked r.left; noted = r.complete }) phase (record { ask = Marks; about = about; count = count }))
+      (sym new_is)
+      (record {
+        objects = objects.0;
+        noted = objects.1;
+        ask = refl;
+        some = subst (λ (t : State). 0 < length (items_in t (take count regions.left))) (sym same) some_item;
+        few = omega (arith, is);
+        count = as_many;
+        about = written;
+        first = subst (λ (t : State). (rest : List Item) × (items_in t regions.left ++ walk.left ≡ items_in t (take count regions.left) ++ rest) × (count < 64 → rest ≡ [])) (sym same) before_all;
+        asked = refl;
+      })

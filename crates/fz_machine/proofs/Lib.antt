@@ -15,6 +15,7 @@ pub mod Marked
 pub mod Hearing
 pub mod Settling
 pub mod Asked
+pub mod Retold
 pub mod Among
 pub mod Sifting
 pub mod DeadWords
