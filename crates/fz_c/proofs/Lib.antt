@@ -6,6 +6,7 @@ pub mod Told
 pub mod Looking
 pub mod Taking
 pub mod Passing
+pub mod Heard
 pub mod Opening
 pub mod Forgetting
 pub mod Answered

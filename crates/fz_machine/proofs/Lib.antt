@@ -14,6 +14,8 @@ pub mod Remaining
 pub mod Marked
 pub mod Hearing
 pub mod Settling
+pub mod Asked
+pub mod Retold
 pub mod Among
 pub mod Sifting
 pub mod DeadWords
@@ -33,6 +35,7 @@ pub mod Turning
 pub mod Within
 pub mod Throughout
 pub mod Working
+pub mod Worked
 pub mod Rounds
 pub mod Ran
 pub mod Fewer

@@ -1,7 +1,7 @@
 -- The table of regions: what it has before and after a change.
 use Rattle.std.proofs.Common.{◌≡◌, ◌≢◌, ℕ, zero, suc, ◌+◌, ◌-◌, ◌*◌, ◌^◌, ◌<◌, ◌≤◌, Bool, true, false, cond, true≢false, is_some, List, [], ◌∷◌, ◌++◌, take, drop, length, reverse, slice_get, set, get_or, Option, Some, None, IsTrue, nat_eq, refl, sym, ap, subst, ◌∙◌, ⊎_elim, arith, bit_or}
 use Rattle.std.proofs.lemmas.Bool.{cases_eq, eq-eqb, ne_eqb, eqb-true}
-use Rattle.std.proofs.lemmas.List.{reverse-append, take-take, take-set, length-take, length-reverse, get_or-reverse, get_or-take}
+use Rattle.std.proofs.lemmas.List.{map-append, reverse-append, take_more_set, take-take, take-set, length-take, length-reverse, get_or-reverse, get_or-take}
 use Rattle.std.proofs.lemmas.Option.{none-some, same_Some, slice_get-get_or, slice_get_within, get_or_from_slice_get}
 use Rattle.std.proofs.lemmas.Map.Views.{lookup-from_Contains}
 use Rattle.std.specs.Cmp.{nat_eq_equiv}
@@ -117,3 +117,15 @@ module _ (es : List (ℕ × ℕ)) (left : ℕ) (within : left ≤ length es) (r 
 -- an entry is found by its key
 pub own_found : (es : List (ℕ × ℕ)) (place : ℕ) (r : ℕ × ℕ) → IsDistinct nat_eq (keys_of es) → slice_get es place ≡ Some r → IsTrue (is_some (lookup (nat_eq r.0) es))
 own_found es place r once at = ap is_some (lookup-from_Contains nat_eq_equiv r.0 r.1 es once (place, slice_get_within es place r at, get_or_from_slice_get es place r r at))
+
+-- ---- a question
+
+-- the next address is written
+pub one_written : (es : List (ℕ × ℕ)) (left count : ℕ) (about : List ℕ) (r : ℕ × ℕ) → count < left → left ≤ length es → count < length about → take count about ≡ keys_of (take count (reverse (take left es))) → slice_get es (left - 1 - count) ≡ Some r
+    → take (count + 1) (set about count r.0) ≡ keys_of (take (count + 1) (reverse (take left es)))
+one_written es left count about r lt within room so_far at =
+    let next : count + 1 ≡ suc count = omega arith in
+    take_more_set about count r.0 room ∙ ap (λ ks. ks ++ r.0 ∷ []) so_far
+    ∙ sym
+    (ap (λ k. keys_of (take k (reverse (take left es)))) next ∙ ap keys_of (take_one_more (reverse (take left es)) count r (at_back es left count lt within ∙ at))
+    ∙ map-append (λ (e : ℕ × ℕ). e.0) (take count (reverse (take left es))) (r ∷ []))

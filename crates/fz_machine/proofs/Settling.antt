@@ -16,6 +16,10 @@ use Rattle.fz_machine.proofs.Stepping.{skip_here}
 pub no_regions : (f : View) (walk : Walk) (regions : Regions) → regions.left ≡ [] → going_by f walk regions ≡ going f walk
 no_regions f walk regions none = ap (λ rs. record { finalizers = f.state; kept = walk.kept; left = items_in f.state rs ++ walk.left }) none
 
+pub none_at : (rs : List (ℕ × ℕ)) → is_some (slice_get rs 0) ≡ false → rs ≡ []
+none_at [] h = refl
+none_at (r ∷ rs) h = absurd (true≢false h)
+
 abbrev AtFirst : List Item → Type 0
 AtFirst xs = (item : Item) × (left : List Item) × (xs ≡ item ∷ left)
 
@@ -23,7 +27,7 @@ at_first : (xs ys : List Item) → 0 < length xs → AtFirst (xs ++ ys)
 at_first [] ys some = absurd (omega (arith, some))
 at_first (x ∷ xs) ys some = (x, xs ++ ys, refl)
 
-some_in : (s : State) (rs : List (ℕ × ℕ)) → is_some (slice_get rs 0) ≡ true → ((r : ℕ × ℕ) → slice_get rs 0 ≡ Some r → 0 < length (items_of s (objects_in r))) → 0 < length (items_in s rs)
+pub some_in : (s : State) (rs : List (ℕ × ℕ)) → is_some (slice_get rs 0) ≡ true → ((r : ℕ × ℕ) → slice_get rs 0 ≡ Some r → 0 < length (items_of s (objects_in r))) → 0 < length (items_in s rs)
 some_in s [] some first = absurd (true≢false (sym some))
 some_in s (r ∷ rs) some first = longer (items_of s (objects_in r)) (items_in s rs) (first r refl)
   where

@@ -1,6 +1,6 @@
 //! Finalizers whose pass asks questions, and their parts.
 
-ghost use Rattle.std.specs.Prelude.{◌≡◌, None, true, false, is_some, IfOk, IfErr};
+ghost use Rattle.std.specs.Prelude.{◌≡◌, None, true, false, is_some, [], IsTrue, IsFalse, IfOk, IfErr};
 ghost use Rattle.fz_finalizers.specs.States.{opening};
 
 use crate::phase::Phase;
@@ -108,9 +108,12 @@ impl Machine {
         &self.finalizers
     }
 
-    /// Whether the last question was about regions, so that `next_marks` takes its answers.
-    pub fn asks_marks(&self) -> bool {
-        self.regions.asked() > 0
+    /// Whether the last question was about regions: then `next_marks` takes its answers, and else `next_bits`.
+    pub fn asks_marks(&self) -> bool
+        ensures items { IsFalse result → self.now.regions ≡ [] }
+        ensures regions { IsTrue result → self.now.asked ≡ 0 }
+    {
+        self.regions.asked() > 0 && self.regions.first().is_some()
     }
 
     /// Whether a pass is open.

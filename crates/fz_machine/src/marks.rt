@@ -92,6 +92,7 @@ pub(crate) fn hear_marks(
     ensures heard { going_by finalizers.now walk.new regions.new ≡ steps Objects (marks_say finalizers.now.state (take regions.old.asked regions.old.left) marks.now) (going_by finalizers.now walk.old regions.old) }
     ensures room { HasRoomToKeep finalizers.now.state walk.new regions.new × (walk.old.room ≤ walk.new.room) }
     ensures same { regions.new.complete ≡ regions.old.complete }
+    ensures none { regions.old.left ≡ [] → regions.new.left ≡ [] }
     ensures noted { AreNoted finalizers.now.state regions.old.order → AreNoted finalizers.now.state regions.new.order }
 {
     let asked = regions.asked().min(BATCH);

@@ -53,6 +53,7 @@ loop-word-preserved c =
           ∙ c.loop-word.invariant.heard;
       room = inr (c.sift-noted.ensures.none, omega (arith, kept_long, fewer_kept, old_long, new_long, room, roomier));
       grown = omega (arith, grown, roomier);
+      ended = λ none. c.pass_on.ensures.left ∙ ap (drop 1) (c.loop-word.invariant.ended none);
       complete = c.pass_on.ensures.same.1 ∙ c.loop-word.invariant.complete;
       noted = λ noted.
           passed_noted s c.loop-word.regions.order c.pass_on.new.self.order region bits c.sift-noted.result c.in-Some.ensures.noted c.pass_on.ensures.others c.pass_on.ensures.noted

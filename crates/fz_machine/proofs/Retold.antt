@@ -1,0 +1,93 @@
+-- Answers that are heard before a machine goes on.
+use Rattle.std.proofs.Common.{◌≡◌, ◌⊎◌, ◌∙◌, ◌≤◌, ◌+◌, ◌++◌, ℕ, zero, suc, min, Bool, List, [], length, take, Option, Some, None, IsTrue, inl, inr, refl, ap, sym, subst, ⊎_elim, arith}
+use Rattle.std.proofs.lemmas.Option.{none-some, same_Some}
+use Rattle.fz_finalizers.specs.States.{State, View}
+use Rattle.fz_machine.specs.declared.item.Item.{Item}
+use Rattle.fz_machine.specs.declared.pass.Next.{Next}
+use Rattle.fz_machine.specs.declared.phase.Phase.{Phase}
+use Rattle.fz_machine.specs.declared.phase.Phase.TheVariants.{Objects}
+use Rattle.fz_machine.specs.Going.{going, going_by, HasRoom, HasRoomToKeep, IsInOrder}
+use Rattle.fz_machine.specs.Machines.{Machine, GoesTo}
+use Rattle.fz_machine.specs.Regions.{Regions, AreNoted, items_in, marks_say}
+use Rattle.fz_machine.specs.Steps.{Going, GoesOn, steps}
+use Rattle.fz_machine.specs.Walks.{Walk}
+use Rattle.fz_machine.proofs.Remaining.{steps_noted}
+use Rattle.fz_machine.proofs.Rooms.{roomier, same_room, steps_room}
+use Rattle.fz_machine.proofs.Settling.{no_regions}
+use Rattle.fz_machine.proofs.Stepping as stepping
+
+abbrev IsDuring : Regions → Option Phase → ℕ → Type 0
+IsDuring regions phase asked = (phase ≡ Some Objects) × (asked ≡ 0) × IsTrue regions.complete
+
+-- answers about items
+module _ (f g : View) (walk new : Walk) (regions : Regions) (phase : Option Phase) (p : Phase) (asked n : ℕ) (answers : List Bool) (order : IsInOrder f.state walk regions phase asked)
+    (heard : going g new ≡ steps p (take n answers) (going f walk)) (n_is : n ≡ min (length answers) asked) (room : new.room ≡ walk.room) where
+  -- after a question about regions none is heard
+  same : asked ≡ 0 → going g new ≡ going f walk
+  same none = let zero : n ≡ 0 = omega (arith, n_is, none) in heard ∙ ap (λ k. steps p (take k answers) (going f walk)) zero
+
+  fits : asked ≡ 0 → HasRoomToKeep f.state walk regions → HasRoomToKeep g.state new regions
+  fits none h =
+      ⊎_elim
+      (λ (ended : regions.left ≡ []). inl ended)
+      (λ (on : (walk.left ≡ []) × (length walk.kept + length (items_in f.state regions.left) ≤ walk.room)).
+      let few = on.1 in
+      let long = ap (λ (k : Going). length k.kept + length (items_in k.finalizers regions.left)) (same none) in
+      inr (ap (λ (k : Going). k.left) (same none) ∙ on.0, omega (arith, few, long, room)))
+      h
+
+  pub heard_in_order : IsInOrder g.state new regions phase asked
+  heard_in_order = record {
+    room = same_room _ _ _ _ (ap (λ (k : Going). k.finalizers) heard) room (steps_room p walk.room (take n answers) (going f walk) order.room);
+    keeps = ⊎_elim (λ (ended : regions.left ≡ []). inl ended) (λ (on : IsDuring regions phase asked). fits on.1 order.keeps) order.during;
+    noted = λ all. subst (λ (s : State). AreNoted s regions.order) (sym (ap (λ (k : Going). k.finalizers) heard)) (steps_noted regions.order p (take n answers) (going f walk) (order.noted all));
+    during = order.during;
+  }
+
+  pub heard_on : going_by g new regions ≡ steps p (take asked answers) (going_by f walk regions)
+  heard_on =
+      ⊎_elim
+      (λ (ended : regions.left ≡ []).
+      no_regions g new regions ended ∙ heard ∙ ap (λ xs. steps p xs (going f walk)) (stepping.heard answers asked n n_is) ∙ ap (steps p (take asked answers)) (sym (no_regions f walk regions ended)))
+      (λ (on : IsDuring regions phase asked).
+      ap (λ (k : Going). record { finalizers = k.finalizers; kept = k.kept; left = items_in k.finalizers regions.left ++ k.left }) (same on.1) ∙ ap (λ k. steps p (take k answers) (going_by f walk regions)) (sym on.1))
+      order.during
+
+none_taken : (n : ℕ) → take {A = ℕ × ℕ} n [] ≡ []
+none_taken zero = refl
+none_taken (suc n) = refl
+
+-- marks of regions
+module _ (f : View) (walk new : Walk) (old regions : Regions) (phase : Option Phase) (p : Phase) (asked : ℕ) (marks : List ℕ) (order : IsInOrder f.state walk old phase asked) (is : phase ≡ Some p)
+    (heard : going_by f new regions ≡ steps Objects (marks_say f.state (take old.asked old.left) marks) (going_by f walk old)) (room : HasRoomToKeep f.state new regions × (walk.room ≤ new.room))
+    (complete : regions.complete ≡ old.complete) (ended : old.left ≡ [] → regions.left ≡ []) (noted : AreNoted f.state old.order → AreNoted f.state regions.order) where
+  pub marked_in_order : IsInOrder f.state new regions phase asked
+  marked_in_order = record {
+    room = roomier _ _ _ room.1 order.room;
+    keeps = room.0;
+    noted = λ all. noted (order.noted (sym complete ∙ all));
+    during = ⊎_elim (λ (none : old.left ≡ []). inl (ended none)) (λ (on : IsDuring old phase asked). inr (on.0, on.1, complete ∙ on.2)) order.during;
+  }
+
+  pub marked_on : going_by f new regions ≡ steps p (marks_say f.state (take old.asked old.left) marks) (going_by f walk old)
+  marked_on =
+      ⊎_elim
+      (λ (none : old.left ≡ []).
+      let nothing : marks_say f.state (take old.asked old.left) marks ≡ [] = ap (λ rs. marks_say f.state rs marks) (ap (take old.asked) none ∙ none_taken old.asked) in
+      heard ∙ ap (λ xs. steps Objects xs (going_by f walk old)) nothing ∙ sym (ap (λ xs. steps p xs (going_by f walk old)) nothing))
+      (λ (on : IsDuring old phase asked). heard ∙ ap (λ q. steps q (marks_say f.state (take old.asked old.left) marks) (going_by f walk old)) (same_Some Objects p (sym on.0 ∙ is)))
+      order.during
+
+-- the answers before it goes on
+pub after_answers : (old mid new : Machine) (answers : List Bool) (next : Next) (p : Phase) → old.phase ≡ Some p → mid.phase ≡ old.phase → going mid.finalizers mid.walk ≡ steps p answers (going old.finalizers old.walk) → mid.before ≡ old.before → mid.noted ≡ old.noted
+    → GoesTo mid [] new next → GoesTo old answers new next
+after_answers old mid new answers next p is same heard before noted goes =
+    let at : p ≡ goes.phase = same_Some p goes.phase (sym is ∙ sym same ∙ goes.was) in
+    record {
+      phase = goes.phase;
+      was = sym same ∙ goes.was;
+      goes = subst (λ (k : Going). GoesOn goes.phase k new.phase (going new.finalizers new.walk)) (heard ∙ ap (λ q. steps q answers (going old.finalizers old.walk)) at) goes.goes;
+      tells = goes.tells;
+      before = goes.before ∙ before;
+      noted = goes.noted ∙ noted;
+    }

@@ -1,0 +1,17 @@
+use Rattle.std.proofs.Common.{◌≡◌, ◌∙◌, ◌<◌, length, sym, arith}
+use Rattle.std.proofs.lemmas.List.{length-set}
+use Rattle.fz_machine.proofs.Noting.{one_written}
+use Rattle.fz_machine.proofs.regions.Regions.ask.Goals as goal
+
+pub loop-count-preserved : goal.loop-count-preserved
+loop-count-preserved c =
+    let lt = c.loop-count-test.true in
+    let less = c.if-count-self.true in
+    let long = c.loop-count.invariant.long in
+    let room : c.loop-count.count < length c.loop-count.about = omega (arith, lt, long) in
+    record {
+      few = omega (arith, lt);
+      within = omega (arith, less);
+      long = length-set c.loop-count.about c.loop-count.count c.in-Some.region.now ∙ long;
+      about = one_written c.self.inside.noted.entries c.self.inside.left c.loop-count.count c.loop-count.about (c.in-Some.region.now, c.in-Some.field-0-1.now) less c.self.invariant.0 room c.loop-count.invariant.about (sym c.in-Some.ensures.entry);
+    }
