@@ -87,7 +87,7 @@ below_64 p a (suc n) le = by (p a) (below_64 p (a + 1) n (omega (arith, le)))
     by true rest = (omega (arith, le), rest)
     by false rest = rest
 
-places_below : (bits : ℕ) → AllByRecursion (λ i. i < 64) (places bits)
+pub places_below : (bits : ℕ) → AllByRecursion (λ i. i < 64) (places bits)
 unfolding places
 places_below bits = below_64 (has_bit bits) 0 64 (omega arith)
 
