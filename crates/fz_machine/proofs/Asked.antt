@@ -1,7 +1,7 @@
 -- A question about regions.
-use Rattle.std.proofs.Common.{All, ◌≡◌, ◌⊎◌, ◌∙◌, ◌≤◌, ◌<◌, ◌+◌, ◌++◌, ℕ, zero, suc, min, List, [], ◌∷◌, length, slice_get, is_some, take, drop, Option, Some, None, IsTrue, true, inl, inr, refl, ap, sym, subst, ⊎_elim, append_assoc, arith}
-use Rattle.std.proofs.lemmas.List.{length-take, length-drop, take-append-drop}
-use Rattle.std.proofs.lemmas.Option.{none-some, same_Some}
+use Rattle.std.proofs.Common.{All, ◌≡◌, ◌∙◌, ◌≤◌, ◌<◌, ◌+◌, ◌++◌, ℕ, zero, suc, min, List, [], ◌∷◌, length, slice_get, is_some, take, drop, Option, Some, IsTrue, true, refl, ap, sym, subst, ⊎_elim, append_assoc, arith}
+use Rattle.std.proofs.lemmas.List.{length-take, take-append-drop}
+use Rattle.std.proofs.lemmas.Option.{same_Some}
 use Rattle.std.specs.Map.{keys_of}
 use Rattle.fz_finalizers.specs.States.{State, View}
 use Rattle.fz_machine.specs.declared.item.Item.{Item}
@@ -9,7 +9,7 @@ use Rattle.fz_machine.specs.declared.phase.Phase.{Phase}
 use Rattle.fz_machine.specs.declared.phase.Phase.TheVariants.{Objects}
 use Rattle.fz_machine.specs.declared.question.Ask.TheVariants.{Marks}
 use Rattle.fz_machine.specs.Going.{walk_by, HasFirst, IsInOrder}
-use Rattle.fz_machine.specs.Machines.{Machine, AsksRegions}
+use Rattle.fz_machine.specs.Machines.{AsksRegions}
 use Rattle.fz_machine.specs.Regions.{Regions, items_in, items_of, objects_in, place_in}
 use Rattle.fz_machine.specs.Walks.{Walk}
 use Rattle.fz_machine.proofs.Settling.{some_in}

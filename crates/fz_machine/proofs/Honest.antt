@@ -1,16 +1,13 @@
 -- Words that are true of a graph are true answers.
-use Rattle.std.proofs.Common.{◌≡◌, ◌⊎◌, ◌∙◌, ◌++◌, ◌∷◌, ◌+◌, ◌*◌, ◌<◌, [], ℕ, zero, suc, Bool, List, All, map, length, Option, Some, None, IsTrue, refl, ap, sym, subst, ⊎_elim, append_assoc, arith}
-use Rattle.std.proofs.lemmas.Option.{none-some}
+use Rattle.std.proofs.Common.{◌≡◌, ◌∙◌, ◌++◌, ◌∷◌, ◌+◌, ◌*◌, ◌<◌, [], ℕ, suc, Bool, List, All, map, Option, Some, None, IsTrue, refl, ap, sym, subst, ⊎_elim, append_assoc, arith}
 use Rattle.std.specs.FinMap.{get, contains_key}
 use Rattle.std.specs.List.{AllByRecursion}
 use Rattle.std.specs.Option.{option_to_list}
 use Rattle.fz_model.specs.declared.answers.Registration.{Registration}
 use Rattle.fz_model.specs.Bits.{has_bit}
-use Rattle.fz_model.specs.State.{Map}
-use Rattle.fz_table.specs.Tabled.{Set}
 use Rattle.fz_finalizers.specs.States.{State}
 use Rattle.fz_machine.specs.declared.item.Item.{Item}
-use Rattle.fz_machine.specs.declared.phase.Phase.TheVariants.{Objects, ShortCleanups}
+use Rattle.fz_machine.specs.declared.phase.Phase.TheVariants.{Objects}
 use Rattle.fz_machine.specs.Graph.{AreHonestWords, Graph, IsHonestWord}
 use Rattle.fz_machine.specs.Regions.{items_in, items_of, item_at, marks_say, objects_in, place_in, places}
 use Rattle.fz_machine.specs.Runs.{AreHonest, WordsAreAnswers}
@@ -23,7 +20,7 @@ use Rattle.fz_machine.proofs.Marked.{item_is, places_below}
 use Rattle.fz_machine.proofs.Phased as phased
 use Rattle.fz_machine.proofs.Places.{place_back}
 use Rattle.fz_machine.proofs.Ran.{where_it_is}
-use Rattle.fz_machine.proofs.Rounds.{IsBehind, IsFirst, IsIn, begin_behind}
+use Rattle.fz_machine.proofs.Rounds.{IsBehind, IsFirst, begin_behind}
 use Rattle.fz_machine.proofs.Working.{apart}
 
 abbrev AllThere : Graph → List Item → Type 0

@@ -1,6 +1,6 @@
 -- The table of regions: what it has before and after a change.
-use Rattle.std.proofs.Common.{All, Contains, ◌≡◌, ◌≢◌, ℕ, zero, suc, ◌+◌, ◌-◌, ◌*◌, ◌^◌, ◌<◌, ◌≤◌, Bool, true, false, cond, true≢false, is_some, List, [], ◌∷◌, ◌++◌, take, drop, length, reverse, slice_get, set, get_or, Option, Some, None, IsTrue, nat_eq, refl, sym, ap, subst, ◌∙◌, ⊎_elim, arith, bit_or}
-use Rattle.std.proofs.lemmas.Bool.{cases_eq, eq-eqb, ne_eqb, eqb-true}
+use Rattle.std.proofs.Common.{All, Contains, ◌≡◌, ◌≢◌, ℕ, zero, suc, ◌+◌, ◌-◌, ◌^◌, ◌<◌, ◌≤◌, true, cond, is_some, List, [], ◌∷◌, ◌++◌, take, drop, length, reverse, slice_get, set, get_or, Option, Some, IsTrue, nat_eq, refl, sym, ap, subst, ◌∙◌, ⊎_elim, arith, bit_or}
+use Rattle.std.proofs.lemmas.Bool.{cases_eq, eq-eqb, ne_eqb}
 use Rattle.std.proofs.lemmas.List.{map-append, take-append-drop, reverse-append, take_more_set, take-take, take-set, length-take, length-reverse, get_or-reverse, get_or-take}
 use Rattle.std.proofs.lemmas.Option.{none-some, same_Some, slice_get-get_or, slice_get_within, get_or_from_slice_get}
 use Rattle.std.proofs.lemmas.List.Elements.{Contains-append_left, Contains-get_or}
@@ -11,7 +11,6 @@ use Rattle.std.specs.List.{IsDistinct, swap_remove}
 use Rattle.std.specs.Map.{keys_of, lookup}
 use Rattle.std.specs.Option.{option_map_or}
 use Rattle.fz_model.specs.Bits.{has_bit}
-use Rattle.fz_model.proofs.Bits.{no_bits}
 use Rattle.indexmap.specs.IndexMap.{set_value_at}
 use Rattle.fz_machine.proofs.Places.{set_here, set_there}
 use Rattle.fz_machine.specs.Regions.{place_in, region_of, AreRegions, IsNoted}

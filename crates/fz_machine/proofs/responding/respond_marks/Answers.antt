@@ -1,4 +1,4 @@
-use Rattle.std.proofs.Common.{◌≡◌, ◌≢◌, ◌∙◌, ◌+◌, ◌*◌, ◌<◌, ◌≤◌, ◌^◌, ℕ, Bool, true, false, ap, sym, subst, ⊎_elim, bit_or, arith}
+use Rattle.std.proofs.Common.{◌≡◌, ◌≢◌, ◌∙◌, ◌+◌, ◌*◌, ◌<◌, ◌≤◌, ◌^◌, ℕ, Bool, true, false, ap, sym, ⊎_elim, bit_or, arith}
 use Rattle.std.proofs.lemmas.Bool.{cases_eq}
 use Rattle.fz_model.specs.Bits.{has_bit}
 use Rattle.fz_machine.proofs.Places.{set_here, set_other}

@@ -1,5 +1,4 @@
-use Rattle.std.proofs.Common.{◌≡◌, ◌∙◌, ◌≤◌, ◌<◌, ◌++◌, [], length, slice_get, take, drop, Some, inr, ap, sym, subst, refl, arith}
-use Rattle.fz_machine.specs.declared.phase.Phase.{Phase}
+use Rattle.std.proofs.Common.{◌∙◌, ◌++◌, slice_get, inr, ap, sym, subst, refl}
 use Rattle.fz_machine.specs.Going.{going, going_by, IsInOrder}
 use Rattle.fz_machine.specs.Machines.{Machine}
 use Rattle.fz_machine.specs.Regions.{Regions, items_in}

@@ -1,4 +1,4 @@
-use Rattle.std.proofs.Common.{All, take, ℕ, ap, subst, ◌≡◌, ◌∙◌, ◌<◌, length, sym, arith}
+use Rattle.std.proofs.Common.{All, take, ℕ, subst, ◌≡◌, ◌∙◌, ◌<◌, length, sym, arith}
 use Rattle.std.proofs.lemmas.List.{length-set}
 use Rattle.fz_machine.specs.Regions.{Regions, place_in}
 use Rattle.fz_machine.proofs.Noting.{each_begins, one_written}
