@@ -77,16 +77,11 @@ impl Object {
     }
 }
 
-/// Removes the dead cells in a block.
-fn sweep_in(condemned: &mut Vec<Addr>, block: u32) {
-    condemned.retain(|start| place_in(*start, block).is_none());
-}
-
 /// Removes the dead cells in blocks where the object lies.
 fn sweep_under(condemned: &mut Vec<Addr>, blocks: u32, object: &Object) {
     for block in 0..blocks {
         if object.meets(block) {
-            sweep_in(condemned, block);
+            condemned.retain(|start| place_in(*start, block).is_none());
         }
     }
 }
@@ -105,23 +100,13 @@ impl PlainHeap {
         })
     }
 
-    /// The object with this address.
-    fn object_at(&self, start: Addr) -> Option<&Object> {
-        self.objects.iter().find(|object| object.start == start)
-    }
-
-    /// The object into which the word points.
-    fn object_over(&self, word: Word) -> Option<&Object> {
-        self.objects.iter().find(|object| object.covers(word))
-    }
-
     /// The lowest free cell of a block with cells of this size.
     fn free_cell(&self, block: u32, size: u64) -> Option<Addr>
         requires { 0 < size }
     {
         for index in 0..BLOCK_WORDS / size {
             let start = block_start(block) + index * size;
-            if self.object_at(start).is_none() {
+            if !self.objects.iter().any(|object| object.start == start) {
                 return Some(start);
             }
         }
@@ -202,11 +187,16 @@ impl PlainHeap {
     }
 
     pub(crate) fn resolve(&self, word: Word) -> Option<Addr> {
-        Some(self.object_over(word)?.start)
+        let object = self.objects.iter().find(|object| object.covers(word))?;
+        Some(object.start)
     }
 
     pub(crate) fn read(&self, word: Word, offset: u64) -> Result<Word, Refusal> {
-        let object = self.object_over(word).ok_or(Refusal::NotPointer)?;
+        let object = self
+            .objects
+            .iter()
+            .find(|object| object.covers(word))
+            .ok_or(Refusal::NotPointer)?;
         let place = object.place(word, offset).ok_or(Refusal::OutsideObject)?;
         let found = object.words.get(place).ok_or(Refusal::OutsideObject)?;
         Ok(*found)
@@ -241,7 +231,8 @@ impl PlainHeap {
     }
 
     pub(crate) fn sweep(&mut self, block: u32) {
-        sweep_in(&mut self.condemned, block);
+        self.condemned
+            .retain(|start| place_in(*start, block).is_none());
     }
 
     pub(crate) fn condemned(&self) -> u64 {
@@ -250,7 +241,7 @@ impl PlainHeap {
 
     /// The words of a scanned object; none for a pointer-free one.
     pub(crate) fn pointers(&self, start: Addr) -> &[Word] {
-        match self.object_at(start) {
+        match self.objects.iter().find(|object| object.start == start) {
             Some(object) => match object.kind {
                 ObjKind::Scanned => &object.words,
                 ObjKind::Atomic => &[],
@@ -260,7 +251,7 @@ impl PlainHeap {
     }
 
     pub(crate) fn facts(&self, start: Addr) -> Option<(u64, ObjKind, u64)> {
-        let object = self.object_at(start)?;
+        let object = self.objects.iter().find(|object| object.start == start)?;
         Some((object.size(), object.kind, object.birth))
     }
 
