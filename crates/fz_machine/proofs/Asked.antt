@@ -1,7 +1,7 @@
 -- A question about regions.
-use Rattle.std.proofs.Common.{◌≡◌, ◌⊎◌, ◌∙◌, ◌≤◌, ◌<◌, ◌+◌, ◌++◌, ℕ, zero, suc, min, List, [], ◌∷◌, length, slice_get, is_some, take, drop, Option, Some, None, IsTrue, true, inl, inr, refl, ap, sym, subst, ⊎_elim, append_assoc, arith}
-use Rattle.std.proofs.lemmas.List.{length-take, length-drop, take-append-drop}
-use Rattle.std.proofs.lemmas.Option.{none-some, same_Some}
+use Rattle.std.proofs.Common.{All, ◌≡◌, ◌∙◌, ◌≤◌, ◌<◌, ◌+◌, ◌++◌, ℕ, zero, suc, min, List, [], ◌∷◌, length, slice_get, is_some, take, drop, Option, Some, IsTrue, true, refl, ap, sym, subst, ⊎_elim, append_assoc, arith}
+use Rattle.std.proofs.lemmas.List.{length-take, take-append-drop}
+use Rattle.std.proofs.lemmas.Option.{same_Some}
 use Rattle.std.specs.Map.{keys_of}
 use Rattle.fz_finalizers.specs.States.{State, View}
 use Rattle.fz_machine.specs.declared.item.Item.{Item}
@@ -9,8 +9,8 @@ use Rattle.fz_machine.specs.declared.phase.Phase.{Phase}
 use Rattle.fz_machine.specs.declared.phase.Phase.TheVariants.{Objects}
 use Rattle.fz_machine.specs.declared.question.Ask.TheVariants.{Marks}
 use Rattle.fz_machine.specs.Going.{walk_by, HasFirst, IsInOrder}
-use Rattle.fz_machine.specs.Machines.{Machine, AsksRegions}
-use Rattle.fz_machine.specs.Regions.{Regions, items_in, items_of, objects_in}
+use Rattle.fz_machine.specs.Machines.{AsksRegions}
+use Rattle.fz_machine.specs.Regions.{Regions, items_in, items_of, objects_in, place_in}
 use Rattle.fz_machine.specs.Walks.{Walk}
 use Rattle.fz_machine.proofs.Settling.{some_in}
 
@@ -73,9 +73,9 @@ module _ (s : State) (walk : Walk) (regions : Regions) (phase : Phase) (order : 
   )
 
   -- it is a question about regions
-  pub asks_regions : (f : View) (open_phase : Option Phase) (before : ℕ) (new : Regions) (about : List ℕ) → f.state ≡ s → new ≡ record regions { asked = count } → take count about ≡ keys_of (take count regions.left)
+  pub asks_regions : (f : View) (open_phase : Option Phase) (before : ℕ) (new : Regions) (about : List ℕ) → f.state ≡ s → new ≡ record regions { asked = count } → take count about ≡ keys_of (take count regions.left) → All (λ (r : ℕ × ℕ). place_in r.0 ≡ 0) (take count regions.left)
       → AsksRegions (record { finalizers = f; walk = walk_by f.state walk new; phase = open_phase; asked = 0; before = before; regions = take new.asked new.left; noted = new.complete }) phase (record { ask = Marks; about = about; count = count })
-  asks_regions f open_phase before new about same new_is written =
+  asks_regions f open_phase before new about same new_is written begin =
       subst
       (λ (r : Regions). AsksRegions (record { finalizers = f; walk = walk_by f.state walk r; phase = open_phase; asked = 0; before = before; regions = take r.asked r.left; noted = r.complete }) phase (record { ask = Marks; about = about; count = count }))
       (sym new_is)
@@ -87,6 +87,7 @@ module _ (s : State) (walk : Walk) (regions : Regions) (phase : Phase) (order : 
         few = omega (arith, is);
         count = as_many;
         about = written;
+        begin = begin;
         first = subst (λ (t : State). (rest : List Item) × (items_in t regions.left ++ walk.left ≡ items_in t (take count regions.left) ++ rest) × (count < 64 → rest ≡ [])) (sym same) before_all;
         asked = refl;
       })

@@ -41,3 +41,4 @@ pub mod Ran
 pub mod Fewer
 pub mod Called
 mod Askable
+mod Honest

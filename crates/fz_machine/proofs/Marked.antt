@@ -1,5 +1,5 @@
 -- Regions, processed by their marks.
-use Rattle.std.proofs.Common.{◌≡◌, ◌≢◌, ◌⊎◌, ℕ, zero, suc, ◌+◌, ◌-◌, ◌*◌, ◌^◌, ◌<◌, ◌≤◌, Bool, true, false, cond, not, ◌&&◌, ◌||◌, true≢false, is_some, List, [], ◌∷◌, ◌++◌, filter, map, length, take, drop, slice_get, Option, Some, None, IsTrue, option_map, inl, inr, refl, sym, ap, subst, ◌∙◌, ⊎_elim, append_assoc, append-nil, arith, w64, bit_and, bit_or}
+use Rattle.std.proofs.Common.{◌≡◌, ◌≢◌, ℕ, zero, suc, ◌+◌, ◌*◌, ◌^◌, ◌<◌, ◌≤◌, Bool, true, false, cond, not, ◌&&◌, ◌||◌, true≢false, is_some, List, [], ◌∷◌, ◌++◌, filter, map, length, Option, Some, None, option_map, refl, sym, ap, subst, ◌∙◌, ⊎_elim, append_assoc, append-nil, arith, w64, bit_and, bit_or}
 use Rattle.std.proofs.lemmas.Bool.{cases_eq}
 use Rattle.std.proofs.lemmas.Option.{none-some, same_Some}
 use Rattle.std.specs.FinMap.{get, contains_key}
@@ -14,8 +14,8 @@ use Rattle.fz_finalizers.specs.States.{State}
 use Rattle.fz_machine.specs.declared.item.Item.{Item}
 use Rattle.fz_machine.specs.declared.phase.Phase.TheVariants.{Objects}
 use Rattle.fz_machine.specs.Items.{of_late, of_other}
-use Rattle.fz_machine.specs.Regions.{place_in, places, objects_in, item_at, items_of, items_in, marks_say}
-use Rattle.fz_machine.specs.Steps.{Going, steps}
+use Rattle.fz_machine.specs.Regions.{place_in, places, objects_in, item_at, items_of, marks_say}
+use Rattle.fz_machine.specs.Steps.{steps}
 use Rattle.fz_machine.proofs.Places.{in_both, no_places, place_back, places_without, set_here, set_other, without}
 
 -- ---- the objects of a region, one after another
@@ -87,7 +87,7 @@ below_64 p a (suc n) le = by (p a) (below_64 p (a + 1) n (omega (arith, le)))
     by true rest = (omega (arith, le), rest)
     by false rest = rest
 
-places_below : (bits : ℕ) → AllByRecursion (λ i. i < 64) (places bits)
+pub places_below : (bits : ℕ) → AllByRecursion (λ i. i < 64) (places bits)
 unfolding places
 places_below bits = below_64 (has_bit bits) 0 64 (omega arith)
 

@@ -1,15 +1,16 @@
 -- The table of regions: what it has before and after a change.
-use Rattle.std.proofs.Common.{◌≡◌, ◌≢◌, ℕ, zero, suc, ◌+◌, ◌-◌, ◌*◌, ◌^◌, ◌<◌, ◌≤◌, Bool, true, false, cond, true≢false, is_some, List, [], ◌∷◌, ◌++◌, take, drop, length, reverse, slice_get, set, get_or, Option, Some, None, IsTrue, nat_eq, refl, sym, ap, subst, ◌∙◌, ⊎_elim, arith, bit_or}
-use Rattle.std.proofs.lemmas.Bool.{cases_eq, eq-eqb, ne_eqb, eqb-true}
-use Rattle.std.proofs.lemmas.List.{map-append, reverse-append, take_more_set, take-take, take-set, length-take, length-reverse, get_or-reverse, get_or-take}
+use Rattle.std.proofs.Common.{All, Contains, ◌≡◌, ◌≢◌, ℕ, zero, suc, ◌+◌, ◌-◌, ◌^◌, ◌<◌, ◌≤◌, true, cond, is_some, List, [], ◌∷◌, ◌++◌, take, drop, length, reverse, slice_get, set, get_or, Option, Some, IsTrue, nat_eq, refl, sym, ap, subst, ◌∙◌, ⊎_elim, arith, bit_or}
+use Rattle.std.proofs.lemmas.Bool.{cases_eq, eq-eqb, ne_eqb}
+use Rattle.std.proofs.lemmas.List.{map-append, take-append-drop, reverse-append, take_more_set, take-take, take-set, length-take, length-reverse, get_or-reverse, get_or-take}
 use Rattle.std.proofs.lemmas.Option.{none-some, same_Some, slice_get-get_or, slice_get_within, get_or_from_slice_get}
+use Rattle.std.proofs.lemmas.List.Elements.{Contains-append_left, Contains-get_or}
+use Rattle.std.proofs.lemmas.List.Sorted.{Contains-permutation, IsPermutation-reverse, IsPermutation-sym}
 use Rattle.std.proofs.lemmas.Map.Views.{lookup-from_Contains}
 use Rattle.std.specs.Cmp.{nat_eq_equiv}
 use Rattle.std.specs.List.{IsDistinct, swap_remove}
 use Rattle.std.specs.Map.{keys_of, lookup}
 use Rattle.std.specs.Option.{option_map_or}
 use Rattle.fz_model.specs.Bits.{has_bit}
-use Rattle.fz_model.proofs.Bits.{no_bits}
 use Rattle.indexmap.specs.IndexMap.{set_value_at}
 use Rattle.fz_machine.proofs.Places.{set_here, set_there}
 use Rattle.fz_machine.specs.Regions.{place_in, region_of, AreRegions, IsNoted}
@@ -129,3 +130,12 @@ one_written es left count about r lt within room so_far at =
     ∙ sym
     (ap (λ k. keys_of (take k (reverse (take left es)))) next ∙ ap keys_of (take_one_more (reverse (take left es)) count r (at_back es left count lt within ∙ at))
     ∙ map-append (λ (e : ℕ × ℕ). e.0) (take count (reverse (take left es))) (r ∷ []))
+
+-- each of them begins where a region does
+pub each_begins : (es : List (ℕ × ℕ)) (left count : ℕ) → AreRegions es → All (λ (r : ℕ × ℕ). place_in r.0 ≡ 0) (take count (reverse (take left es)))
+each_begins es left count regions = λ k d lt.
+    let x = get_or (take count (reverse (take left es))) k d in
+    let taken = subst (λ xs. Contains xs x) (take-append-drop count (reverse (take left es))) (Contains-append_left (take count (reverse (take left es))) (drop count (reverse (take left es))) x (Contains-get_or (take count (reverse (take left es))) k d lt)) in
+    let front = Contains-permutation (reverse (take left es)) (take left es) x (IsPermutation-sym (take left es) (reverse (take left es)) (IsPermutation-reverse (take left es))) taken in
+    let there = subst (λ xs. Contains xs x) (take-append-drop left es) (Contains-append_left (take left es) (drop left es) x front) in
+    regions.begin x.0 (ap is_some (lookup-from_Contains nat_eq_equiv x.0 x.1 es regions.once there))

@@ -1,5 +1,5 @@
 -- The places of a region, and the bits of words for them.
-use Rattle.std.proofs.Common.{◌≡◌, ◌≢◌, ℕ, min, zero, suc, ◌+◌, ◌-◌, ◌*◌, ◌/◌, ◌%◌, ◌^◌, ◌<◌, ◌≤◌, Bool, true, false, cond, not, ◌&&◌, List, [], ◌∷◌, filter, map, nat_eq, refl, sym, ap, subst, ◌∙◌, ⊎_elim, arith, w64, bit_and, bit_or}
+use Rattle.std.proofs.Common.{◌≡◌, ◌≢◌, ℕ, min, zero, suc, ◌+◌, ◌*◌, ◌%◌, ◌^◌, ◌<◌, ◌≤◌, Bool, true, false, cond, not, ◌&&◌, List, [], ◌∷◌, filter, nat_eq, refl, sym, ap, subst, ◌∙◌, ⊎_elim, arith, w64, bit_and, bit_or}
 use Rattle.std.proofs.lemmas.Bool.{cases_eq, cond-true, cond-false}
 use Rattle.std.proofs.lemmas.Nat.Bits.{bit_at_and, bit_at_or, bit_at-pow_same, bit_at-pow_other, bit_at_clear_same, bit_at_clear_other, bit_at-trailing_zeros, bit_at-lt}
 use Rattle.std.proofs.Math.Pow.{pow-lt}
@@ -7,7 +7,7 @@ use Rattle.std.specs.Int.{bit_at, bit_not, trailing_zeros}
 use Rattle.std.specs.List.{range_with_len}
 use Rattle.fz_model.specs.Bits.{has_bit}
 use Rattle.fz_model.proofs.Bits.{bit_on, bit_off, on_bit, off_bit, no_bits, not_bit}
-use Rattle.fz_machine.specs.Regions.{place_in, region_of, places, objects_in}
+use Rattle.fz_machine.specs.Regions.{place_in, region_of, places}
 
 -- ---- tests of the numbers of a range
 

@@ -1,12 +1,12 @@
 -- The items of all regions are the registrations.
-use Rattle.std.proofs.Common.{◌≡◌, ◌≢◌, ◌⊎◌, ℕ, zero, suc, ◌+◌, ◌-◌, ◌*◌, ◌<◌, ◌≤◌, Bool, true, false, true≢false, cond, not, is_some, List, [], ◌∷◌, ◌++◌, filter, map, length, reverse, get_or, inl, inr, Option, Some, None, Contains, IsTrue, nat_eq, nat_cmp, refl, sym, ap, subst, ◌∙◌, ⊎_elim, arith, append_assoc, append-nil, All, option_map}
+use Rattle.std.proofs.Common.{◌≡◌, ◌≢◌, ◌⊎◌, ℕ, zero, suc, ◌+◌, ◌*◌, ◌<◌, ◌≤◌, Bool, true, false, true≢false, cond, is_some, List, [], ◌∷◌, ◌++◌, filter, map, length, reverse, inl, inr, Option, Some, None, Contains, IsTrue, nat_eq, nat_cmp, refl, sym, ap, subst, ◌∙◌, ⊎_elim, arith, append_assoc, All, option_map}
 use Rattle.std.proofs.lemmas.Bool.{cases_eq, eq-eqb, ne_eqb, eqb-true, both_ways}
 use Rattle.std.proofs.lemmas.List.{length-map}
 use Rattle.std.proofs.lemmas.List.Elements.{All-cons}
 use Rattle.std.proofs.lemmas.List.Sorted.{Contains-permutation, IsPermutation-reverse, IsPermutation-map, IsPermutation-sym}
 use Rattle.std.proofs.lemmas.Map.Keys.{IsDistinct-IsPermutation}
 use Rattle.std.proofs.lemmas.Map.Views.{Contains-from_lookup, lookup-from_Contains}
-use Rattle.std.proofs.lemmas.Option.{none-some, same_Some}
+use Rattle.std.proofs.lemmas.Option.{none-some}
 use Rattle.std.specs.Cmp.{nat_cmp_total, nat_eq_equiv}
 use Rattle.std.specs.FinMap.{get, len, contains_key, from_entries, same_map, nat_cmp-IsAntisymmetric}
 use Rattle.std.specs.FinSet.{contains}
@@ -15,7 +15,6 @@ use Rattle.std.specs.Map.{keys_of, lookup}
 use Rattle.std.specs.Option.{option_map_or, option_to_list}
 use Rattle.fz_model.specs.declared.answers.Registration.{Registration}
 use Rattle.fz_model.specs.Bits.{has_bit}
-use Rattle.fz_model.specs.State.{Map}
 use Rattle.fz_model.proofs.Bits.{no_bits}
 use Rattle.fz_model.proofs.KeyedEntries.{len_made}
 use Rattle.fz_model.proofs.Tables.{get_made}
@@ -23,9 +22,9 @@ use Rattle.fz_table.specs.declared.stored.Stored.{Stored}
 use Rattle.fz_table.specs.Tabled.{plain}
 use Rattle.fz_finalizers.specs.States.{State}
 use Rattle.fz_machine.specs.declared.item.Item.{Item}
-use Rattle.fz_machine.specs.Items.{AreEntriesOf, AreObjects, of_late, of_other, of_stored}
+use Rattle.fz_machine.specs.Items.{AreObjects, of_late, of_other, of_stored}
 use Rattle.fz_machine.specs.Regions.{place_in, region_of, places, objects_in, item_at, items_of, items_in, AreNoted, AreRegions, IsNoted}
-use Rattle.fz_machine.proofs.Places.{place_back, region_back, object_back, place_less}
+use Rattle.fz_machine.proofs.Places.{region_back, object_back, place_less}
 
 -- ---- the objects of regions
 

@@ -1,5 +1,5 @@
 -- What holds of regions while the finalizers change.
-use Rattle.std.proofs.Common.{◌≡◌, ◌≢◌, ◌⊎◌, ◌≤◌, ◌+◌, ℕ, Result, Ok, Err, OnOk, OnErr, length, Bool, true, false, true≢false, cond, is_some, List, [], ◌∷◌, Option, Some, None, IsTrue, inl, inr, refl, sym, ap, subst, ◌∙◌, ⊎_elim}
+use Rattle.std.proofs.Common.{◌≡◌, ◌≢◌, ◌≤◌, ◌+◌, ℕ, Result, Ok, Err, OnOk, OnErr, length, Bool, true, false, true≢false, cond, is_some, List, [], Option, Some, None, IsTrue, inl, inr, refl, sym, ap, subst, ◌∙◌, ⊎_elim}
 use Rattle.std.proofs.lemmas.Bool.{cases_eq}
 use Rattle.std.proofs.lemmas.Option.{none-some}
 use Rattle.std.specs.FinMap.{get, insert, remove, empty, contains_key, get-empty}
@@ -10,7 +10,6 @@ use Rattle.fz_model.specs.declared.kinds.LinkKind.TheVariants.{Short, Long}
 use Rattle.fz_model.specs.State.{Map}
 use Rattle.fz_model.specs.Steps.{moved_to}
 use Rattle.fz_model.proofs.Maps.{get-remove_same, get-remove_other, get-insert_other}
-use Rattle.fz_table.specs.Tabled.{Set}
 use Rattle.fz_finalizers.specs.Causes.{Causes}
 use Rattle.fz_finalizers.specs.Follows.{queued_cleanup, queued_object, queued_one, queued_attached}
 use Rattle.fz_finalizers.specs.Kinds.{is_late}

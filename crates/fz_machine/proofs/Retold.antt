@@ -1,12 +1,11 @@
 -- Answers that are heard before a machine goes on.
-use Rattle.std.proofs.Common.{◌≡◌, ◌⊎◌, ◌∙◌, ◌≤◌, ◌+◌, ◌++◌, ℕ, zero, suc, min, Bool, List, [], length, take, Option, Some, None, IsTrue, inl, inr, refl, ap, sym, subst, ⊎_elim, arith}
-use Rattle.std.proofs.lemmas.Option.{none-some, same_Some}
+use Rattle.std.proofs.Common.{◌≡◌, ◌∙◌, ◌≤◌, ◌+◌, ◌++◌, ℕ, zero, suc, min, Bool, List, [], length, take, Option, Some, IsTrue, inl, inr, refl, ap, sym, subst, ⊎_elim, arith}
+use Rattle.std.proofs.lemmas.Option.{same_Some}
 use Rattle.fz_finalizers.specs.States.{State, View}
-use Rattle.fz_machine.specs.declared.item.Item.{Item}
 use Rattle.fz_machine.specs.declared.pass.Next.{Next}
 use Rattle.fz_machine.specs.declared.phase.Phase.{Phase}
 use Rattle.fz_machine.specs.declared.phase.Phase.TheVariants.{Objects}
-use Rattle.fz_machine.specs.Going.{going, going_by, HasRoom, HasRoomToKeep, IsInOrder}
+use Rattle.fz_machine.specs.Going.{going, going_by, HasRoomToKeep, IsInOrder}
 use Rattle.fz_machine.specs.Machines.{Machine, GoesTo}
 use Rattle.fz_machine.specs.Regions.{Regions, AreNoted, items_in, marks_say}
 use Rattle.fz_machine.specs.Steps.{Going, GoesOn, steps}

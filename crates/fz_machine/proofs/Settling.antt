@@ -1,14 +1,14 @@
 -- What a phase skips, with the regions that remain.
-use Rattle.std.proofs.Common.{◌≡◌, ◌⊎◌, ◌<◌, ◌≤◌, ◌+◌, ℕ, Bool, true, false, true≢false, List, [], ◌∷◌, ◌++◌, length, drop, slice_get, is_some, Option, Some, None, IsTrue, inl, inr, refl, sym, ap, subst, ◌∙◌, ⊎_elim, arith}
-use Rattle.std.proofs.lemmas.Option.{none-some, same_Some}
+use Rattle.std.proofs.Common.{◌≡◌, ◌<◌, ◌≤◌, ◌+◌, ℕ, true, false, true≢false, List, [], ◌∷◌, ◌++◌, length, slice_get, is_some, Some, IsTrue, inr, refl, sym, ap, subst, ◌∙◌, ⊎_elim, arith}
+use Rattle.std.proofs.lemmas.Option.{same_Some}
 use Rattle.fz_finalizers.specs.States.{State, View}
 use Rattle.fz_machine.specs.declared.item.Item.{Item}
 use Rattle.fz_machine.specs.declared.phase.Phase.{Phase}
 use Rattle.fz_machine.specs.declared.phase.Phase.TheVariants.{Objects}
-use Rattle.fz_machine.specs.Going.{going, going_by, walk_by, HasFirst, HasRoom, HasRoomToKeep, IsInOrder}
+use Rattle.fz_machine.specs.Going.{going, going_by, walk_by, HasFirst, IsInOrder}
 use Rattle.fz_machine.specs.Phases.{asks}
 use Rattle.fz_machine.specs.Regions.{Regions, AreNoted, items_in, items_of, objects_in}
-use Rattle.fz_machine.specs.Steps.{Going, skip}
+use Rattle.fz_machine.specs.Steps.{skip}
 use Rattle.fz_machine.specs.Walks.{Walk}
 use Rattle.fz_machine.proofs.Stepping.{skip_here}
 

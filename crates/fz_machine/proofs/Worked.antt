@@ -1,5 +1,5 @@
 -- A machine whose entries are taken and finished, or that has another registration.
-use Rattle.std.proofs.Common.{◌≡◌, ◌∙◌, ◌++◌, [], ℕ, Option, Some, None, Result, Ok, Err, OnOk, OnErr, MatchOption, IsTrue, inl, sym, ap, subst}
+use Rattle.std.proofs.Common.{◌≡◌, ◌++◌, [], ℕ, Option, Some, None, Result, Ok, Err, OnOk, OnErr, MatchOption, IsTrue, inl, sym, ap, subst}
 use Rattle.fz_model.specs.declared.answers.Entry.{Entry}
 use Rattle.fz_model.specs.Steps.{registration_of}
 use Rattle.fz_finalizers.specs.declared.kinds.Finalizer.{Finalizer}
@@ -12,7 +12,7 @@ use Rattle.fz_machine.specs.Going.{walk_by, HasRoom, IsInOrder}
 use Rattle.fz_machine.specs.Machines.{IsWork}
 use Rattle.fz_machine.specs.Regions.{Regions, IsNoted}
 use Rattle.fz_machine.specs.Walks.{Walk}
-use Rattle.fz_machine.proofs.Remaining.{items_same, noted_fewer, noted_more, same_fewer, works_on}
+use Rattle.fz_machine.proofs.Remaining.{items_same, noted_more, same_fewer, works_on}
 use Rattle.fz_machine.proofs.Working.{apart, work_apart}
 
 module _ (walk : Walk) (regions : Regions) where

@@ -1,6 +1,6 @@
 -- The model of finalizers whose pass asks questions.
 -- code: fz_machine/src/machine.rt, pass.rt
-use Rattle.std.specs.Prelude.{◌≡◌, ◌⊎◌, ℕ, ◌-◌, ◌<◌, ◌≤◌, zero, suc, Bool, List, [], ◌++◌, length, take, Option, Some, None, is_some, IsTrue, refl}
+use Rattle.std.specs.Prelude.{◌≡◌, ◌⊎◌, ℕ, ◌-◌, ◌<◌, ◌≤◌, zero, suc, Bool, List, [], ◌++◌, length, take, Option, Some, None, is_some, All, IsTrue, refl}
 use Rattle.std.specs.Coded.{Coded, code_by, coded×, coded_ℕ, coded_option, coded_list, coded_bool}
 use Rattle.std.specs.Map.{keys_of}
 use Rattle.fz_model.specs.declared.answers.Entry.{Entry}
@@ -17,7 +17,7 @@ use Rattle.fz_machine.specs.declared.pass.Step.TheVariants as written
 use Rattle.fz_machine.specs.declared.pass.Next.TheVariants.{Asks, Ended}
 use Rattle.fz_finalizers.specs.Follows.{Event, Follows, Take, TakeFinished, Finish, next_pass}
 use Rattle.fz_machine.specs.Going.{going}
-use Rattle.fz_machine.specs.Regions.{items_in}
+use Rattle.fz_machine.specs.Regions.{items_in, place_in}
 use Rattle.fz_machine.specs.Steps.{Begins, GoesOn, IsQuestion, steps}
 use Rattle.fz_machine.specs.Walks.{Walk, walk_code}
 
@@ -143,6 +143,7 @@ pub record AsksRegions (m : Machine) (phase : Phase) (q : Question) : Type 0 whe
   pub few : q.count ≤ BATCH
   pub count : length m.regions ≡ q.count
   pub about : take q.count q.about ≡ keys_of m.regions
+  pub begin : All (λ (r : ℕ × ℕ). place_in r.0 ≡ 0) m.regions
   pub first : (rest : List Item) × (m.walk.left ≡ items_in m.finalizers.state m.regions ++ rest) × (q.count < BATCH → rest ≡ [])
   pub asked : m.asked ≡ 0
 

@@ -8,8 +8,11 @@ use Rattle.fz_finalizers.specs.States.{State}
 use Rattle.fz_machine.specs.declared.item.Item.{Item}
 use Rattle.fz_machine.specs.declared.pass.Next.{Next}
 use Rattle.fz_machine.specs.declared.phase.Phase.{Phase}
-use Rattle.fz_machine.specs.Graph.{Graph, IsHonest, MayBegin, MayBeAsked}
-use Rattle.fz_machine.specs.Machines.{Machine, IsBegun, GoesTo, IsWorked, Works}
+use Rattle.fz_machine.specs.declared.phase.Phase.TheVariants.{Objects}
+use Rattle.fz_machine.specs.declared.question.Question.{Question}
+use Rattle.fz_machine.specs.Graph.{AreHonestWords, Graph, IsHonest, MayBegin, MayBeAsked}
+use Rattle.fz_machine.specs.Regions.{marks_say}
+use Rattle.fz_machine.specs.Machines.{Machine, AsksRegions, IsBegun, GoesTo, IsWorked, Works}
 use Rattle.fz_machine.specs.Phases.{asks, subject}
 
 -- true answers about the first items, one after another, while the graph changes
@@ -53,3 +56,9 @@ abbrev pub AsksRightly : Type 0 → Type 0
 AsksRightly Exact = (place : ℕ → Option ℕ) (old begun new : Machine) (past : Past) (before after : Graph) (phase : Phase)
     → IsReached old.finalizers.state past → IsBegun old begun → MayBegin place old.finalizers.state before → Runs Exact place begun before new after → new.phase ≡ Some phase
     → AreAskable Exact place phase new.walk.left after
+
+-- words that are true of a graph about the regions of a question are true answers about the items in them
+abbrev pub WordsAreAnswers : Type 0 → Type 0
+WordsAreAnswers Exact = (place : ℕ → Option ℕ) (old begun m : Machine) (past : Past) (before g : Graph) (question : Question) (words : List ℕ)
+    → IsReached old.finalizers.state past → IsBegun old begun → MayBegin place old.finalizers.state before → Runs Exact place begun before m g → m.phase ≡ Some Objects → AsksRegions m Objects question → AreHonestWords g m.regions words
+    → AreHonest Exact place Objects (marks_say m.finalizers.state m.regions words) m.walk.left g g

@@ -1,7 +1,7 @@
 //! The result of a run of questions and answers.
 
 ghost use Rattle.fz_machine.specs.Heard.{PassesAreCalls, PassesEnd};
-ghost use Rattle.fz_machine.specs.Runs.{AsksRightly, RunsPass};
+ghost use Rattle.fz_machine.specs.Runs.{AsksRightly, RunsPass, WordsAreAnswers};
 
 /// A run whose answers are true of a graph carries out the model's pass, as `Finalizers::pass` does. Entries that are taken and finished between its questions
 /// might as well be taken and finished after the pass.
@@ -31,4 +31,11 @@ pub fn passes_are_calls()
 pub fn questions_may_be_asked()
     ensures asked { AsksRightly (Unit {0}) }
     ensures asked_of_more { AsksRightly ⊥ }
+{}
+
+/// Words that say truly what is marked in the regions of a question are true answers about the registered objects in them. So what `runs_make_the_pass` states
+/// holds of a host that answers such questions by `Machine::next_marks`. What a word says about a place where no object begins doesn't matter.
+pub fn words_are_answers()
+    ensures exact { WordsAreAnswers (Unit {0}) }
+    ensures more { WordsAreAnswers ⊥ }
 {}

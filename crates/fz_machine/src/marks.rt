@@ -1,15 +1,20 @@
 //! Regions, processed by their marks.
 
-ghost use Rattle.std.specs.Prelude.{◌≡◌, ◌≤◌, ◌<◌, ◌+◌, ◌*◌, ◌⊎◌, ◌++◌, ◌&&◌, ◌||◌, ℕ, [], filter, not, take, length, is_some, slice_get, IsTrue, IsFalse};
+ghost use Rattle.std.specs.Prelude.{◌≡◌, ◌≤◌, ◌<◌, ◌+◌, ◌*◌, ◌⊎◌, ◌++◌, ◌&&◌, ◌||◌, ℕ, [], filter, not, take, length, is_some, slice_get, None, OnOk, OnErr, IfOk, IfErr, IsTrue, IsFalse};
 ghost use Rattle.std.specs.FinMap.{contains_key};
 ghost use Rattle.fz_model.specs.Bits.{has_bit};
 ghost use Rattle.fz_machine.specs.declared.phase.Phase.TheVariants.{Objects};
 ghost use Rattle.fz_machine.specs.Going.{going_by, HasFirst, HasRoomToKeep};
 ghost use Rattle.fz_machine.specs.Regions.{place_in, objects_in, item_at, items_of, items_in, marks_say, AreNoted};
+ghost use Rattle.fz_machine.specs.Machines.{GoesTo, Writes, next_of};
 ghost use Rattle.fz_machine.specs.Steps.{steps};
+ghost use Rattle.fz_machine.specs.declared.refused.Refused.TheVariants.{NoPass};
 
 use crate::item::Item;
+use crate::machine::Machine;
+use crate::pass::Step;
 use crate::question::BATCH;
+use crate::refused::Refused;
 use crate::regions::{Regions, bit, lowest, object_at};
 use crate::walk::Walk;
 use fz_finalizers::{Finalizers, Kind};
@@ -102,5 +107,28 @@ pub(crate) fn hear_marks(
         };
         let noted = sift(finalizers, walk, region, bits, *word);
         regions.pass_on(region, noted);
+    }
+}
+
+impl Machine {
+    /// Processes the answers to a question about regions: the word at each index has the marks of the region at that index of the question. Returns what comes
+    /// next, and writes the objects, words or regions of a question, as `next_bits` does. If the last question wasn't about regions, it is repeated.
+    ///
+    /// Takes no memory. Fails with `NoPass` if no pass is open.
+    pub fn next_marks(
+        &mut self,
+        marks: &[u64; BATCH],
+        about: &mut [Addr; BATCH],
+    ) -> Result<Step, Refused>
+        ensures refused { OnErr result ((self.old.phase ≡ None) × (self.new ≡ self.old) × (about.new ≡ about.old)) }
+        ensures cause { IfErr result (λ r. r ≡ NoPass) }
+        ensures goes { IfOk result (λ step. GoesTo self.old (marks_say self.old.finalizers.state self.old.regions marks.now) self.new (next_of step about.new)) }
+        ensures written { IfOk result (λ step. Writes step about.old about.new) }
+    {
+        let Some(phase) = self.phase else {
+            return Err(Refused::NoPass);
+        };
+        hear_marks(&self.finalizers, &mut self.walk, &mut self.regions, marks);
+        Ok(self.ask(phase, about))
     }
 }

@@ -4,7 +4,6 @@ ghost use Rattle.std.specs.Prelude.{◌≡◌, ◌+◌, [], take, None, Some, On
 ghost use Rattle.fz_finalizers.specs.Follows.{next_pass};
 ghost use Rattle.fz_machine.specs.Asks.{bits_of};
 ghost use Rattle.fz_machine.specs.Causes.{IsJudgedBy};
-ghost use Rattle.fz_machine.specs.Regions.{marks_say};
 ghost use Rattle.fz_machine.specs.Machines.{IsBegun, GoesTo, Writes, next_of};
 ghost use Rattle.fz_machine.specs.declared.refused.Refused.TheVariants.{NoPass};
 
@@ -13,7 +12,6 @@ use crate::asking::hear;
 use crate::going_on::{go_on, question};
 use crate::listing::begin;
 use crate::machine::Machine;
-use crate::marks::hear_marks;
 use crate::phase::Phase;
 use crate::question::{Ask, BATCH, Question};
 use crate::refused::Refused;
@@ -79,7 +77,7 @@ impl Machine {
     }
 
     /// Proceeds to the next question, whose objects, words or regions it writes, or to the end.
-    fn ask(&mut self, phase: Phase, about: &mut [Addr; BATCH]) -> Step
+    pub(crate) fn ask(&mut self, phase: Phase, about: &mut [Addr; BATCH]) -> Step
         requires { self.old.phase ≡ Some phase }
         ensures goes { GoesTo self.old [] self.new (next_of result about.new) }
         ensures written { Writes result about.old about.new }
@@ -139,26 +137,5 @@ impl Machine {
     {
         let answers = answers_in(answers, self.asked);
         self.proceed(&answers, about)
-    }
-
-    /// Processes the answers to a question about regions: the word at each index has the marks of the region at that index of the question. Returns what comes
-    /// next, and writes the objects, words or regions of a question, as `next_bits` does. If the last question wasn't about regions, it is repeated.
-    ///
-    /// Takes no memory. Fails with `NoPass` if no pass is open.
-    pub fn next_marks(
-        &mut self,
-        marks: &[u64; BATCH],
-        about: &mut [Addr; BATCH],
-    ) -> Result<Step, Refused>
-        ensures refused { OnErr result ((self.old.phase ≡ None) × (self.new ≡ self.old) × (about.new ≡ about.old)) }
-        ensures cause { IfErr result (λ r. r ≡ NoPass) }
-        ensures goes { IfOk result (λ step. GoesTo self.old (marks_say self.old.finalizers.state self.old.regions marks.now) self.new (next_of step about.new)) }
-        ensures written { IfOk result (λ step. Writes step about.old about.new) }
-    {
-        let Some(phase) = self.phase else {
-            return Err(Refused::NoPass);
-        };
-        hear_marks(&self.finalizers, &mut self.walk, &mut self.regions, marks);
-        Ok(self.ask(phase, about))
     }
 }

@@ -1,6 +1,6 @@
 //! Where registered objects may begin.
 
-ghost use Rattle.std.specs.Prelude.{◌≡◌, ◌≤◌, ◌<◌, ◌+◌, ◌*◌, ◌^◌, ◌∷◌, ℕ, [], true, false, min, drop, take, length, reverse, nat_eq, slice_get, Some, IfSome, IsTrue, OnOk};
+ghost use Rattle.std.specs.Prelude.{◌≡◌, ◌≤◌, ◌<◌, ◌+◌, ◌*◌, ◌^◌, ◌∷◌, ℕ, [], true, false, min, drop, take, length, reverse, nat_eq, slice_get, All, Some, IfSome, IsTrue, OnOk};
 ghost use Rattle.std.specs.Map.{keys_of, lookup};
 ghost use Rattle.std.specs.Option.{option_map_or};
 ghost use Rattle.fz_model.specs.Bits.{has_bit};
@@ -211,6 +211,7 @@ impl Regions {
         ensures count { result ≡ min BATCH (length self.old.left) }
         ensures asked { self.new ≡ record self.old { asked = result } }
         ensures about { take result about.new ≡ keys_of (take result self.old.left) }
+        ensures begin { All (λ (r : ℕ × ℕ). place_in r.0 ≡ 0) (take result self.old.left) }
     {
         let mut count = 0;
         while count < BATCH && count < self.left {

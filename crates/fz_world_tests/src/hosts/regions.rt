@@ -3,7 +3,7 @@
 use crate::hosts::beside::Random;
 use crate::hosts::equal::must_be;
 use fz_finalizers::{Addr, Finalizer, Kind, LinkKind, Passed};
-use fz_machine::{Ask, BATCH, Machine, Step};
+use fz_machine::{Ask, BATCH, Machine, Next, Step};
 use std::alloc::Global;
 use std::process::Abort;
 use std::test::*;
@@ -313,4 +313,105 @@ fn regions_give_what_objects_give(rt: HostRuntime) {
             run(&rt, rt.alloc(), apart(*first, *distance), seed);
         }
     }
+}
+
+/// A finalizer of kind normal.
+const NORMAL: Finalizer = Finalizer {
+    kind: Kind::Normal,
+    procedure: 1,
+    client_data: 0,
+    rank: 0,
+};
+
+/// A machine with regions and these objects, whose pass has just begun.
+fn begun(rt: &impl Abort, alloc: Global, objects: &[Addr]) -> Machine {
+    let mut machine = Machine::with_regions(alloc).expect(rt, "memory");
+    for object in objects {
+        machine.register(*object, NORMAL).expect(rt, "memory");
+    }
+    machine.begin().expect(rt, "no other pass");
+    machine
+}
+
+/// The next step is a question about so many regions, of which the first begins here.
+fn must_ask(rt: &impl Abort, step: Step, about: &[Addr; BATCH], count: usize, first: Addr) {
+    let marks = Step::Asks {
+        ask: Ask::Marks,
+        count,
+    };
+    must_be(rt, step, marks, "a question about regions");
+    must_be(rt, about[0], first, "the last region comes first");
+}
+
+#[test]
+fn a_question_is_repeated_until_words_answer_it(rt: HostRuntime) {
+    let mut machine = begun(&rt, rt.alloc(), &[4_096, 8_192 + 32]);
+    let mut about = [0; BATCH];
+    for answers in [0, u64::MAX].iter() {
+        let step = machine.next_bits(*answers, &mut about).expect(&rt, "open");
+        must_ask(&rt, step, &about, 2, 8_192);
+    }
+    let step = machine.next(&[false; BATCH]).expect(&rt, "open");
+    must_be(&rt, matches!(step, Next::Asks(_)), true, "it is repeated");
+    let mut marks = [0; BATCH];
+    marks[1] = 1;
+    let step = machine.next_marks(&marks, &mut about).expect(&rt, "open");
+    let children = Step::Asks {
+        ask: Ask::MarkChildren,
+        count: 1,
+    };
+    must_be(&rt, step, children, "one object isn't marked");
+    must_be(&rt, about[0], 8_192 + 32, "the other is");
+    let again = machine.next_marks(&[0; BATCH], &mut about);
+    must_be(&rt, again.expect(&rt, "open"), children, "it is repeated");
+}
+
+#[test]
+fn a_region_without_registrations_is_not_asked_about(rt: HostRuntime) {
+    let mut machine = Machine::with_regions(rt.alloc()).expect(&rt, "memory");
+    let mut about = [0; BATCH];
+    for object in [1_024, 2_048, 2_048 + 16, 3_072].iter() {
+        machine.register(*object, NORMAL).expect(&rt, "memory");
+    }
+    for object in [3_072, 2_048 + 16].iter() {
+        machine.unregister(*object).expect(&rt, "no pass");
+    }
+    machine.begin().expect(&rt, "no other pass");
+    let step = machine.next_bits(0, &mut about).expect(&rt, "open");
+    must_ask(&rt, step, &about, 2, 2_048);
+    must_be(&rt, about[1], 1_024, "the first region comes last");
+    machine.abandon().expect(&rt, "open");
+    for object in [1_024, 2_048].iter() {
+        machine.unregister(*object).expect(&rt, "no pass");
+    }
+    machine.begin().expect(&rt, "no other pass");
+    let ended = machine.next_bits(0, &mut about).expect(&rt, "open");
+    let nothing = Passed { pass: 2, picked: 0 };
+    must_be(&rt, ended, Step::Ended(nothing), "nothing is asked");
+    machine.register(2_048 + 16, NORMAL).expect(&rt, "memory");
+    machine.begin().expect(&rt, "no other pass");
+    let step = machine.next_bits(0, &mut about).expect(&rt, "open");
+    must_ask(&rt, step, &about, 1, 2_048);
+}
+
+#[test]
+fn a_question_has_at_most_64_regions(rt: HostRuntime) {
+    let mut objects = [0; 100];
+    for (index, object) in objects.iter_mut().enumerate() {
+        *object = 1_024 * (index as u64 + 1) + 7;
+    }
+    let mut machine = begun(&rt, rt.alloc(), &objects);
+    let mut about = [0; BATCH];
+    let step = machine.next_bits(0, &mut about).expect(&rt, "open");
+    must_ask(&rt, step, &about, 64, 102_407);
+    let step = machine.next_marks(&[1; BATCH], &mut about);
+    must_ask(&rt, step.expect(&rt, "open"), &about, 36, 36_871);
+    let ended = machine.next_marks(&[1; BATCH], &mut about);
+    let nothing = Passed { pass: 1, picked: 0 };
+    must_be(
+        &rt,
+        ended.expect(&rt, "open"),
+        Step::Ended(nothing),
+        "all are marked",
+    );
 }

@@ -1,14 +1,12 @@
-use Rattle.std.proofs.Common.{rules, ◌≡◌, ◌≤◌, ◌+◌, ◌++◌, [], length, reverse, true, Some, ap, sym, subst, refl, inl, inr, ◌∙◌, append-nil, arith}
+use Rattle.std.proofs.Common.{rules, ◌≡◌, ◌++◌, [], length, reverse, Some, ap, sym, subst, refl, inr, ◌∙◌, append-nil, arith}
 use denote.Enum.Bare.{same_true}
 use Rattle.fz_machine.specs.contracts.phase.Phase.{the_type}
 use Rattle.fz_machine.specs.declared.phase.Phase.{Phase}
 use Rattle.fz_machine.specs.declared.phase.Phase.TheVariants.{Objects}
-use Rattle.fz_finalizers.specs.States.{State}
-use Rattle.fz_machine.specs.Going.{going_by, HasRoom}
+use Rattle.fz_machine.specs.Going.{HasRoom}
 use Rattle.fz_machine.specs.Items.{AreObjects}
 use Rattle.fz_machine.specs.Phases.{Lists}
 use Rattle.fz_machine.specs.Regions.{Regions, AreNoted, items_in}
-use Rattle.fz_machine.specs.Steps.{Begins}
 use Rattle.fz_machine.specs.Walks.{Walk}
 use Rattle.fz_machine.proofs.Regioned.{regions_list, regions_fit}
 use Rattle.fz_machine.proofs.going_on.begin_by.Goals as goal

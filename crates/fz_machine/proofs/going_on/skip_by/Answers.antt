@@ -1,5 +1,5 @@
-use Rattle.std.proofs.Common.{◌≡◌, ◌∙◌, ◌++◌, [], Some, is_some, slice_get, true, false, ap, sym, subst, inl, refl}
-use Rattle.fz_machine.specs.Going.{going, going_by}
+use Rattle.std.proofs.Common.{◌≡◌, ◌∙◌, ◌++◌, [], is_some, slice_get, ap, sym, subst, inl}
+use Rattle.fz_machine.specs.Going.{going}
 use Rattle.fz_machine.specs.Regions.{AreNoted, items_in}
 use Rattle.fz_machine.specs.Steps.{Going, skip}
 use Rattle.fz_finalizers.specs.States.{State}

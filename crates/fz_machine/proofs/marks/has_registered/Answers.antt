@@ -1,6 +1,5 @@
-use Rattle.std.proofs.Common.{◌≡◌, ◌∙◌, ◌+◌, ◌*◌, ◌<◌, ◌∷◌, length, is_some, ap, sym, subst, arith}
+use Rattle.std.proofs.Common.{◌∙◌, ◌<◌, length, ap, sym, subst, arith}
 use Rattle.std.proofs.Math.Facts.{Fits-lt-pow}
-use Rattle.fz_machine.specs.Regions.{places, items_of, objects_in}
 use Rattle.fz_machine.proofs.Marked.{none_here, some_here, no_items}
 use Rattle.fz_machine.proofs.Places.{within_addresses}
 use Rattle.fz_machine.proofs.marks.has_registered.Goals as goal

@@ -1,10 +1,10 @@
-use Rattle.std.proofs.Common.{◌≡◌, ◌∙◌, ◌⊎◌, ◌≤◌, ◌<◌, ◌-◌, ◌+◌, ◌∷◌, ◌++◌, ℕ, not, [], take, drop, filter, length, get_or, slice_get, Some, ap, sym, subst, refl, inl, inr, ⊎_elim, arith, min}
+use Rattle.std.proofs.Common.{◌≡◌, ◌∙◌, ◌≤◌, ◌<◌, ◌-◌, ◌+◌, ◌∷◌, ◌++◌, not, [], take, drop, filter, length, get_or, slice_get, ap, sym, inl, inr, ⊎_elim, arith}
 use Rattle.std.proofs.lemmas.List.{length-append, length-take, length-drop}
 use Rattle.std.proofs.lemmas.Option.{none-some}
 use Rattle.fz_model.specs.Bits.{has_bit}
 use Rattle.fz_machine.specs.declared.item.Item.{Item}
 use Rattle.fz_machine.specs.declared.phase.Phase.TheVariants.{Objects}
-use Rattle.fz_machine.specs.Going.{going_by, HasRoomToKeep}
+use Rattle.fz_machine.specs.Going.{going_by}
 use Rattle.fz_machine.specs.Regions.{items_in, items_of, objects_in, marks_say, place_in}
 use Rattle.fz_machine.specs.Steps.{steps}
 use Rattle.fz_machine.proofs.Hearing.{at, at_end, fewer, heard_one, says_over, stays_on, word_at}

@@ -1,4 +1,4 @@
-use Rattle.std.proofs.Common.{◌≡◌, ◌∙◌, ◌<◌, ◌∷◌, ◌++◌, [], drop, length, ap, sym, subst, refl, arith}
+use Rattle.std.proofs.Common.{◌≡◌, ◌∙◌, ◌∷◌, ◌++◌, [], drop, length, ap, sym, refl, arith}
 use Rattle.fz_machine.specs.Regions.{items_in, items_of, objects_in}
 use Rattle.fz_machine.proofs.Kept.{first_is}
 use Rattle.fz_machine.proofs.Regioned.{has_item}

@@ -1,15 +1,13 @@
-use Rattle.std.proofs.Common.{◌≡◌, ◌∙◌, ◌≢◌, ◌≤◌, ◌+◌, ◌*◌, ◌^◌, ◌<◌, ◌∷◌, ◌++◌, ℕ, suc, List, cond, [], Bool, true, false, true≢false, not, length, filter, Some, None, ap, sym, subst, refl, append_assoc, append-nil, arith, w64, bit_and, bit_or}
+use Rattle.std.proofs.Common.{◌≡◌, ◌∙◌, ◌+◌, ◌*◌, ◌<◌, ◌∷◌, ◌++◌, ℕ, [], true, false, true≢false, not, length, Some, None, ap, sym, subst, refl, append_assoc, append-nil, arith, w64, bit_and, bit_or}
 use Rattle.std.proofs.lemmas.List.{length-append}
 use Rattle.std.proofs.Math.Facts.{Fits-lt-pow}
 use Rattle.std.specs.FinMap.{contains_key}
 use Rattle.std.specs.Int.{bit_not}
 use Rattle.fz_model.specs.Bits.{has_bit}
-use Rattle.fz_finalizers.specs.States.{State}
 use Rattle.fz_machine.specs.declared.item.Item.{Item}
-use Rattle.fz_machine.specs.Regions.{places, place_in, items_of, objects_in, item_at}
+use Rattle.fz_machine.specs.Regions.{place_in, items_of, objects_in, item_at}
 use Rattle.fz_machine.proofs.Hearing.{fewer}
 use Rattle.fz_machine.proofs.Marked.{AreSifted, all_sifted, first_item, item_is, no_item_is, no_items, none_sifted, one_goes, one_stays, unmarked_items}
-use Rattle.fz_machine.proofs.Places.{within_addresses}
 use Rattle.fz_machine.proofs.marks.sift.Goals as goal
 
 -- what is set in the rest without its lowest place is set in the rest

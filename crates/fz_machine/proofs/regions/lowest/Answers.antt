@@ -1,6 +1,6 @@
-use Rattle.std.proofs.Common.{◌≡◌, ◌∙◌, ◌<◌, ◌^◌, ◌∷◌, true, ap, sym, subst, arith, w64, bit_and}
+use Rattle.std.proofs.Common.{◌≡◌, ◌∙◌, ◌<◌, ◌^◌, ◌∷◌, true, ap, sym, w64, bit_and}
 use Rattle.std.proofs.Math.Facts.{Fits-lt-pow}
-use Rattle.std.specs.Int.{bit_not, trailing_zeros}
+use Rattle.std.specs.Int.{bit_not}
 use Rattle.fz_model.specs.Bits.{has_bit}
 use Rattle.fz_machine.specs.Regions.{places}
 use Rattle.fz_machine.proofs.Places.{lowest_out, cleared_here, cleared_there}

@@ -1,5 +1,4 @@
-use Rattle.std.proofs.Common.{◌≡◌, ◌∙◌, ◌≤◌, ◌<◌, ◌++◌, [], length, slice_get, take, drop, Some, inr, ap, sym, subst, refl, arith}
-use Rattle.fz_machine.specs.declared.phase.Phase.{Phase}
+use Rattle.std.proofs.Common.{◌∙◌, ◌++◌, slice_get, inr, ap, sym, subst, refl}
 use Rattle.fz_machine.specs.Going.{going, going_by, IsInOrder}
 use Rattle.fz_machine.specs.Machines.{Machine}
 use Rattle.fz_machine.specs.Regions.{Regions, items_in}
@@ -23,7 +22,7 @@ returns-then-count-gt0-clause-goes c =
         c.in-Some.is,
         inr
             (asks_regions f.state walk regions c.in-Some.phase (subst (λ p. IsInOrder f.state walk regions p 0) c.in-Some.is c.go_on-self-inside.ensures.order) c.go_on-self-inside.ensures.first c.ask-count.result c.ask-count.ensures.count
-            c.if-count-gt0.true f c.go_on-self-inside.result c.self.inside.before c.ask-count.new.self c.ask-count.new.about refl c.ask-count.ensures.asked c.ask-count.ensures.about),
+            c.if-count-gt0.true f c.go_on-self-inside.result c.self.inside.before c.ask-count.new.self c.ask-count.new.about refl c.ask-count.ensures.asked c.ask-count.ensures.about c.ask-count.ensures.begin),
       );
       before = ap (λ (m : Machine). m.before) c.self.view_is;
       noted = ap (λ (r : Regions). r.complete) c.ask-count.ensures.asked ∙ c.go_on-self-inside.ensures.same ∙ ap (λ (m : Machine). m.noted) c.self.view_is;

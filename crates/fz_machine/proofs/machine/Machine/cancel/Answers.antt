@@ -3,7 +3,7 @@ use Rattle.fz_finalizers.specs.States.{State}
 use Rattle.fz_machine.specs.Going.{HasRoom}
 use Rattle.fz_machine.specs.Causes.{first_of}
 use Rattle.fz_machine.specs.Machines.{Machine}
-use Rattle.fz_machine.proofs.Remaining.{calm, removed_fewer, same_fewer, none_fewer, unopened}
+use Rattle.fz_machine.proofs.Remaining.{calm, same_fewer, unopened}
 use Rattle.fz_machine.proofs.Rooms.{cancelled}
 use Rattle.fz_machine.proofs.machine.Machine.cancel.Goals as goal
 

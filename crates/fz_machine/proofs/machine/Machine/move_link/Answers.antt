@@ -1,6 +1,4 @@
-use Rattle.std.proofs.Common.{[], sym, subst, ap, ◌∙◌}
-use Rattle.fz_finalizers.specs.States.{State}
-use Rattle.fz_machine.specs.Going.{HasRoom}
+use Rattle.std.proofs.Common.{[], ap, ◌∙◌}
 use Rattle.fz_machine.specs.Causes.{first_of}
 use Rattle.fz_machine.specs.Machines.{Machine}
 use Rattle.fz_machine.proofs.Remaining.{calm, moved_fewer, unopened}

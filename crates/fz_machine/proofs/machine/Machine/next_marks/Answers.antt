@@ -1,5 +1,4 @@
-use Rattle.std.proofs.Common.{take}
-use Rattle.fz_machine.proofs.Retold.{after_answers, marked_in_order, marked_on}
+use Rattle.fz_machine.proofs.Retold.{marked_in_order}
 use Rattle.fz_machine.proofs.machine.Machine.next_marks.Goals as goal
 
 pub invariant_of-self : goal.invariant_of-self

@@ -1,5 +1,4 @@
-use Rattle.std.proofs.Common.{take}
-use Rattle.fz_machine.proofs.Retold.{after_answers, heard_in_order, heard_on}
+use Rattle.fz_machine.proofs.Retold.{heard_in_order}
 use Rattle.fz_machine.proofs.machine.Machine.proceed.Goals as goal
 
 pub invariant_of-self : goal.invariant_of-self

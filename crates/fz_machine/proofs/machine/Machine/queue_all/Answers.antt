@@ -1,9 +1,7 @@
-use Rattle.std.proofs.Common.{[], sym, subst, ap, ◌∙◌}
-use Rattle.fz_finalizers.specs.States.{State}
-use Rattle.fz_machine.specs.Going.{HasRoom}
+use Rattle.std.proofs.Common.{[], ap, ◌∙◌}
 use Rattle.fz_machine.specs.Causes.{first_of}
 use Rattle.fz_machine.specs.Machines.{Machine}
-use Rattle.fz_machine.proofs.Remaining.{calm, removed_fewer, same_fewer, none_fewer, unopened}
+use Rattle.fz_machine.proofs.Remaining.{calm, none_fewer, unopened}
 use Rattle.fz_machine.proofs.Rooms.{emptied}
 use Rattle.fz_machine.proofs.machine.Machine.queue_all.Goals as goal
 

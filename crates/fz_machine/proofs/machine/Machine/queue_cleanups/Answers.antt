@@ -1,7 +1,5 @@
-use Rattle.std.proofs.Common.{[], sym, subst, ap, ◌∙◌}
+use Rattle.std.proofs.Common.{[], subst, ap, ◌∙◌}
 use Rattle.fz_finalizers.specs.Passed.{CleansAll}
-use Rattle.fz_finalizers.specs.States.{State}
-use Rattle.fz_machine.specs.Going.{HasRoom}
 use Rattle.fz_machine.specs.Causes.{first_of}
 use Rattle.fz_machine.specs.Machines.{Machine}
 use Rattle.fz_machine.proofs.Remaining.{calm, cleaned_fewer, unopened}

@@ -1,6 +1,7 @@
-use Rattle.std.proofs.Common.{◌≡◌, ◌∙◌, ◌<◌, length, sym, arith}
+use Rattle.std.proofs.Common.{All, take, ℕ, subst, ◌≡◌, ◌∙◌, ◌<◌, length, sym, arith}
 use Rattle.std.proofs.lemmas.List.{length-set}
-use Rattle.fz_machine.proofs.Noting.{one_written}
+use Rattle.fz_machine.specs.Regions.{Regions, place_in}
+use Rattle.fz_machine.proofs.Noting.{each_begins, one_written}
 use Rattle.fz_machine.proofs.regions.Regions.ask.Goals as goal
 
 pub loop-count-preserved : goal.loop-count-preserved
@@ -15,3 +16,6 @@ loop-count-preserved c =
       long = length-set c.loop-count.about c.loop-count.count c.in-Some.region.now ∙ long;
       about = one_written c.self.inside.noted.entries c.self.inside.left c.loop-count.count c.loop-count.about (c.in-Some.region.now, c.in-Some.field-0-1.now) less c.self.invariant.0 room c.loop-count.invariant.about (sym c.in-Some.ensures.entry);
     }
+
+pub returns-clause-begin : goal.returns-clause-begin
+returns-clause-begin c = subst (λ (r : Regions). All (λ (e : ℕ × ℕ). place_in e.0 ≡ 0) (take c.loop-count.count r.left)) c.self.view_is (each_begins c.self.inside.noted.entries c.self.inside.left c.loop-count.count c.self.invariant.1)
