@@ -1,7 +1,7 @@
 //! Finalizers that ask for the marks of regions, beside the same that ask about each object: they queue the same entries, clear the same words, and mark the same.
 
-use crate::hosts::beside::Random;
 use crate::equal::must_be;
+use crate::hosts::beside::Random;
 use fz_finalizers::{Addr, Finalizer, Kind, LinkKind, Passed};
 use fz_machine::{Ask, BATCH, Machine, Next, Step};
 use std::alloc::Global;
