@@ -5,7 +5,6 @@ mod asked;
 mod asked_cleanups;
 mod beside;
 mod cleanups;
-mod copy;
 mod guardians;
 mod regions;
 mod runtime;
