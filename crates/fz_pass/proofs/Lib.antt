@@ -1,4 +1,6 @@
 pub mod Filling
+pub mod Holding
+pub mod Settled
 pub mod Gathering
 pub mod Dead
 pub mod Placing
@@ -16,6 +18,9 @@ pub mod Passed
 pub mod Tiers
 pub mod Led
 pub mod Flags
+pub mod Wholes
+pub mod OwnKeys
+pub mod ByPaths
 pub mod Unflagged
 pub mod Absent
 pub mod Emptied

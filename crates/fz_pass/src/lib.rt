@@ -13,11 +13,15 @@ mod pass;
 mod picking;
 mod radix;
 mod ready_list;
+mod settling;
 mod terms;
 
 pub use all::{Nothing, queue_all};
-pub use host::Host;
-pub use law::{decisions_pass, late_decisions_decide, passes_are_safe};
+pub use host::{Host, Values};
+pub use law::{
+    decisions_pass, keys_hold_nothing, late_decisions_decide, passes_are_safe,
+    passes_without_ephemerons,
+};
 pub use pass::decide;
 pub use ready_list::ReadyList;
 pub use terms::Terms;

@@ -1,0 +1,51 @@
+-- What ephemerons mean, in other words. These laws test the definitions.
+-- code: fz_pass/src/law.rt
+use Rattle.std.specs.Prelude.{◌≡◌, ◌↔◌, ℕ, Bool, false, not, nat_eq, List, Option, None, IsTrue}
+use Rattle.std.specs.FinMap.{get, retain_keys}
+use Rattle.std.specs.Option.{option_map_or}
+use Rattle.fz_model.specs.declared.answers.Entry.{Entry}
+use Rattle.fz_model.specs.Memory.{points}
+use Rattle.fz_model.specs.State.{Map, Object}
+use Rattle.fz_pass.specs.Decides.{Parts}
+use Rattle.fz_pass.specs.Flagged.{AreNormal, DecidesFlagged}
+use Rattle.fz_pass.specs.Holds.{Ephemerons, Holds, IsOfKey, Settles, no_ephemerons}
+use Rattle.fz_pass.specs.Marks.{IsClosed}
+use Rattle.fz_pass.specs.Whole.{DecidesWhole}
+
+-- the ephemerons except those of a key
+abbrev pub not_of : ℕ → Map ℕ → Map ℕ
+not_of key ephemerons = retain_keys ephemerons (λ word. not (option_map_or (nat_eq key) (get ephemerons word) false))
+
+abbrev pub without_key : Ephemerons → ℕ → Ephemerons
+without_key ephemerons key = record { short = not_of key ephemerons.short; long = not_of key ephemerons.long }
+
+-- an ephemeron never retains its own key: whether a set holds an object doesn't depend on the ephemerons of which it is the key
+abbrev pub KeysHoldNothing : (ℕ → Option ℕ) → (Map Object → ℕ → Option ℕ) → Map Object → Ephemerons → Type 0
+KeysHoldNothing place value objects ephemerons =
+    (set : ℕ → Bool) (key : ℕ)
+    → Holds place value objects (IsOfKey ephemerons) (λ a. IsTrue (set a)) key ↔ Holds place value objects (IsOfKey (without_key ephemerons key)) (λ a. IsTrue (set a)) key
+
+-- so whether a pass finds a key doesn't depend on them, if marking is exact
+abbrev pub KeysFindNothing : (ℕ → Option ℕ) → (Map Object → ℕ → Option ℕ) → Map Object → Ephemerons → Type 0
+KeysFindNothing place value objects ephemerons =
+    (marked found found_without : ℕ → Bool) (key : ℕ)
+    → Settles place value objects (IsOfKey ephemerons) (Unit {0}) marked found
+    → Settles place value objects (IsOfKey (without_key ephemerons key)) (Unit {0}) marked found_without
+    → IsTrue (found key) ↔ IsTrue (found_without key)
+
+-- without ephemerons a pass decides what it decides by paths alone, with the same picks, and finds what was marked
+pub record IsByPaths (Exact : Type 0) (place : ℕ → Option ℕ) (value : Map Object → ℕ → Option ℕ) (late : ℕ → Bool) (pass first : ℕ)
+    (old : Parts) (marked : ℕ → Bool) (new : Parts) (new_ephemerons : Ephemerons) (queue new_queue : List Entry)
+    (d : DecidesWhole Exact place value late pass first old no_ephemerons marked new new_ephemerons queue new_queue) : Type 0 where
+  pub flagged : DecidesFlagged Exact place late pass first old d.found new queue new_queue
+  pub picks : flagged.picks ≡ d.picks
+  pub kept : flagged.kept ≡ d.kept
+  pub none : new_ephemerons ≡ no_ephemerons
+  pub found : Exact → (a : ℕ) → IsTrue (d.found a) ↔ IsTrue (marked a)
+
+abbrev pub DecidesByPaths : Type 0 → (ℕ → Option ℕ) → (Map Object → ℕ → Option ℕ) → (ℕ → Bool) → Parts → Type 0
+DecidesByPaths Exact place value late old =
+    AreNormal old.registrations late → points old.objects 0 ≡ None → (pass first : ℕ) (marked : ℕ → Bool) (new : Parts) (new_ephemerons : Ephemerons) (queue new_queue : List Entry)
+    → IsClosed old.objects marked
+    → (d : DecidesWhole Exact place value late pass first old no_ephemerons marked new new_ephemerons queue new_queue)
+    → IsByPaths Exact place value late pass first old marked new new_ephemerons queue new_queue d
