@@ -1,5 +1,6 @@
 pub mod Filling
 pub mod Holding
+pub mod Keyed
 pub mod Settled
 pub mod Gathering
 pub mod Dead

@@ -1,5 +1,5 @@
 -- What the marks of a pass with ephemerons mean.
-use Rattle.std.proofs.Common.{◌≡◌, ◌≢◌, ℕ, ◌⊎◌, ◌++◌, not, Bool, true, false, List, [], map, get_or, Option, Some, is_some, refl, sym, ap, ◌∙◌, subst, inl, inr, ⊎_elim, arith, Contains, IsTrue, IsFalse}
+use Rattle.std.proofs.Common.{◌≡◌, ◌≢◌, ℕ, ◌⊎◌, ◌++◌, not, Bool, true, false, List, [], map, get_or, Option, Some, is_some, refl, sym, ap, ◌∙◌, subst, inl, inr, ⊎_elim, arith, Contains, IsTrue}
 use Rattle.std.proofs.lemmas.Bool.{both_ways, and_parts, and_from, not-true}
 use Rattle.std.proofs.lemmas.List.{map-append}
 use Rattle.std.proofs.lemmas.List.Elements.{All-append, Contains-append_left, Contains-append_right}
@@ -9,7 +9,7 @@ use Rattle.fz_model.specs.State.{Map, Object}
 use Rattle.fz_model.specs.declared.answers.Entry.{Entry}
 use Rattle.fz_model.specs.declared.answers.Pick.{Pick}
 use Rattle.fz_model.specs.declared.answers.Registration.{Registration}
-use Rattle.fz_model.specs.Reachability.{Leads, Itself}
+use Rattle.fz_model.specs.Reachability.{Itself}
 use Rattle.fz_model.specs.Pass.{ComesBefore, rank_at, is_dead, is_outside, cleared, without_picks, entries_of}
 use Rattle.fz_model.proofs.Lists.{AllPairs-append}
 use Rattle.fz_model.proofs.Maps.{filled_back}
@@ -23,7 +23,7 @@ use Rattle.fz_pass.specs.Picking.{IsReady, pick_of, without_flags}
 use Rattle.fz_pass.specs.Places.{placed, links_held}
 use Rattle.fz_pass.specs.Queued.{MarksLed, is_ready}
 use Rattle.fz_pass.specs.QueuedWhole.{QueuesWhole}
-use Rattle.fz_pass.specs.Whole.{ArePicksThen, DecidesWhole, IsFirst, IsHeldEarly, IsHeldFirst, IsLost, IsLostEarly, IsPickedThen, IsRetained, ephemerons_judged, objects_judged}
+use Rattle.fz_pass.specs.Whole.{ArePicksThen, DecidesWhole, IsFirst, IsHeldEarly, IsHeldFirst, IsLost, IsLostEarly, IsPickedThen, ephemerons_judged, objects_judged}
 use Rattle.fz_pass.proofs.Decided.{first_child}
 use Rattle.fz_pass.proofs.Filling.{has_filled}
 use Rattle.fz_pass.proofs.Holding.{holds_all, holds_leads, within_whole}

@@ -4,6 +4,7 @@
 mod all;
 mod clearing;
 mod dropping;
+mod ephemerons;
 mod gathered;
 mod host;
 mod law;
@@ -15,8 +16,10 @@ mod radix;
 mod ready_list;
 mod settling;
 mod terms;
+mod whole;
 
 pub use all::{Nothing, queue_all};
+pub use ephemerons::Ephemerons;
 pub use host::{Host, Values};
 pub use law::{
     decisions_pass, keys_hold_nothing, late_decisions_decide, passes_are_safe,
@@ -25,3 +28,4 @@ pub use law::{
 pub use pass::decide;
 pub use ready_list::ReadyList;
 pub use terms::Terms;
+pub use whole::decide_whole;
