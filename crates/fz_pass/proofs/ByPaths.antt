@@ -23,10 +23,10 @@ use Rattle.fz_pass.specs.Leading.{IsLeading}
 use Rattle.fz_pass.specs.Marks.{IsClosed}
 use Rattle.fz_pass.specs.Places.{is_held, placed, placed_entries, links_held}
 use Rattle.fz_pass.specs.Whole.{DecidesWhole, IsFirst, IsHeldEarly, IsHeldFirst, IsLost, IsLostEarly, IsPickedThen, IsRetained, ephemerons_judged, objects_judged}
-use Rattle.fz_pass.specs.WholeLaws.{DecidesByPaths, IsByPaths}
+use Rattle.fz_pass.specs.WholeLaws.{DecidesByPaths, IsByPaths, NothingSettles}
 use Rattle.fz_pass.proofs.Decided.{child_before}
 use Rattle.fz_pass.proofs.Filling.{filled_never}
-use Rattle.fz_pass.proofs.Holding.{holds_leads, whole_closed}
+use Rattle.fz_pass.proofs.Holding.{holds_leads, whole_from}
 use Rattle.fz_pass.proofs.Marking.{by_another, closed_leads}
 use Rattle.fz_pass.proofs.Picked.{all_map}
 
@@ -64,27 +64,33 @@ none_retained test w = get-retain empty test w ∙ ap (λ o. cond (test w) o Non
 none_held : (test : ℕ → Bool) → retain_keys (no_ephemerons.short) test ≡ empty
 none_held test = same_map nat_cmp_total nat_cmp-IsAntisymmetric _ _ (λ w. none_retained test w ∙ sym (get-empty nat_cmp w))
 
+none_before : (w k : ℕ) → IsOfKey no_ephemerons w k → ⊥
+none_before w k (inl is) = none-some k (sym (get-empty nat_cmp w) ∙ is)
+none_before w k (inr is) = none-some k (sym (get-empty nat_cmp w) ∙ is)
+
+pub nothing_settles : (place : ℕ → Option ℕ) (value : Map Object → ℕ → Option ℕ) (objects : Map Object) → NothingSettles place value objects
+nothing_settles place value objects marked found closed = (
+  whole_from place value objects (IsOfKey no_ephemerons) marked closed (λ w k is. absurd (none_before w k is)),
+  λ s a. (λ on. let way = by_path place value objects (IsOfKey no_ephemerons) none_before (λ b. IsTrue (marked b)) a (s.most tt a on) in closed_leads ⊥ objects marked closed way.0 a way.1 way.2, s.more a),
+)
+
 module _ (Exact : Type 0) (place : ℕ → Option ℕ) (value : Map Object → ℕ → Option ℕ) (late : ℕ → Bool) (old : Parts) (normal : AreNormal old.registrations late) (zero : points old.objects 0 ≡ None)
-    (pass first : ℕ) (marked : ℕ → Bool) (new : Parts) (new_ephemerons : Ephemerons) (queue new_queue : List Entry) (closed : IsClosed old.objects marked)
-    (d : DecidesWhole Exact place value late pass first old no_ephemerons marked new new_ephemerons queue new_queue) where
+    (pass first : ℕ) (found : ℕ → Bool) (new : Parts) (new_ephemerons : Ephemerons) (queue new_queue : List Entry) (closed : IsClosed old.objects found)
+    (d : DecidesWhole Exact place value late pass first old no_ephemerons found new new_ephemerons queue new_queue) where
   abbrev words : Map ℕ
   words = placed place old.short
 
   abbrev clear : Map Object
-  clear = cleared words d.found old.objects
+  clear = cleared words found old.objects
 
   abbrev judged : Map Object
-  judged = objects_judged place value old no_ephemerons d.found
+  judged = objects_judged place value old no_ephemerons found
 
   abbrev Of : ℕ → ℕ → Type 0
-  Of = IsOfKey (ephemerons_judged place value old no_ephemerons d.found)
+  Of = IsOfKey (ephemerons_judged place value old no_ephemerons found)
 
   judged_is : judged ≡ clear
-  judged_is = none_cleared place d.found clear
-
-  none_before : (w k : ℕ) → IsOfKey no_ephemerons w k → ⊥
-  none_before w k (inl is) = none-some k (sym (get-empty nat_cmp w) ∙ is)
-  none_before w k (inr is) = none-some k (sym (get-empty nat_cmp w) ∙ is)
+  judged_is = none_cleared place found clear
 
   none_then : (w k : ℕ) → Of w k → ⊥
   none_then w k (inl is) = none-some k (sym (none_retained _ w) ∙ is)
@@ -98,8 +104,8 @@ module _ (Exact : Type 0) (place : ℕ → Option ℕ) (value : Map Object → �
   from_judged : (a b : ℕ) → Leads judged a b → Leads clear a b
   from_judged a b = subst (λ (m : Map Object). Leads m a b) judged_is
 
-  found_closed : IsClosed clear d.found
-  found_closed a b on child = whole_closed place value old.objects (IsOfKey no_ephemerons) d.found d.finds.whole a b on (child_before (is_dead old.objects words d.found) old.objects zero a b child)
+  found_closed : IsClosed clear found
+  found_closed a b on child = closed a b on (child_before (is_dead old.objects words found) old.objects zero a b child)
 
   path : (set : ℕ → Type 0) (a : ℕ) → Holds place value judged Of set a → (b : ℕ) × set b × Leads clear b a
   path set a h = let way = by_path place value judged Of none_then set a h in (way.0, way.1, from_judged way.0 a way.2)
@@ -108,29 +114,29 @@ module _ (Exact : Type 0) (place : ℕ → Option ℕ) (value : Map Object → �
   held set a b on leads = holds_leads place value judged Of set a b (Member on) (to_judged a b leads)
 
   abbrev Firsts : ℕ → Type 0
-  Firsts a = IsTrue (d.found a) ⊎ IsFirst place value old no_ephemerons d.found a
+  Firsts a = IsTrue (found a) ⊎ IsFirst place value old no_ephemerons found a
 
   abbrev Early : ℕ → Type 0
-  Early a = IsTrue (d.found a) ⊎ (IsFirst place value old no_ephemerons d.found a ⊎ IsLostEarly place value old no_ephemerons d.found late a)
+  Early a = IsTrue (found a) ⊎ (IsFirst place value old no_ephemerons found a ⊎ IsLostEarly place value old no_ephemerons found late a)
 
   abbrev Lost : ℕ → Type 0
-  Lost a = IsTrue (d.found a) ⊎ IsLost place value old no_ephemerons d.found a
+  Lost a = IsTrue (found a) ⊎ IsLost place value old no_ephemerons found a
 
-  not_found : (o : ℕ) (r : Registration) → IsUnfound place old d.found o r → d.found o ≡ false
-  not_found o r un = not-true (d.found o) (and_parts (contains_key old.objects o) (not (d.found o)) un.outside).1
+  not_found : (o : ℕ) (r : Registration) → IsUnfound place old found o r → found o ≡ false
+  not_found o r un = not-true (found o) (and_parts (contains_key old.objects o) (not (found o)) un.outside).1
 
-  found_leads : (a b : ℕ) → IsTrue (d.found a) → Leads clear a b → IsTrue (d.found b)
-  found_leads a b on leads = closed_leads Exact clear d.found found_closed a b on leads
+  found_leads : (a b : ℕ) → IsTrue (found a) → Leads clear a b → IsTrue (found b)
+  found_leads a b on leads = closed_leads Exact clear found found_closed a b on leads
 
   -- ---- what is led to
 
-  held_first : (x : ℕ) → IsLedTo old.objects old.registrations words d.found x → IsHeldFirst place value old no_ephemerons d.found x
+  held_first : (x : ℕ) → IsLedTo old.objects old.registrations words found x → IsHeldFirst place value old no_ephemerons found x
   held_first x l = held Firsts l.first x (inr (l.from, l.by, l.unreachable, subst (λ (m : Map Object). LeadsFirst m l.from l.by.kind l.first) (sym judged_is) l.step)) l.rest
 
-  led_to : (x b : ℕ) → IsFirst place value old no_ephemerons d.found b → Leads clear b x → IsLedTo old.objects old.registrations words d.found x
+  led_to : (x b : ℕ) → IsFirst place value old no_ephemerons found b → Leads clear b x → IsLedTo old.objects old.registrations words found x
   led_to x b (o, r, un, step) leads = record { from = o; by = r; unreachable = un; first = b; step = subst (λ (m : Map Object). LeadsFirst m o r.kind b) judged_is step; rest = leads }
 
-  is_last : (o : ℕ) → IsTrue (late o) → (IsHeldFirst place value old no_ephemerons d.found o → ⊥) → (IsHeldEarly place value old no_ephemerons d.found late o → ⊥) → IsLast place old d.found o
+  is_last : (o : ℕ) → IsTrue (late o) → (IsHeldFirst place value old no_ephemerons found o → ⊥) → (IsHeldEarly place value old no_ephemerons found late o → ⊥) → IsLast place old found o
   is_last o on none_first none_early other r un ne leads = by_flag (late other) refl
     where
       by_flag : (b : Bool) → late other ≡ b → ⊥
@@ -139,31 +145,31 @@ module _ (Exact : Type 0) (place : ℕ → Option ℕ) (value : Map Object → �
           let step : IsLeading clear other r.kind o = ⊎_elim (λ same. absurd (ne (sym same))) (λ (c, step, rest). (c, subst (λ k. LeadsFirst clear other k c) (sym (normal other r un.registered flag)) step.0, rest)) (by_another Exact clear other o leads) in
           none_first (held_first o (record { from = other; by = r; unreachable = un; first = step.0; step = step.1; rest = step.2 }))
 
-  picked : (p : Pick) → IsPickedThen place value old no_ephemerons d.found late p → IsPicked old.objects old.registrations words d.found p × (IsTrue (late p.obj) → IsLast place old d.found p.obj)
+  picked : (p : Pick) → IsPickedThen place value old no_ephemerons found late p → IsPicked old.objects old.registrations words found p × (IsTrue (late p.obj) → IsLast place old found p.obj)
   picked p x = (
     record { registration = x.registration; object = x.object; unreachable = x.unreachable; here = x.here; is = x.is; free = λ l. x.free (held_first p.obj l) },
     λ on. is_last p.obj on x.free (x.last on),
   )
 
-  none_first : (o : ℕ) (r : Registration) → IsUnfound place old d.found o r → (IsLedTo old.objects old.registrations words d.found o → ⊥) → IsHeldFirst place value old no_ephemerons d.found o → ⊥
+  none_first : (o : ℕ) (r : Registration) → IsUnfound place old found o r → (IsLedTo old.objects old.registrations words found o → ⊥) → IsHeldFirst place value old no_ephemerons found o → ⊥
   none_first o r un none h =
       let way = path Firsts o h in
-      ⊎_elim (λ on. both_ways (d.found o) (not_found o r un) (found_leads way.0 o on way.2)) (λ f. none (led_to o way.0 f way.2)) way.1
+      ⊎_elim (λ on. both_ways (found o) (not_found o r un) (found_leads way.0 o on way.2)) (λ f. none (led_to o way.0 f way.2)) way.1
 
-  none_early : (o : ℕ) (r : Registration) → IsUnfound place old d.found o r → (IsLedTo old.objects old.registrations words d.found o → ⊥) → (IsTrue (late o) → IsLast place old d.found o) → IsTrue (late o) → IsHeldEarly place value old no_ephemerons d.found late o → ⊥
+  none_early : (o : ℕ) (r : Registration) → IsUnfound place old found o r → (IsLedTo old.objects old.registrations words found o → ⊥) → (IsTrue (late o) → IsLast place old found o) → IsTrue (late o) → IsHeldEarly place value old no_ephemerons found late o → ⊥
   none_early o r un none may on h =
       let way = path Early o h in
-      ⊎_elim (λ was. both_ways (d.found o) (not_found o r un) (found_leads way.0 o was way.2))
+      ⊎_elim (λ was. both_ways (found o) (not_found o r un) (found_leads way.0 o was way.2))
       (⊎_elim (λ f. none (led_to o way.0 f way.2)) (λ early. may on way.0 early.0.0 early.0.1 (λ same. both_ways (late o) (sym (ap late same) ∙ early.1) on) way.2)) way.1
 
   -- ---- the same decision
 
-  flagged : DecidesFlagged Exact place late pass first old d.found new queue new_queue
+  flagged : DecidesFlagged Exact place late pass first old found new queue new_queue
   flagged = record {
     picks = d.picks;
     picked = record {
       ordered = d.picked.ordered;
-      each = all_map (IsPickedThen place value old no_ephemerons d.found late) (λ (p : Pick). IsPicked old.objects old.registrations words d.found p × (IsTrue (late p.obj) → IsLast place old d.found p.obj)) picked d.picks d.picked.each;
+      each = all_map (IsPickedThen place value old no_ephemerons found late) (λ (p : Pick). IsPicked old.objects old.registrations words found p × (IsTrue (late p.obj) → IsLast place old found p.obj)) picked d.picks d.picked.each;
       whole = λ exact o r un none may. d.picked.whole exact o r un (none_first o r un none) (none_early o r un none may);
     };
     queued = d.queued;
@@ -173,28 +179,27 @@ module _ (Exact : Type 0) (place : ℕ → Option ℕ) (value : Map Object → �
     is = d.is ∙ (λ i. record {
       objects = retain_keys ((none_cleared place d.kept (cleared (placed place old.long) d.kept judged) ∙ ap (cleared (placed place old.long) d.kept) judged_is) i) d.kept;
       registrations = without_picks old.registrations d.picks;
-      short = links_held place old.objects old.short d.found d.kept;
+      short = links_held place old.objects old.short found d.kept;
       long = links_held place old.objects old.long d.kept d.kept;
     });
   }
     where
-      retained : (a : ℕ) → IsKept old.objects old.registrations words d.found a → IsRetained place value old no_ephemerons d.found a
+      retained : (a : ℕ) → IsKept old.objects old.registrations words found a → IsRetained place value old no_ephemerons found a
       retained a (FoundItself on) = Member (inl on)
       retained a (LedFrom o r un leads) = held Lost o a (inr (r, un)) leads
 
-      kept_by : (a : ℕ) → (b : ℕ) × Lost b × Leads clear b a → IsKept old.objects old.registrations words d.found a
+      kept_by : (a : ℕ) → (b : ℕ) × Lost b × Leads clear b a → IsKept old.objects old.registrations words found a
       kept_by a (b, inl on, leads) = FoundItself (found_leads b a on leads)
       kept_by a (b, inr (r, un), leads) = LedFrom b r un leads
 
-  pub by_paths : IsByPaths Exact place value late pass first old marked new new_ephemerons queue new_queue d
+  pub by_paths : IsByPaths Exact place value late pass first old found new new_ephemerons queue new_queue d
   unfolding flagged
   by_paths = record {
     flagged = flagged;
     picks = refl;
     kept = refl;
-    none = d.left ∙ (λ i. record { short = none_held (λ w. option_map_or d.found (get no_ephemerons.short w) false && is_held place old.objects d.kept w) i; long = none_held (λ w. option_map_or d.kept (get no_ephemerons.long w) false && is_held place old.objects d.kept w) i });
-    found = λ e a. (λ on. let way = by_path place value old.objects (IsOfKey no_ephemerons) none_before (λ b. IsTrue (marked b)) a (d.finds.most e a on) in closed_leads Exact old.objects marked closed way.0 a way.1 way.2, d.finds.more a);
+    none = d.left ∙ (λ i. record { short = none_held (λ w. option_map_or found (get no_ephemerons.short w) false && is_held place old.objects d.kept w) i; long = none_held (λ w. option_map_or d.kept (get no_ephemerons.long w) false && is_held place old.objects d.kept w) i });
   }
 
 pub decides_by_paths : (Exact : Type 0) (place : ℕ → Option ℕ) (value : Map Object → ℕ → Option ℕ) (late : ℕ → Bool) (old : Parts) → DecidesByPaths Exact place value late old
-decides_by_paths Exact place value late old normal zero pass first marked new new_ephemerons queue new_queue closed d = by_paths Exact place value late old normal zero pass first marked new new_ephemerons queue new_queue closed d
+decides_by_paths Exact place value late old normal zero pass first found new new_ephemerons queue new_queue closed d = by_paths Exact place value late old normal zero pass first found new new_ephemerons queue new_queue closed d

@@ -281,12 +281,10 @@ module _ (E : Type 0) (place : ℕ → Option ℕ) (value : Map Object → ℕ �
     abbrev pub left_ephemerons : Ephemerons
     left_ephemerons = record { short = links_held place objects ephemerons.short found kept; long = links_held place objects ephemerons.long kept kept }
 
-    pub decided : (marked : ℕ → Bool) → Settles place value objects (IsOfKey ephemerons) E marked found → (new : Parts) (new_ephemerons : Ephemerons) → new ≡ left → new_ephemerons ≡ left_ephemerons
-        → (d : DecidesWhole E place value late pass first old ephemerons marked new new_ephemerons queue new_queue) × (new_table.late ≡ without_flags table.late d.picks)
-    decided marked finds new new_ephemerons is ephemerons_are = (
+    pub decided : (new : Parts) (new_ephemerons : Ephemerons) → new ≡ left → new_ephemerons ≡ left_ephemerons
+        → (d : DecidesWhole E place value late pass first old ephemerons found new new_ephemerons queue new_queue) × (new_table.late ≡ without_flags table.late d.picks)
+    decided new new_ephemerons is ephemerons_are = (
       record {
-        found = found;
-        finds = finds;
         picks = h.picked.picks ++ h.picked_late.picks;
         picked = are_picks;
         queued = h.queued ∙ (λ i. queue ++ entries_of pass first (h.picked.out_is i ++ h.picked_late.out_is i));

@@ -9,7 +9,7 @@ use Rattle.fz_model.specs.State.{Map, Object}
 use Rattle.fz_model.specs.Pass.{LeadsFirst, cleared, without_picks, entries_of}
 use Rattle.fz_pass.specs.Decides.{Parts}
 use Rattle.fz_pass.specs.Flagged.{ComesAfterFlag, IsUnfound}
-use Rattle.fz_pass.specs.Holds.{Ephemerons, Holds, IsOfKey, Settles}
+use Rattle.fz_pass.specs.Holds.{Ephemerons, Holds, IsOfKey}
 use Rattle.fz_pass.specs.Marks.{with_targets}
 use Rattle.fz_pass.specs.Picking.{pick_of}
 use Rattle.fz_pass.specs.Places.{placed, links_held}
@@ -67,12 +67,10 @@ module _ (place : ℕ → Option ℕ) (value : Map Object → ℕ → Option ℕ
     pub whole : Exact → (o : ℕ) (r : Registration) → IsUnfound place old found o r → (IsHeldFirst o → ⊥) → (IsTrue (late o) → IsHeldEarly late o → ⊥)
         → Contains (map (λ (p : Pick). p.obj) picks) o
 
--- what a pass over marks with ephemerons queues, and the state after it. It finds what the marks hold, and retains what it should, or more if marking isn't exact.
--- Ephemerons go as links go whose targets are their keys
+-- what a pass with this found set queues, with successive numbers, and the state after it. If marking is exact, it queues and retains just this; otherwise it
+-- queues no more than that, and retains no less. Ephemerons go as links go whose targets are their keys
 pub record DecidesWhole (Exact : Type 0) (place : ℕ → Option ℕ) (value : Map Object → ℕ → Option ℕ) (late : ℕ → Bool) (pass first : ℕ)
-    (old : Parts) (ephemerons : Ephemerons) (marked : ℕ → Bool) (new : Parts) (new_ephemerons : Ephemerons) (queue new_queue : List Entry) : Type 0 where
-  pub found : ℕ → Bool
-  pub finds : Settles place value old.objects (IsOfKey ephemerons) Exact marked found
+    (old : Parts) (ephemerons : Ephemerons) (found : ℕ → Bool) (new : Parts) (new_ephemerons : Ephemerons) (queue new_queue : List Entry) : Type 0 where
   pub picks : List Pick
   pub picked : ArePicksThen place value old ephemerons found Exact late picks
   pub queued : new_queue ≡ queue ++ entries_of pass first picks

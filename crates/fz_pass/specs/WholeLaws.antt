@@ -8,7 +8,7 @@ use Rattle.fz_model.specs.Memory.{points}
 use Rattle.fz_model.specs.State.{Map, Object}
 use Rattle.fz_pass.specs.Decides.{Parts}
 use Rattle.fz_pass.specs.Flagged.{AreNormal, DecidesFlagged}
-use Rattle.fz_pass.specs.Holds.{Ephemerons, Holds, IsOfKey, Settles, no_ephemerons}
+use Rattle.fz_pass.specs.Holds.{Ephemerons, Holds, IsOfKey, IsWhole, Settles, no_ephemerons}
 use Rattle.fz_pass.specs.Marks.{IsClosed}
 use Rattle.fz_pass.specs.Whole.{DecidesWhole}
 
@@ -33,19 +33,25 @@ KeysFindNothing place value objects ephemerons =
     → Settles place value objects (IsOfKey (without_key ephemerons key)) (Unit {0}) marked found_without
     → IsTrue (found key) ↔ IsTrue (found_without key)
 
--- without ephemerons a pass decides what it decides by paths alone, with the same picks, and finds what was marked
+-- without ephemerons marks that are closed are whole, and nothing else is marked, if marking is exact
+abbrev pub NothingSettles : (ℕ → Option ℕ) → (Map Object → ℕ → Option ℕ) → Map Object → Type 0
+NothingSettles place value objects =
+    (marked found : ℕ → Bool) → IsClosed objects marked
+    → IsWhole place value objects (IsOfKey no_ephemerons) marked
+    × (Settles place value objects (IsOfKey no_ephemerons) (Unit {0}) marked found → (a : ℕ) → IsTrue (found a) ↔ IsTrue (marked a))
+
+-- without ephemerons a pass decides what it decides by paths alone
 pub record IsByPaths (Exact : Type 0) (place : ℕ → Option ℕ) (value : Map Object → ℕ → Option ℕ) (late : ℕ → Bool) (pass first : ℕ)
-    (old : Parts) (marked : ℕ → Bool) (new : Parts) (new_ephemerons : Ephemerons) (queue new_queue : List Entry)
-    (d : DecidesWhole Exact place value late pass first old no_ephemerons marked new new_ephemerons queue new_queue) : Type 0 where
-  pub flagged : DecidesFlagged Exact place late pass first old d.found new queue new_queue
+    (old : Parts) (found : ℕ → Bool) (new : Parts) (new_ephemerons : Ephemerons) (queue new_queue : List Entry)
+    (d : DecidesWhole Exact place value late pass first old no_ephemerons found new new_ephemerons queue new_queue) : Type 0 where
+  pub flagged : DecidesFlagged Exact place late pass first old found new queue new_queue
   pub picks : flagged.picks ≡ d.picks
   pub kept : flagged.kept ≡ d.kept
   pub none : new_ephemerons ≡ no_ephemerons
-  pub found : Exact → (a : ℕ) → IsTrue (d.found a) ↔ IsTrue (marked a)
 
 abbrev pub DecidesByPaths : Type 0 → (ℕ → Option ℕ) → (Map Object → ℕ → Option ℕ) → (ℕ → Bool) → Parts → Type 0
 DecidesByPaths Exact place value late old =
-    AreNormal old.registrations late → points old.objects 0 ≡ None → (pass first : ℕ) (marked : ℕ → Bool) (new : Parts) (new_ephemerons : Ephemerons) (queue new_queue : List Entry)
-    → IsClosed old.objects marked
-    → (d : DecidesWhole Exact place value late pass first old no_ephemerons marked new new_ephemerons queue new_queue)
-    → IsByPaths Exact place value late pass first old marked new new_ephemerons queue new_queue d
+    AreNormal old.registrations late → points old.objects 0 ≡ None → (pass first : ℕ) (found : ℕ → Bool) (new : Parts) (new_ephemerons : Ephemerons) (queue new_queue : List Entry)
+    → IsClosed old.objects found
+    → (d : DecidesWhole Exact place value late pass first old no_ephemerons found new new_ephemerons queue new_queue)
+    → IsByPaths Exact place value late pass first old found new new_ephemerons queue new_queue d

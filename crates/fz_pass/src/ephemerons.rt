@@ -66,8 +66,9 @@ impl Ephemerons {
         }
     }
 
-    /// Marks the values of the ephemerons whose keys and holders are marked, until no more are marked. Takes no memory.
-    pub(crate) fn settle<H: Values>(&mut self, host: &mut H)
+    /// Makes the marks whole: marks the value of each ephemeron whose key and holder are marked, and everything that it reaches, until no more follow. Then marked
+    /// objects hold nothing else, as a pass requires. A host that marks in slices may call it after each. Takes no memory.
+    pub fn settle<H: Values>(&mut self, host: &mut H)
         requires closed { IsClosed (H.objects host.old) (H.marked host.old) }
         ensures settled { Settles H.place H.value (H.objects host.old) (IsOfKey self.old.ephemerons) H.is_exact (H.marked host.old) (H.marked host.new) }
         ensures table { self.new.ephemerons ≡ self.old.ephemerons }

@@ -6,7 +6,7 @@ ghost use Rattle.fz_pass.specs.Decides.{Parts, DecisionsPass};
 ghost use Rattle.fz_pass.specs.Flagged.{LateDecisionsDecide, LateDecisionsPass};
 ghost use Rattle.fz_pass.specs.Holds.{Ephemerons};
 ghost use Rattle.fz_pass.specs.Safe.{PassesAreSafe};
-ghost use Rattle.fz_pass.specs.WholeLaws.{DecidesByPaths, KeysFindNothing, KeysHoldNothing};
+ghost use Rattle.fz_pass.specs.WholeLaws.{DecidesByPaths, KeysFindNothing, KeysHoldNothing, NothingSettles};
 
 /// Carrying out a decision, so that its picks are queued and held, is a pass of the model.
 pub fn decisions_pass()
@@ -34,8 +34,9 @@ pub fn keys_hold_nothing()
     ensures find { (place : ℕ → Option ℕ) (value : Map Object → ℕ → Option ℕ) (objects : Map Object) (ephemerons : Ephemerons) → KeysFindNothing place value objects ephemerons }
 {}
 
-/// Without ephemerons a pass decides what it decides by paths, whether marking is exact or not.
+/// Without ephemerons marks are whole as they are, and a pass decides what it decides by paths, whether marking is exact or not.
 pub fn passes_without_ephemerons()
+    ensures settles { (place : ℕ → Option ℕ) (value : Map Object → ℕ → Option ℕ) (objects : Map Object) → NothingSettles place value objects }
     ensures exactly { (place : ℕ → Option ℕ) (value : Map Object → ℕ → Option ℕ) (late : ℕ → Bool) (old : Parts) → DecidesByPaths (Unit {0}) place value late old }
     ensures at_most { (place : ℕ → Option ℕ) (value : Map Object → ℕ → Option ℕ) (late : ℕ → Bool) (old : Parts) → DecidesByPaths ⊥ place value late old }
 {}

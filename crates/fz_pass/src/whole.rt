@@ -25,7 +25,7 @@ use fz_links::Links;
 use fz_model::Entry;
 use fz_table::Table;
 
-/// Queues the unmarked objects of one tier, and makes the marks whole.
+/// Queues the unmarked objects of both tiers, as `queue_tiers` does, and makes the marks whole after each.
 fn queue_tiers_whole<H: Values>(
     host: &mut H,
     table: &mut Table,
@@ -51,23 +51,23 @@ fn queue_tiers_whole<H: Values>(
     let is_second = has_second(table, terms);
     let before = queue.len();
     queue_unmarked(host, table, ready, queue, terms, false);
-    ephemerons.settle(host);
+    ephemerons.settle(host); // The second tier waits for what the first one holds.
     if !is_second {
         return;
     }
     let first = terms.first + (queue.len() - before) as u64;
     queue_unmarked(host, table, ready, queue, Terms { first, ..terms }, true);
-    ephemerons.settle(host);
+    ephemerons.settle(host); // What picked objects hold is retained.
 }
 
-/// Carries out a pass, as `decide` does, over a heap with ephemerons: it finds, picks and retains by what sets of objects hold (`specs/Holds.antt`).
+/// Carries out a pass whose found set is the marked objects, as `decide` does, over a heap with ephemerons: it picks and retains by what sets of objects hold
+/// (`specs/Holds.antt`). Requires that marked objects hold nothing else: call `Ephemerons::settle` before.
 ///
-/// First the values of ephemerons are marked whose keys and holders are, with everything that follows: what is marked then is found. Short ephemerons whose keys
-/// aren't found are cleared and removed with the short links, before anything is picked, and long ones whose keys aren't retained with the long links. Values are
-/// marked again after each step that marks more, so what waits for a value waits for its holder and its key. An object's own ephemerons are no path from
-/// it: as a key it leads nowhere.
+/// Short ephemerons whose keys aren't found are cleared and removed with the short links, before anything is picked, and long ones whose keys aren't retained with
+/// the long links. After each step that marks objects, the value of each ephemeron whose key and holder are marked is marked, with everything that it
+/// reaches, until no more follow. No object leads to the values of its own ephemerons: as a key it leads nowhere.
 ///
-/// Takes no memory, as `decide` does. Each ephemeron is looked at once, and again only as long as others let values through.
+/// Takes no memory, as `decide` does. Each of the three times it looks at each ephemeron once, and again only while values are marked.
 pub fn decide_whole<H: Values>(
     host: &mut H,
     table: &mut Table,
@@ -86,7 +86,8 @@ pub fn decide_whole<H: Values>(
     requires long_keys { AreTargets (H.objects host.old) ephemerons.old.long }
     // A cleared word points to nothing.
     requires zero { points (H.objects host.old) 0 ≡ None }
-    requires closed { IsClosed (H.objects host.old) (H.marked host.old) }
+    // What marked objects hold is marked.
+    requires whole { IsWhole H.place H.value (H.objects host.old) (IsOfKey ephemerons.old.ephemerons) (H.marked host.old) }
     requires list { len table.old.registrations ≤ ready.old.room }
     requires room { vec_len queue.old + len table.old.registrations ≤ vec_capacity queue.old }
     requires numbers { terms.first + len table.old.registrations < 2 ^ 64 }
@@ -97,19 +98,18 @@ pub fn decide_whole<H: Values>(
     ensures list { ready.old.room ≤ ready.new.room }
     ensures count { vec_len queue.new + len table.new.registrations ≡ vec_len queue.old + len table.old.registrations }
     ensures capacity { vec_capacity queue.old ≤ vec_capacity queue.new }
-    // Marked objects stay marked, and everything that they hold is marked.
+    // Marked objects stay marked, and everything that they reach is marked.
     ensures marks { (a : ℕ) → IsTrue (H.marked host.old a) → IsTrue (H.marked host.new a) }
     ensures closed { IsClosed (H.objects host.new) (H.marked host.new) }
     // Everything else is unchanged.
     ensures same { H.is_same host.old host.new }
     ensures table { table.new.registered ≡ record table.old.registered { registrations = table.new.registrations } }
 {
-    ephemerons.settle(host);
     clear_dead(host, short);
     drop_dead(host, short);
     ephemerons.clear_short(host);
     mark_led(host, table);
-    ephemerons.settle(host);
+    ephemerons.settle(host); // What first steps hold waits.
     queue_tiers_whole(host, table, ephemerons, ready, queue, terms);
     clear_dead(host, long);
     drop_dead(host, long);

@@ -22,96 +22,96 @@ pub clear_short-requires : goal.clear_short-requires
 clear_short-requires g c =
     let t = g.H.Host in
     let objects = t.objects c.args.host.now in
-    let found = t.marked c.settle.new.host in
+    let found = t.marked c.args.host.now in
     let words = placed t.place c.args.short.now.links in
-    let first : t.objects c.clear_dead.new.host ≡ cleared words found objects = c.clear_dead.ensures.objects ∙ ap (cleared words found) c.settle.ensures.objects in
+    let first : t.objects c.clear_dead.new.host ≡ cleared words found objects = c.clear_dead.ensures.objects in
     record {
-      keys = subst (λ (m : Map Object). AreTargets m c.settle.new.self.ephemerons.short) (sym first)
-          (targets_still objects words found c.settle.new.self.ephemerons.short (subst (λ (e : Ephemerons). AreTargets objects e.short) (sym c.settle.ensures.table) c.requires.short_keys));
+      keys = subst (λ (m : Map Object). AreTargets m c.args.ephemerons.now.ephemerons.short) (sym first)
+          (targets_still objects words found c.args.ephemerons.now.ephemerons.short c.requires.short_keys);
     }
 
 pub mark_led-requires-clause-registered : goal.mark_led-requires-clause-registered
 mark_led-requires-clause-registered g c =
     let t = g.H.Host in
     let objects = t.objects c.args.host.now in
-    let found = t.marked c.settle.new.host in
+    let found = t.marked c.args.host.now in
     let words = placed t.place c.args.short.now.links in
     let all = c.args.table.now.registrations in
-    let first : t.objects c.clear_dead.new.host ≡ cleared words found objects = c.clear_dead.ensures.objects ∙ ap (cleared words found) c.settle.ensures.objects in
-    let second : t.objects c.clear_short.new.host ≡ cleared (placed t.place c.settle.new.self.ephemerons.short) (t.marked c.clear_dead.new.host) (cleared words found objects) =
-    c.clear_short.ensures.objects ∙ ap (cleared (placed t.place c.settle.new.self.ephemerons.short) (t.marked c.clear_dead.new.host)) first in
+    let first : t.objects c.clear_dead.new.host ≡ cleared words found objects = c.clear_dead.ensures.objects in
+    let second : t.objects c.clear_short.new.host ≡ cleared (placed t.place c.args.ephemerons.now.ephemerons.short) (t.marked c.clear_dead.new.host) (cleared words found objects) =
+    c.clear_short.ensures.objects ∙ ap (cleared (placed t.place c.args.ephemerons.now.ephemerons.short) (t.marked c.clear_dead.new.host)) first in
     subst (λ (m : Map Object). AreRegistered m all) (sym second)
-    (registered_still (cleared words found objects) (placed t.place c.settle.new.self.ephemerons.short) (t.marked c.clear_dead.new.host) all (registered_still objects words found all c.requires.registered))
+    (registered_still (cleared words found objects) (placed t.place c.args.ephemerons.now.ephemerons.short) (t.marked c.clear_dead.new.host) all (registered_still objects words found all c.requires.registered))
 
 pub mark_led-requires-clause-closed : goal.mark_led-requires-clause-closed
 mark_led-requires-clause-closed g c =
     let t = g.H.Host in
     let objects = t.objects c.args.host.now in
-    let found = t.marked c.settle.new.host in
+    let found = t.marked c.args.host.now in
     let words = placed t.place c.args.short.now.links in
-    let keyed = placed t.place c.settle.new.self.ephemerons.short in
+    let keyed = placed t.place c.args.ephemerons.now.ephemerons.short in
     let begun : Map Object = cleared words found objects in
-    let first : t.objects c.clear_dead.new.host ≡ begun = c.clear_dead.ensures.objects ∙ ap (cleared words found) c.settle.ensures.objects in
+    let first : t.objects c.clear_dead.new.host ≡ begun = c.clear_dead.ensures.objects in
     let still : t.marked c.clear_dead.new.host ≡ found = c.clear_dead.ensures.marked in
     let second : t.objects c.clear_short.new.host ≡ cleared keyed found begun = c.clear_short.ensures.objects ∙ (λ i. cleared keyed (still i) (first i)) in
-    let closed = whole_closed t.place g.H.Values.value objects (IsOfKey c.args.ephemerons.now.ephemerons) found c.settle.ensures.settled.whole in
+    let closed = whole_closed t.place g.H.Values.value objects (IsOfKey c.args.ephemerons.now.ephemerons) found c.requires.whole in
     let nowhere = points-filled (is_dead objects words found) 0 objects 0 ∙ c.requires.zero in
     subst (IsClosed (t.objects c.clear_short.new.host)) (sym (c.clear_short.ensures.marked ∙ still))
     (subst (λ (m : Map Object). IsClosed m found) (sym second) (closed_still begun keyed found nowhere (closed_still objects words found c.requires.zero closed)))
 
-pub settle-requires-2 : goal.settle-requires-2
-settle-requires-2 g c = record { closed = subst (λ (m : Map Object). IsClosed m (g.H.Host.marked c.mark_led.new.host)) (sym c.mark_led.ensures.objects) c.mark_led.ensures.marked.closed }
+pub settle-requires : goal.settle-requires
+settle-requires g c = record { closed = subst (λ (m : Map Object). IsClosed m (g.H.Host.marked c.mark_led.new.host)) (sym c.mark_led.ensures.objects) c.mark_led.ensures.marked.closed }
 
 pub queue_tiers_whole-requires-clause-registered : goal.queue_tiers_whole-requires-clause-registered
 queue_tiers_whole-requires-clause-registered g c =
     let t = g.H.Host in
     let objects = t.objects c.args.host.now in
-    let found = t.marked c.settle.new.host in
+    let found = t.marked c.args.host.now in
     let words = placed t.place c.args.short.now.links in
     let all = c.args.table.now.registrations in
-    let first : t.objects c.clear_dead.new.host ≡ cleared words found objects = c.clear_dead.ensures.objects ∙ ap (cleared words found) c.settle.ensures.objects in
-    let second : t.objects c.clear_short.new.host ≡ cleared (placed t.place c.settle.new.self.ephemerons.short) (t.marked c.clear_dead.new.host) (cleared words found objects) =
-    c.clear_short.ensures.objects ∙ ap (cleared (placed t.place c.settle.new.self.ephemerons.short) (t.marked c.clear_dead.new.host)) first in
-    subst (λ (m : Map Object). AreRegistered m all) (sym (c.settle-2.ensures.objects ∙ c.mark_led.ensures.objects ∙ second))
-    (registered_still (cleared words found objects) (placed t.place c.settle.new.self.ephemerons.short) (t.marked c.clear_dead.new.host) all (registered_still objects words found all c.requires.registered))
+    let first : t.objects c.clear_dead.new.host ≡ cleared words found objects = c.clear_dead.ensures.objects in
+    let second : t.objects c.clear_short.new.host ≡ cleared (placed t.place c.args.ephemerons.now.ephemerons.short) (t.marked c.clear_dead.new.host) (cleared words found objects) =
+    c.clear_short.ensures.objects ∙ ap (cleared (placed t.place c.args.ephemerons.now.ephemerons.short) (t.marked c.clear_dead.new.host)) first in
+    subst (λ (m : Map Object). AreRegistered m all) (sym (c.settle.ensures.objects ∙ c.mark_led.ensures.objects ∙ second))
+    (registered_still (cleared words found objects) (placed t.place c.args.ephemerons.now.ephemerons.short) (t.marked c.clear_dead.new.host) all (registered_still objects words found all c.requires.registered))
 
 pub queue_tiers_whole-requires-clause-closed : goal.queue_tiers_whole-requires-clause-closed
 queue_tiers_whole-requires-clause-closed g c =
     let t = g.H.Host in
-    subst (λ (m : Map Object). IsClosed m (t.marked c.settle-2.new.host)) (sym c.settle-2.ensures.objects)
-    (whole_closed t.place g.H.Values.value (t.objects c.mark_led.new.host) (IsOfKey c.clear_short.new.self.ephemerons) (t.marked c.settle-2.new.host) c.settle-2.ensures.settled.whole)
+    subst (λ (m : Map Object). IsClosed m (t.marked c.settle.new.host)) (sym c.settle.ensures.objects)
+    (whole_closed t.place g.H.Values.value (t.objects c.mark_led.new.host) (IsOfKey c.clear_short.new.self.ephemerons) (t.marked c.settle.new.host) c.settle.ensures.settled.whole)
 
 pub clear_dead-requires-2 : goal.clear_dead-requires-2
 clear_dead-requires-2 g c =
     let t = g.H.Host in
     let objects = t.objects c.args.host.now in
-    let found = t.marked c.settle.new.host in
+    let found = t.marked c.args.host.now in
     let words = placed t.place c.args.short.now.links in
     let longs = c.args.long.now.links in
-    let first : t.objects c.clear_dead.new.host ≡ cleared words found objects = c.clear_dead.ensures.objects ∙ ap (cleared words found) c.settle.ensures.objects in
-    let second : t.objects c.clear_short.new.host ≡ cleared (placed t.place c.settle.new.self.ephemerons.short) (t.marked c.clear_dead.new.host) (cleared words found objects) =
-    c.clear_short.ensures.objects ∙ ap (cleared (placed t.place c.settle.new.self.ephemerons.short) (t.marked c.clear_dead.new.host)) first in
+    let first : t.objects c.clear_dead.new.host ≡ cleared words found objects = c.clear_dead.ensures.objects in
+    let second : t.objects c.clear_short.new.host ≡ cleared (placed t.place c.args.ephemerons.now.ephemerons.short) (t.marked c.clear_dead.new.host) (cleared words found objects) =
+    c.clear_short.ensures.objects ∙ ap (cleared (placed t.place c.args.ephemerons.now.ephemerons.short) (t.marked c.clear_dead.new.host)) first in
     record {
-      targets = subst (λ (m : Map Object). AreTargets m longs) (sym (c.queue_tiers_whole.ensures.objects ∙ c.settle-2.ensures.objects ∙ c.mark_led.ensures.objects ∙ second))
-          (targets_still (cleared words found objects) (placed t.place c.settle.new.self.ephemerons.short) (t.marked c.clear_dead.new.host) longs (targets_still objects words found longs c.requires.long));
+      targets = subst (λ (m : Map Object). AreTargets m longs) (sym (c.queue_tiers_whole.ensures.objects ∙ c.settle.ensures.objects ∙ c.mark_led.ensures.objects ∙ second))
+          (targets_still (cleared words found objects) (placed t.place c.args.ephemerons.now.ephemerons.short) (t.marked c.clear_dead.new.host) longs (targets_still objects words found longs c.requires.long));
     }
 
 pub clear_long-requires : goal.clear_long-requires
 clear_long-requires g c =
     let t = g.H.Host in
     let objects = t.objects c.args.host.now in
-    let found = t.marked c.settle.new.host in
+    let found = t.marked c.args.host.now in
     let words = placed t.place c.args.short.now.links in
     let longs = c.args.ephemerons.now.ephemerons.long in
-    let keyed = placed t.place c.settle.new.self.ephemerons.short in
+    let keyed = placed t.place c.args.ephemerons.now.ephemerons.short in
     let second : t.objects c.clear_short.new.host ≡ cleared keyed (t.marked c.clear_dead.new.host) (cleared words found objects) =
-    c.clear_short.ensures.objects ∙ ap (cleared keyed (t.marked c.clear_dead.new.host)) (c.clear_dead.ensures.objects ∙ ap (cleared words found) c.settle.ensures.objects) in
+    c.clear_short.ensures.objects ∙ ap (cleared keyed (t.marked c.clear_dead.new.host)) (c.clear_dead.ensures.objects) in
     let judged : Map Object = cleared keyed (t.marked c.clear_dead.new.host) (cleared words found objects) in
-    let third : t.objects c.queue_tiers_whole.new.host ≡ judged = c.queue_tiers_whole.ensures.objects ∙ c.settle-2.ensures.objects ∙ c.mark_led.ensures.objects ∙ second in
+    let third : t.objects c.queue_tiers_whole.new.host ≡ judged = c.queue_tiers_whole.ensures.objects ∙ c.settle.ensures.objects ∙ c.mark_led.ensures.objects ∙ second in
     let last : t.objects c.clear_dead-2.new.host ≡ cleared (placed t.place c.args.long.now.links) (t.marked c.queue_tiers_whole.new.host) judged =
     c.clear_dead-2.ensures.objects ∙ ap (cleared (placed t.place c.args.long.now.links) (t.marked c.queue_tiers_whole.new.host)) third in
     let same : c.queue_tiers_whole.new.ephemerons.ephemerons.long ≡ longs =
-    ap (λ (e : Ephemerons). e.long) (c.queue_tiers_whole.ensures.ephemerons ∙ c.settle-2.ensures.table ∙ c.clear_short.ensures.table) ∙ ap (λ (e : Ephemerons). e.long) c.settle.ensures.table in
+    ap (λ (e : Ephemerons). e.long) (c.queue_tiers_whole.ensures.ephemerons ∙ c.settle.ensures.table ∙ c.clear_short.ensures.table) in
     record {
       keys = subst (λ (m : Map ℕ). AreTargets (t.objects c.clear_dead-2.new.host) m) (sym same)
           (subst (λ (m : Map Object). AreTargets m longs) (sym last)
@@ -126,9 +126,9 @@ returns-clause-decided g c =
     let place = t.place in
     let value = g.H.Values.value in
     let objects = t.objects c.args.host.now in
-    let found = t.marked c.settle.new.host in
+    let found = t.marked c.args.host.now in
     let first_led = t.marked c.mark_led.new.host in
-    let led = t.marked c.settle-2.new.host in
+    let led = t.marked c.settle.new.host in
     let kept = t.marked c.queue_tiers_whole.new.host in
     let shorts = c.args.short.now.links in
     let longs = c.args.long.now.links in
@@ -142,20 +142,19 @@ returns-clause-decided g c =
     let judged : Map Object = objects_judged place value old keyed found in
     let left_keyed : Ephemerons = ephemerons_judged place value old keyed found in
     let found_is : t.marked c.clear_dead.new.host ≡ found = c.clear_dead.ensures.marked in
-    let objects1 : t.objects c.clear_dead.new.host ≡ begun = c.clear_dead.ensures.objects ∙ ap (cleared (placed place shorts) found) c.settle.ensures.objects in
-    let keyed1 : c.settle.new.self.ephemerons ≡ keyed = c.settle.ensures.table in
-    let objects2 : t.objects c.clear_short.new.host ≡ judged = c.clear_short.ensures.objects ∙ (λ i. cleared (placed place (keyed1 i).short) (found_is i) (objects1 i)) in
+    let objects1 : t.objects c.clear_dead.new.host ≡ begun = c.clear_dead.ensures.objects in
+    let objects2 : t.objects c.clear_short.new.host ≡ judged = c.clear_short.ensures.objects ∙ (λ i. cleared (placed place keyed.short) (found_is i) (objects1 i)) in
     let found2 : t.marked c.clear_short.new.host ≡ found = c.clear_short.ensures.marked ∙ found_is in
-    let keyed2 : c.clear_short.new.self.ephemerons ≡ left_keyed = c.clear_short.ensures.table ∙ (λ i. record (keyed1 i) { short = with_targets (keyed1 i).short (found_is i) }) in
+    let keyed2 : c.clear_short.new.self.ephemerons ≡ left_keyed = c.clear_short.ensures.table ∙ (λ i. record keyed { short = with_targets keyed.short (found_is i) }) in
     let leading = subst (λ (m : ℕ → Bool). MarksLed E judged m first_led table.registrations) found2
     (subst (λ (m : Map Object). MarksLed E m (t.marked c.clear_short.new.host) first_led table.registrations) objects2 c.mark_led.ensures.marked) in
     let objects3 : t.objects c.mark_led.new.host ≡ judged = c.mark_led.ensures.objects ∙ objects2 in
     let settled = subst (λ (k : Ephemerons). Settles place value judged (IsOfKey k) E first_led led) keyed2
-    (subst (λ (m : Map Object). Settles place value m (IsOfKey c.clear_short.new.self.ephemerons) E first_led led) objects3 c.settle-2.ensures.settled) in
-    let objects4 : t.objects c.settle-2.new.host ≡ judged = c.settle-2.ensures.objects ∙ objects3 in
-    let keyed3 : c.settle-2.new.self.ephemerons ≡ left_keyed = c.settle-2.ensures.table ∙ keyed2 in
+    (subst (λ (m : Map Object). Settles place value m (IsOfKey c.clear_short.new.self.ephemerons) E first_led led) objects3 c.settle.ensures.settled) in
+    let objects4 : t.objects c.settle.new.host ≡ judged = c.settle.ensures.objects ∙ objects3 in
+    let keyed3 : c.settle.new.self.ephemerons ≡ left_keyed = c.settle.ensures.table ∙ keyed2 in
     let q = subst (λ (k : Ephemerons). QueuesWhole E place value (IsOfKey k) late c.args.terms.pass c.args.terms.first judged led kept table new_table queue c.queue_tiers_whole.new.queue.items) keyed3
-    (subst (λ (m : Map Object). QueuesWhole E place value (IsOfKey c.settle-2.new.self.ephemerons) late c.args.terms.pass c.args.terms.first m led kept table new_table queue c.queue_tiers_whole.new.queue.items) objects4 c.queue_tiers_whole.ensures.queued) in
+    (subst (λ (m : Map Object). QueuesWhole E place value (IsOfKey c.settle.new.self.ephemerons) late c.args.terms.pass c.args.terms.first m led kept table new_table queue c.queue_tiers_whole.new.queue.items) objects4 c.queue_tiers_whole.ensures.queued) in
     let keyed4 : c.queue_tiers_whole.new.ephemerons.ephemerons ≡ left_keyed = c.queue_tiers_whole.ensures.ephemerons ∙ keyed3 in
     let objects5 : t.objects c.queue_tiers_whole.new.host ≡ judged = c.queue_tiers_whole.ensures.objects ∙ objects4 in
     let objects6 : t.objects c.clear_dead-2.new.host ≡ cleared (placed place longs) kept judged = c.clear_dead-2.ensures.objects ∙ ap (cleared (placed place longs) kept) objects5 in
@@ -179,8 +178,7 @@ returns-clause-decided g c =
     c.drop_outside-3.ensures.table ∙ (λ i. record { short = with_holders place now (keyed5 i).short (kept2 i); long = with_holders place now (keyed5 i).long (kept2 i) })
     ∙ (λ i. record { short = dropped_twice place now objects keyed.short found kept at i; long = dropped_twice place now objects keyed.long kept kept at i }) in
     let registered = registered_still begun (placed place keyed.short) found table.registrations (registered_still objects (placed place shorts) found table.registrations c.requires.registered) in
-    let finds = c.settle.ensures.settled in
-    decided E place value late objects shorts longs keyed found first_led led kept table new_table c.args.terms.pass c.args.terms.first queue c.queue_tiers_whole.new.queue.items registered leading settled q (t.marked c.args.host.now) finds
+    decided E place value late objects shorts longs keyed found first_led led kept table new_table c.args.terms.pass c.args.terms.first queue c.queue_tiers_whole.new.queue.items registered leading settled q
     (parts_left now (t.marked c.clear_long.new.host) c.queue_tiers_whole.new.table c.drop_outside.new.links c.drop_outside-2.new.links) c.drop_outside-3.new.self.ephemerons
     (λ i. record { objects = retain_keys (objects7 i) (kept2 i); registrations = new_table.registrations; short = short_is i; long = long_is i }) keyed_is
 
@@ -189,19 +187,19 @@ returns-clause-closed g c =
     let t = g.H.Host in
     let place = t.place in
     let kept = t.marked c.queue_tiers_whole.new.host in
-    let before = t.objects c.settle-2.new.host in
+    let before = t.objects c.settle.new.host in
     let longs = placed place c.args.long.now.links in
     let keyed = placed place c.queue_tiers_whole.new.ephemerons.ephemerons.long in
     let objects = t.objects c.args.host.now in
-    let found = t.marked c.settle.new.host in
+    let found = t.marked c.args.host.now in
     let words = placed place c.args.short.now.links in
     let begun : Map Object = cleared words found objects in
-    let first : t.objects c.clear_dead.new.host ≡ begun = c.clear_dead.ensures.objects ∙ ap (cleared words found) c.settle.ensures.objects in
-    let second = c.settle-2.ensures.objects ∙ c.mark_led.ensures.objects ∙ c.clear_short.ensures.objects in
+    let first : t.objects c.clear_dead.new.host ≡ begun = c.clear_dead.ensures.objects in
+    let second = c.settle.ensures.objects ∙ c.mark_led.ensures.objects ∙ c.clear_short.ensures.objects in
     let nowhere : points before 0 ≡ None =
-    ap (λ (m : Map Object). points m 0) second ∙ points-filled (is_dead (t.objects c.clear_dead.new.host) (placed place c.settle.new.self.ephemerons.short) (t.marked c.clear_dead.new.host)) 0 (t.objects c.clear_dead.new.host) 0
+    ap (λ (m : Map Object). points m 0) second ∙ points-filled (is_dead (t.objects c.clear_dead.new.host) (placed place c.args.ephemerons.now.ephemerons.short) (t.marked c.clear_dead.new.host)) 0 (t.objects c.clear_dead.new.host) 0
     ∙ ap (λ (m : Map Object). points m 0) first ∙ points-filled (is_dead objects words found) 0 objects 0 ∙ c.requires.zero in
-    let closed : IsClosed before kept = whole_closed place g.H.Values.value before (IsOfKey c.settle-2.new.self.ephemerons) kept c.queue_tiers_whole.ensures.queued.settled_late.whole in
+    let closed : IsClosed before kept = whole_closed place g.H.Values.value before (IsOfKey c.settle.new.self.ephemerons) kept c.queue_tiers_whole.ensures.queued.settled_late.whole in
     let last : t.objects c.clear_dead-2.new.host ≡ cleared longs kept before = c.clear_dead-2.ensures.objects ∙ ap (cleared longs kept) c.queue_tiers_whole.ensures.objects in
     let end : t.objects c.clear_long.new.host ≡ cleared keyed kept (cleared longs kept before) = c.clear_long.ensures.objects ∙ (λ i. cleared keyed (c.clear_dead-2.ensures.marked i) (last i)) in
     subst (λ (m : Map Object). IsClosed m (t.marked c.clear_long.new.host)) (sym end)
@@ -213,12 +211,12 @@ returns-clause-same g c =
     let next = g.met.H.Host.transitive c.args.host.now in
     next c.clear_dead-2.new.host c.clear_long.new.host
     (next c.queue_tiers_whole.new.host c.clear_dead-2.new.host
-    (next c.settle-2.new.host c.queue_tiers_whole.new.host
-    (next c.mark_led.new.host c.settle-2.new.host
+    (next c.settle.new.host c.queue_tiers_whole.new.host
+    (next c.mark_led.new.host c.settle.new.host
     (next c.clear_short.new.host c.mark_led.new.host
-    (next c.clear_dead.new.host c.clear_short.new.host (next c.settle.new.host c.clear_dead.new.host c.settle.ensures.same c.clear_dead.ensures.same) c.clear_short.ensures.same)
+    (next c.clear_dead.new.host c.clear_short.new.host c.clear_dead.ensures.same c.clear_short.ensures.same)
     c.mark_led.ensures.same)
-    c.settle-2.ensures.same)
+    c.settle.ensures.same)
     c.queue_tiers_whole.ensures.same)
     c.clear_dead-2.ensures.same)
     c.clear_long.ensures.same
