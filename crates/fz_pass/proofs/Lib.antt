@@ -26,4 +26,5 @@ pub mod Unflagged
 pub mod Absent
 pub mod Emptied
 pub mod Safe
+pub mod SafeWhole
 pub mod Passing

@@ -6,7 +6,7 @@ ghost use Rattle.fz_pass.specs.Decides.{Parts, DecisionsPass};
 ghost use Rattle.fz_pass.specs.Flagged.{LateDecisionsDecide, LateDecisionsPass};
 ghost use Rattle.fz_pass.specs.Holds.{Ephemerons};
 ghost use Rattle.fz_pass.specs.Safe.{PassesAreSafe};
-ghost use Rattle.fz_pass.specs.WholeLaws.{DecidesByPaths, KeysFindNothing, KeysHoldNothing, NothingSettles};
+ghost use Rattle.fz_pass.specs.WholeLaws.{DecidesByPaths, KeysFindNothing, KeysHoldNothing, NothingSettles, WholePassesAreSafe};
 
 /// Carrying out a decision, so that its picks are queued and held, is a pass of the model.
 pub fn decisions_pass()
@@ -39,4 +39,10 @@ pub fn passes_without_ephemerons()
     ensures settles { (place : ℕ → Option ℕ) (value : Map Object → ℕ → Option ℕ) (objects : Map Object) → NothingSettles place value objects }
     ensures exactly { (place : ℕ → Option ℕ) (value : Map Object → ℕ → Option ℕ) (late : ℕ → Bool) (old : Parts) → DecidesByPaths (Unit {0}) place value late old }
     ensures at_most { (place : ℕ → Option ℕ) (value : Map Object → ℕ → Option ℕ) (late : ℕ → Bool) (old : Parts) → DecidesByPaths ⊥ place value late old }
+{}
+
+/// What a pass with ephemerons leaves unchanged, even if a host marks more than it is asked to mark: what `passes_are_safe` says, and short ephemerons of found
+/// keys, as short links to found objects.
+pub fn whole_passes_are_safe()
+    ensures { (place : ℕ → Option ℕ) (value : Map Object → ℕ → Option ℕ) (old : Parts) (ephemerons : Ephemerons) → WholePassesAreSafe place value old ephemerons }
 {}

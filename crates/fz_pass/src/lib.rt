@@ -23,7 +23,7 @@ pub use ephemerons::Ephemerons;
 pub use host::{Host, Values};
 pub use law::{
     decisions_pass, keys_hold_nothing, late_decisions_decide, passes_are_safe,
-    passes_without_ephemerons,
+    passes_without_ephemerons, whole_passes_are_safe,
 };
 pub use pass::decide;
 pub use ready_list::ReadyList;
