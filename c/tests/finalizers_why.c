@@ -116,7 +116,7 @@ static bool holder_is_marked(void *data, uint64_t word)
 
 static void collect(heap *it)
 {
-    static const derrimas_host host = {is_marked, mark_children, mark, mark_alone, clear, holder_is_marked};
+    static const derrimas_host host = {is_marked, mark_children, mark, mark_alone, clear, holder_is_marked, NULL};
     uint64_t some[64], from;
     size_t count;
 
@@ -366,7 +366,7 @@ static void release(void *data, void *memory)
     free(memory);
 }
 
-static const derrimas_finalizers_options counted = {sizeof counted, {allocate, reallocate, release, NULL}};
+static const derrimas_finalizers_options counted = {sizeof counted, {allocate, reallocate, release, NULL}, false};
 
 /* Asks with as much memory as it takes, and before with less each time. */
 static void ask_with_little(heap *it, unsigned object)

@@ -197,39 +197,85 @@ fn kind_of(number: u64) -> Kind {
     }
 }
 
-/// Registers or links an object, removes its registration, or changes its word, on both sides.
+/// A change of an object: what is done to it, with these values.
+#[derive(Clone, Copy)]
+struct Change {
+    what: u64,
+    index: usize,
+    other: usize,
+    kind: Kind,
+    rank: u8,
+}
+
+/// Registers an object.
+fn register(rt: &impl Abort, side: &mut Side, start: Addr, change: Change) {
+    let finalizer = Finalizer {
+        kind: change.kind,
+        procedure: change.other as u64,
+        client_data: 0,
+        rank: change.rank,
+    };
+    side.machine
+        .register(start, finalizer)
+        .expect(rt, "a registration");
+}
+
+/// Makes a link to an object.
+fn link(rt: &impl Abort, side: &mut Side, start: Addr, change: Change) {
+    let kind = if change.rank == 0 {
+        LinkKind::Long
+    } else {
+        LinkKind::Short
+    };
+    let word = FIRST_WORD.saturating_add(change.index as u64);
+    side.machine.link(kind, word, start).expect(rt, "a link");
+}
+
+/// Lets the word of an object refer to another object, or to none.
+fn refer(side: &mut Side, change: Change) {
+    if let Some(word) = side.heap.words.get_mut(change.index) {
+        *word = if change.other < OBJECTS {
+            Some(change.other)
+        } else {
+            None
+        };
+    }
+}
+
+/// Registers or links an object, removes its registration, or changes its word.
+fn change_one(rt: &impl Abort, side: &mut Side, change: Change) {
+    let start = side.heap.starts.get(change.index).copied().unwrap_or(1);
+    match change.what {
+        0..=3 => register(rt, side, start, change),
+        4 => {
+            side.machine.unregister(start).expect(rt, "no pass");
+        }
+        5 => link(rt, side, start, change),
+        _ => refer(side, change),
+    }
+}
+
+/// The same random change on both sides.
 fn change(rt: &impl Abort, both: &mut Both, random: &mut Random) {
     let index = random.below(OBJECTS as u64) as usize;
     let other = random.below(2 * OBJECTS as u64) as usize;
-    let (what, kind, rank) = (
-        random.below(8),
-        kind_of(random.below(6)),
-        random.below(3) as u8,
-    );
-    for side in [&mut both.items, &mut both.regions] {
-        let start = side.heap.starts.get(index).copied().unwrap_or(1);
-        if what < 4 {
-            let finalizer = Finalizer {
-                kind,
-                procedure: other as u64,
-                client_data: 0,
-                rank,
-            };
-            side.machine
-                .register(start, finalizer)
-                .expect(rt, "a registration");
-        } else if what == 4 {
-            side.machine.unregister(start).expect(rt, "no pass");
-        } else if what == 5 {
-            let link = if rank == 0 {
-                LinkKind::Long
-            } else {
-                LinkKind::Short
-            };
-            let word = FIRST_WORD.saturating_add(index as u64);
-            side.machine.link(link, word, start).expect(rt, "a link");
-        } else if let Some(word) = side.heap.words.get_mut(index) {
-            *word = if other < OBJECTS { Some(other) } else { None };
+    let change = Change {
+        what: random.below(8),
+        index,
+        other,
+        kind: kind_of(random.below(6)),
+        rank: random.below(3) as u8,
+    };
+    change_one(rt, &mut both.items, change);
+    change_one(rt, &mut both.regions, change);
+}
+
+/// Marks what these objects reach, and nothing else.
+fn mark_roots(side: &mut Side, roots: &[bool; OBJECTS]) {
+    side.heap.marked = [false; OBJECTS];
+    for (index, root) in roots.iter().enumerate() {
+        if *root {
+            side.heap.mark(Some(index));
         }
     }
 }
@@ -240,14 +286,8 @@ fn collect(rt: &impl Abort, both: &mut Both, random: &mut Random, live: u64) {
     for root in roots.iter_mut() {
         *root = random.below(100) < live;
     }
-    for side in [&mut both.items, &mut both.regions] {
-        side.heap.marked = [false; OBJECTS];
-        for (index, root) in roots.iter().enumerate() {
-            if *root {
-                side.heap.mark(Some(index));
-            }
-        }
-    }
+    mark_roots(&mut both.items, &roots);
+    mark_roots(&mut both.regions, &roots);
     let items = pass(rt, &mut both.items);
     let regions = pass(rt, &mut both.regions);
     must_be(rt, regions, items, "the same are picked");
