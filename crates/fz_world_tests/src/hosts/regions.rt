@@ -197,9 +197,9 @@ fn kind_of(number: u64) -> Kind {
     }
 }
 
-/// A change of an object: what is done to it, with these values.
+/// What is done to an object, with these values.
 #[derive(Clone, Copy)]
-struct Change {
+struct Turn {
     what: u64,
     index: usize,
     other: usize,
@@ -208,12 +208,12 @@ struct Change {
 }
 
 /// Registers an object.
-fn register(rt: &impl Abort, side: &mut Side, start: Addr, change: Change) {
+fn register(rt: &impl Abort, side: &mut Side, start: Addr, turn: Turn) {
     let finalizer = Finalizer {
-        kind: change.kind,
-        procedure: change.other as u64,
+        kind: turn.kind,
+        procedure: turn.other as u64,
         client_data: 0,
-        rank: change.rank,
+        rank: turn.rank,
     };
     side.machine
         .register(start, finalizer)
@@ -221,21 +221,21 @@ fn register(rt: &impl Abort, side: &mut Side, start: Addr, change: Change) {
 }
 
 /// Makes a link to an object.
-fn link(rt: &impl Abort, side: &mut Side, start: Addr, change: Change) {
-    let kind = if change.rank == 0 {
+fn link(rt: &impl Abort, side: &mut Side, start: Addr, turn: Turn) {
+    let kind = if turn.rank == 0 {
         LinkKind::Long
     } else {
         LinkKind::Short
     };
-    let word = FIRST_WORD.saturating_add(change.index as u64);
+    let word = FIRST_WORD.saturating_add(turn.index as u64);
     side.machine.link(kind, word, start).expect(rt, "a link");
 }
 
 /// Lets the word of an object refer to another object, or to none.
-fn refer(side: &mut Side, change: Change) {
-    if let Some(word) = side.heap.words.get_mut(change.index) {
-        *word = if change.other < OBJECTS {
-            Some(change.other)
+fn refer(side: &mut Side, turn: Turn) {
+    if let Some(word) = side.heap.words.get_mut(turn.index) {
+        *word = if turn.other < OBJECTS {
+            Some(turn.other)
         } else {
             None
         };
@@ -243,15 +243,15 @@ fn refer(side: &mut Side, change: Change) {
 }
 
 /// Registers or links an object, removes its registration, or changes its word.
-fn change_one(rt: &impl Abort, side: &mut Side, change: Change) {
-    let start = side.heap.starts.get(change.index).copied().unwrap_or(1);
-    match change.what {
-        0..=3 => register(rt, side, start, change),
+fn change_one(rt: &impl Abort, side: &mut Side, turn: Turn) {
+    let start = side.heap.starts.get(turn.index).copied().unwrap_or(1);
+    match turn.what {
+        0..=3 => register(rt, side, start, turn),
         4 => {
             side.machine.unregister(start).expect(rt, "no pass");
         }
-        5 => link(rt, side, start, change),
-        _ => refer(side, change),
+        5 => link(rt, side, start, turn),
+        _ => refer(side, turn),
     }
 }
 
@@ -259,15 +259,15 @@ fn change_one(rt: &impl Abort, side: &mut Side, change: Change) {
 fn change(rt: &impl Abort, both: &mut Both, random: &mut Random) {
     let index = random.below(OBJECTS as u64) as usize;
     let other = random.below(2 * OBJECTS as u64) as usize;
-    let change = Change {
+    let turn = Turn {
         what: random.below(8),
         index,
         other,
         kind: kind_of(random.below(6)),
-        rank: random.below(3) as u8,
+        rank: (random.below(3) % 256) as u8,
     };
-    change_one(rt, &mut both.items, change);
-    change_one(rt, &mut both.regions, change);
+    change_one(rt, &mut both.items, turn);
+    change_one(rt, &mut both.regions, turn);
 }
 
 /// Marks what these objects reach, and nothing else.
