@@ -37,7 +37,7 @@ nothing_at_zero blocks objects within = by (points objects 0) refl
 -- ---- a word that is written, if it lies in an object
 
 -- where a word can't be written, it lies in no object
-refused_nowhere : (objects : Map Object) (word : ℕ) (r : Refusal) → first_cause (place_causes objects word 0) ≡ Some r → points objects word ≡ None
+pub refused_nowhere : (objects : Map Object) (word : ℕ) (r : Refusal) → first_cause (place_causes objects word 0) ≡ Some r → points objects word ≡ None
 refused_nowhere objects word r refused = at (points objects word) refl
   where
     at : (o : Option ℕ) → points objects word ≡ o → o ≡ None

@@ -1,10 +1,12 @@
 //! Tracing from an object's children.
 
-ghost use Rattle.std.specs.Prelude.{◌≡◌, ◌*◌};
+ghost use Rattle.std.specs.Prelude.{◌≡◌, ◌*◌, IsFalse};
 ghost use Rattle.fz_model.specs.declared.limits.TheConstants.{BLOCK_WORDS};
 ghost use Rattle.fz_marker.specs.Marking.{IsClosed};
 ghost use Rattle.fz_pass.specs.Marks.{IsLeadingBut};
-ghost use Rattle.fz_marked.specs.Traces.{Traces, IsTargetBut};
+ghost use Rattle.fz_model.specs.Memory.{word_at};
+ghost use Rattle.fz_pass.specs.Holds.{IsOfValue};
+ghost use Rattle.fz_marked.specs.Traces.{Traces, IsTargetBut, value_at};
 
 use fz_heap::Heap;
 use fz_marker::Marker;
@@ -34,4 +36,31 @@ pub(crate) fn trace_children(heap: &Heap, marker: &mut Marker, object: Addr, but
     for word in heap.pointers(object) {
         trace_target(heap, marker, *word, object, but_itself);
     }
+}
+
+/// The word at an address, or 0 if it lies in no object.
+fn word_at(heap: &Heap, address: Addr) -> Word
+    ensures { result ≡ word_at heap.now.objects address }
+{
+    match heap.read(address, 0) {
+        Ok(word) => word,
+        Err(_) => 0,
+    }
+}
+
+/// Traces from the object to which the word at an address points, and returns whether it wasn't traced before.
+pub(crate) fn trace_value(heap: &Heap, marker: &mut Marker, address: Addr) -> bool
+    requires size { marker.old.size ≡ BLOCK_WORDS * heap.now.blocks }
+    requires closed { IsClosed heap.now.objects marker.old.traced }
+    ensures traces { Traces heap.now.objects marker.old marker.new (IsOfValue value_at heap.now.objects address) }
+    ensures nothing { IsFalse result → marker.new.traced ≡ marker.old.traced }
+{
+    let Some(object) = heap.resolve(word_at(heap, address)) else {
+        return false;
+    };
+    if marker.traced(object) {
+        return false;
+    }
+    marker.trace(heap, object);
+    true
 }

@@ -10,13 +10,14 @@ ghost use Rattle.fz_model.specs.declared.limits.TheConstants.{BLOCK_WORDS};
 ghost use Rattle.fz_model.specs.Memory.{points};
 ghost use Rattle.fz_model.specs.Pass.{is_outside};
 ghost use Rattle.fz_marked.specs.Same.{IsSame, same_itself, same_then};
+ghost use Rattle.fz_marked.specs.Traces.{value_at};
 
-use crate::children::trace_children;
+use crate::children::{trace_children, trace_value};
 use crate::reclaiming::condemn_outside;
 use fz_heap::Heap;
 use fz_marker::Marker;
 use fz_model::Addr;
-use fz_pass::Host;
+use fz_pass::{Host, Values};
 
 /// A heap and its marker, whose second set has the marks that a pass adds.
 #[derive(Drop)]
@@ -82,6 +83,15 @@ impl Host for Marked {
     ghost transitive = { λ old mid new first then. same_then old.heap mid.heap new.heap old.marker mid.marker new.marker first then };
 
     ghost apart = { λ v w a p q. same_Some v a p ∙ sym (same_Some w a q) };
+}
+
+// The words of an object that isn't scanned may be ephemerons. In a scanned one they are children, too.
+impl Values for Marked {
+    ghost value = { value_at };
+
+    fn mark_value(&mut self, word: Addr) -> bool {
+        trace_value(&self.heap, &mut self.marker, word)
+    }
 }
 
 impl Marked {

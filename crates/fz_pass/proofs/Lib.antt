@@ -1,4 +1,7 @@
 pub mod Filling
+pub mod Holding
+pub mod Keyed
+pub mod Settled
 pub mod Gathering
 pub mod Dead
 pub mod Placing
@@ -16,8 +19,12 @@ pub mod Passed
 pub mod Tiers
 pub mod Led
 pub mod Flags
+pub mod Wholes
+pub mod OwnKeys
+pub mod ByPaths
 pub mod Unflagged
 pub mod Absent
 pub mod Emptied
 pub mod Safe
+pub mod SafeWhole
 pub mod Passing

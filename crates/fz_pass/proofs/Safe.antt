@@ -17,7 +17,7 @@ use Rattle.fz_pass.specs.Safe.{LeadsTo, IsSafe, PassesAreSafe}
 use Rattle.fz_pass.proofs.Filling.{fill_never, has_filled}
 
 -- no link of the word is dead
-alive : (objects : Map Object) (links : Map ℕ) (set : ℕ → Bool) (word : ℕ) → LeadsTo links word set → is_dead objects links set word ≡ false
+pub alive : (objects : Map Object) (links : Map ℕ) (set : ℕ → Bool) (word : ℕ) → LeadsTo links word set → is_dead objects links set word ≡ false
 alive objects links set word leads = at (get links word) refl
   where
     none : (a b : Bool) → b ≡ true → (a && not b) ≡ false
@@ -30,10 +30,10 @@ alive objects links set word leads = at (get links word) refl
     at (Some target) here = none (contains_key objects target) (set target) (leads target here)
 
 -- an object whose words are all left alone
-unfilled : (test : ℕ → Bool) (objects : Map Object) (a : ℕ) (o : Object) → get objects a ≡ Some o → ((word : ℕ) → a ≤ word → word < a + length o.words → test word ≡ false) → get (filled test 0 objects) a ≡ Some o
+pub unfilled : (test : ℕ → Bool) (objects : Map Object) (a : ℕ) (o : Object) → get objects a ≡ Some o → ((word : ℕ) → a ≤ word → word < a + length o.words → test word ≡ false) → get (filled test 0 objects) a ≡ Some o
 unfilled test objects a o here never = get-mapped (filling test 0) objects a ∙ ap (option_map (filling test 0 a)) here ∙ ap (λ ws. Some (record o { words = ws })) (fill_never test 0 a o.words never)
 
-retained : {X : Type 0} (m : Map X) (test : ℕ → Bool) (a : ℕ) → IsTrue (contains_key (retain_keys m test) a) → IsTrue (test a)
+pub retained : {X : Type 0} (m : Map X) (test : ℕ → Bool) (a : ℕ) → IsTrue (contains_key (retain_keys m test) a) → IsTrue (test a)
 retained m test a here = at (test a) (get m a) (sym (ap is_some (get-retain m test a)) ∙ here)
   where
     at : {X : Type 0} (b : Bool) (o : Option X) → is_some (cond b o None) ≡ true → b ≡ true

@@ -1,9 +1,10 @@
 //! A host's heap at the moment of a pass, after its marking is complete.
 
-ghost use Rattle.std.specs.Prelude.{◌≡◌, ℕ, Bool, IsTrue, Option, Some};
+ghost use Rattle.std.specs.Prelude.{◌≡◌, ℕ, Bool, IsTrue, IsFalse, Option, Some};
 ghost use Rattle.std.specs.FinMap.{get, contains_key};
 ghost use Rattle.fz_model.specs.State.{Map, Object};
 ghost use Rattle.fz_model.specs.Reachability.{Leads};
+ghost use Rattle.fz_pass.specs.Holds.{IsOfValue};
 ghost use Rattle.fz_pass.specs.Marks.{IsClosed, Marks, IsLeadingBut, IsLastToMark};
 ghost use Rattle.fz_pass.specs.Places.{StandApart, written_at, is_held};
 
@@ -80,4 +81,21 @@ pub trait Host {
 
     /// No two links denote one word.
     ghost apart: { StandApart place };
+}
+
+/// A heap with marks that has ephemerons, too: words whose values are marked only if their holders and their keys are.
+///
+/// The host doesn't scan the word of an ephemeron with the object in which it lies. If it does, the value is marked with that object, whatever the key.
+pub trait Values: Host {
+    /// The object to which the word of an ephemeron points, if any, by the host's objects.
+    ghost value: { Map Object → ℕ → Option ℕ };
+
+    /// Marks the object to which the word of an ephemeron points, and everything that it reaches. Returns whether this may have marked anything: after true the
+    /// pass looks at the remaining ephemerons again. Requires that everything marked objects reach is marked.
+    fn mark_value(&mut self, word: Addr) -> bool
+        requires closed { IsClosed (Self.objects self.old) (Self.marked self.old) }
+        ensures objects { Self.objects self.new ≡ Self.objects self.old }
+        ensures marked { Marks Self.is_exact (Self.objects self.old) (Self.marked self.old) (Self.marked self.new) (IsOfValue value (Self.objects self.old) word) }
+        ensures nothing { IsFalse result → (a : ℕ) → IsTrue (Self.marked self.new a) → IsTrue (Self.marked self.old a) }
+        ensures same { Self.is_same self.old self.new };
 }

@@ -24,7 +24,7 @@ use fz_model::Entry;
 use fz_table::Table;
 
 /// Whether a pass has a second round.
-fn has_second(table: &Table, terms: Terms) -> bool
+pub(crate) fn has_second(table: &Table, terms: Terms) -> bool
     ensures { result ≡ (terms.tiers && nat_lt 0 (sets.len table.now.late)) }
 {
     terms.tiers && table.has_unreachable()
