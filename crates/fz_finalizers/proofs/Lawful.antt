@@ -15,7 +15,7 @@ use Rattle.fz_model.specs.declared.answers.Pick.{Pick}
 use Rattle.fz_finalizers.specs.declared.cleanups.Attached.{Attached}
 use Rattle.fz_finalizers.specs.Cleanups.{pick_of}
 use Rattle.fz_finalizers.specs.States.{State, links_of, with_links}
-use Rattle.fz_finalizers.specs.Follows.{Event, Follows, Queues, next_pass, queued_one, queued_object, queued_attached, queued_cleanup, Register, Unregister, Link, Unlink, Move, AddCleanup, Cancel, Clean, Pass, Begin, Queue, QueueCleanup, QueueAll, Take, TakeFinished, TakeAll, Finish}
+use Rattle.fz_finalizers.specs.Follows.{Event, Follows, Queues, next_pass, queued_one, queued_object, queued_attached, queued_cleanup, Register, Unregister, Link, Unlink, Move, Ephemeron, EndEphemeron, MoveEphemeron, AddCleanup, Cancel, Clean, Pass, Begin, Queue, QueueCleanup, QueueAll, Take, TakeFinished, TakeAll, Finish}
 use Rattle.fz_finalizers.specs.Laws.{SameLinks, SameLinksBut, ChangesLinks, IsNextPass, AddsOfPass, NumbersPasses}
 use Rattle.fz_finalizers.proofs.OneQueued.{queued_queues}
 use Rattle.fz_finalizers.proofs.Recorded.{entry_has}
@@ -51,11 +51,11 @@ cut s Long word = (get-remove_same s.long word, others)
     others Long w other = get-remove_other s.long word w (λ same. other (refl, same))
 
 -- a move of a link in a table
-moves : (links : Map ℕ) (word to target : ℕ) → get links word ≡ Some target → get links to ≡ None → moved_to links word to (get links word) ≡ insert (remove links word) to target
+pub moves : (links : Map ℕ) (word to target : ℕ) → get links word ≡ Some target → get links to ≡ None → moved_to links word to (get links word) ≡ insert (remove links word) to target
 moves links word to target here free =
     ap (moved_to links word to) here ∙ ap (λ (o : Option ℕ). if is_some o then links else insert (remove links word) to target) free
 
-stays_without : (links : Map ℕ) (word to : ℕ) → get links word ≡ None → moved_to links word to (get links word) ≡ links
+pub stays_without : (links : Map ℕ) (word to : ℕ) → get links word ≡ None → moved_to links word to (get links word) ≡ links
 stays_without links word to none = ap (moved_to links word to) none
 
 stays_before : (links : Map ℕ) (word to target : ℕ) → get links to ≡ Some target → moved_to links word to (get links word) ≡ links
@@ -128,6 +128,9 @@ changes_links old new (Unregister object) does = unlinked old new _ does refl re
 changes_links old new (Link kind word target) does = subst (ChangesLinks old (Link kind word target)) (sym does) (put old kind word target)
 changes_links old new (Unlink kind word) does = subst (ChangesLinks old (Unlink kind word)) (sym does) (cut old kind word)
 changes_links old new (Move kind word to) does = subst (ChangesLinks old (Move kind word to)) (sym does) (moved old kind word to)
+changes_links old new (Ephemeron kind word key) does = unlinked old new _ does refl refl
+changes_links old new (EndEphemeron word) does = unlinked old new _ does refl refl
+changes_links old new (MoveEphemeron word to) does = unlinked old new _ does refl refl
 changes_links old new (AddCleanup object cleanup) does = unlinked old new _ does refl refl
 changes_links old new (Cancel number) does = unlinked old new _ does refl refl
 changes_links old new (Clean pass is_due) does = unlinked old new _ does.2 refl refl
@@ -171,6 +174,9 @@ numbers_passes old new (Unregister object) does = kept old new _ does refl refl
 numbers_passes old new (Link kind word target) does = let same = linked old kind _ in kept old new _ does same.0 same.1
 numbers_passes old new (Unlink kind word) does = let same = linked old kind _ in kept old new _ does same.0 same.1
 numbers_passes old new (Move kind word to) does = let same = linked old kind _ in kept old new _ does same.0 same.1
+numbers_passes old new (Ephemeron kind word key) does = kept old new _ does refl refl
+numbers_passes old new (EndEphemeron word) does = kept old new _ does refl refl
+numbers_passes old new (MoveEphemeron word to) does = kept old new _ does refl refl
 numbers_passes old new (AddCleanup object cleanup) does = kept old new _ does refl refl
 numbers_passes old new (Cancel number) does = kept old new _ does refl refl
 numbers_passes old new (Clean pass is_due) does = (ap (λ (s : State). s.passes) does.2, adds_picks pass old new (map pick_of does.0) (ap (λ (s : State). s.queue) does.2))

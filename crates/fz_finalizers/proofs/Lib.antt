@@ -9,6 +9,7 @@ pub mod Promised
 pub mod Walked
 pub mod Recorded
 pub mod Lawful
+pub mod Keying
 pub mod Placed
 pub mod Gathered
 pub mod Queues

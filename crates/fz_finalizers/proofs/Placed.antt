@@ -1,5 +1,5 @@
 -- Walks from a place on.
-use Rattle.std.proofs.Common.{◌≡◌, ◌≤◌, ◌+◌, ◌-◌, ◌++◌, ℕ, zero, suc, min, List, [], ◌∷◌, drop, length, Option, Some, option_map, refl, sym, ap, ◌∙◌, arith}
+use Rattle.std.proofs.Common.{◌≡◌, ◌-◌, ◌++◌, ℕ, zero, suc, min, List, [], ◌∷◌, drop, length, Option, Some, option_map, refl, sym, ap, ◌∙◌, arith}
 use Rattle.std.proofs.lemmas.List.{drop-map}
 use Rattle.fz_model.specs.declared.answers.Entry.{Entry}
 use Rattle.fz_finalizers.specs.declared.roots.Root.{Root}

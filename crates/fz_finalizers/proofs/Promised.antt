@@ -21,10 +21,11 @@ use Rattle.fz_model.specs.Steps.{registration_of}
 use Rattle.fz_model.proofs.Lists.{slice_get-left, slice_get-cases, place_of, contains_at, any_at, filter_at, map_at, AllPairs-append}
 use Rattle.fz_model.proofs.Maps.{get-insert_same, get-insert_other, get-remove_same, get-remove_other}
 use Rattle.fz_model.proofs.Sound.{entry_at}
+use Rattle.fz_pass.specs.Holds.{Ephemerons}
 use Rattle.fz_finalizers.specs.declared.kinds.Finalizer.{Finalizer}
 use Rattle.fz_finalizers.specs.Kinds.{is_late, table_finalizer}
 use Rattle.fz_finalizers.specs.States.{State, opening, unfinished, waiting, with_links}
-use Rattle.fz_finalizers.specs.Follows.{Event, Follows, Queues, with_registration, without_registration, with_cleanup, without_cleanup, queued_attached, queued_cleanup, Register, Unregister, Link, Unlink, Move, AddCleanup, Cancel, Clean, Pass, Begin, Queue, QueueCleanup, QueueAll, Take, TakeFinished, TakeAll, Finish}
+use Rattle.fz_finalizers.specs.Follows.{Event, Follows, Queues, with_registration, without_registration, with_cleanup, without_cleanup, queued_attached, queued_cleanup, Register, Unregister, Link, Unlink, Move, Ephemeron, EndEphemeron, MoveEphemeron, AddCleanup, Cancel, Clean, Pass, Begin, Queue, QueueCleanup, QueueAll, Take, TakeFinished, TakeAll, Finish}
 use Rattle.fz_finalizers.specs.declared.cleanups.Attached as cleanups
 use Rattle.fz_finalizers.specs.declared.cleanups.Cleanup.{Cleanup}
 use Rattle.fz_finalizers.specs.Cleanups.{ComesFirst, pick_of, without}
@@ -76,8 +77,8 @@ opened = record {
 
 -- ---- links come and go, and a pass begins: of these no promise speaks
 
-beside : (s : State) (past : Past) (short long : Map ℕ) (passes : ℕ) → Promises s past → Promises (record s { short = short; long = long; passes = passes }) past
-beside s past short long passes p = record {
+beside : (s : State) (past : Past) (short long : Map ℕ) (ephemerons : Ephemerons) (passes : ℕ) → Promises s past → Promises (record s { short = short; long = long; ephemerons = ephemerons; passes = passes }) past
+beside s past short long ephemerons passes p = record {
   takes = p.takes;
   within = p.within;
   numbered = p.numbered;
@@ -97,11 +98,14 @@ beside s past short long passes p = record {
 }
 
 linked : (s : State) (past : Past) (kind : LinkKind) (links : Map ℕ) → Promises s past → Promises (with_links s kind links) past
-linked s past Short links = beside s past links s.long s.passes
-linked s past Long links = beside s past s.short links s.passes
+linked s past Short links = beside s past links s.long s.ephemerons s.passes
+linked s past Long links = beside s past s.short links s.ephemerons s.passes
+
+keyed : (s : State) (past : Past) (ephemerons : Ephemerons) → Promises s past → Promises (record s { ephemerons = ephemerons }) past
+keyed s past ephemerons = beside s past s.short s.long ephemerons s.passes
 
 begun : (s : State) (past : Past) (passes : ℕ) → Promises s past → Promises (record s { passes = passes }) past
-begun s past = beside s past s.short s.long
+begun s past = beside s past s.short s.long s.ephemerons
 
 -- ---- a registration goes
 
@@ -646,6 +650,9 @@ step old now past (Unregister object) p does = subst (λ s. Promises s past) (sy
 step old now past (Link kind word target) p does = subst (λ s. Promises s past) (sym does) (linked old past kind _ p)
 step old now past (Unlink kind word) p does = subst (λ s. Promises s past) (sym does) (linked old past kind _ p)
 step old now past (Move kind word to) p does = subst (λ s. Promises s past) (sym does) (linked old past kind _ p)
+step old now past (Ephemeron kind word key) p does = subst (λ s. Promises s past) (sym does) (keyed old past _ p)
+step old now past (EndEphemeron word) p does = subst (λ s. Promises s past) (sym does) (keyed old past _ p)
+step old now past (MoveEphemeron word to) p does = subst (λ s. Promises s past) (sym does) (keyed old past _ p)
 step old now past Pass p does = come _ old now past p does.0
 step old now past Begin p does = subst (λ s. Promises s past) (sym does) (begun old past _ p)
 step old now past (Queue object) p does = come _ old now past p (queued_queues old now object does)

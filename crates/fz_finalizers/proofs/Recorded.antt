@@ -20,12 +20,13 @@ use Rattle.fz_model.proofs.Maps.{get-insert_same, get-insert_other, get-remove_s
 use Rattle.fz_table.specs.Tabled.{Set}
 use Rattle.fz_table.proofs.Flagged.{with_flag_at}
 use Rattle.fz_pass.proofs.Picked.{flags_other}
+use Rattle.fz_pass.specs.Holds.{Ephemerons}
 use Rattle.fz_finalizers.specs.declared.kinds.Kind.{Kind}
 use Rattle.fz_finalizers.specs.declared.kinds.Kind.TheVariants.{Normal, IgnoreSelf, NoOrder, Unreachable}
 use Rattle.fz_finalizers.specs.declared.kinds.Finalizer.{Finalizer}
 use Rattle.fz_finalizers.specs.Kinds.{is_late, table_kind, of_table, table_finalizer}
 use Rattle.fz_finalizers.specs.States.{State, opening, with_links, kind_at}
-use Rattle.fz_finalizers.specs.Follows.{Event, Follows, Queues, IsOf, with_registration, without_registration, with_cleanup, without_cleanup, queued_attached, queued_cleanup, Register, Unregister, Link, Unlink, Move, AddCleanup, Cancel, Clean, Pass, Begin, Queue, QueueCleanup, QueueAll, Take, TakeFinished, TakeAll, Finish}
+use Rattle.fz_finalizers.specs.Follows.{Event, Follows, Queues, IsOf, with_registration, without_registration, with_cleanup, without_cleanup, queued_attached, queued_cleanup, Register, Unregister, Link, Unlink, Move, Ephemeron, EndEphemeron, MoveEphemeron, AddCleanup, Cancel, Clean, Pass, Begin, Queue, QueueCleanup, QueueAll, Take, TakeFinished, TakeAll, Finish}
 use Rattle.fz_finalizers.specs.declared.cleanups.Attached as cleanups
 use Rattle.fz_finalizers.specs.declared.cleanups.Cleanup.{Cleanup}
 use Rattle.fz_finalizers.specs.Cleanups.{pick_of, without}
@@ -77,12 +78,15 @@ opened = record {
 
 -- ---- what is registered and queued stays
 
-beside : (s : State) (past : Past) (short long : Map ℕ) (passes : ℕ) → Records s past → Records (record s { short = short; long = long; passes = passes }) past
-beside s past short long passes p = record { numbers = p.numbers; registered = p.registered; attached = p.attached; queued = p.queued }
+beside : (s : State) (past : Past) (short long : Map ℕ) (ephemerons : Ephemerons) (passes : ℕ) → Records s past → Records (record s { short = short; long = long; ephemerons = ephemerons; passes = passes }) past
+beside s past short long ephemerons passes p = record { numbers = p.numbers; registered = p.registered; attached = p.attached; queued = p.queued }
 
 linked : (s : State) (past : Past) (kind : LinkKind) (links : Map ℕ) → Records s past → Records (with_links s kind links) past
-linked s past Short links = beside s past links s.long s.passes
-linked s past Long links = beside s past s.short links s.passes
+linked s past Short links = beside s past links s.long s.ephemerons s.passes
+linked s past Long links = beside s past s.short links s.ephemerons s.passes
+
+keyed : (s : State) (past : Past) (ephemerons : Ephemerons) → Records s past → Records (record s { ephemerons = ephemerons }) past
+keyed s past ephemerons = beside s past s.short s.long ephemerons s.passes
 
 spent : (s : State) (past : Past) (count : ℕ) (held took ended : List Entry) → Records s past → Records (record s { taken = count; held = held }) (record past { taken = took; finished = ended })
 spent s past count held took ended p = record { numbers = p.numbers; registered = p.registered; attached = p.attached; queued = p.queued }
@@ -274,8 +278,11 @@ step old now past (Unregister object) p does = subst (λ s. Records s past) (sym
 step old now past (Link kind word target) p does = subst (λ s. Records s past) (sym does) (linked old past kind _ p)
 step old now past (Unlink kind word) p does = subst (λ s. Records s past) (sym does) (linked old past kind _ p)
 step old now past (Move kind word to) p does = subst (λ s. Records s past) (sym does) (linked old past kind _ p)
+step old now past (Ephemeron kind word key) p does = subst (λ s. Records s past) (sym does) (keyed old past _ p)
+step old now past (EndEphemeron word) p does = subst (λ s. Records s past) (sym does) (keyed old past _ p)
+step old now past (MoveEphemeron word to) p does = subst (λ s. Records s past) (sym does) (keyed old past _ p)
 step old now past Pass p does = come _ old now past p does.0
-step old now past Begin p does = subst (λ s. Records s past) (sym does) (beside old past old.short old.long _ p)
+step old now past Begin p does = subst (λ s. Records s past) (sym does) (beside old past old.short old.long old.ephemerons _ p)
 step old now past (Queue object) p does = come _ old now past p (queued_queues old now object does)
 step old now past (QueueCleanup number) p does = subst (λ s. Records s past) (sym does) (one_cleaned old past number p)
 step old now past QueueAll p does = come _ old now past p does.0

@@ -1,6 +1,6 @@
 -- Cleanups: what is queued, without its object, when an object is lost. An object may have any number of them.
 -- code: fz_finalizers/src/cleanups.rt, cleaning.rt
-use Rattle.std.specs.Prelude.{◌≡◌, ℕ, Bool, true, false, not, ◌&&◌, ◌<◌, ◌⊎◌, ◌≤◌, List, [], ◌∷◌, map, Some, Contains, All, AllPairs, IsTrue, refl}
+use Rattle.std.specs.Prelude.{◌≡◌, ℕ, Bool, true, false, not, ◌&&◌, ◌<◌, ◌⊎◌, ◌≤◌, List, [], ◌∷◌, Some, Contains, All, AllPairs, IsTrue, refl}
 use Rattle.std.specs.Coded.{Coded, code_by, coded×, coded_ℕ, coded_bool, coded_list}
 use Rattle.std.specs.FinMap as maps
 use Rattle.std.specs.FinMap.{get, remove}

@@ -9,6 +9,7 @@ use Rattle.fz_model.specs.State.{Map}
 use Rattle.fz_finalizers.specs.declared.cleanups.Attached.{Attached}
 use Rattle.fz_finalizers.specs.Cleanups.{Cleanups}
 use Rattle.fz_finalizers.specs.Ready.{Ready}
+use Rattle.fz_pass.specs.Holds.{Ephemerons}
 use Rattle.fz_finalizers.specs.States.{State, Rooms, Order, AreFlags}
 
 pub record Fits (table : Content) (cleanups : Map Attached) (ready : Ready) : Type 0 where
@@ -23,14 +24,15 @@ pub record HasMoves (short long : Linked) (moves : List (ℕ × ℕ)) (capacity 
   pub few_long : len long.links ≤ capacity
 
 -- the model of the parts
-abbrev pub state_of : Content → Linked → Linked → Map Attached → Ready → ℕ → State
-state_of table short long cleanups ready passes = record {
+abbrev pub state_of : Content → Linked → Linked → Ephemerons → Map Attached → Ready → ℕ → State
+state_of table short long ephemerons cleanups ready passes = record {
   registrations = table.registrations;
   late = table.late;
   next_number = table.next_number;
   cleanups = cleanups;
   short = short.links;
   long = long.links;
+  ephemerons = ephemerons;
   queue = ready.queue;
   taken = ready.taken;
   held = ready.held;

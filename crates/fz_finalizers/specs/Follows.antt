@@ -1,5 +1,5 @@
 -- What the calls do, whatever the host does: each is an event, which leads from one state to another.
--- code: fz_finalizers/src/registrations.rt, links.rt, adding.rt, passes.rt, entries.rt, stepwise.rt, whole.rt
+-- code: fz_finalizers/src/registrations.rt, links.rt, ephemerons.rt, adding.rt, passes.rt, entries.rt, stepwise.rt, whole.rt
 use Rattle.std.specs.Prelude.{◌≡◌, ◌≢◌, ℕ, ◌+◌, ◌-◌, ◌^◌, min, not, Bool, List, [], ◌++◌, ◌∷◌, filter, length, map, slice_get, Some, All, AllPairs, IsTrue}
 use Rattle.std.specs.FinMap.{get, insert, remove, empty}
 use Rattle.std.specs.FinSet as sets
@@ -13,6 +13,8 @@ use Rattle.fz_model.specs.Events.{same_entry}
 use Rattle.fz_model.specs.State.{Map}
 use Rattle.fz_model.specs.Steps.{registration_of, moved_to}
 use Rattle.fz_pass.specs.All.{unknown}
+use Rattle.fz_pass.specs.Holds.{Ephemerons}
+use Rattle.fz_pass.specs.Keyed.{moved, of_kind, with_ephemeron, without_ephemeron}
 use Rattle.fz_pass.specs.Picking.{pick_of, without_flags}
 use Rattle.fz_table.specs.Tabled.{with_flag}
 use Rattle.fz_finalizers.specs.declared.kinds.Finalizer.{Finalizer}
@@ -48,6 +50,10 @@ pub record Queues (pass : ℕ) (old new : State) : Type 0 where
   pub next_number : new.next_number ≡ old.next_number
   pub cleanups : new.cleanups ≡ old.cleanups
 
+-- some ephemerons go, and none comes or changes
+abbrev pub OnlyGo : Ephemerons → Ephemerons → Type 0
+OnlyGo old new = (kind : LinkKind) (word key : ℕ) → get (of_kind new kind) word ≡ Some key → get (of_kind old kind) word ≡ Some key
+
 -- the due cleanups leave, and their entries are appended to the queue, with successive numbers
 abbrev pub Cleans : ℕ → (Attached → Bool) → State → State → Type 0
 Cleans pass is_due old new =
@@ -60,6 +66,9 @@ pub data Event : Type 0 where
   Link : LinkKind → ℕ → ℕ → Event
   Unlink : LinkKind → ℕ → Event
   Move : LinkKind → ℕ → ℕ → Event
+  Ephemeron : LinkKind → ℕ → ℕ → Event
+  EndEphemeron : ℕ → Event
+  MoveEphemeron : ℕ → ℕ → Event
   AddCleanup : ℕ → Cleanup → Event
   Cancel : ℕ → Event
   Clean : ℕ → (Attached → Bool) → Event
@@ -115,14 +124,17 @@ Follows old (Unregister object) new = new ≡ without_registration old object
 Follows old (Link kind word target) new = new ≡ with_links old kind (insert (links_of old kind) word target)
 Follows old (Unlink kind word) new = new ≡ with_links old kind (remove (links_of old kind) word)
 Follows old (Move kind word to) new = new ≡ with_links old kind (moved_to (links_of old kind) word to (get (links_of old kind) word))
+Follows old (Ephemeron kind word key) new = new ≡ record old { ephemerons = with_ephemeron old.ephemerons kind word key }
+Follows old (EndEphemeron word) new = new ≡ record old { ephemerons = without_ephemeron old.ephemerons word }
+Follows old (MoveEphemeron word to) new = new ≡ record old { ephemerons = moved old.ephemerons word to }
 Follows old (AddCleanup object cleanup) new = new ≡ with_cleanup old object cleanup
 Follows old (Cancel number) new = new ≡ without_cleanup old number
 Follows old (Clean pass is_due) new = Cleans pass is_due old new
-Follows old Pass new = Queues (next_pass old.passes) old new × (new.passes ≡ next_pass old.passes)
+Follows old Pass new = Queues (next_pass old.passes) old new × (new.passes ≡ next_pass old.passes) × OnlyGo old.ephemerons new.ephemerons
 Follows old Begin new = new ≡ record old { passes = next_pass old.passes }
 Follows old (Queue object) new = new ≡ queued_object old object
 Follows old (QueueCleanup number) new = new ≡ queued_cleanup old number
-Follows old QueueAll new = Queues 0 old new × (new.registrations ≡ empty) × (new.late ≡ sets.empty) × (new.short ≡ old.short) × (new.long ≡ old.long) × (new.passes ≡ old.passes)
+Follows old QueueAll new = Queues 0 old new × (new.registrations ≡ empty) × (new.late ≡ sets.empty) × (new.short ≡ old.short) × (new.long ≡ old.long) × (new.passes ≡ old.passes) × (new.ephemerons ≡ old.ephemerons)
 Follows old (Take entry) new = (slice_get old.queue old.taken ≡ Some entry) × (new ≡ record old { taken = old.taken + 1; held = old.held ++ entry ∷ [] })
 Follows old (TakeFinished entry) new = (slice_get old.queue old.taken ≡ Some entry) × (new ≡ record old { taken = old.taken + 1 })
 Follows old (TakeAll entries) new = (entries ≡ waiting old) × (new ≡ record old { taken = length old.queue; held = unfinished old })

@@ -1,4 +1,4 @@
--- What each event does to links and to the numbers of passes, and what iterators yield, said of each key. These laws test the definitions.
+-- What each event does to links, to ephemerons and to the numbers of passes, and what iterators yield, said of each key. These laws test the definitions.
 -- code: fz_finalizers/src/law.rt
 use Rattle.std.specs.Prelude.{◌≡◌, ◌↔◌, ℕ, ◌+◌, ◌-◌, ◌^◌, ◌++◌, ◌<◌, ◌≤◌, ◌⊎◌, Bool, List, Contains, length, slice_get, Option, None, Some, IsTrue}
 use Rattle.std.specs.FinMap.{get}
@@ -14,7 +14,8 @@ use Rattle.fz_finalizers.specs.declared.roots.Root.TheVariants.{HeldObject, Held
 use Rattle.fz_finalizers.specs.States.{State, links_of, unfinished}
 use Rattle.fz_finalizers.specs.declared.cleanups.Attached.{Attached}
 use Rattle.fz_finalizers.specs.Cleanups.{is_due}
-use Rattle.fz_finalizers.specs.Follows.{Event, Link, Unlink, Move, Clean, Pass, Begin, Queue, QueueCleanup, QueueAll, next_pass}
+use Rattle.fz_pass.specs.Keyed.{ephemeron_at}
+use Rattle.fz_finalizers.specs.Follows.{Event, Link, Unlink, Move, Ephemeron, EndEphemeron, MoveEphemeron, OnlyGo, Clean, Pass, Begin, Queue, QueueCleanup, QueueAll, next_pass}
 use Rattle.fz_finalizers.specs.Passed.{DecidesFor, PassesFor}
 use Rattle.fz_finalizers.specs.Walks.{AreRegistrations, AreCleanups, AreLinks, YieldsRoots}
 
@@ -37,6 +38,25 @@ ChangesLinks old (Move kind word to) new =
     × ((target : ℕ) → get (links_of old kind) to ≡ Some target → SameLinks old new)
 ChangesLinks old Pass new = Unit {0}
 ChangesLinks old event new = SameLinks old new
+
+-- each word has the ephemeron that it had, or none as before, except those of which this holds
+abbrev pub SameEphemeronsBut : (ℕ → Type 0) → State → State → Type 0
+SameEphemeronsBut changed old new = (word : ℕ) → (changed word → ⊥) → ephemeron_at new.ephemerons word ≡ ephemeron_at old.ephemerons word
+
+abbrev pub SameEphemerons : State → State → Type 0
+SameEphemerons old new = SameEphemeronsBut (λ word. ⊥) old new
+
+-- an event changes the ephemerons of the words that it names: one moves, with its kind and its key, only to a word that has none. In a pass some go.
+abbrev pub ChangesEphemerons : State → Event → State → Type 0
+ChangesEphemerons old (Ephemeron kind word key) new = (ephemeron_at new.ephemerons word ≡ Some (kind, key)) × SameEphemeronsBut (λ w. w ≡ word) old new
+ChangesEphemerons old (EndEphemeron word) new = (ephemeron_at new.ephemerons word ≡ None) × SameEphemeronsBut (λ w. w ≡ word) old new
+ChangesEphemerons old (MoveEphemeron word to) new =
+    ((x : LinkKind × ℕ) → ephemeron_at old.ephemerons word ≡ Some x → ephemeron_at old.ephemerons to ≡ None
+    → (ephemeron_at new.ephemerons to ≡ Some x) × (ephemeron_at new.ephemerons word ≡ None) × SameEphemeronsBut (λ w. (w ≡ word) ⊎ (w ≡ to)) old new)
+    × (ephemeron_at old.ephemerons word ≡ None → SameEphemerons old new)
+    × ((x : LinkKind × ℕ) → ephemeron_at old.ephemerons to ≡ Some x → SameEphemerons old new)
+ChangesEphemerons old Pass new = OnlyGo old.ephemerons new.ephemerons
+ChangesEphemerons old event new = SameEphemerons old new
 
 -- passes count from 1 to the last number, which then stays
 abbrev pub IsNextPass : ℕ → ℕ → Type 0

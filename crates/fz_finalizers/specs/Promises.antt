@@ -9,7 +9,7 @@ use Rattle.fz_finalizers.specs.declared.roots.Root.TheVariants.{HeldObject, Held
 use Rattle.fz_finalizers.specs.declared.cleanups.Attached as cleanups
 use Rattle.fz_finalizers.specs.declared.cleanups.Cleanup.{Cleanup}
 use Rattle.fz_finalizers.specs.States.{State, AreFlags, opening, unfinished, kind_at}
-use Rattle.fz_finalizers.specs.Follows.{Event, Follows, Register, Unregister, Link, Unlink, Move, AddCleanup, Cancel, Clean, Pass, Begin, Queue, QueueCleanup, QueueAll, Take, TakeFinished, TakeAll, Finish}
+use Rattle.fz_finalizers.specs.Follows.{Event, Follows, Register, Unregister, Link, Unlink, Move, Ephemeron, EndEphemeron, MoveEphemeron, AddCleanup, Cancel, Clean, Pass, Begin, Queue, QueueCleanup, QueueAll, Take, TakeFinished, TakeAll, Finish}
 use Rattle.fz_finalizers.specs.Walks.{YieldsRoots}
 
 -- what a number was given for
@@ -41,6 +41,9 @@ with_event past (Unregister object) = past
 with_event past (Link kind word target) = past
 with_event past (Unlink kind word) = past
 with_event past (Move kind word to) = past
+with_event past (Ephemeron kind word key) = past
+with_event past (EndEphemeron word) = past
+with_event past (MoveEphemeron word to) = past
 with_event past Begin = past
 
 -- the states that calls reach, each with its history
@@ -82,6 +85,10 @@ pub record Records (s : State) (past : Past) : Type 0 where
       → (f : Finalizer) × (slice_get past.made r.number ≡ Some (object, Registered f)) × (kind_at s object ≡ Some f.kind) × (r.proc ≡ f.procedure) × (r.cd ≡ f.client_data) × (r.rank ≡ f.rank)
   pub attached : (number : ℕ) (c : cleanups.Attached) → get s.cleanups number ≡ Some c → slice_get past.made number ≡ Some (c.object, Attached c.cleanup)
   pub queued : (e : Entry) → Contains s.queue e → (made : ℕ × Made) × (slice_get past.made e.reg ≡ Some made) × IsEntryOf made e
+
+-- each word is an ephemeron of one kind at most
+abbrev pub AreSingle : State → Type 0
+AreSingle s = (word short long : ℕ) → get s.ephemerons.short word ≡ Some short → get s.ephemerons.long word ≡ Some long → ⊥
 
 -- the iterations over held objects and over their data contain every entry that was queued and isn't finished
 abbrev pub AreWalked : State → Past → Type 0

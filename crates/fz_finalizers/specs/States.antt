@@ -1,4 +1,4 @@
--- The model of finalizers: registrations, links, cleanups, entries, the room that is reserved, and the order of iterators.
+-- The model of finalizers: registrations, links, ephemerons, cleanups, entries, the room that is reserved, and the order of iterators.
 -- code: fz_finalizers/src/finalizers.rt
 use Rattle.std.specs.Prelude.{◌≡◌, ℕ, ◌≤◌, min, Bool, List, [], ◌++◌, drop, Option, option_map, refl, Some, IsTrue}
 use Rattle.std.specs.Coded.{Coded, code_by, coded×, coded_ℕ, coded_list, coded_option, coded_bool}
@@ -19,6 +19,7 @@ use Rattle.fz_finalizers.specs.declared.kinds.Kind.{Kind}
 use Rattle.fz_table.specs.declared.limits.TheConstants.{MOST_ENTRIES}
 use Rattle.fz_table.specs.declared.stored.Stored.{Stored}
 use Rattle.fz_table.specs.Tabled.{Set, stored_code}
+use Rattle.fz_pass.specs.Holds.{Ephemerons, no_ephemerons}
 use Rattle.fz_finalizers.specs.declared.cleanups.Attached.{Attached}
 use Rattle.fz_finalizers.specs.Cleanups.{attached_code}
 use Rattle.fz_finalizers.specs.Kinds.{of_table}
@@ -30,6 +31,7 @@ pub record State : Type 0 where
   pub cleanups : Map Attached  -- by number
   pub short : Map ℕ  -- the short links: from the word of a link to its target
   pub long : Map ℕ  -- the long links
+  pub ephemerons : Ephemerons  -- of both kinds: from the word of each to its key
   pub queue : List Entry  -- every entry ever queued, in order
   pub taken : ℕ  -- how many of them were taken: these are a prefix of the queue
   pub held : List Entry  -- the taken entries that aren't finished, in queue order
@@ -73,16 +75,18 @@ pub record View : Type 0 where
 
 abbrev state_code : Coded State
 state_code =
-    code_by ((Map Registration × (Set × (ℕ × Map Attached))) × ((Map ℕ × Map ℕ) × (List Entry × (ℕ × (List Entry × ℕ)))))
-    (coded× (coded× (map.code coded_ℕ registration_code) (coded× (sets.code coded_ℕ) (coded× coded_ℕ (map.code coded_ℕ attached_code)))) (coded× (coded× (map.code coded_ℕ coded_ℕ) (map.code coded_ℕ coded_ℕ)) (coded× (coded_list entry_code) (coded× coded_ℕ (coded× (coded_list entry_code) coded_ℕ)))))
-    (λ s. ((s.registrations, (s.late, (s.next_number, s.cleanups))), ((s.short, s.long), (s.queue, (s.taken, (s.held, s.passes))))))
+    code_by ((Map Registration × (Set × (ℕ × Map Attached))) × (((Map ℕ × Map ℕ) × (Map ℕ × Map ℕ)) × (List Entry × (ℕ × (List Entry × ℕ)))))
+    (coded× (coded× (map.code coded_ℕ registration_code) (coded× (sets.code coded_ℕ) (coded× coded_ℕ (map.code coded_ℕ attached_code))))
+    (coded× (coded× (coded× (map.code coded_ℕ coded_ℕ) (map.code coded_ℕ coded_ℕ)) (coded× (map.code coded_ℕ coded_ℕ) (map.code coded_ℕ coded_ℕ))) (coded× (coded_list entry_code) (coded× coded_ℕ (coded× (coded_list entry_code) coded_ℕ)))))
+    (λ s. ((s.registrations, (s.late, (s.next_number, s.cleanups))), (((s.short, s.long), (s.ephemerons.short, s.ephemerons.long)), (s.queue, (s.taken, (s.held, s.passes))))))
     (λ p. record {
       registrations = p.0.0;
       late = p.0.1.0;
       next_number = p.0.1.1.0;
       cleanups = p.0.1.1.1;
-      short = p.1.0.0;
-      long = p.1.0.1;
+      short = p.1.0.0.0;
+      long = p.1.0.0.1;
+      ephemerons = record { short = p.1.0.1.0; long = p.1.0.1.1 };
       queue = p.1.1.0;
       taken = p.1.1.1.0;
       held = p.1.1.1.1.0;
@@ -114,7 +118,7 @@ view_code =
 
 -- nothing is registered or queued
 abbrev pub opening : State
-opening = record { registrations = empty; late = sets.empty; next_number = 0; cleanups = empty; short = empty; long = empty; queue = []; taken = 0; held = []; passes = 0 }
+opening = record { registrations = empty; late = sets.empty; next_number = 0; cleanups = empty; short = empty; long = empty; ephemerons = no_ephemerons; queue = []; taken = 0; held = []; passes = 0 }
 
 -- the entries that wait to be taken
 abbrev pub waiting : State → List Entry

@@ -8,23 +8,25 @@ use crate::ready::Ready;
 use crate::refused::Refused;
 use fz_links::Links;
 use fz_model::Addr;
+use fz_pass::Ephemerons;
 use fz_table::Table;
 use std::alloc::Global;
 use std::marker::Model;
 
-/// The finalizers of a host with a heap of its own: registrations, links, cleanups, and the queue of entries.
+/// The finalizers of a host with a heap of its own: registrations, links, ephemerons, cleanups, and the queue of entries.
 ///
 /// Objects, words, procedures and client data are numbers that are only compared and passed back, never dereferenced. Zero is neither an object nor a word.
 ///
 /// Its model is a state, the room that is reserved, and the order of iterators. If several refusals of a call apply, it returns the first in the documented
-/// order. A refused call leaves the state unchanged. Only `new`, `reserve`, `shrink`, a new registration, a new
-/// link and a cleanup allocate, and `shrink` can't fail. Each registration and each cleanup has room reserved for its entry, and each link for its moves, so a
-/// pass, a take and a move of a link can't run out of memory. A registration or a cleanup without reserved room first reuses the memory of finished entries,
-/// and so does a pass, except in finalizers that `whole` made.
+/// order. A refused call leaves the state unchanged. Only `new`, `reserve`, `shrink`, a new registration, a new link, an ephemeron that is new or changes its
+/// kind, and a cleanup allocate, and `shrink` can't fail. Each registration and each cleanup has room reserved for its entry, each link for its moves, and each
+/// ephemeron for its moves and for a pass, so a pass, a take and a move can't run out of memory. A registration or a cleanup without reserved room first reuses
+/// the memory of finished entries, and so does a pass, except in finalizers that `whole` made.
 pub struct Finalizers {
     pub(crate) table: Table,
     pub(crate) short: Links,
     pub(crate) long: Links,
+    pub(crate) ephemerons: Ephemerons,
     pub(crate) cleanups: Cleanups,
     /// Empty, except while a link is moved: a move may put half of the links here temporarily.
     pub(crate) moves: Vec<(Addr, Addr)>,
@@ -39,6 +41,7 @@ impl Drop for Finalizers {
             table: _,
             short: _,
             long: _,
+            ephemerons: _,
             cleanups: _,
             moves: _,
             ready: _,
@@ -57,7 +60,7 @@ impl Model for Finalizers {
     ghost coded = { view_code };
 
     ghost view = { λ f. record {
-      state = state_of f.table.content f.short f.long f.cleanups.cleanups f.ready f.passes;
+      state = state_of f.table.content f.short f.long f.ephemerons.ephemerons f.cleanups.cleanups f.ready f.passes;
       rooms = rooms_of f.table f.short f.long f.cleanups f.ready (2 * vec_capacity f.moves);
       order = order_of f.table f.short f.long f.cleanups.order f.ready;
       memory = f.ready.memory;
@@ -78,6 +81,7 @@ impl Finalizers {
             table: Table::new(alloc),
             short: Links::new(alloc),
             long: Links::new(alloc),
+            ephemerons: Ephemerons::new(alloc),
             cleanups: Cleanups::new(alloc),
             moves: Vec::new(alloc),
             ready,

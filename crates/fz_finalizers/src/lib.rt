@@ -6,6 +6,7 @@ mod cleaning;
 mod cleanups;
 mod data;
 mod entries;
+mod ephemerons;
 mod finalizers;
 mod kinds;
 mod law;

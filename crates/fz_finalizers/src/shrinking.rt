@@ -6,7 +6,7 @@ ghost use Rattle.fz_finalizers.specs.States.{KeepsTables};
 use crate::finalizers::Finalizers;
 
 impl Finalizers {
-    /// Frees the memory that registrations, links, cleanups and entries don't need. If a smaller table or list can't be allocated, the old one stays. An iteration over
+    /// Frees the memory that registrations, links, ephemerons, cleanups and entries don't need. If a smaller table or list can't be allocated, the old one stays. An iteration over
     /// roots has to begin anew. Takes time proportional to all of these. A pass never does this.
     pub fn shrink(&mut self)
         ensures state { self.new.state ≡ self.old.state }
@@ -17,6 +17,7 @@ impl Finalizers {
         self.long.shrink();
         let links = self.short.len().max(self.long.len());
         self.moves.shrink_to(links.div_ceil(2));
+        self.ephemerons.shrink();
         self.cleanups.shrink();
         self.ready.shrink(self.table.len() + self.cleanups.len());
     }

@@ -169,7 +169,7 @@ module _ (E : Type 0) (word_of : ℕ → Option ℕ) (old begun new : Machine) (
 
   -- what comes and goes in the finalizers
   as_pass : Follows begun_state Pass passed_state
-  as_pass = (decided_queues E word_of mid.passes before.objects (retain_keys after_it.objects after_it.marked) before.marked begun_state passed_state decides_it refl refl refl refl, refl)
+  as_pass = (decided_queues E word_of mid.passes before.objects (retain_keys after_it.objects after_it.marked) before.marked begun_state passed_state decides_it refl refl refl refl, refl, λ kind word key here. here)
 
   passes : PassesFor E word_of old.finalizers.state before.objects before.marked end after_it.objects after_it.marked
   passes = record {

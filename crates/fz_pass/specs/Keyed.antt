@@ -26,7 +26,7 @@ abbrev pub of_kind : Ephemerons → LinkKind → Map ℕ
 of_kind ephemerons Short = ephemerons.short
 of_kind ephemerons Long = ephemerons.long
 
-abbrev kind_and_key : Option ℕ → Option ℕ → Option (LinkKind × ℕ)
+abbrev pub kind_and_key : Option ℕ → Option ℕ → Option (LinkKind × ℕ)
 kind_and_key (Some key) long = Some (Short, key)
 kind_and_key None (Some key) = Some (Long, key)
 kind_and_key None None = None

@@ -1,7 +1,9 @@
 //! The ephemerons of a host, with room for a pass to make marks whole.
 
-ghost use Rattle.std.specs.Prelude.{◌≡◌, ◌≤◌, ◌+◌, ◌*◌, [], if◌then◌else◌, None, vec_capacity, IsFalse, IfErr, IfOk, OnErr, OnOk};
-ghost use Rattle.std.specs.FinMap.{get, insert, remove, len};
+ghost use Rattle.std.specs.Prelude.{◌≡◌, ◌≤◌, ◌+◌, ◌*◌, [], if◌then◌else◌, length, nat_eq, None, vec_capacity, IsFalse, IfErr, IfOk, OnErr, OnOk};
+ghost use Rattle.std.specs.FinMap.{get, insert, remove, len, from_entries};
+ghost use Rattle.std.specs.List.{IsDistinct};
+ghost use Rattle.std.specs.Map.{keys_of};
 ghost use Rattle.fz_model.specs.Pass.{cleared};
 ghost use Rattle.fz_table.specs.declared.limits.TheConstants.{MOST_ENTRIES};
 ghost use Rattle.fz_table.specs.Places.{lacks_place};
@@ -16,6 +18,7 @@ use crate::host::Values;
 use crate::settling::{list_ephemerons, settle_waiting};
 use fz_links::Links;
 use fz_model::{Addr, LinkAnswer, LinkKind, MoveAnswer, Refusal};
+use fz_table::Pairs;
 use std::alloc::Global;
 use std::marker::Model;
 
@@ -149,6 +152,29 @@ impl Ephemerons {
         ensures limit { result ≤ 2 * MOST_ENTRIES }
     {
         self.short.len() + self.long.len()
+    }
+
+    /// All ephemerons of one kind with their keys, each once. The order stays the same until the table changes.
+    pub fn iter(&self, kind: LinkKind) -> Pairs<'_, Addr, Addr>
+        ensures all { from_entries result ≡ of_kind self.now.ephemerons kind }
+        ensures once { IsDistinct nat_eq (keys_of result) }
+        ensures count { length result ≡ len (of_kind self.now.ephemerons kind) }
+    {
+        match kind {
+            LinkKind::Short => self.short.iter(),
+            LinkKind::Long => self.long.iter(),
+        }
+    }
+
+    /// Frees memory that the ephemerons and a pass over them don't need. If a smaller table or list can't be allocated, the old one stays.
+    pub fn shrink(&mut self)
+        ensures same { self.new.ephemerons ≡ self.old.ephemerons }
+    {
+        self.short.shrink();
+        self.long.shrink();
+        let most = self.short.len() + self.long.len();
+        self.waiting.shrink_to(most);
+        self.rest.shrink_to(most);
     }
 
     /// Whether there are 2^32 ephemerons of a kind, and the word isn't one of them.

@@ -1,6 +1,5 @@
-use Rattle.std.proofs.Common.{◌≡◌, ◌∷◌, [], ◌+◌, ◌∙◌, ℕ, List, length, length-append, get_or, refl, sym, ap, subst, arith}
+use Rattle.std.proofs.Common.{◌∷◌, [], ◌∙◌, length, length-append, get_or, refl, ap, subst, arith}
 use Rattle.fz_model.specs.declared.answers.Pick.{Pick}
-use Rattle.fz_finalizers.specs.Cleanups.{pick_of}
 use Rattle.fz_finalizers.specs.Queue.{GainsPicks}
 use Rattle.fz_finalizers.proofs.Cleaned.{takes_none, still_there, takes_more, takes_all}
 use Rattle.fz_finalizers.proofs.cleaning.queue_listed.Goals as goal

@@ -1,4 +1,4 @@
-use Rattle.std.proofs.Common.{◌≡◌, ◌+◌, ◌≤◌, arith}
+use Rattle.std.proofs.Common.{◌+◌, ◌≤◌, arith}
 use Rattle.std.specs.FinMap.{len}
 use Rattle.fz_finalizers.proofs.Fitting.{added_fits, can_add}
 use Rattle.fz_finalizers.proofs.finalizers.Finalizers.add_cleanup.Goals as goal

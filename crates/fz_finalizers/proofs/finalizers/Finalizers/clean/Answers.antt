@@ -1,4 +1,4 @@
-use Rattle.std.proofs.Common.{ℕ, Bool, subst}
+use Rattle.std.proofs.Common.{Bool, subst}
 use Rattle.fz_finalizers.specs.declared.cleanups.Attached.{Attached}
 use Rattle.fz_finalizers.specs.Cleanups.{is_due}
 use Rattle.fz_finalizers.specs.Fits.{state_of}
@@ -16,8 +16,8 @@ returns-clause-cleaned g c =
     let i = c.self.inside in
     let e = c.clean.ensures in
     let test : Attached → Bool = is_due c.args.when (g.H.Host.marked c.args.host.now) in
-    let old = state_of i.table.content i.short i.long i.cleanups.cleanups i.ready i.passes in
-    let new = state_of i.table.content i.short i.long c.clean.new.cleanups.cleanups c.clean.new.self i.passes in
+    let old = state_of i.table.content i.short i.long i.ephemerons.ephemerons i.cleanups.cleanups i.ready i.passes in
+    let new = state_of i.table.content i.short i.long i.ephemerons.ephemerons c.clean.new.cleanups.cleanups c.clean.new.self i.passes in
     subst (λ (v : View). Cleans c.args.pass test v.state new) c.self.view_is
     (e.cleaned.0, e.cleaned.1, (λ j. record old { queue = e.cleaned.3 j; cleanups = e.cleaned.2 j; taken = e.taken j; held = e.held j }))
 

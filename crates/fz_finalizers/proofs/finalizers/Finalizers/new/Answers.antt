@@ -7,4 +7,4 @@ pub invariant_of-result : goal.invariant_of-result
 invariant_of-result c =
     let short = ap len c.new-3.ensures ∙ len-empty nat_cmp ℕ in
     let long = ap len c.new-4.ensures ∙ len-empty nat_cmp ℕ in
-    (none_fits c.new-2.result.content c.new-5.result.cleanups c.in_ok-ready.ready (λ i. record { registered = c.new-2.ensures.registered i; late = c.new-2.ensures.late i }) c.new-5.ensures c.in_ok-ready.ensures.queue, record { none = c.new-6.ensures.items; few_short = omega (arith, short); few_long = omega (arith, long) })
+    (none_fits c.new-2.result.content c.new-6.result.cleanups c.in_ok-ready.ready (λ i. record { registered = c.new-2.ensures.registered i; late = c.new-2.ensures.late i }) c.new-6.ensures c.in_ok-ready.ensures.queue, record { none = c.new-7.ensures.items; few_short = omega (arith, short); few_long = omega (arith, long) })

@@ -3,7 +3,7 @@ use Rattle.std.specs.FinMap.{get}
 use Rattle.fz_pass.specs.Decides.{Parts}
 use Rattle.fz_table.specs.Registered.{Registered}
 use Rattle.fz_finalizers.specs.Fits.{state_of}
-use Rattle.fz_finalizers.specs.Follows.{Queues, next_pass}
+use Rattle.fz_finalizers.specs.Follows.{OnlyGo, Queues, next_pass}
 use Rattle.fz_finalizers.specs.States.{State, View, Memory}
 use Rattle.fz_finalizers.proofs.Counting.{len_within}
 use Rattle.fz_finalizers.proofs.Fitting.{queued_fits, roomier_fits}
@@ -37,14 +37,14 @@ invariant_of-self g c =
 pub returns-clause-follows : goal.returns-clause-follows
 returns-clause-follows g c =
     let e = c.pass.ensures in
-    let new = state_of c.pass.new.table.content c.pass.new.short c.pass.new.long c.self.inside.cleanups.cleanups c.pass.new.self c.saturating_add-pass.result in
-    let old = state_of c.self.inside.table.content c.self.inside.short c.self.inside.long c.self.inside.cleanups.cleanups c.reuse.new.self c.self.inside.passes in
+    let new = state_of c.pass.new.table.content c.pass.new.short c.pass.new.long c.self.inside.ephemerons.ephemerons c.self.inside.cleanups.cleanups c.pass.new.self c.saturating_add-pass.result in
+    let old = state_of c.self.inside.table.content c.self.inside.short c.self.inside.long c.self.inside.ephemerons.ephemerons c.self.inside.cleanups.cleanups c.reuse.new.self c.self.inside.passes in
     let same = (λ i. record old { queue = c.reuse.ensures.same.0 i; taken = c.reuse.ensures.same.1 i; held = c.reuse.ensures.same.2 i }) ∙ ap (λ (v : View). v.state) c.self.view_is in
     let queues =
     decided_queues g.H.Host.is_exact g.H.Host.place c.saturating_add-pass.result (g.H.Host.objects c.args.host.now) _ (g.H.Host.marked c.args.host.now) old new e.decided e.taken e.held
     (ap (λ (t : Registered). t.next_number) e.table) refl in
     let number = c.saturating_add-pass.ensures ∙ ap (λ (v : View). next_pass v.passes) c.self.view_is in
-    (subst (λ (s : State). Queues (next_pass s.passes) s new) same (subst (λ n. Queues n old new) c.saturating_add-pass.ensures queues), number)
+    (subst (λ (s : State). Queues (next_pass s.passes) s new) same (subst (λ n. Queues n old new) c.saturating_add-pass.ensures queues), number, subst (λ (v : View). OnlyGo v.ephemerons new.ephemerons) c.self.view_is (λ kind word key here. here))
 
 pub returns-clause-memory : goal.returns-clause-memory
 returns-clause-memory g c = λ whole.

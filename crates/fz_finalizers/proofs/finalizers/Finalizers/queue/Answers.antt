@@ -12,7 +12,7 @@ invariant_of-self c =
 
 pub returns-in_default-clause-follows : goal.returns-in_default-clause-follows
 returns-in_default-clause-follows c =
-    let s = state_of c.self.inside.table.content c.self.inside.short c.self.inside.long c.self.inside.cleanups.cleanups c.self.inside.ready c.self.inside.passes in
+    let s = state_of c.self.inside.table.content c.self.inside.short c.self.inside.long c.self.inside.ephemerons.ephemerons c.self.inside.cleanups.cleanups c.self.inside.ready c.self.inside.passes in
     (λ i. record s { registrations = (c.take.ensures.removed i).registrations; next_number = (c.take.ensures.removed i).next_number; late = c.take.ensures.late i })
     ∙ none_queued s c.args.object c.self.invariant.0.flags (sym c.take.ensures.answer ∙ c.in_default.is) ∙ ap (λ (v : View). queued_object v.state c.args.object) c.self.view_is
 

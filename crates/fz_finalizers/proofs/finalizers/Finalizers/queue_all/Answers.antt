@@ -26,9 +26,9 @@ invariant_of-self c =
 pub returns-clause-follows : goal.returns-clause-follows
 returns-clause-follows c =
     let e = c.queue_all.ensures in
-    let new = state_of c.queue_all.new.table.content c.self.inside.short c.self.inside.long c.self.inside.cleanups.cleanups c.queue_all.new.self c.self.inside.passes in
-    let old = state_of c.self.inside.table.content c.self.inside.short c.self.inside.long c.self.inside.cleanups.cleanups c.self.inside.ready c.self.inside.passes in
+    let new = state_of c.queue_all.new.table.content c.self.inside.short c.self.inside.long c.self.inside.ephemerons.ephemerons c.self.inside.cleanups.cleanups c.queue_all.new.self c.self.inside.passes in
+    let old = state_of c.self.inside.table.content c.self.inside.short c.self.inside.long c.self.inside.ephemerons.ephemerons c.self.inside.cleanups.cleanups c.self.inside.ready c.self.inside.passes in
     let none = ap (λ (t : Registered). t.registrations) e.table in
     let queues = all_queues old new e.queued.0 e.queued.1 none e.taken e.held (ap (λ (t : Registered). t.next_number) e.table) refl in
     let none_late = flags_none old new queues none c.self.invariant.0.flags in
-    (subst (λ (v : View). Queues 0 v.state new) c.self.view_is queues, none, none_late, ap (λ (v : View). v.short) c.self.view_is, ap (λ (v : View). v.long) c.self.view_is, ap (λ (v : View). v.passes) c.self.view_is)
+    (subst (λ (v : View). Queues 0 v.state new) c.self.view_is queues, none, none_late, ap (λ (v : View). v.short) c.self.view_is, ap (λ (v : View). v.long) c.self.view_is, ap (λ (v : View). v.passes) c.self.view_is, ap (λ (v : View). v.ephemerons) c.self.view_is)

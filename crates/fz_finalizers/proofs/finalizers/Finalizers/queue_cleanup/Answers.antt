@@ -12,5 +12,5 @@ invariant_of-self c =
 
 pub returns-in_default-clause-follows : goal.returns-in_default-clause-follows
 returns-in_default-clause-follows c =
-    let s = state_of c.self.inside.table.content c.self.inside.short c.self.inside.long c.self.inside.cleanups.cleanups c.self.inside.ready c.self.inside.passes in
+    let s = state_of c.self.inside.table.content c.self.inside.short c.self.inside.long c.self.inside.ephemerons.ephemerons c.self.inside.cleanups.cleanups c.self.inside.ready c.self.inside.passes in
     (λ i. record s { cleanups = c.remove.ensures.removed i }) ∙ no_cleanup_queued s c.args.number (sym c.remove.ensures.answer ∙ c.in_default.is) ∙ ap (λ (v : View). queued_cleanup v.state c.args.number) c.self.view_is

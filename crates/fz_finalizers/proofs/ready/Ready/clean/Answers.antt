@@ -1,4 +1,4 @@
-use Rattle.std.proofs.Common.{◌≡◌, ◌∙◌, ℕ, Bool, List, All, sym, ap, subst}
+use Rattle.std.proofs.Common.{◌∙◌, Bool, List, All, sym, ap, subst}
 use Rattle.fz_model.specs.declared.answers.Entry.{Entry}
 use Rattle.fz_pass.specs.Listing.{AreRanked}
 use Rattle.fz_finalizers.specs.declared.cleanups.Attached.{Attached}
