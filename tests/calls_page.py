@@ -5,7 +5,7 @@ import glob, re, textwrap
 PAGE = 'docs/reference/CALLS.md'
 # The types whose calls it has, each with its crate.
 TYPES = [('World', 'fz_world'), ('Service', 'fz_service'), ('Locked', 'fz_service'), ('Seat', 'fz_service'), ('Duty', 'fz_service'), ('Proc', 'fz_service'),
-         ('Gate', 'fz_service'), ('Program', 'fz_service'), ('Finalizers', 'fz_finalizers'), ('Host', 'fz_pass'), ('Paths', 'fz_why'), ('Machine', 'fz_machine')]
+         ('Gate', 'fz_service'), ('Program', 'fz_service'), ('Finalizers', 'fz_finalizers'), ('Host', 'fz_pass'), ('Values', 'fz_pass'), ('Paths', 'fz_why'), ('Machine', 'fz_machine')]
 # The crates whose functions it has, beside the calls of types.
 FUNCTIONS = ['fz_service', 'fz_why']
 # Where the types of answers stand, but for those of a crate itself.

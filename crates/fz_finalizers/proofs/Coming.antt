@@ -7,10 +7,11 @@ use Rattle.fz_model.proofs.Sound.{length-entries_of}
 use Rattle.fz_model.specs.declared.answers.Entry.{Entry}
 use Rattle.fz_model.specs.declared.answers.Pick.{Pick}
 use Rattle.fz_model.specs.declared.answers.Registration.{Registration}
-use Rattle.fz_model.specs.State.{Map}
+use Rattle.fz_model.specs.State.{Map, Object}
 use Rattle.fz_pass.specs.All.{QueuesAll}
 use Rattle.fz_pass.specs.Decides.{Parts}
-use Rattle.fz_pass.specs.Flagged.{DecidesFlagged}
+use Rattle.fz_pass.specs.Holds.{Ephemerons}
+use Rattle.fz_pass.specs.Whole.{DecidesWhole}
 use Rattle.fz_pass.specs.Picking.{without_flags}
 use Rattle.fz_model.specs.Pass.{entries_of}
 use Rattle.fz_finalizers.specs.Queue.{Queue, GainsPicks, IsReady, placed_in, is_between}
@@ -65,7 +66,8 @@ module _ (past items now queue : List Entry) (kept next first : ℕ) (late new_l
       → (q : QueuesAll first registrations (contains late) queue (past ++ drop kept now)) × (new_late ≡ without_flags late q.picks)
   all_there registrations q left = (record { picks = q.picks; queued = longer 0 q.picks q.queued; ordered = q.ordered; each = q.each; whole = q.whole }, left)
 
-  pub decided_there : (Exact : Type 0) (place : ℕ → Option ℕ) (pass : ℕ) (old new : Parts) (found : ℕ → Bool) (d : DecidesFlagged Exact place (contains late) pass next old found new items now) → new_late ≡ without_flags late d.picks
-      → (d : DecidesFlagged Exact place (contains late) pass first old found new queue (past ++ drop kept now)) × (new_late ≡ without_flags late d.picks)
-  decided_there Exact place pass old new found d left =
-      (record { picks = d.picks; picked = d.picked; queued = longer pass d.picks d.queued; kept = d.kept; keeps = d.keeps; most = d.most; is = d.is }, left)
+  pub decided_there : (Exact : Type 0) (place : ℕ → Option ℕ) (value : Map Object → ℕ → Option ℕ) (pass : ℕ) (old : Parts) (ephemerons : Ephemerons) (new : Parts) (new_ephemerons : Ephemerons) (found : ℕ → Bool)
+      (d : DecidesWhole Exact place value (contains late) pass next old ephemerons found new new_ephemerons items now) → new_late ≡ without_flags late d.picks
+      → (d : DecidesWhole Exact place value (contains late) pass first old ephemerons found new new_ephemerons queue (past ++ drop kept now)) × (new_late ≡ without_flags late d.picks)
+  decided_there Exact place value pass old ephemerons new new_ephemerons found d left =
+      (record { picks = d.picks; picked = d.picked; queued = longer pass d.picks d.queued; kept = d.kept; keeps = d.keeps; most = d.most; is = d.is; left = d.left }, left)

@@ -18,3 +18,4 @@ pub mod Coming
 pub mod Shown
 pub mod Cleaned
 pub mod Alike
+pub mod Plainly

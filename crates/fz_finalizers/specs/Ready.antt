@@ -10,6 +10,9 @@ use Rattle.fz_table.specs.Tabled.{Content, Set}
 use Rattle.fz_pass.specs.All.{QueuesAll}
 use Rattle.fz_pass.specs.Decides.{Parts}
 use Rattle.fz_pass.specs.Flagged.{DecidesFlagged}
+use Rattle.fz_pass.specs.Holds.{Ephemerons}
+use Rattle.fz_pass.specs.Whole.{DecidesWhole}
+use Rattle.fz_model.specs.State.{Map, Object}
 use Rattle.fz_pass.specs.Picking.{without_flags}
 use Rattle.fz_finalizers.specs.Queue.{Queue, AreNumbered}
 use Rattle.fz_finalizers.specs.States.{Memory, memory_code}
@@ -63,3 +66,8 @@ QueuesTable old new_late queue new_queue = (q : QueuesAll (length queue) old.reg
 abbrev pub Decides : Type 0 → (ℕ → Option ℕ) → ℕ → Set → Set → Parts → (ℕ → Bool) → Parts → List Entry → List Entry → Type 0
 Decides Exact place pass late new_late parts found new_parts old new =
     (d : DecidesFlagged Exact place (contains late) pass (length old) parts found new_parts old new) × (new_late ≡ without_flags late d.picks)
+
+-- the same over a host with ephemerons
+abbrev pub DecidesKeyed : Type 0 → (ℕ → Option ℕ) → (Map Object → ℕ → Option ℕ) → ℕ → Set → Set → Parts → Ephemerons → (ℕ → Bool) → Parts → Ephemerons → List Entry → List Entry → Type 0
+DecidesKeyed Exact place value pass late new_late parts ephemerons found new_parts new_ephemerons old new =
+    (d : DecidesWhole Exact place value (contains late) pass (length old) parts ephemerons found new_parts new_ephemerons old new) × (new_late ≡ without_flags late d.picks)

@@ -14,6 +14,7 @@ mod linking;
 mod links;
 mod passes;
 mod past;
+mod plain;
 mod queue;
 mod ready;
 mod refused;

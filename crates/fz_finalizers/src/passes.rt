@@ -4,19 +4,22 @@ ghost use Rattle.std.specs.Prelude.{◌≡◌, ◌≤◌, ◌+◌, ℕ, None, le
 ghost use Rattle.fz_model.specs.Memory.{points};
 ghost use Rattle.std.specs.FinSet.{contains};
 ghost use Rattle.fz_pass.specs.All.{QueuesAll};
+ghost use Rattle.fz_pass.specs.Holds.{IsOfKey, IsWhole, no_ephemerons};
 ghost use Rattle.fz_pass.specs.Marks.{IsClosed, AreRegistered, AreTargets};
 ghost use Rattle.std.specs.FinMap.{empty};
 ghost use Rattle.fz_finalizers.specs.Cleanups.{is_due};
 ghost use Rattle.fz_finalizers.specs.Follows.{Cleans, Follows, Pass, QueueAll, next_pass};
-ghost use Rattle.fz_finalizers.specs.Passed.{CleansAll, DecidesFor, PassesFor};
-ghost use Rattle.fz_finalizers.specs.States.{HasRooms, IsRoomier, KeepsWindow, limited};
+ghost use Rattle.fz_finalizers.specs.Passed.{CleansAll, DecidesFor, DecidesWholeFor, PassesFor, PassesFound, PassesWhole};
+ghost use Rattle.fz_finalizers.specs.States.{AreFlags, HasRooms, IsRoomier, KeepsWindow, limited};
 
 use crate::finalizers::Finalizers;
 use crate::linking::reserve_moves;
+use crate::plain::Plain;
 use crate::refused::Refused;
 use fz_model::LinkKind;
-use fz_pass::{Host, Nothing};
+use fz_pass::{Ephemerons, Host, Nothing, Values};
 use fz_table::MOST_ENTRIES;
+use std::mem;
 
 /// What a pass has done.
 #[derive(Clone, Copy, Debug, PartialEq, Eq)]
@@ -76,6 +79,8 @@ impl Finalizers {
     /// Before anything else the short cleanups whose objects aren't marked are queued, and after everything else the long ones: each by rank, then number.
     /// Cleanups change nothing else in a pass, and ask for the marks of their objects alone.
     ///
+    /// Ephemerons are unchanged, and their words are like any others: a host that has some calls `pass_with_ephemerons`.
+    ///
     /// The host has to ensure that registered objects and the targets of links are its objects.
     pub fn pass<H: Host>(&mut self, host: &mut H) -> Passed
         requires registered { AreRegistered (H.objects host.old) self.old.registrations }
@@ -85,6 +90,7 @@ impl Finalizers {
         requires zero { points (H.objects host.old) 0 ≡ None }
         requires closed { IsClosed (H.objects host.old) (H.marked host.old) }
         ensures passes { PassesFor H.is_exact H.place self.old.state (H.objects host.old) (H.marked host.old) self.new.state (H.objects host.new) (H.marked host.new) }
+        ensures ephemerons { self.new.ephemerons ≡ self.old.ephemerons }
         ensures pass { result.pass ≡ next_pass self.old.passes }
         ensures picked { length self.new.queue ≡ length self.old.queue + result.picked }
         ensures memory { IsTrue self.old.memory.whole → KeepsWindow self.old.memory self.new.memory }
@@ -94,15 +100,89 @@ impl Finalizers {
         // Everything else in the host is unchanged.
         ensures same { H.is_same host.old host.new }
     {
+        let ephemerons = self.take_ephemerons();
+        let passed = self.pass_found(&mut Plain::of(host));
+        self.put_ephemerons(ephemerons);
+        passed
+    }
+
+    /// Carries out a pass over a heap with ephemerons: it finds, queues and retains by what sets of objects hold. A set holds the objects that its members reach,
+    /// and the value of each ephemeron whose key and whose holder, the object in which its word lies, it holds. Everything else is as `pass` says.
+    ///
+    /// First the values of ephemerons are marked whose keys and holders are marked, and everything that they reach, until no more follow: what is marked then is
+    /// found. An ephemeron that is short and whose key isn't found is cleared and removed with the short links, one that is long and whose key isn't retained with
+    /// the long links. One whose word lies in an object that isn't retained is removed, too. So an ephemeron never retains its own key.
+    ///
+    /// Takes no memory. Beside the time of `pass`, each of four times it asks for the marks of keys and of holders of all ephemerons, and again of those that
+    /// wait only while values are marked. The host has to ensure that keys are its objects, too.
+    pub fn pass_with_ephemerons<H: Values>(&mut self, host: &mut H) -> Passed
+        requires registered { AreRegistered (H.objects host.old) self.old.registrations }
+        requires short { AreTargets (H.objects host.old) self.old.short }
+        requires long { AreTargets (H.objects host.old) self.old.long }
+        requires short_keys { AreTargets (H.objects host.old) self.old.ephemerons.short }
+        requires long_keys { AreTargets (H.objects host.old) self.old.ephemerons.long }
+        // A cleared word points to nothing.
+        requires zero { points (H.objects host.old) 0 ≡ None }
+        requires closed { IsClosed (H.objects host.old) (H.marked host.old) }
+        ensures passes { PassesWhole H.is_exact H.place H.value self.old.state (H.objects host.old) (H.marked host.old) self.new.state (H.objects host.new) (H.marked host.new) }
+        ensures pass { result.pass ≡ next_pass self.old.passes }
+        ensures picked { length self.new.queue ≡ length self.old.queue + result.picked }
+        ensures memory { IsTrue self.old.memory.whole → KeepsWindow self.old.memory self.new.memory }
+        // Marked objects stay marked, and everything that they reach is marked.
+        ensures marks { (a : ℕ) → IsTrue (H.marked host.old a) → IsTrue (H.marked host.new a) }
+        ensures closed { IsClosed (H.objects host.new) (H.marked host.new) }
+        // Everything else in the host is unchanged.
+        ensures same { H.is_same host.old host.new }
+    {
+        self.ephemerons.settle(host);
+        self.pass_found(host)
+    }
+
+    /// Carries out a pass whose found set is the marked objects: what they hold is marked.
+    fn pass_found<H: Values>(&mut self, host: &mut H) -> Passed
+        requires registered { AreRegistered (H.objects host.old) self.old.registrations }
+        requires short { AreTargets (H.objects host.old) self.old.short }
+        requires long { AreTargets (H.objects host.old) self.old.long }
+        requires short_keys { AreTargets (H.objects host.old) self.old.ephemerons.short }
+        requires long_keys { AreTargets (H.objects host.old) self.old.ephemerons.long }
+        requires zero { points (H.objects host.old) 0 ≡ None }
+        requires whole { IsWhole H.place H.value (H.objects host.old) (IsOfKey self.old.ephemerons) (H.marked host.old) }
+        ensures passes { PassesFound H.is_exact H.place H.value self.old.state (H.objects host.old) (H.marked host.old) self.new.state (H.objects host.new) (H.marked host.new) }
+        ensures pass { result.pass ≡ next_pass self.old.passes }
+        ensures picked { length self.new.queue ≡ length self.old.queue + result.picked }
+        ensures memory { IsTrue self.old.memory.whole → KeepsWindow self.old.memory self.new.memory }
+        ensures marks { (a : ℕ) → IsTrue (H.marked host.old a) → IsTrue (H.marked host.new a) }
+        ensures closed { IsClosed (H.objects host.new) (H.marked host.new) }
+        ensures same { H.is_same host.old host.new }
+    {
         let before = self.ready.queued();
         let pass = self.passes.saturating_add(1);
         self.clean(pass, LinkKind::Short, host);
-        self.pass_without_cleanups(host);
+        self.decide(host);
         self.clean(pass, LinkKind::Long, host);
         Passed {
             pass,
             picked: self.ready.queued() - before,
         }
+    }
+
+    /// Takes out the ephemerons. None are left.
+    fn take_ephemerons(&mut self) -> Ephemerons
+        ensures taken { result.ephemerons ≡ self.old.ephemerons }
+        ensures left { self.new.state ≡ record self.old.state { ephemerons = no_ephemerons } }
+        ensures flags { AreFlags self.old.registrations self.old.late }
+        ensures memory { self.new.memory ≡ self.old.memory }
+    {
+        let none = Ephemerons::new(*self.moves.allocator());
+        mem::replace(&mut self.ephemerons, none)
+    }
+
+    /// Puts ephemerons in place of those that there are.
+    fn put_ephemerons(&mut self, ephemerons: Ephemerons)
+        ensures put { self.new.state ≡ record self.old.state { ephemerons = ephemerons.ephemerons } }
+        ensures memory { self.new.memory ≡ self.old.memory }
+    {
+        self.ephemerons = ephemerons;
     }
 
     /// Queues the cleanups of this moment whose objects aren't marked, with this pass.
@@ -123,6 +203,7 @@ impl Finalizers {
         requires closed { IsClosed (H.objects host.old) (H.marked host.old) }
         ensures decided { DecidesFor H.is_exact H.place (next_pass self.old.passes) self.old.state (H.objects host.old) (H.marked host.old) self.new.state (H.objects host.new) (H.marked host.new) }
         ensures follows { Follows self.old.state Pass self.new.state }
+        ensures ephemerons { self.new.ephemerons ≡ self.old.ephemerons }
         ensures pass { result.pass ≡ next_pass self.old.passes }
         ensures picked { length self.new.queue ≡ length self.old.queue + result.picked }
         ensures memory { IsTrue self.old.memory.whole → KeepsWindow self.old.memory self.new.memory }
@@ -132,10 +213,36 @@ impl Finalizers {
         // Everything else in the host is unchanged.
         ensures same { H.is_same host.old host.new }
     {
+        let aside = self.take_ephemerons();
+        let passed = self.decide(&mut Plain::of(host));
+        self.put_ephemerons(aside);
+        passed
+    }
+
+    /// Carries out the pass itself, without cleanups. What the marked objects hold is marked.
+    fn decide<H: Values>(&mut self, host: &mut H) -> Passed
+        requires registered { AreRegistered (H.objects host.old) self.old.registrations }
+        requires short { AreTargets (H.objects host.old) self.old.short }
+        requires long { AreTargets (H.objects host.old) self.old.long }
+        requires short_keys { AreTargets (H.objects host.old) self.old.ephemerons.short }
+        requires long_keys { AreTargets (H.objects host.old) self.old.ephemerons.long }
+        requires zero { points (H.objects host.old) 0 ≡ None }
+        requires whole { IsWhole H.place H.value (H.objects host.old) (IsOfKey self.old.ephemerons) (H.marked host.old) }
+        ensures decided { DecidesWholeFor H.is_exact H.place H.value (next_pass self.old.passes) self.old.state (H.objects host.old) (H.marked host.old) self.new.state (H.objects host.new) (H.marked host.new) }
+        ensures follows { Follows self.old.state Pass self.new.state }
+        ensures pass { result.pass ≡ next_pass self.old.passes }
+        ensures picked { length self.new.queue ≡ length self.old.queue + result.picked }
+        ensures memory { IsTrue self.old.memory.whole → KeepsWindow self.old.memory self.new.memory }
+        ensures marks { (a : ℕ) → IsTrue (H.marked host.old a) → IsTrue (H.marked host.new a) }
+        ensures closed { IsClosed (H.objects host.new) (H.marked host.new) }
+        ensures same { H.is_same host.old host.new }
+    {
         self.ready.reuse();
         let before = self.ready.queued();
         let pass = self.passes.saturating_add(1);
-        self.ready.pass(pass, host, &mut self.table, &mut self.short, &mut self.long);
+        let (short, long) = (&mut self.short, &mut self.long);
+        let (table, ephemerons) = (&mut self.table, &mut self.ephemerons);
+        self.ready.pass(pass, host, table, short, long, ephemerons);
         self.passes = pass;
         Passed {
             pass,

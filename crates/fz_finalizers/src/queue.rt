@@ -7,10 +7,10 @@ ghost use Rattle.std.specs.List.{list_any};
 ghost use Rattle.fz_model.specs.declared.answers.Entry.{Entry};
 ghost use Rattle.fz_model.specs.Events.{same_entry};
 ghost use Rattle.fz_model.specs.Memory.{points};
+ghost use Rattle.fz_pass.specs.Holds.{IsOfKey, IsWhole};
 ghost use Rattle.fz_pass.specs.Marks.{IsClosed, AreRegistered, AreTargets};
 ghost use Rattle.fz_pass.specs.Decides.{parts_of, parts_left};
-ghost use Rattle.fz_pass.specs.Flagged.{AreNormal};
-ghost use Rattle.fz_finalizers.specs.Ready.{Decides, QueuesTable};
+ghost use Rattle.fz_finalizers.specs.Ready.{DecidesKeyed, QueuesTable};
 ghost use Rattle.fz_finalizers.specs.Queue.{Gains, GainsPicks, AreOpenFrom, IsFoundIn, IsFirstHeldFrom};
 ghost use Rattle.fz_finalizers.specs.Walks.{somes};
 
@@ -21,7 +21,7 @@ use crate::unfinished::Entries;
 use fz_bits::SparseFlags;
 use fz_links::Links;
 use fz_model::{Entry, Pick};
-use fz_pass::{Host, ReadyList, Terms, decide, queue_all};
+use fz_pass::{Ephemerons, ReadyList, Terms, Values, decide_whole, queue_all};
 use fz_table::Table;
 use std::alloc::Global;
 use std::marker::{Model, PhantomData};
@@ -201,27 +201,29 @@ impl Queue {
     }
 
     /// Carries out the pass of this number over a host and the table. Requires room for an entry of each registration.
-    pub(crate) fn pass<H: Host>(
+    pub(crate) fn pass<H: Values>(
         &mut self,
         number: u64,
         host: &mut H,
         table: &mut Table,
         short: &mut Links,
         long: &mut Links,
+        ephemerons: &mut Ephemerons,
         list: &mut ReadyList,
     )
         requires registered { AreRegistered (H.objects host.old) table.old.registrations }
-        requires normal { AreNormal table.old.registrations (contains table.old.late) }
         requires short { AreTargets (H.objects host.old) short.old.links }
         requires long { AreTargets (H.objects host.old) long.old.links }
+        requires short_keys { AreTargets (H.objects host.old) ephemerons.old.short }
+        requires long_keys { AreTargets (H.objects host.old) ephemerons.old.long }
         requires zero { points (H.objects host.old) 0 ≡ None }
-        requires closed { IsClosed (H.objects host.old) (H.marked host.old) }
+        requires whole { IsWhole H.place H.value (H.objects host.old) (IsOfKey ephemerons.old.ephemerons) (H.marked host.old) }
         requires list { len table.old.registrations ≤ list.old.room }
         requires room { len table.old.registrations ≤ self.old.room }
         requires numbers { length self.old.queue + len table.old.registrations < 2 ^ 64 }
-        ensures decided { Decides H.is_exact H.place number table.old.late table.new.late
-            (parts_of (H.objects host.old) table.old short.old long.old) (H.marked host.old)
-            (parts_left (H.objects host.new) (H.marked host.new) table.new short.new long.new)
+        ensures decided { DecidesKeyed H.is_exact H.place H.value number table.old.late table.new.late
+            (parts_of (H.objects host.old) table.old short.old long.old) ephemerons.old.ephemerons (H.marked host.old)
+            (parts_left (H.objects host.new) (H.marked host.new) table.new short.new long.new) ephemerons.new.ephemerons
             self.old.queue self.new.queue }
         ensures gained { Gains number self.old self.new }
         ensures count { length self.new.queue + len table.new.registrations ≡ length self.old.queue + len table.old.registrations }
@@ -239,7 +241,8 @@ impl Queue {
             tiers: true,
         };
         let first = self.entries.len() as u64;
-        decide(host, table, short, long, list, &mut self.entries, terms);
+        let queue = &mut self.entries;
+        decide_whole(host, table, short, long, ephemerons, list, queue, terms);
         let end = self.entries.len() as u64;
         hold(&mut self.held, first, end);
         self.outstanding += end - first;

@@ -6,10 +6,10 @@ ghost use Rattle.std.specs.FinSet.{contains};
 ghost use Rattle.fz_model.specs.Events.{same_entry};
 ghost use Rattle.fz_model.specs.Memory.{points};
 ghost use Rattle.fz_model.specs.Pass.{entry_of};
+ghost use Rattle.fz_pass.specs.Holds.{IsOfKey, IsWhole};
 ghost use Rattle.fz_pass.specs.Marks.{IsClosed, AreRegistered, AreTargets};
 ghost use Rattle.fz_pass.specs.Decides.{parts_of, parts_left};
-ghost use Rattle.fz_pass.specs.Flagged.{AreNormal};
-ghost use Rattle.fz_finalizers.specs.Ready.{Decides, HasSameEntries, QueuesTable, Takes, TakesFinished};
+ghost use Rattle.fz_finalizers.specs.Ready.{DecidesKeyed, HasSameEntries, QueuesTable, Takes, TakesFinished};
 ghost use Rattle.fz_finalizers.specs.Cleanups.{is_due};
 ghost use Rattle.fz_finalizers.specs.Queue.{CleansOut, IsFoundIn, IsFirstHeldFrom};
 ghost use Rattle.fz_finalizers.specs.States.{KeepsWindow, is_held};
@@ -23,7 +23,7 @@ use crate::refused::Refused;
 use crate::unfinished::Entries;
 use fz_links::Links;
 use fz_model::{Entry, LinkKind, Pick};
-use fz_pass::{Host, ReadyList};
+use fz_pass::{Ephemerons, Host, ReadyList, Values};
 use fz_table::Table;
 use std::alloc::Global;
 use std::marker::Model;
@@ -193,25 +193,27 @@ impl Ready {
     }
 
     /// Carries out the pass of this number over a host and the table.
-    pub(crate) fn pass<H: Host>(
+    pub(crate) fn pass<H: Values>(
         &mut self,
         number: u64,
         host: &mut H,
         table: &mut Table,
         short: &mut Links,
         long: &mut Links,
+        ephemerons: &mut Ephemerons,
     )
         requires registered { AreRegistered (H.objects host.old) table.old.registrations }
-        requires normal { AreNormal table.old.registrations (contains table.old.late) }
         requires short { AreTargets (H.objects host.old) short.old.links }
         requires long { AreTargets (H.objects host.old) long.old.links }
+        requires short_keys { AreTargets (H.objects host.old) ephemerons.old.short }
+        requires long_keys { AreTargets (H.objects host.old) ephemerons.old.long }
         requires zero { points (H.objects host.old) 0 ≡ None }
-        requires closed { IsClosed (H.objects host.old) (H.marked host.old) }
+        requires whole { IsWhole H.place H.value (H.objects host.old) (IsOfKey ephemerons.old.ephemerons) (H.marked host.old) }
         requires room { len table.old.registrations ≤ self.old.room }
         requires numbers { length self.old.queue + len table.old.registrations < 2 ^ 64 }
-        ensures decided { Decides H.is_exact H.place number table.old.late table.new.late
-            (parts_of (H.objects host.old) table.old short.old long.old) (H.marked host.old)
-            (parts_left (H.objects host.new) (H.marked host.new) table.new short.new long.new)
+        ensures decided { DecidesKeyed H.is_exact H.place H.value number table.old.late table.new.late
+            (parts_of (H.objects host.old) table.old short.old long.old) ephemerons.old.ephemerons (H.marked host.old)
+            (parts_left (H.objects host.new) (H.marked host.new) table.new short.new long.new) ephemerons.new.ephemerons
             self.old.queue self.new.queue }
         ensures taken { self.new.taken ≡ self.old.taken }
         ensures held { self.new.held ≡ self.old.held }
@@ -224,7 +226,8 @@ impl Ready {
         ensures table { table.new.registered ≡ record table.old.registered { registrations = table.new.registrations } }
     {
         let list = &mut self.list;
-        self.queue.pass(number, host, table, short, long, list);
+        self.queue
+            .pass(number, host, table, short, long, ephemerons, list);
     }
 
     /// Queues the due cleanups of this moment, with this pass.

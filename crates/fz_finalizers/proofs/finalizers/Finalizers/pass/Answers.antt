@@ -1,25 +1,26 @@
-use Rattle.std.proofs.Common.{◌≡◌, ◌∙◌, ap, subst}
-use Rattle.fz_model.specs.declared.kinds.LinkKind.TheVariants.{Short, Long}
-use Rattle.fz_finalizers.specs.Cleanups.{is_due}
-use Rattle.fz_finalizers.specs.Follows.{Cleans, next_pass}
-use Rattle.fz_finalizers.specs.Passed.{DecidesFor}
-use Rattle.fz_finalizers.specs.States.{State, View}
+use Rattle.std.proofs.Common.{◌∙◌, ap, rules}
+use Rattle.fz_finalizers.specs.States.{State}
+use Rattle.fz_finalizers.proofs.Plainly.{passes_back, plain_closed, plain_keys, plain_whole}
 use Rattle.fz_finalizers.proofs.finalizers.Finalizers.pass.Goals as goal
+
+pub pass_found-passed-requires-clause-short_keys : goal.pass_found-passed-requires-clause-short_keys
+pass_found-passed-requires-clause-short_keys g c = (plain_keys (g.H.Host.objects c.of.result.host.now) _ (ap (λ (s : State). s.ephemerons) c.take_ephemerons-ephemerons.ensures.left)).0
+
+pub pass_found-passed-requires-clause-long_keys : goal.pass_found-passed-requires-clause-long_keys
+pass_found-passed-requires-clause-long_keys g c = (plain_keys (g.H.Host.objects c.of.result.host.now) _ (ap (λ (s : State). s.ephemerons) c.take_ephemerons-ephemerons.ensures.left)).1
+
+pub pass_found-passed-requires-clause-whole : goal.pass_found-passed-requires-clause-whole
+pass_found-passed-requires-clause-whole g c =
+    let t = g.H.Host in
+    plain_whole t.place (t.objects c.of.result.host.now) (t.marked c.of.result.host.now) _ (ap (λ (s : State). s.ephemerons) c.take_ephemerons-ephemerons.ensures.left)
+    (plain_closed t.objects t.marked c.args.host.now c.of.result.host.now c.of.ensures.same c.requires.closed)
+
+pub returns-clause-closed : goal.returns-clause-closed
+returns-clause-closed g c = plain_closed g.H.Host.objects g.H.Host.marked c.pass_found-passed.new.host.host.now _ (search rules) c.pass_found-passed.ensures.closed
 
 pub returns-clause-passes : goal.returns-clause-passes
 returns-clause-passes g c =
     let t = g.H.Host in
-    let old = c.args.self.now.state in
-    let begun = c.clean.new.self.state in
-    let passed = c.pass_without_cleanups.new.self.state in
-    let host = c.pass_without_cleanups.new.host in
-    let number : c.saturating_add-pass.result ≡ next_pass old.passes = c.saturating_add-pass.ensures ∙ ap (λ (v : View). next_pass v.passes) c.self.view_is in
-    let same : begun.passes ≡ old.passes = ap (λ (s : State). s.passes) c.clean.ensures.cleaned.2 in
-    record {
-      begun = begun;
-      passed = passed;
-      short = subst (λ n. Cleans n (is_due Short (t.marked c.args.host.now)) old begun) number c.clean.ensures.cleaned;
-      decided = subst (λ n. DecidesFor t.is_exact t.place (next_pass n) begun (t.objects c.args.host.now) (t.marked c.args.host.now) passed (t.objects host) (t.marked host)) same c.pass_without_cleanups.ensures.decided;
-      follows = c.pass_without_cleanups.ensures.follows;
-      long = subst (λ n. Cleans n (is_due Long (t.marked host)) passed c.clean-2.new.self.state) number c.clean-2.ensures.cleaned;
-    }
+    passes_back t.objects t.marked t.is_exact t.place c.args.self.now.state c.take_ephemerons-ephemerons.new.self.state c.pass_found-passed.new.self.state c.put_ephemerons.new.self.state c.args.host.now c.of.result.host.now c.pass_found-passed.new.host.host.now _
+    c.of.ensures.same (search rules) c.take_ephemerons-ephemerons.ensures.left c.take_ephemerons-ephemerons.ensures.flags c.requires.zero c.requires.closed
+    (c.put_ephemerons.ensures.put ∙ ap (λ e. record c.pass_found-passed.new.self.state { ephemerons = e }) c.take_ephemerons-ephemerons.ensures.taken) c.pass_found-passed.ensures.passes

@@ -1,5 +1,5 @@
 use Rattle.std.proofs.Common.{ap, ◌∙◌, List, subst}
-use Rattle.fz_finalizers.specs.Ready.{Ready, Decides}
+use Rattle.fz_finalizers.specs.Ready.{Ready, DecidesKeyed}
 use Rattle.fz_model.specs.declared.answers.Entry.{Entry}
 use Rattle.fz_pass.specs.Decides.{parts_of, parts_left}
 use Rattle.fz_finalizers.proofs.Taking.{gains, held_still}
@@ -17,6 +17,6 @@ returns-clause-decided g c =
     let new = c.pass.new in
     subst
     (λ (es : List Entry).
-    Decides t.is_exact t.place c.args.number c.args.table.now.late new.table.late (parts_of (t.objects c.args.host.now) c.args.table.now c.args.short.now c.args.long.now) (t.marked c.args.host.now)
-    (parts_left (t.objects new.host) (t.marked new.host) new.table new.short new.long) es new.self.queue)
+    DecidesKeyed t.is_exact t.place g.H.Values.value c.args.number c.args.table.now.late new.table.late (parts_of (t.objects c.args.host.now) c.args.table.now c.args.short.now c.args.long.now) c.args.ephemerons.now.ephemerons (t.marked c.args.host.now)
+    (parts_left (t.objects new.host) (t.marked new.host) new.table new.short new.long) new.ephemerons.ephemerons es new.self.queue)
     (ap (λ (r : Ready). r.queue) c.self.view_is) c.pass.ensures.decided
