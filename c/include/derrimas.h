@@ -1,26 +1,27 @@
 /* derrimas.h: worlds with finalizers, disappearing links and a collector, for C99 and later, and C++17 and later.
  *
- * The interface follows bdwgc's gc.h, over a heap that is a model: a vector of words, none of which is memory of the
- * process. A runtime keeps its objects there, or lets objects there stand for its own.
+ * The interface follows bdwgc's gc.h, over a reference heap: an array of words, none of which is memory of the process.
+ * A runtime has its objects there, or objects that represent its own.
  *
- * A world has a heap of blocks of 64 words, and frames of 16 slots. A word and a slot hold a uint64_t, which may be
- * any number. Where it is an address that lies inside an object, it points to that object; else it points to nothing.
- * The slots are the roots: an object is kept as long as a slot leads to it, or the client data of a registration, or
- * an entry that isn't finished.
+ * A world has a heap of blocks of 64 words, and frames of 16 slots. A word and a slot hold a uint64_t, which may be any
+ * number. If it is an address that lies inside an object, it points to that object; otherwise it points to nothing. The
+ * slots are the roots: an object is retained as long as a slot reaches it, or the client data of a registration, or an
+ * entry that isn't finished.
  *
  * Units: sizes and offsets are in words, not in bytes. Frames, slots, births, the numbers of registrations and the
  * places of the queue are counted from 0, passes from 1. Addresses are numbers of words, not C pointers: the heap
  * begins at DERRIMAS_HEAP_START, the next word has the next number, and 0 points to nothing.
  *
- * A collection is a cycle that ends with a pass. The cycle marks what the roots lead to. The pass then queues an entry
- * for each registered object that wasn't marked and doesn't wait for another, sets links to 0, and reclaims all other
- * objects that weren't marked, unless a registered one leads to them. The address of a reclaimed object may be used
- * again. An object with an entry is kept, with all that it leads to, until derrimas_finish.
+ * A collection is a cycle that ends with a pass. The cycle marks what the roots reach. The pass then sets the words of
+ * links to lost objects to 0, queues an entry for each registered object that wasn't marked and doesn't wait for
+ * another, and reclaims all other objects that weren't marked, unless a registered one reaches them. The address of a
+ * reclaimed object may be used again. An object with an entry is retained, with all that it reaches, until
+ * derrimas_finish.
  *
  * A call that can be refused returns a derrimas_code: DERRIMAS_OK, or why it was refused. A refused call changes
  * nothing, and leaves the places for its results as they were, with two exceptions: derrimas_alloc_or_collect may have
  * collected, and derrimas_take that returns DERRIMAS_EMPTY has passed over entries. If several errors apply, the first
- * in the order of the call's comment is returned. What a code means stands beside it below.
+ * in the order of the call's comment is returned. The meaning of a code is beside it below.
  *
  * What the caller owes, since nothing checks C:
  * - A pointer points to a value of its type, which no other thread and no other argument of the call uses. It may be
@@ -34,16 +35,21 @@
  * - A forked child has copies of all worlds, lines and seats. In the child of a process with threads no call may be
  *   made. In any other child each copy may be used and destroyed; parent and child then finalize the same objects.
  *
- * What calls cost: a constant time, with these exceptions. By the heap: derrimas_open, derrimas_begin, derrimas_count,
- * and the first derrimas_register of a world. By what is alive, and a word of bits for each block: derrimas_collect and
- * derrimas_pause. By its budget, and the words of what it scans: derrimas_mark. By its words, and by the blocks where it
- * takes a new one: derrimas_alloc; derrimas_alloc_or_collect adds a collection where there is no space. By the addresses
- * that they pass over: derrimas_next_object, .._registration and .._link. By the entries in memory: derrimas_forget. By
- * the logarithm of the entries in memory, and a step for 4,096 finished ones passed over: derrimas_take, .._waiting,
- * .._hold, .._finish, .._next_held and .._queued. A call that adds to a table or to a line may have to enlarge it, which
- * takes time by its length, and derrimas_move_link may rebuild its table. derrimas_finalize_all goes over the heap once
- * for each rank in use. A world takes memory for its heap when it opens, then for its tables as they grow, and 56 bytes
- * for each entry that was queued, until derrimas_forget gives back those of the finished ones.
+ * A call takes constant time, except for these. They take time proportional to
+ * - the heap: derrimas_open, derrimas_begin, derrimas_count, and the first derrimas_register of a world;
+ * - the live objects, and a word of bits for each block: derrimas_collect and derrimas_pause;
+ * - the budget, and the words of what is scanned: derrimas_mark;
+ * - the words of the object, and the blocks if it needs a new one: derrimas_alloc; derrimas_alloc_or_collect adds a
+ *   collection if there is no space;
+ * - the addresses that they pass over: derrimas_next_object, .._registration and .._link;
+ * - the entries in memory: derrimas_forget;
+ * - the logarithm of the entries in memory, and a step for 4,096 finished ones that are passed over: derrimas_take,
+ *   .._waiting, .._hold, .._finish, .._next_held and .._queued;
+ * - the heap, for each rank in use: derrimas_finalize_all.
+ *
+ * A call that adds to a table or to a line may have to enlarge it, which takes time proportional to its length, and
+ * derrimas_move_link may rebuild its table. A world takes memory for its heap when it opens, then for its tables as they
+ * grow, and 56 bytes for each entry that was queued, until derrimas_forget frees those of the finished ones.
  *
  * docs/C.md of the repository says how to link, what is proved, and what becomes of each call of gc.h. */
 #ifndef DERRIMAS_H
@@ -228,9 +234,9 @@ derrimas_code derrimas_close(derrimas_world *world) DERRIMAS_NONNULL(1);
 DERRIMAS_CHECKED derrimas_code derrimas_alloc(derrimas_world *world, derrimas_slot slot, uint64_t size, derrimas_words words,
                                               derrimas_made *made) DERRIMAS_NONNULL(1);
 
-/* The same; and where there is no space it is up to three steps. It collects as derrimas_collect does, calls `ready`
- * with `data` for the caller to run what became ready (NULL: nothing), and tries once more. What `ready` finishes is
- * reclaimed by the next collection, not by this one. In an open cycle it doesn't collect: derrimas_pause comes first.
+/* The same, but if there is no space it collects as derrimas_collect does, calls `ready` with `data` for the caller to
+ * run what became ready (NULL: nothing), and tries once more. What `ready` finishes is reclaimed by the next
+ * collection, not by this one. In an open cycle it doesn't collect: derrimas_pause comes first.
  * Refused: as derrimas_alloc; where there is no space DERRIMAS_CYCLE_OPEN, or DERRIMAS_EXHAUSTED of passes, and nothing
  * has changed; and as derrimas_alloc at the second try, where the collection and what `ready` did stay done. */
 DERRIMAS_CHECKED derrimas_code derrimas_alloc_or_collect(derrimas_world *world, derrimas_slot slot, uint64_t size,
@@ -238,7 +244,7 @@ DERRIMAS_CHECKED derrimas_code derrimas_alloc_or_collect(derrimas_world *world, 
                                                          void (*ready)(derrimas_world *world, void *data), void *data)
     DERRIMAS_NONNULL(1);
 
-/* Puts a word into the slot; 0 lets go of what the slot led to.
+/* Stores a word in the slot; 0 drops what the slot pointed to.
  * Refused: DERRIMAS_NO_WORLD, DERRIMAS_BAD_SLOT. */
 derrimas_code derrimas_set(derrimas_world *world, derrimas_slot slot, uint64_t word) DERRIMAS_NONNULL(1);
 
@@ -279,25 +285,24 @@ derrimas_code derrimas_base(derrimas_world *world, uint64_t word, derrimas_objec
 
 /* ---- finalizers */
 
-/* Registers a finalizer of the object that starts at the slot's word: GC_register_finalizer and its kin, by `kind`.
- * `proc` is a number of the caller's, as an index into a table of procedures. `cd` is a word of client data; where it
- * points to an object, that is kept until the entry is finished: the registered object too, which then is never ready.
- * A small number points to nothing as long as it is below DERRIMAS_HEAP_START. An object has one finalizer: a new one,
- * of whichever kind, replaces the old. Where the slot's word is 0 or outside the heap, none is made: the call returns
- * DERRIMAS_OK, and registered->made is false. `registered` may be NULL.
+/* Registers a finalizer of the object that starts at the slot's word: GC_register_finalizer or its variants, by `kind`.
+ * `proc` is a number of the caller's, as an index into a table of procedures. `cd` is a word of client data. If it
+ * points to an object, that is retained until the entry is finished; so an object that its own client data reaches is
+ * never ready. A small number points to nothing as long as it is below DERRIMAS_HEAP_START. An object has one
+ * finalizer: a new one, of whichever kind, replaces the old. Where the slot's word is 0 or outside the heap, none is
+ * made: the call returns DERRIMAS_OK, and registered->made is false. `registered` may be NULL.
  *
- * A pass queues the registered objects that it didn't find, but for those to which one of them leads: those wait for a
- * later pass. So an object on a ring waits for itself, for good. Of DERRIMAS_IGNORE_SELF the object's words that point
- * to itself don't count, and of DERRIMAS_NO_ORDER no word of it does, so that nothing waits for this object. Of what
- * one pass queues, lower ranks (0 to 255) come first, and within a rank lower addresses.
+ * A pass queues the unmarked registered objects, except those that another one, or the object itself, reaches: these
+ * wait for a later pass. So an object on a ring waits for itself, for good. For DERRIMAS_IGNORE_SELF the object's words
+ * that point to itself don't count, and for DERRIMAS_NO_ORDER none of its words does, so that nothing waits for this
+ * object. Of what one pass queues, lower ranks (0 to 255) come first, and within a rank lower addresses.
  * Refused: DERRIMAS_BAD_KIND, DERRIMAS_NO_WORLD, DERRIMAS_BAD_SLOT, DERRIMAS_NOT_POINTER, DERRIMAS_NOT_START,
  * DERRIMAS_EXHAUSTED, DERRIMAS_TABLE_FULL, DERRIMAS_NO_MEMORY. */
 DERRIMAS_CHECKED derrimas_code derrimas_register(derrimas_world *world, derrimas_slot slot, derrimas_kind kind, uint64_t proc,
                                                  uint64_t cd, uint8_t rank, derrimas_registered *registered)
     DERRIMAS_NONNULL(1);
 
-/* The same, but where the slot's word is 0 or outside the heap, it is refused: what programs use, whose slot may have
- * let go of its object.
+/* The same, but refused if the slot's word is 0 or outside the heap: for programs, whose slot may have lost its object.
  * Refused: as derrimas_register; DERRIMAS_NO_OBJECT. */
 DERRIMAS_CHECKED derrimas_code derrimas_register_object(derrimas_world *world, derrimas_slot slot, derrimas_kind kind,
                                                         uint64_t proc, uint64_t cd, uint8_t rank,
@@ -317,9 +322,9 @@ static inline derrimas_code derrimas_register_no_order(derrimas_world *world, de
     return derrimas_register_object(world, slot, DERRIMAS_NO_ORDER, proc, cd, 0, NULL);
 }
 
-/* Removes the finalizer of the object that starts at the slot's word, if it has one, and tells what it was, in *old,
- * which may be NULL: GC_register_finalizer with no procedure. Where the slot's word is 0 or outside the heap, there is
- * none: the call returns DERRIMAS_OK, and old->was is false. What is in the queue stays there.
+/* Removes the finalizer of the object that starts at the slot's word, if it has one; *old, which may be NULL, is what
+ * it was: GC_register_finalizer with no procedure. If the slot's word is 0 or outside the heap, there is none: the call
+ * returns DERRIMAS_OK, and old->was is false. What is in the queue stays there.
  * Refused: DERRIMAS_NO_WORLD, DERRIMAS_BAD_SLOT, DERRIMAS_NOT_POINTER, DERRIMAS_NOT_START. */
 derrimas_code derrimas_unregister(derrimas_world *world, derrimas_slot slot, derrimas_old *old) DERRIMAS_NONNULL(1);
 
@@ -327,10 +332,10 @@ derrimas_code derrimas_unregister(derrimas_world *world, derrimas_slot slot, der
 
 /* Makes the word at the slot's word plus the offset a link to the object that starts at the word of the slot `target`.
  * The word itself stays as it is: store the address there. A pass sets it to 0 and removes the link: one of
- * DERRIMAS_SHORT when no root leads to the target, one of DERRIMAS_LONG when not even a finalizer that is still to run
- * keeps it. Put links into atomic objects, which don't keep their targets. When the object that has the word goes,
- * the link goes too. *answer, which may be NULL, is DERRIMAS_LINKED; or DERRIMAS_LINK_DUPLICATE where the word was a link
- * of this kind already, whose target is replaced.
+ * DERRIMAS_SHORT if no root reaches the target, one of DERRIMAS_LONG if not even a finalizer that has to run retains
+ * it. Put links into atomic objects, which don't retain their targets. A link is removed with the object that has its
+ * word. *answer, which may be NULL, is DERRIMAS_LINKED; or DERRIMAS_LINK_DUPLICATE where the word was a link of this
+ * kind already, whose target is replaced.
  * Refused: DERRIMAS_BAD_KIND, DERRIMAS_NO_WORLD, DERRIMAS_BAD_SLOT; of the place DERRIMAS_NOT_POINTER,
  * DERRIMAS_OUTSIDE_OBJECT; of the target DERRIMAS_NOT_POINTER, DERRIMAS_NOT_START; DERRIMAS_TABLE_FULL,
  * DERRIMAS_NO_MEMORY. */
@@ -345,8 +350,8 @@ derrimas_code derrimas_unlink(derrimas_world *world, derrimas_links kind, derrim
 
 /* Moves the link of this kind from the slot's word plus the offset to the word of the slot `to` plus `to_offset`. No
  * word changes. *answer, which may be NULL, is DERRIMAS_LINKED, also where both places are the same; or, and then
- * nothing changed, DERRIMAS_LINK_NOT_FOUND where there is no link to move, DERRIMAS_LINK_DUPLICATE where another link
- * of this kind stands at the new place.
+ * nothing changed, DERRIMAS_LINK_NOT_FOUND if there is no link to move, DERRIMAS_LINK_DUPLICATE if there is another
+ * link of this kind at the new place.
  * Refused: DERRIMAS_BAD_KIND, DERRIMAS_NO_WORLD, DERRIMAS_BAD_SLOT; of the old place DERRIMAS_NOT_POINTER,
  * DERRIMAS_OUTSIDE_OBJECT; the same of the new one. Never DERRIMAS_NO_MEMORY. */
 DERRIMAS_CHECKED derrimas_code derrimas_move_link(derrimas_world *world, derrimas_links kind, derrimas_slot slot,
@@ -391,31 +396,33 @@ derrimas_code derrimas_outstanding(derrimas_world *world, uint64_t *count) DERRI
  * Refused: DERRIMAS_NO_WORLD, DERRIMAS_BAD_SLOT, DERRIMAS_NOT_HELD. */
 derrimas_code derrimas_hold(derrimas_world *world, derrimas_slot slot, const derrimas_entry *entry) DERRIMAS_NONNULL(1, 3);
 
-/* Ends the holding of the entry: its finalizer has run. One that isn't taken yet is passed over then by derrimas_take,
- * so an urgent one can run before its turn. An entry that is never finished keeps its object for good.
+/* Finishes the entry: its finalizer has run, and it isn't held any more. An entry that is finished before it is taken
+ * is passed over by derrimas_take, so an urgent one can run before its turn. An entry that is never finished retains
+ * its object for good.
  * Refused: DERRIMAS_NO_WORLD, DERRIMAS_NOT_HELD. */
 derrimas_code derrimas_finish(derrimas_world *world, const derrimas_entry *entry) DERRIMAS_NONNULL(1, 2);
 
-/* Gives back the memory of entries that are finished; tells in *count how many went. What isn't finished stays, with its
- * place, and is taken, held and finished as ever. All finished ones go, or none, where they are at most one for each 16
- * that aren't finished: so of 17 entries that stay at most one is finished. It takes no memory. A world that never
- * forgets keeps 56 bytes for each entry ever queued, so a program that runs on calls this after its collections.
+/* Frees the memory of finished entries; *count is how many. What isn't finished stays, with its place, and is taken,
+ * held and finished as before. It frees nothing if there is at most one finished entry for each 16 unfinished ones, and
+ * otherwise all. It takes no memory. A world that never forgets has 56 bytes for each entry ever queued, so a program
+ * that runs for long calls this after its collections.
  * Refused: DERRIMAS_NO_WORLD. */
 derrimas_code derrimas_forget(derrimas_world *world, uint64_t *count) DERRIMAS_NONNULL(1, 2);
 
 /* ---- a line, from which workers take entries without a lock
  *
- * The owner of the world takes its entries by derrimas_take, and publishes each on a line. Each worker has a seat: it
- * takes entries from the line by derrimas_seat_take, which neither locks nor waits, runs their procedures, and says
- * derrimas_seat_done. Then derrimas_finish, by the owner of the world, ends the holding. Over all seats each entry is
- * taken once, and each seat takes its entries in the queue's order. A line has no part in a world: it may be destroyed
- * before or after. So workers may stop, and start again later with a new line from the next entry on. */
+ * The thread that has the world takes its entries by derrimas_take, and publishes each on a line, a ready queue. Each
+ * worker has a seat: it takes entries from the line by derrimas_seat_take, which neither locks nor waits, runs their
+ * procedures, and calls derrimas_seat_done. Then the thread that has the world calls derrimas_finish. Over all seats
+ * each entry is taken once, and each seat takes its entries in the queue's order. A line has no part in a world: it may
+ * be destroyed before or after. So workers may stop, and start again later with a new line from the next entry on. */
 
 /* Opens a line with a number of seats, 1 to DERRIMAS_MAX_SEATS, none of which is handed out. The first entry that is
- * published has to be the one at the queue's place `first`: 0, or the place at which an earlier line ended. A line knows
- * no world, so it hands out what was finished before, too: a line opened at 0 has to be given each entry from the first
- * on. An entry that was finished before its turn is passed over by derrimas_take, but not by a line: derrimas_queued
- * reads it for derrimas_line_publish, if it isn't forgotten, and a later derrimas_finish returns DERRIMAS_NOT_HELD.
+ * published has to be the one at the queue's place `first`: 0, or the place at which an earlier line ended. A line
+ * doesn't look at a world, so it also delivers entries that are finished already: on a line opened at 0 each entry from
+ * the first on has to be published. An entry that was finished before its turn is passed over by derrimas_take, but not
+ * by a line: derrimas_queued reads it for derrimas_line_publish, if it isn't forgotten, and a later derrimas_finish
+ * returns DERRIMAS_NOT_HELD.
  * Refused: DERRIMAS_BAD_PROCESSOR, DERRIMAS_HAS_WORLD, DERRIMAS_BAD_COUNT, DERRIMAS_NO_MEMORY. */
 DERRIMAS_CHECKED derrimas_code derrimas_line_open(derrimas_line *line, uint64_t seats, uint64_t first) DERRIMAS_NONNULL(1);
 
@@ -439,7 +446,7 @@ DERRIMAS_CHECKED derrimas_code derrimas_line_publish(derrimas_line *line, const 
  * DERRIMAS_BUSY. */
 DERRIMAS_CHECKED derrimas_code derrimas_seat_take(derrimas_seat *seat, derrimas_entry *entry) DERRIMAS_NONNULL(1, 2);
 
-/* Puts the entry in hand away: its procedure has run.
+/* The procedure of the entry in hand has run, and the hand is empty.
  * Refused: DERRIMAS_NO_WORLD; DERRIMAS_EMPTY where no entry is in hand. */
 derrimas_code derrimas_seat_done(derrimas_seat *seat) DERRIMAS_NONNULL(1);
 
@@ -464,7 +471,7 @@ derrimas_code derrimas_next_object(derrimas_world *world, uint64_t from, derrima
 derrimas_code derrimas_next_registration(derrimas_world *world, uint64_t from, derrimas_registration *registration)
     DERRIMAS_NONNULL(1, 3);
 
-/* The first link of this kind whose word stands at `from` or after it.
+/* The first link of this kind whose word is at `from` or after it.
  * Refused: DERRIMAS_BAD_KIND, DERRIMAS_NO_WORLD, DERRIMAS_EMPTY where there is none. */
 derrimas_code derrimas_next_link(derrimas_world *world, derrimas_links kind, uint64_t from, derrimas_linked *linked)
     DERRIMAS_NONNULL(1, 4);
@@ -477,7 +484,7 @@ derrimas_code derrimas_next_held(derrimas_world *world, uint64_t from, derrimas_
  * Refused: DERRIMAS_NO_WORLD, DERRIMAS_EMPTY where the queue isn't so long, or the entry is finished and forgotten. */
 derrimas_code derrimas_queued(derrimas_world *world, uint64_t seq, derrimas_entry *entry) DERRIMAS_NONNULL(1, 3);
 
-/* Tells in *place from which place of the queue on no entry is forgotten: 0 until derrimas_forget gives memory back.
+/* *place is the place of the queue from which on no entry is forgotten: 0 until derrimas_forget frees memory.
  * Refused: DERRIMAS_NO_WORLD. */
 derrimas_code derrimas_forgotten(derrimas_world *world, uint64_t *place) DERRIMAS_NONNULL(1, 2);
 
@@ -510,13 +517,13 @@ typedef void (*derrimas_proc)(derrimas_world *world, const derrimas_entry *entry
 uint64_t derrimas_invoke_finalizers(derrimas_world *world, const derrimas_proc *procs, size_t count, void *data)
     DERRIMAS_NONNULL(1);
 
-/* For a runtime's exit: GC_finalize_all. Takes and runs the entries that wait, as derrimas_invoke_finalizers does.
- * Then it unregisters each object that is registered when these have run, what they registered themselves included, by
- * rank, then address, and calls its procedure with an entry whose seq is UINT64_MAX and whose pass is 0: it is no entry
- * of the queue, can't be finished, and nothing was found unreachable. So objects on rings come too, and objects that are
+/* For a runtime's exit: GC_finalize_all. Takes and runs the entries that wait, as derrimas_invoke_finalizers does. Then
+ * it unregisters each object that is registered when these have run, what they registered themselves included, by rank,
+ * then address, and calls its procedure with an entry whose seq is UINT64_MAX and whose pass is 0: it is no entry of
+ * the queue, can't be finished, and nothing was found unreachable. So objects on rings come too, and objects that are
  * in use. While its procedure runs an object is kept by the slot, which is 0 afterwards. What these procedures register
  * stays registered, unless a collection of theirs finds it: what is queued meanwhile runs at the end. It is no pass: no
- * link is cleared. *ran, which may be NULL, is how many procedures' turns came.
+ * link is cleared. *ran, which may be NULL, is how many entries and registrations were processed.
  * Refused: DERRIMAS_NO_WORLD, DERRIMAS_BAD_SLOT; nothing ran then. */
 derrimas_code derrimas_finalize_all(derrimas_world *world, derrimas_slot slot, const derrimas_proc *procs, size_t count,
                                     void *data, uint64_t *ran) DERRIMAS_NONNULL(1);
@@ -555,7 +562,7 @@ static inline derrimas_slot derrimas_scope_slot(derrimas_scope *scope)
     return slot;
 }
 
-/* Gives back the slots that were borrowed: each lets go of what it led to. */
+/* Returns the slots that were borrowed: each is set to 0. */
 static inline void derrimas_scope_close(derrimas_scope *scope)
 {
     while (scope->next > scope->first)
