@@ -234,9 +234,9 @@ derrimas_code derrimas_close(derrimas_world *world) DERRIMAS_NONNULL(1);
 DERRIMAS_CHECKED derrimas_code derrimas_alloc(derrimas_world *world, derrimas_slot slot, uint64_t size, derrimas_words words,
                                               derrimas_made *made) DERRIMAS_NONNULL(1);
 
-/* The same, but if there is no space it collects as derrimas_collect does, calls `ready` with `data` for the caller to
- * run what became ready (NULL: nothing), and tries once more. What `ready` finishes is reclaimed by the next
- * collection, not by this one. In an open cycle it doesn't collect: derrimas_pause comes first.
+/* Makes an object as derrimas_alloc does. If there is no space it collects as derrimas_collect does, calls `ready` with
+ * `data` for the caller to run what became ready (NULL: nothing), and tries once more. What `ready` finishes is
+ * reclaimed by the next collection, not by this one. In an open cycle it doesn't collect: derrimas_pause comes first.
  * Refused: as derrimas_alloc; where there is no space DERRIMAS_CYCLE_OPEN, or DERRIMAS_EXHAUSTED of passes, and nothing
  * has changed; and as derrimas_alloc at the second try, where the collection and what `ready` did stay done. */
 DERRIMAS_CHECKED derrimas_code derrimas_alloc_or_collect(derrimas_world *world, derrimas_slot slot, uint64_t size,
@@ -302,7 +302,8 @@ DERRIMAS_CHECKED derrimas_code derrimas_register(derrimas_world *world, derrimas
                                                  uint64_t cd, uint8_t rank, derrimas_registered *registered)
     DERRIMAS_NONNULL(1);
 
-/* The same, but refused if the slot's word is 0 or outside the heap: for programs, whose slot may have lost its object.
+/* Registers a finalizer as derrimas_register does, but is refused if the slot's word is 0 or outside the heap: for
+ * programs, whose slot may have lost its object.
  * Refused: as derrimas_register; DERRIMAS_NO_OBJECT. */
 DERRIMAS_CHECKED derrimas_code derrimas_register_object(derrimas_world *world, derrimas_slot slot, derrimas_kind kind,
                                                         uint64_t proc, uint64_t cd, uint8_t rank,
@@ -364,10 +365,10 @@ DERRIMAS_CHECKED derrimas_code derrimas_move_link(derrimas_world *world, derrima
  * Refused: DERRIMAS_NO_WORLD, DERRIMAS_CYCLE_OPEN, DERRIMAS_EXHAUSTED. */
 derrimas_code derrimas_collect(derrimas_world *world, derrimas_passed *passed) DERRIMAS_NONNULL(1);
 
-/* The same in steps, as GC_collect_a_little. derrimas_begin opens a cycle. derrimas_mark scans at most `budget` marked
- * objects, and tells in *done, which may be NULL, whether none is left to scan. derrimas_pause marks the rest and ends
- * the cycle with a pass, of which *passed tells, which may be NULL. All calls but derrimas_begin and derrimas_collect
- * may come between; what was dropped after derrimas_begin may stay until the next cycle.
+/* A collection in steps, as GC_collect_a_little. derrimas_begin opens a cycle. derrimas_mark scans at most `budget`
+ * marked objects, and tells in *done, which may be NULL, whether none is left to scan. derrimas_pause marks the rest
+ * and ends the cycle with a pass, of which *passed tells, which may be NULL. All calls but derrimas_begin and
+ * derrimas_collect may come between; what was dropped after derrimas_begin may stay until the next cycle.
  * Refused: derrimas_begin DERRIMAS_NO_WORLD, DERRIMAS_CYCLE_OPEN, DERRIMAS_EXHAUSTED; derrimas_mark DERRIMAS_NO_WORLD,
  * DERRIMAS_BAD_COUNT (the budget is 0), DERRIMAS_NO_CYCLE; derrimas_pause DERRIMAS_NO_WORLD, DERRIMAS_NO_CYCLE. */
 derrimas_code derrimas_begin(derrimas_world *world) DERRIMAS_NONNULL(1);

@@ -417,13 +417,13 @@ derrimas_finalizers_code derrimas_finalizers_registrations(const derrimas_finali
                                                            derrimas_finalizers_registration_at *buffer, size_t room,
                                                            size_t *count) DERRIMAS_NONNULL(1, 2, 5);
 
-/* The same of the links of a kind.
+/* Copies links of a kind, as derrimas_finalizers_registrations copies registrations.
  * Refused: BAD_KIND, NOT_OPEN; EMPTY where none is left, or `room` is 0. */
 derrimas_finalizers_code derrimas_finalizers_links(const derrimas_finalizers *finalizers, derrimas_finalizers_link_kind kind,
                                                    uint64_t *from, derrimas_finalizers_link_at *buffer, size_t room,
                                                    size_t *count) DERRIMAS_NONNULL(1, 3, 6);
 
-/* The same of cleanups.
+/* Copies cleanups, as derrimas_finalizers_registrations copies registrations.
  * Refused: NOT_OPEN; EMPTY where none is left, or `room` is 0. */
 derrimas_finalizers_code derrimas_finalizers_cleanups(const derrimas_finalizers *finalizers, uint64_t *from,
                                                       derrimas_finalizers_cleanup_at *buffer, size_t room, size_t *count)
@@ -491,8 +491,8 @@ DERRIMAS_CHECKED derrimas_finalizers_code derrimas_finalizers_why(derrimas_final
 
 /* ---- what happens, for tools */
 
-/* From now on calls the functions of *trace, which has to stay where it is until another one is set. With NULL, as at
- * first, nothing is called. The handle may be open or not; .._destroy sets NULL. */
+/* Sets the functions that are called from now on. *trace has to stay where it is until another one is set. With NULL, as
+ * at first, none is called. The handle may be open or not; .._destroy sets NULL. */
 void derrimas_finalizers_trace(derrimas_finalizers *finalizers, const derrimas_trace *trace) DERRIMAS_NONNULL(1);
 
 /* Describes the handle for a person, by calls of `line` with `data` and a line of text: its counts, the kinds of its
