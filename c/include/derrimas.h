@@ -95,7 +95,7 @@ typedef enum derrimas_code {
 /* The kinds of registrations: GC_register_finalizer, .._ignore_self, .._no_order. */
 typedef enum derrimas_kind { DERRIMAS_NORMAL = 0, DERRIMAS_IGNORE_SELF = 1, DERRIMAS_NO_ORDER = 2 } derrimas_kind;
 
-/* The kinds of objects: GC_malloc, GC_malloc_atomic. The words of an atomic object keep nothing. */
+/* The kinds of objects: GC_malloc, GC_malloc_atomic. The words of an atomic object are no pointers. */
 typedef enum derrimas_words { DERRIMAS_SCANNED = 0, DERRIMAS_ATOMIC = 1 } derrimas_words;
 
 #define DERRIMAS_HEAP_START UINT64_C(65536) /* the address of the heap's first word */
@@ -136,13 +136,14 @@ typedef struct derrimas_made {
     uint64_t address, birth;
 } derrimas_made;
 
-/* The procedure and the client data of a registration that went away, and whether there was one: else both are 0. */
+/* The procedure and the client data of a registration that was removed or replaced, and whether there was one: if not,
+ * both are 0. */
 typedef struct derrimas_old {
     uint64_t proc, cd;
     bool was;
 } derrimas_old;
 
-/* A registration: its number, which no other of the world has; what it replaced; and whether it was made (else the
+/* A registration: its number, which no other of the world has; what it replaced; and whether it was made (if not, the
  * number is 0, and nothing was replaced). */
 typedef struct derrimas_registered {
     uint64_t number;
@@ -161,7 +162,7 @@ typedef struct derrimas_entry {
     uint64_t seq, pass, reg, obj, birth, proc, cd;
 } derrimas_entry;
 
-/* An object of the heap: its address, its size in words, its birth, and whether its words keep nothing. */
+/* An object of the heap: its address, its size in words, its birth, and whether it is atomic. */
 typedef struct derrimas_object {
     uint64_t start, size, birth;
     bool atomic;
@@ -215,7 +216,7 @@ static inline derrimas_slot derrimas_at(uint64_t frame, uint64_t slot)
 DERRIMAS_CHECKED derrimas_code derrimas_open(derrimas_world *world, uint64_t blocks, uint64_t frames) DERRIMAS_NONNULL(1);
 
 /* Frees all that the world has, and leaves it as {0}. No finalizer runs: derrimas_finalize_all runs them before. Does
- * nothing where the world isn't open. */
+ * nothing if the world isn't open. */
 void derrimas_destroy(derrimas_world *world) DERRIMAS_NONNULL(1);
 
 /* Closes the world: every registered object is a root from now on, so that no pass queues anything more. What is queued
@@ -237,8 +238,8 @@ DERRIMAS_CHECKED derrimas_code derrimas_alloc(derrimas_world *world, derrimas_sl
 /* Makes an object as derrimas_alloc does. If there is no space it collects as derrimas_collect does, calls `ready` with
  * `data` for the caller to run what became ready (NULL: nothing), and tries once more. What `ready` finishes is
  * reclaimed by the next collection, not by this one. In an open cycle it doesn't collect: derrimas_pause comes first.
- * Refused: as derrimas_alloc; where there is no space DERRIMAS_CYCLE_OPEN, or DERRIMAS_EXHAUSTED of passes, and nothing
- * has changed; and as derrimas_alloc at the second try, where the collection and what `ready` did stay done. */
+ * Refused: as derrimas_alloc; if there is no space DERRIMAS_CYCLE_OPEN, or DERRIMAS_EXHAUSTED of passes, and nothing
+ * has changed; and as derrimas_alloc at the second try: then the collection and what `ready` did aren't undone. */
 DERRIMAS_CHECKED derrimas_code derrimas_alloc_or_collect(derrimas_world *world, derrimas_slot slot, uint64_t size,
                                                          derrimas_words words, derrimas_made *made,
                                                          void (*ready)(derrimas_world *world, void *data), void *data)
@@ -256,9 +257,9 @@ derrimas_code derrimas_get(derrimas_world *world, derrimas_slot slot, uint64_t *
  * Refused: DERRIMAS_NO_WORLD, DERRIMAS_BAD_SLOT. */
 derrimas_code derrimas_copy(derrimas_world *world, derrimas_slot slot, derrimas_slot to) DERRIMAS_NONNULL(1);
 
-/* Reads the word of the heap at the slot's word plus the offset, and stores it in the slot `to`, which then keeps what it
- * points to. *word, which may be NULL, is that word too. The slot's word may point anywhere into an object, and the
- * offset is from there.
+/* Reads the word of the heap at the slot's word plus the offset, and stores it in the slot `to`, which then retains
+ * what it points to. *word, which may be NULL, is that word too. The slot's word may point anywhere into an object, and
+ * the offset is from there.
  * Refused: DERRIMAS_NO_WORLD, DERRIMAS_BAD_SLOT, DERRIMAS_NOT_POINTER, DERRIMAS_OUTSIDE_OBJECT. */
 derrimas_code derrimas_load(derrimas_world *world, derrimas_slot slot, uint64_t offset, derrimas_slot to, uint64_t *word)
     DERRIMAS_NONNULL(1);
@@ -273,14 +274,12 @@ derrimas_code derrimas_store(derrimas_world *world, derrimas_slot slot, uint64_t
  * Refused: DERRIMAS_NO_WORLD, DERRIMAS_BAD_SLOT, DERRIMAS_NOT_POINTER, DERRIMAS_OUTSIDE_OBJECT. */
 derrimas_code derrimas_write(derrimas_world *world, derrimas_slot slot, uint64_t offset, uint64_t value) DERRIMAS_NONNULL(1);
 
-/* Reads the word of the heap at `word` plus the offset into *value. As no slot gets it, nothing more keeps what it
- * points to.
+/* Reads the word of the heap at `word` plus the offset into *value. No slot gets it, so it retains nothing.
  * Refused: DERRIMAS_NO_WORLD, DERRIMAS_NOT_POINTER, DERRIMAS_OUTSIDE_OBJECT. */
 derrimas_code derrimas_read(derrimas_world *world, uint64_t word, uint64_t offset, uint64_t *value) DERRIMAS_NONNULL(1, 4);
 
-/* Tells the object to which `word` points, words inside of it included: its start, its size, and the rest. GC_base and
- * GC_size.
- * Refused: DERRIMAS_NO_WORLD, DERRIMAS_EMPTY where it points to none. */
+/* Returns in *object the object to which `word` points, interior pointers included: GC_base and GC_size.
+ * Refused: DERRIMAS_NO_WORLD, DERRIMAS_EMPTY if it points to none. */
 derrimas_code derrimas_base(derrimas_world *world, uint64_t word, derrimas_object *object) DERRIMAS_NONNULL(1, 3);
 
 /* ---- finalizers */
@@ -289,8 +288,8 @@ derrimas_code derrimas_base(derrimas_world *world, uint64_t word, derrimas_objec
  * `proc` is a number of the caller's, as an index into a table of procedures. `cd` is a word of client data. If it
  * points to an object, that is retained until the entry is finished; so an object that its own client data reaches is
  * never ready. A small number points to nothing as long as it is below DERRIMAS_HEAP_START. An object has one
- * finalizer: a new one, of whichever kind, replaces the old. Where the slot's word is 0 or outside the heap, none is
- * made: the call returns DERRIMAS_OK, and registered->made is false. `registered` may be NULL.
+ * finalizer: a new one, of any kind, replaces the old. If the slot's word is 0 or outside the heap, none is made: the
+ * call returns DERRIMAS_OK, and registered->made is false. `registered` may be NULL.
  *
  * A pass queues the unmarked registered objects, except those that another one, or the object itself, reaches: these
  * wait for a later pass. So an object on a ring waits for itself, for good. For DERRIMAS_IGNORE_SELF the object's words
@@ -335,24 +334,24 @@ derrimas_code derrimas_unregister(derrimas_world *world, derrimas_slot slot, der
  * The word itself stays as it is: store the address there. A pass sets it to 0 and removes the link: one of
  * DERRIMAS_SHORT if no root reaches the target, one of DERRIMAS_LONG if not even a finalizer that has to run retains
  * it. Put links into atomic objects, which don't retain their targets. A link is removed with the object that has its
- * word. *answer, which may be NULL, is DERRIMAS_LINKED; or DERRIMAS_LINK_DUPLICATE where the word was a link of this
- * kind already, whose target is replaced.
+ * word. *answer, which may be NULL, is DERRIMAS_LINKED; or DERRIMAS_LINK_DUPLICATE if the word was a link of this kind
+ * already, whose target is replaced.
  * Refused: DERRIMAS_BAD_KIND, DERRIMAS_NO_WORLD, DERRIMAS_BAD_SLOT; of the place DERRIMAS_NOT_POINTER,
  * DERRIMAS_OUTSIDE_OBJECT; of the target DERRIMAS_NOT_POINTER, DERRIMAS_NOT_START; DERRIMAS_TABLE_FULL,
  * DERRIMAS_NO_MEMORY. */
 DERRIMAS_CHECKED derrimas_code derrimas_link(derrimas_world *world, derrimas_links kind, derrimas_slot slot, uint64_t offset,
                                              derrimas_slot target, derrimas_link_answer *answer) DERRIMAS_NONNULL(1);
 
-/* Removes the link of this kind at the slot's word plus the offset, and tells in *was, which may be NULL, whether
- * there was one. No word changes.
+/* Removes the link of this kind at the slot's word plus the offset; *was, which may be NULL, says whether there was
+ * one. No word changes.
  * Refused: DERRIMAS_BAD_KIND, DERRIMAS_NO_WORLD, DERRIMAS_BAD_SLOT, DERRIMAS_NOT_POINTER, DERRIMAS_OUTSIDE_OBJECT. */
 derrimas_code derrimas_unlink(derrimas_world *world, derrimas_links kind, derrimas_slot slot, uint64_t offset, bool *was)
     DERRIMAS_NONNULL(1);
 
 /* Moves the link of this kind from the slot's word plus the offset to the word of the slot `to` plus `to_offset`. No
- * word changes. *answer, which may be NULL, is DERRIMAS_LINKED, also where both places are the same; or, and then
- * nothing changed, DERRIMAS_LINK_NOT_FOUND if there is no link to move, DERRIMAS_LINK_DUPLICATE if there is another
- * link of this kind at the new place.
+ * word changes. *answer, which may be NULL, is DERRIMAS_LINKED, also if both places are the same; or, and then nothing
+ * changed, DERRIMAS_LINK_NOT_FOUND if there is no link to move, DERRIMAS_LINK_DUPLICATE if there is another link of
+ * this kind at the new place.
  * Refused: DERRIMAS_BAD_KIND, DERRIMAS_NO_WORLD, DERRIMAS_BAD_SLOT; of the old place DERRIMAS_NOT_POINTER,
  * DERRIMAS_OUTSIDE_OBJECT; the same of the new one. Never DERRIMAS_NO_MEMORY. */
 DERRIMAS_CHECKED derrimas_code derrimas_move_link(derrimas_world *world, derrimas_links kind, derrimas_slot slot,
@@ -366,8 +365,8 @@ DERRIMAS_CHECKED derrimas_code derrimas_move_link(derrimas_world *world, derrima
 derrimas_code derrimas_collect(derrimas_world *world, derrimas_passed *passed) DERRIMAS_NONNULL(1);
 
 /* A collection in steps, as GC_collect_a_little. derrimas_begin opens a cycle. derrimas_mark scans at most `budget`
- * marked objects, and tells in *done, which may be NULL, whether none is left to scan. derrimas_pause marks the rest
- * and ends the cycle with a pass, of which *passed tells, which may be NULL. All calls but derrimas_begin and
+ * marked objects; *done, which may be NULL, says whether none is left to scan. derrimas_pause marks the rest and ends
+ * the cycle with a pass; *passed, which may be NULL, says what that did. All calls but derrimas_begin and
  * derrimas_collect may come between; what was dropped after derrimas_begin may stay until the next cycle.
  * Refused: derrimas_begin DERRIMAS_NO_WORLD, DERRIMAS_CYCLE_OPEN, DERRIMAS_EXHAUSTED; derrimas_mark DERRIMAS_NO_WORLD,
  * DERRIMAS_BAD_COUNT (the budget is 0), DERRIMAS_NO_CYCLE; derrimas_pause DERRIMAS_NO_WORLD, DERRIMAS_NO_CYCLE. */
@@ -379,20 +378,20 @@ derrimas_code derrimas_pause(derrimas_world *world, derrimas_passed *passed) DER
 
 /* Takes the next entry of the queue into *entry: each entry once, in the queue's order, and none that is finished. The
  * entry holds its object, and what its client data points to, until derrimas_finish. The memory of a finalized object
- * is free after the next collection, if nothing else leads to it.
- * Refused: DERRIMAS_NO_WORLD, DERRIMAS_EMPTY. Where it returns DERRIMAS_EMPTY, or an entry behind finished ones, it has
+ * is free after the next collection, if nothing else reaches it.
+ * Refused: DERRIMAS_NO_WORLD, DERRIMAS_EMPTY. If it returns DERRIMAS_EMPTY, or an entry after finished ones, it has
  * passed over the finished ones, and derrimas_counts.taken counts those too; so does derrimas_waiting. */
 DERRIMAS_CHECKED derrimas_code derrimas_take(derrimas_world *world, derrimas_entry *entry) DERRIMAS_NONNULL(1, 2);
 
-/* Tells in *waiting whether the queue has an entry that is neither taken nor finished: GC_should_invoke_finalizers.
+/* Sets *waiting to whether the queue has an entry that is neither taken nor finished: GC_should_invoke_finalizers.
  * Refused: DERRIMAS_NO_WORLD. */
 derrimas_code derrimas_waiting(derrimas_world *world, bool *waiting) DERRIMAS_NONNULL(1, 2);
 
-/* Tells in *count how many entries aren't finished, taken or not.
+/* Sets *count to the number of entries that aren't finished, taken or not.
  * Refused: DERRIMAS_NO_WORLD. */
 derrimas_code derrimas_outstanding(derrimas_world *world, uint64_t *count) DERRIMAS_NONNULL(1, 2);
 
-/* Puts the address of the entry's object into the slot: to use the object, or to keep it also after derrimas_finish.
+/* Stores the address of the entry's object in the slot: to use the object, or to retain it also after derrimas_finish.
  * The entry may be taken or not.
  * Refused: DERRIMAS_NO_WORLD, DERRIMAS_BAD_SLOT, DERRIMAS_NOT_HELD. */
 derrimas_code derrimas_hold(derrimas_world *world, derrimas_slot slot, const derrimas_entry *entry) DERRIMAS_NONNULL(1, 3);
@@ -428,7 +427,7 @@ derrimas_code derrimas_forget(derrimas_world *world, uint64_t *count) DERRIMAS_N
 DERRIMAS_CHECKED derrimas_code derrimas_line_open(derrimas_line *line, uint64_t seats, uint64_t first) DERRIMAS_NONNULL(1);
 
 /* Frees the line's end, with the seats that weren't handed out, and leaves it as {0}. Seats that were handed out may
- * still be used, and take what was published. Does nothing where the line isn't open. */
+ * still be used, and take what was published. Does nothing if the line isn't open. */
 void derrimas_line_destroy(derrimas_line *line) DERRIMAS_NONNULL(1);
 
 /* Hands out one of the line's seats: *seat is to be {0}.
@@ -443,16 +442,16 @@ DERRIMAS_CHECKED derrimas_code derrimas_line_seat(derrimas_line *line, derrimas_
 DERRIMAS_CHECKED derrimas_code derrimas_line_publish(derrimas_line *line, const derrimas_entry *entry) DERRIMAS_NONNULL(1, 2);
 
 /* Takes the next entry of the line into *entry, and into the seat's hand until derrimas_seat_done.
- * Refused: DERRIMAS_NO_WORLD; DERRIMAS_IN_HAND; DERRIMAS_EMPTY where the line was empty at one moment of the call;
+ * Refused: DERRIMAS_NO_WORLD; DERRIMAS_IN_HAND; DERRIMAS_EMPTY if the line was empty at one moment of the call;
  * DERRIMAS_BUSY. */
 DERRIMAS_CHECKED derrimas_code derrimas_seat_take(derrimas_seat *seat, derrimas_entry *entry) DERRIMAS_NONNULL(1, 2);
 
-/* The procedure of the entry in hand has run, and the hand is empty.
- * Refused: DERRIMAS_NO_WORLD; DERRIMAS_EMPTY where no entry is in hand. */
+/* Ends the work on the entry in hand: its procedure has run. The hand is empty then.
+ * Refused: DERRIMAS_NO_WORLD; DERRIMAS_EMPTY if no entry is in hand. */
 derrimas_code derrimas_seat_done(derrimas_seat *seat) DERRIMAS_NONNULL(1);
 
 /* Frees the seat, and leaves it as {0}. An entry in hand is abandoned: no seat takes it again, and the world holds it,
- * as one that isn't finished, until derrimas_finish. Does nothing where the seat isn't open. */
+ * as one that isn't finished, until derrimas_finish. Does nothing if the seat isn't open. */
 void derrimas_seat_destroy(derrimas_seat *seat) DERRIMAS_NONNULL(1);
 
 /* ---- what a world shows; nothing changes by it
@@ -464,28 +463,28 @@ void derrimas_seat_destroy(derrimas_seat *seat) DERRIMAS_NONNULL(1);
  */
 
 /* The first object that starts at `from` or after it.
- * Refused: DERRIMAS_NO_WORLD, DERRIMAS_EMPTY where there is none. */
+ * Refused: DERRIMAS_NO_WORLD, DERRIMAS_EMPTY if there is none. */
 derrimas_code derrimas_next_object(derrimas_world *world, uint64_t from, derrimas_object *object) DERRIMAS_NONNULL(1, 3);
 
 /* The registration of the first registered object that starts at `from` or after it.
- * Refused: DERRIMAS_NO_WORLD, DERRIMAS_EMPTY where there is none. */
+ * Refused: DERRIMAS_NO_WORLD, DERRIMAS_EMPTY if there is none. */
 derrimas_code derrimas_next_registration(derrimas_world *world, uint64_t from, derrimas_registration *registration)
     DERRIMAS_NONNULL(1, 3);
 
 /* The first link of this kind whose word is at `from` or after it.
- * Refused: DERRIMAS_BAD_KIND, DERRIMAS_NO_WORLD, DERRIMAS_EMPTY where there is none. */
+ * Refused: DERRIMAS_BAD_KIND, DERRIMAS_NO_WORLD, DERRIMAS_EMPTY if there is none. */
 derrimas_code derrimas_next_link(derrimas_world *world, derrimas_links kind, uint64_t from, derrimas_linked *linked)
     DERRIMAS_NONNULL(1, 4);
 
 /* The first entry that isn't finished whose place in the queue is `from` or after it.
- * Refused: DERRIMAS_NO_WORLD, DERRIMAS_EMPTY where there is none. */
+ * Refused: DERRIMAS_NO_WORLD, DERRIMAS_EMPTY if there is none. */
 derrimas_code derrimas_next_held(derrimas_world *world, uint64_t from, derrimas_entry *entry) DERRIMAS_NONNULL(1, 3);
 
 /* The entry at the queue's place `seq`, taken or not, finished or not.
- * Refused: DERRIMAS_NO_WORLD, DERRIMAS_EMPTY where the queue isn't so long, or the entry is finished and forgotten. */
+ * Refused: DERRIMAS_NO_WORLD, DERRIMAS_EMPTY if the queue isn't so long, or the entry is finished and forgotten. */
 derrimas_code derrimas_queued(derrimas_world *world, uint64_t seq, derrimas_entry *entry) DERRIMAS_NONNULL(1, 3);
 
-/* *place is the place of the queue from which on no entry is forgotten: 0 until derrimas_forget frees memory.
+/* Sets *place to the place of the queue from which on no entry is forgotten: 0 until derrimas_forget frees memory.
  * Refused: DERRIMAS_NO_WORLD. */
 derrimas_code derrimas_forgotten(derrimas_world *world, uint64_t *place) DERRIMAS_NONNULL(1, 2);
 
@@ -499,7 +498,7 @@ void derrimas_sample(derrimas_samples *samples) DERRIMAS_NONNULL(1);
 
 /* ---- texts */
 
-/* The name of a code, as reports of scripts write it ("BadSlot"), or "?" where it is none. */
+/* The name of a code, as reports of scripts write it ("BadSlot"), or "?" if it is none. */
 const char *derrimas_name(derrimas_code code);
 
 /* What a code means: "no such frame, or no such slot of its sixteen". */
@@ -508,13 +507,13 @@ const char *derrimas_strerror(derrimas_code code);
 /* ---- finalizers that are C procedures */
 
 /* A finalizer's procedure. It may make any call with the world, derrimas_invoke_finalizers too, which then takes what
- * is left. `data` is what that was given. Where a procedure leaves by longjmp or a C++ exception, its entry stays
- * held, and isn't taken again: derrimas_next_held finds it, and derrimas_finish ends it. */
+ * is left. `data` is what that was given. If a procedure leaves by longjmp or a C++ exception, its entry stays held,
+ * and isn't taken again: derrimas_next_held finds it, and derrimas_finish ends it. */
 typedef void (*derrimas_proc)(derrimas_world *world, const derrimas_entry *entry, void *data);
 
 /* Takes entries until none is left, calls for each the procedure of its number, and finishes it: GC_invoke_finalizers.
- * Where the table of `count` procedures has no such number, or NULL there, nothing is called, and the entry is finished
- * all the same. Returns how many entries it took: none where the world isn't open. */
+ * If the table of `count` procedures has no such number, or NULL there, nothing is called, and the entry is finished
+ * nevertheless. Returns how many entries it took: none if the world isn't open. */
 uint64_t derrimas_invoke_finalizers(derrimas_world *world, const derrimas_proc *procs, size_t count, void *data)
     DERRIMAS_NONNULL(1);
 
@@ -522,9 +521,9 @@ uint64_t derrimas_invoke_finalizers(derrimas_world *world, const derrimas_proc *
  * it unregisters each object that is registered when these have run, what they registered themselves included, by rank,
  * then address, and calls its procedure with an entry whose seq is UINT64_MAX and whose pass is 0: it is no entry of
  * the queue, can't be finished, and nothing was found unreachable. So objects on rings come too, and objects that are
- * in use. While its procedure runs an object is kept by the slot, which is 0 afterwards. What these procedures register
- * stays registered, unless a collection of theirs finds it: what is queued meanwhile runs at the end. It is no pass: no
- * link is cleared. *ran, which may be NULL, is how many entries and registrations were processed.
+ * in use. While its procedure runs an object is retained by the slot, which is 0 afterwards. What these procedures
+ * register stays registered, unless a collection of theirs finds it: what is queued meanwhile runs at the end. It is no
+ * pass: no link is cleared. *ran, which may be NULL, is how many entries and registrations were processed.
  * Refused: DERRIMAS_NO_WORLD, DERRIMAS_BAD_SLOT; nothing ran then. */
 derrimas_code derrimas_finalize_all(derrimas_world *world, derrimas_slot slot, const derrimas_proc *procs, size_t count,
                                     void *data, uint64_t *ran) DERRIMAS_NONNULL(1);
@@ -550,8 +549,8 @@ static inline derrimas_scope derrimas_scope_within(const derrimas_scope *outer)
     return derrimas_scope_open(outer->world, outer->frame, outer->next);
 }
 
-/* Borrows the next slot, whose word is set to 0. Where the frame has none, it is a slot that there isn't, which each
- * call refuses as DERRIMAS_BAD_SLOT. */
+/* Borrows the next slot, whose word is set to 0. If the frame has none left, the result is a slot that doesn't exist,
+ * which each call refuses with DERRIMAS_BAD_SLOT. */
 static inline derrimas_slot derrimas_scope_slot(derrimas_scope *scope)
 {
     derrimas_slot slot = derrimas_at(scope->frame, scope->next);

@@ -35,7 +35,7 @@ extern "C" {
 /* The version as a text: "1.0.0". */
 #define DERRIMAS_VERSION DERRIMAS_TEXT_OF_VERSION(DERRIMAS_VERSION_MAJOR, DERRIMAS_VERSION_MINOR, DERRIMAS_VERSION_PATCH)
 
-/* The library's version, as "1.0.0". Where its first number isn't DERRIMAS_VERSION_MAJOR, the library isn't that of these
+/* The library's version, as "1.0.0". If its first number isn't DERRIMAS_VERSION_MAJOR, the library isn't that of these
  * headers. */
 const char *derrimas_version(void);
 

@@ -144,8 +144,8 @@ typedef struct derrimas_finalizers {
     bool asks_marks;
 } derrimas_finalizers;
 
-/* The procedure and the client data of a registration or a cleanup that went away, and whether there was one: else both
- * are 0. */
+/* The procedure and the client data of a registration or a cleanup that was removed or replaced, and whether there was
+ * one: if not, both are 0. */
 typedef struct derrimas_finalizers_old {
     uint64_t proc, cd;
     bool was;
@@ -191,13 +191,13 @@ typedef struct derrimas_finalizers_passed {
 /* What a question asks of each of its objects, words or regions. */
 typedef enum derrimas_ask {
     DERRIMAS_ASK_IS_MARKED = 1,        /* is the object marked? */
-    DERRIMAS_ASK_MARK_CHILDREN = 2,    /* mark the objects to which its words lead, and all that those lead to */
-    DERRIMAS_ASK_MARK_OTHERS = 3,      /* the same, but not what words lead to that point to the object itself */
-    DERRIMAS_ASK_MARK = 4,             /* mark the object and all that it leads to: it has an entry from now on */
-    DERRIMAS_ASK_MARK_ALONE = 5,       /* mark the object, where all else that it leads to is marked: it has an entry */
-    DERRIMAS_ASK_CLEAR = 6,            /* write zero to the word; its link goes */
-    DERRIMAS_ASK_HOLDER_IS_MARKED = 7, /* is the object that has the word marked, or has no object the word? else its link
-                                        * goes, and the word stays as it is */
+    DERRIMAS_ASK_MARK_CHILDREN = 2,    /* mark the objects to which its words point, and all that those reach */
+    DERRIMAS_ASK_MARK_OTHERS = 3,      /* the same, but without the words that point to the object itself */
+    DERRIMAS_ASK_MARK = 4,             /* mark the object and all that it reaches: it has an entry from now on */
+    DERRIMAS_ASK_MARK_ALONE = 5,       /* mark the object; all else that it reaches is marked already: it has an entry */
+    DERRIMAS_ASK_CLEAR = 6,            /* write zero to the word; its link is removed */
+    DERRIMAS_ASK_HOLDER_IS_MARKED = 7, /* is the object that has the word marked, or has no object the word? if not, its
+                                        * link is removed, and the word stays as it is */
     DERRIMAS_ASK_MARKS = 8             /* which objects are marked that begin in the region? only with the option `marks` */
 } derrimas_ask;
 
@@ -364,12 +364,12 @@ bool derrimas_finalizers_has_waiting(const derrimas_finalizers *finalizers) DERR
 
 /* ---- what a handle has; nothing changes by it, and a pass may be open */
 
-/* The roots: before each pass a host marks what they reach, and it keeps these. */
+/* The roots: before each pass a host marks them and what they reach. */
 typedef enum derrimas_finalizers_root {
     DERRIMAS_FINALIZERS_HELD_OBJECTS = 0,   /* the objects of entries that wait or are held, which are roots themselves; the
                                              * entry of a cleanup has none */
     DERRIMAS_FINALIZERS_HELD_DATA = 1,      /* their client data */
-    DERRIMAS_FINALIZERS_REGISTERED_DATA = 2 /* the client data of registrations and cleanups, for hosts that keep it */
+    DERRIMAS_FINALIZERS_REGISTERED_DATA = 2 /* the client data of registrations and cleanups, if the host retains it */
 } derrimas_finalizers_root;
 
 /* Copies roots of the sort into the buffer, which has `room` words: those from the place *from on, which is 0 at first.
@@ -377,14 +377,14 @@ typedef enum derrimas_finalizers_root {
  * finished entry, or that of a cleanup, may have a place without a root. As long as only calls that take a const handle
  * come between, the parts are one walk, which has each root once. A call takes time proportional to the roots that it
  * copies and the places that it passes, wherever it starts. The buffer may be NULL if `room` is 0.
- * Refused: BAD_KIND, NOT_OPEN; EMPTY where no root is left, or `room` is 0. */
+ * Refused: BAD_KIND, NOT_OPEN; EMPTY if no root is left, or `room` is 0. */
 derrimas_finalizers_code derrimas_finalizers_roots(const derrimas_finalizers *finalizers, derrimas_finalizers_root sort,
                                                    uint64_t *from, uint64_t *buffer, size_t room, size_t *count)
     DERRIMAS_NONNULL(1, 3, 6);
 
 /* The first entry whose place in the queue, `seq`, is `from` or more and that isn't finished: it waits or is held. From 0 on,
  * and then each time from behind the one before, these are all unfinished entries, in the queue's order.
- * Refused: NOT_OPEN; EMPTY where there is none. */
+ * Refused: NOT_OPEN; EMPTY if there is none. */
 derrimas_finalizers_code derrimas_finalizers_unfinished(const derrimas_finalizers *finalizers, uint64_t from,
                                                         derrimas_finalizers_entry *entry) DERRIMAS_NONNULL(1, 3);
 
@@ -394,37 +394,37 @@ derrimas_finalizers_code derrimas_finalizers_count(const derrimas_finalizers *fi
     DERRIMAS_NONNULL(1, 2);
 
 /* The registration of an object.
- * Refused: NOT_OPEN; EMPTY where it has none. */
+ * Refused: NOT_OPEN; EMPTY if it has none. */
 derrimas_finalizers_code derrimas_finalizers_registration(const derrimas_finalizers *finalizers, uint64_t object,
                                                           derrimas_finalizers_registration_at *registration)
     DERRIMAS_NONNULL(1, 3);
 
 /* The target of the link of this kind at the word.
- * Refused: BAD_KIND, NOT_OPEN; EMPTY where there is no link. */
+ * Refused: BAD_KIND, NOT_OPEN; EMPTY if there is no link. */
 derrimas_finalizers_code derrimas_finalizers_target(const derrimas_finalizers *finalizers,
                                                     derrimas_finalizers_link_kind kind, uint64_t word, uint64_t *target)
     DERRIMAS_NONNULL(1, 4);
 
 /* The cleanup with this number.
- * Refused: NOT_OPEN; EMPTY where it was queued, cancelled or never added. */
+ * Refused: NOT_OPEN; EMPTY if it was queued, cancelled or never added. */
 derrimas_finalizers_code derrimas_finalizers_cleanup(const derrimas_finalizers *finalizers, uint64_t number,
                                                      derrimas_finalizers_cleanup_at *cleanup) DERRIMAS_NONNULL(1, 3);
 
 /* Copies registrations into the buffer, which has `room` places, as derrimas_finalizers_roots copies roots: from the place
  * *from on, in no order that a host may rely on. A call takes time proportional to what it copies, wherever it starts.
- * Refused: NOT_OPEN; EMPTY where none is left, or `room` is 0. */
+ * Refused: NOT_OPEN; EMPTY if none is left, or `room` is 0. */
 derrimas_finalizers_code derrimas_finalizers_registrations(const derrimas_finalizers *finalizers, uint64_t *from,
                                                            derrimas_finalizers_registration_at *buffer, size_t room,
                                                            size_t *count) DERRIMAS_NONNULL(1, 2, 5);
 
 /* Copies links of a kind, as derrimas_finalizers_registrations copies registrations.
- * Refused: BAD_KIND, NOT_OPEN; EMPTY where none is left, or `room` is 0. */
+ * Refused: BAD_KIND, NOT_OPEN; EMPTY if none is left, or `room` is 0. */
 derrimas_finalizers_code derrimas_finalizers_links(const derrimas_finalizers *finalizers, derrimas_finalizers_link_kind kind,
                                                    uint64_t *from, derrimas_finalizers_link_at *buffer, size_t room,
                                                    size_t *count) DERRIMAS_NONNULL(1, 3, 6);
 
 /* Copies cleanups, as derrimas_finalizers_registrations copies registrations.
- * Refused: NOT_OPEN; EMPTY where none is left, or `room` is 0. */
+ * Refused: NOT_OPEN; EMPTY if none is left, or `room` is 0. */
 derrimas_finalizers_code derrimas_finalizers_cleanups(const derrimas_finalizers *finalizers, uint64_t *from,
                                                       derrimas_finalizers_cleanup_at *buffer, size_t room, size_t *count)
     DERRIMAS_NONNULL(1, 2, 5);
@@ -455,7 +455,7 @@ typedef enum derrimas_why_root {
     DERRIMAS_WHY_HELD_DATA = 4        /* its client data */
 } derrimas_why_root;
 
-/* An answer: the reason; for FOUND the root; for QUEUED the entry; and the path's length, which is 0 where there is none.
+/* An answer: the reason; for FOUND the root; for QUEUED the entry; and the path's length, which is 0 if there is none.
  * What isn't for the reason is 0. */
 typedef struct derrimas_why {
     derrimas_why_reason reason;
@@ -497,7 +497,7 @@ void derrimas_finalizers_trace(derrimas_finalizers *finalizers, const derrimas_t
 
 /* Describes the handle for a person, by calls of `line` with `data` and a line of text: its counts, the kinds of its
  * registrations, the registration that was made first, and the entry that was queued first and isn't finished, with the
- * pass that queued it; the entry of a cleanup is told by the cleanup's number. Of the registration it says between which
+ * pass that queued it; for the entry of a cleanup it says the cleanup's number. Of the registration it says between which
  * passes it was made: exactly for the first 8 passes, and later to within a quarter of all passes. For a handle that isn't
  * open the line is "not open". The texts may change. Takes time proportional to the registrations, and no memory. `line`
  * makes no call that changes the handle. */
@@ -506,23 +506,23 @@ void derrimas_finalizers_dump(const derrimas_finalizers *finalizers, void (*line
 
 /* ---- texts */
 
-/* The name of a code ("PassOpen"), or "?" where it is none. */
+/* The name of a code ("PassOpen"), or "?" if it is none. */
 const char *derrimas_finalizers_name(derrimas_finalizers_code code);
 
 /* What a code means: "no pass is open". */
 const char *derrimas_finalizers_strerror(derrimas_finalizers_code code);
 
-/* The name of a reason ("Ring"), or "?" where it is none. */
+/* The name of a reason ("Ring"), or "?" if it is none. */
 const char *derrimas_finalizers_reason_name(derrimas_why_reason reason);
 
 /* ---- a host's procedures, and a pass that they drive */
 
 /* A host: what it does for each question. `data` is what derrimas_finalizers_pass was given. What is promised of a pass
- * holds if there are a graph and a set of marked objects such that: is_marked tells whether the object is in the set; so
- * does each bit of marks, of the object that begins at its place; the three marks add to the set what the questions say, or
- * more; nothing else changes the set in the pass; and at the beginning and after each mark the set has all that its objects
- * reach. With but_itself, mark_children passes over words that point to the object itself. marks returns the word of the
- * region that begins at `first`; it is NULL in a host that doesn't open with the option `marks`. */
+ * holds if there are a graph and a set of marked objects such that: is_marked says whether the object is in the set; so
+ * does each bit of marks, about the object that begins at its place; the three marks add to the set what the questions
+ * say, or more; nothing else changes the set in the pass; and at the beginning and after each mark the set has all that
+ * its objects reach. With but_itself, mark_children passes over words that point to the object itself. marks returns the
+ * word of the region that begins at `first`; it is NULL in a host that doesn't open with the option `marks`. */
 typedef struct derrimas_host {
     bool (*is_marked)(void *data, uint64_t object);
     void (*mark_children)(void *data, uint64_t object, bool but_itself);
@@ -558,7 +558,7 @@ static inline uint64_t derrimas_host_answers(const derrimas_host *host, void *da
 
 /* A whole pass, driven by the procedures of a host. They may make the calls that take a const handle, and must return.
  * *passed, which may be NULL, is what it did. BAD_OPTIONS: the handle was opened with the option `marks`, and the host has
- * no `marks`; is_marked can't stand in for it, since a place of a region may hold no object.
+ * no `marks`; is_marked can't be asked instead, since there may be no object at a place of a region.
  * Refused: BAD_OPTIONS, NOT_OPEN, PASS_OPEN. */
 static inline derrimas_finalizers_code derrimas_finalizers_pass(derrimas_finalizers *finalizers, const derrimas_host *host,
                                                                 void *data, derrimas_finalizers_passed *passed)
