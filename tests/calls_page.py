@@ -27,7 +27,7 @@ source. `tests/documents --write` writes this page from the sources, and the gat
 - Errors are listed in the order in which they are tested. A call that returns an error has no effect, except that `alloc_or_collect` may have collected.
 - Unless stated otherwise a call takes O(log n) time, amortized over the growth of tables.
 - `Addr` and `Word` are `u64`. The [last part](#answers) has the fields of what calls take and return.
-- The calls for C are in the headers `derrimas.h` and `derrimas_finalizers.h`, and in the manual pages that `c/install` installs.
+- The calls for C are in the headers `derrimas_finalizers.h`, `derrimas_workers.h` and `derrimas.h`, and in the manual pages that `c/install` installs.
 
 '''
 

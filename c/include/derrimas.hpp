@@ -1,7 +1,7 @@
 /* derrimas.hpp: derrimas.h for C++17 and later, in headers alone.
  *
- * Worlds, lines, seats and scopes free what they have at their end, and can be moved but not copied. A refusal is an exception, `derrimas::refused`; what
- * may not be there is a std::optional. Each member is the call of its name: derrimas.h says what it does, and what a caller owes.
+ * Worlds, lines, seats and scopes are destroyed at the end of their C++ scope, and can be moved but not copied. A refusal is an exception, `derrimas::refused`;
+ * a result that may be missing is a std::optional. Each member is the call of its name: derrimas.h says what it does, and what a caller owes.
  *
  *     derrimas::world world(64);
  *     derrimas::scope scope(world, 0);
@@ -60,7 +60,7 @@ inline void check(derrimas_code code)
         throw refused(code);
 }
 
-/* Whether there is one; throws what was refused for another cause than that there is none. */
+/* Whether there is one. Throws if the call was refused for any other cause than that there is none. */
 inline bool found(derrimas_code code)
 {
     if (code == DERRIMAS_EMPTY)
@@ -97,8 +97,8 @@ public:
         return made;
     }
 
-    /* As alloc; where there is no space it collects, calls `ready` with the world, and tries once more. In an open cycle
-     * it throws CycleOpen instead, and nothing has changed. */
+    /* As alloc; if there is no space it collects, calls `ready` with the world, and tries once more. In an open cycle it throws CycleOpen instead, and nothing
+     * has changed. */
     template <typename Ready> made alloc_or_collect(slot to, std::uint64_t size, words kind, Ready ready)
     {
         derrimas_made made;
@@ -140,7 +140,7 @@ public:
 
     std::optional<object> base(address word) { return maybe<object>(derrimas_base, word); }
 
-    /* Throws `refused` also where the slot has let go of its object. */
+    /* Throws `refused` also if the slot's word is 0 or outside the heap. */
     registered register_object(slot object, kind kind, std::uint64_t proc, std::uint64_t cd, std::uint8_t rank = 0)
     {
         derrimas_registered registered;
@@ -231,7 +231,7 @@ public:
         return count;
     }
 
-    /* Takes entries until none is left, calls `run` with the world and each, and finishes it, unless `run` did. Where `run` throws, its entry stays held:
+    /* Takes entries until none is left, calls `run` with the world and each, and finishes it, unless `run` did. If `run` throws, its entry stays held:
      * next_held finds it. Returns how many it took. */
     template <typename Run> std::uint64_t invoke(Run run)
     {
@@ -285,8 +285,8 @@ private:
     derrimas_world handle_{};
 };
 
-/* Slots of a frame from one on, lent until the scope's end. The world has to outlive it where it is, and an inner scope to end first. One that was moved
- * from has no slot. */
+/* The slots of a frame from one on, lent until the scope's end. The world has to outlive the scope, and must not be moved; an inner scope ends first. A scope
+ * that was moved from has no slot. */
 class scope {
 public:
     explicit scope(world &world, std::uint64_t frame, std::uint64_t first = 0) : scope_(derrimas_scope_open(world.get(), frame, first)) {}
@@ -298,7 +298,7 @@ public:
     /* A scope within this one: of the slots that this one hasn't lent. */
     scope within() const { return scope(derrimas_scope_within(&scope_)); }
 
-    /* The next slot, at 0. Throws where the frame has none left. */
+    /* The next slot, whose word is 0. Throws if the frame has none left. */
     derrimas::slot slot()
     {
         if (scope_.next >= DERRIMAS_SLOTS)
@@ -328,7 +328,7 @@ public:
     }
     derrimas_seat *get() noexcept { return &handle_; }
 
-    /* The next entry, or none where the line was empty or another thread in the way. */
+    /* The next entry, or none if the line was empty or another thread interfered. */
     std::optional<entry> take()
     {
         derrimas_entry entry;

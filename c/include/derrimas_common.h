@@ -35,19 +35,19 @@ extern "C" {
 /* The version as a text: "1.0.0". */
 #define DERRIMAS_VERSION DERRIMAS_TEXT_OF_VERSION(DERRIMAS_VERSION_MAJOR, DERRIMAS_VERSION_MINOR, DERRIMAS_VERSION_PATCH)
 
-/* The library's version, as "1.0.0". Where its first number isn't DERRIMAS_VERSION_MAJOR, the library isn't that of these
+/* The library's version, as "1.0.0". If its first number isn't DERRIMAS_VERSION_MAJOR, the library isn't that of these
  * headers. */
 const char *derrimas_version(void);
 
 /* ---- links */
 
-/* When a pass clears the word of a link. SHORT: when the target is unreachable, before its finalizer is queued, so nothing
- * finds by it what is finalized. LONG: when no finalizer retains the target either, so the word finds it as long as it
- * exists. GC_general_register_disappearing_link and GC_register_long_link. */
+/* When a pass clears the word of a link. SHORT: when the target is unreachable, before its finalizer is queued, so
+ * nobody finds an object by it that is being finalized. LONG: when no finalizer retains the target either, so the word
+ * is valid as long as the target exists. GC_general_register_disappearing_link and GC_register_long_link. */
 typedef enum derrimas_links { DERRIMAS_SHORT = 0, DERRIMAS_LONG = 1 } derrimas_links;
 
-/* What became of a link. The numbers are no codes; DERRIMAS_GC_ANSWER makes gc.h's of them: GC_SUCCESS, GC_DUPLICATE and
- * GC_NOT_FOUND. */
+/* The result of a call about a link. The numbers are no codes; DERRIMAS_GC_ANSWER maps them to those of gc.h:
+ * GC_SUCCESS, GC_DUPLICATE and GC_NOT_FOUND. */
 typedef enum derrimas_link_answer {
     DERRIMAS_LINKED = 128,         /* the link was made, or moved */
     DERRIMAS_LINK_DUPLICATE = 129, /* a link of this kind stood at the word */

@@ -3,16 +3,16 @@
  *
  * A derrimas_finalizers holds registrations of objects, short and long disappearing links, cleanups of objects, and the
  * entries of finalizers and cleanups that are ready. Objects, words, procedures and client data are numbers of 64 bits,
- * which are compared and handed back, and never followed. An object is any number but 0 by which the host finds it: its
- * address, an address that is hidden by a map that keeps the order, or an index. What is proved of a pass gives an object
- * as many numbers as it has words, from its own on, and no two objects share one. A link's word is any number but 0 by
- * which the host finds it, and has one number: its address, or an object's number and an offset. A host whose marker scans
- * the stack for what looks like an address hides them, since questions and entries lie there: objects, words, targets and
- * client data, all by the same map.
+ * which are compared and returned, and never dereferenced. An object is any number but 0 by which the host finds it: its
+ * address, an address that is hidden by a map that keeps the order, or an index. What is proved of a pass assumes that an
+ * object with n words takes the n numbers from its own on, and that no two objects share one. A link's word is any number
+ * but 0 by which the host finds it, and has one number: its address, or an object's number and an offset. A host whose
+ * marker scans the stack for what looks like an address hides all of these by the same map, since questions and entries
+ * are on the stack.
  *
- * The host has the heap. It marks what its roots reach, and what derrimas_finalizers_roots yields. Then it runs a pass, in
- * which it is asked questions: is this object marked, mark what it reaches, write zero to this word. What isn't marked at
- * the pass's end is the host's to reclaim.
+ * The host has the heap. It marks what its roots reach, and what derrimas_finalizers_roots yields. Then it makes a pass,
+ * in which it is asked questions: is this object marked, mark what it reaches, write zero to this word. What isn't marked
+ * at the end of the pass may be reclaimed.
  *
  * A call that can be refused returns a derrimas_finalizers_code. A refused call changes nothing, and leaves the places for
  * its results as they were. If several causes apply, it returns the first in the order of the call's comment.
@@ -25,22 +25,22 @@
  *   handle change nothing, and may be made by several threads at once, if no other call is made meanwhile.
  *   derrimas_finalizers_has_waiting alone may be called at any time.
  * - A signal handler calls derrimas_finalizers_has_waiting alone. A forked child has a copy of each handle: it may use one
- *   if no other thread was in a call on it at the fork, as where the fork comes under the host's lock.
- * - Before the host frees, reuses or moves the memory of a link's word, it unlinks or moves the link. A pass writes to the
- *   word of each link that it clears, also where no object has the word. A pass that ends has removed the links whose
- *   words lie in objects that it left unmarked: these may be freed without further calls.
- * - Before the host reclaims an object at any other time than after a pass that left it unmarked, it cancels the object's
- *   cleanups: a pass asks whether the object is marked, and a new object of the same number would inherit them. A pass that
- *   ends has queued the cleanups of all objects that it left unmarked.
+ *   if no other thread was in a call on it at the fork, for example if the fork happens under the host's lock.
+ * - Before the host frees, reuses or moves the memory of a link's word, it unlinks or moves the link. A pass has the host
+ *   write to the word of each link that it clears, even if no object has the word. A pass that ends has removed the links
+ *   whose words lie in objects that it left unmarked: these may be freed without further calls.
+ * - Before the host reclaims an object at any other time than after a pass that left it unmarked, it removes the object's
+ *   registration, the links to it and its cleanups: a pass asks whether the object is marked, and a new object of the same
+ *   number would inherit them. A pass that ends leaves none of these of an object that it left unmarked.
  *
- * Memory is taken by derrimas_finalizers_open, .._reserve, .._shrink, .._register, .._link, .._add_cleanup and .._why alone,
- * by the handle's allocator; and it is freed by those and by .._destroy alone. All other calls may be made while other threads are
- * stopped at any place. By .._reserve memory comes beforehand, but none for cleanups. A registration in place of another
- * takes no room, also where its kind is another. Each new registration and each cleanup takes room for its entry, so that a
- * pass, a take and a move of a link never lack memory; so a cleanup uses up the room that was reserved for one
- * registration. Where the list of a pass has no room left, .._register, .._link and .._add_cleanup make it grow, even if
- * they replace what there is or are refused. With the option `marks` .._register may also ask for memory for the object's
- * region, even if room is reserved; where there is none it is accepted all the same, and later passes ask of each object.
+ * Only derrimas_finalizers_open, .._reserve, .._shrink, .._register, .._link, .._add_cleanup and .._why allocate, by the
+ * handle's allocator; only these and .._destroy free. All other calls may be made while other threads are stopped at any
+ * place. .._reserve allocates beforehand, except for cleanups. A registration that replaces another takes no room, even if
+ * its kind differs. Each new registration and each cleanup takes room for its entry, so that a pass, a take and a move of
+ * a link never need memory; so a cleanup uses up the room that was reserved for one registration. If the list that a pass
+ * processes has no room left, .._register, .._link and .._add_cleanup enlarge it, even if they replace something or are
+ * refused. With the option `marks` .._register may also allocate for the object's region, even if room is reserved; if
+ * that fails the call is accepted nevertheless, and later passes ask about each object.
  *
  * Unless a comment says otherwise a call takes constant time: .._register, .._link and .._add_cleanup amortized over the
  * growth of tables, .._move_link over as many moves as there are links of its kind. */
@@ -107,7 +107,7 @@ typedef derrimas_link_answer derrimas_finalizers_linked;
 
 /* What a handle is opened with. `size` is sizeof(derrimas_finalizers_options), by which the library knows which fields
  * there are; those that a smaller struct of an older header lacks are 0. Either all three functions of the allocator are
- * given, or none, and then memory is the C library's. With `marks` a pass asks of registered objects by regions, with
+ * given, or none, and then memory is the C library's. With `marks` a pass asks about registered objects by regions, with
  * DERRIMAS_ASK_MARKS: for a host whose marks of neighbouring objects lie together, so that one word has those of many. */
 typedef struct derrimas_finalizers_options {
     size_t size;
@@ -117,8 +117,8 @@ typedef struct derrimas_finalizers_options {
 
 typedef struct derrimas_finalizers_entry derrimas_finalizers_entry;
 
-/* What a host is told of, by derrimas_finalizers_trace. Each function may be NULL. It is called at the end of the call that
- * brings the event about, by its thread, with `data` first. It makes no call that changes the handle, and returns. */
+/* The functions that derrimas_finalizers_trace sets. Each may be NULL. It is called at the end of the call in which the
+ * event happens, by the same thread, with `data` first. It makes no call that changes the handle, and returns. */
 typedef struct derrimas_trace {
     void (*queued)(void *data, uint64_t pass, uint64_t count); /* a pass has queued entries; or as pass 0 .._queue_all or
                                                                 * .._queue_cleanups has */
@@ -144,8 +144,8 @@ typedef struct derrimas_finalizers {
     bool asks_marks;
 } derrimas_finalizers;
 
-/* The procedure and the client data of a registration or a cleanup that went away, and whether there was one: else both
- * are 0. */
+/* The procedure and the client data of a registration or a cleanup that was removed or replaced, and whether there was
+ * one: if not, both are 0. */
 typedef struct derrimas_finalizers_old {
     uint64_t proc, cd;
     bool was;
@@ -191,23 +191,23 @@ typedef struct derrimas_finalizers_passed {
 /* What a question asks of each of its objects, words or regions. */
 typedef enum derrimas_ask {
     DERRIMAS_ASK_IS_MARKED = 1,        /* is the object marked? */
-    DERRIMAS_ASK_MARK_CHILDREN = 2,    /* mark the objects to which its words lead, and all that those lead to */
-    DERRIMAS_ASK_MARK_OTHERS = 3,      /* the same, but not what words lead to that point to the object itself */
-    DERRIMAS_ASK_MARK = 4,             /* mark the object and all that it leads to: it has an entry from now on */
-    DERRIMAS_ASK_MARK_ALONE = 5,       /* mark the object, where all else that it leads to is marked: it has an entry */
-    DERRIMAS_ASK_CLEAR = 6,            /* write zero to the word; its link goes */
-    DERRIMAS_ASK_HOLDER_IS_MARKED = 7, /* is the object that has the word marked, or has no object the word? else its link
-                                        * goes, and the word stays as it is */
+    DERRIMAS_ASK_MARK_CHILDREN = 2,    /* mark the objects to which its words point, and all that those reach */
+    DERRIMAS_ASK_MARK_OTHERS = 3,      /* the same, but without the words that point to the object itself */
+    DERRIMAS_ASK_MARK = 4,             /* mark the object and all that it reaches: it has an entry from now on */
+    DERRIMAS_ASK_MARK_ALONE = 5,       /* mark the object; all else that it reaches is marked already: it has an entry */
+    DERRIMAS_ASK_CLEAR = 6,            /* write zero to the word; its link is removed */
+    DERRIMAS_ASK_HOLDER_IS_MARKED = 7, /* is the object that has the word marked, or has no object the word? if not, its
+                                        * link is removed, and the word stays as it is */
     DERRIMAS_ASK_MARKS = 8             /* which objects are marked that begin in the region? only with the option `marks` */
 } derrimas_ask;
 
 /* A question about `count` objects, words or regions, 1 to DERRIMAS_FINALIZERS_BATCH, to be answered or carried out one
- * after another; the places behind them are undefined. For IS_MARKED and HOLDER_IS_MARKED bit i of the answers, counted
- * from the lowest, is the answer about what[i]. For the others the answers are ignored.
- * MARKS alone is answered in `marks`, which nothing else reads or writes. what[j] is where a region begins, which has 64
- * places, 16 apart. Bit i of marks[j] says whether the object that begins at what[j] + 16 * i is marked. Of a place where
- * none begins any value will do, and so of a region whose memory is gone: say 0 there. An object that begins off the
- * multiples of 16 is in a region that does so too, so what[j] need be no object and no multiple of 16, and may be 0. */
+ * after another; the places after them are undefined. For IS_MARKED and HOLDER_IS_MARKED bit i of the answers, counted
+ * from the lowest, is the answer about what[i]. For the others the answers are ignored. MARKS alone is answered in
+ * `marks`, which nothing else reads or writes. what[j] is where a region begins, which has 64 places, 16 apart. Bit i of
+ * marks[j] says whether the object that begins at what[j] + 16 * i is marked. If none begins at a place, its bit may have
+ * any value. For a region whose memory is freed give 0. An object that begins off the multiples of 16 is in a region that
+ * does so too, so what[j] need be no object and no multiple of 16, and may be 0. */
 typedef struct derrimas_question {
     uint64_t what[DERRIMAS_FINALIZERS_BATCH];
     uint64_t count;
@@ -217,86 +217,87 @@ typedef struct derrimas_question {
 
 /* ---- opening */
 
-/* Opens a handle: nothing is registered. The options may be NULL, which is the same as all 0 behind the size: then memory
- * is the C library's, by malloc, realloc and free, and a pass asks of each object by itself. They are copied. It takes
- * memory.
+/* Opens a handle: nothing is registered. The options are copied. They may be NULL, which is the same as 0 in all fields
+ * after the size: then memory is the C library's, by malloc, realloc and free, and a pass asks about each object by
+ * itself. It takes memory.
  * Refused: BAD_PROCESSOR, BAD_OPTIONS, IS_OPEN, NO_MEMORY. */
 DERRIMAS_CHECKED derrimas_finalizers_code derrimas_finalizers_open(derrimas_finalizers *finalizers,
                                                                    const derrimas_finalizers_options *options)
     DERRIMAS_NONNULL(1);
 
-/* Frees all that the handle has, by its allocator, and leaves it as {0}. Does nothing where it isn't open. */
+/* Frees all that the handle has, by its allocator, and leaves it as {0}. Does nothing if it isn't open. */
 void derrimas_finalizers_destroy(derrimas_finalizers *finalizers) DERRIMAS_NONNULL(1);
 
-/* Makes room for so many further registrations, and for so many further links of each kind: up to there no call but
- * .._add_cleanup takes memory. It takes memory itself, and time by what it makes room for.
+/* Makes room for the given numbers of further registrations and links: until the room is used up no call but
+ * .._add_cleanup takes memory. It takes memory itself, and time proportional to the room.
  * Refused: NOT_OPEN, PASS_OPEN, NO_MEMORY. */
 DERRIMAS_CHECKED derrimas_finalizers_code derrimas_finalizers_reserve(derrimas_finalizers *finalizers,
                                                                       uint64_t registrations, uint64_t shorts, uint64_t longs)
     DERRIMAS_NONNULL(1);
 
-/* Gives back the memory that isn't needed for what is registered, linked, added, waits or is held; also what was reserved.
- * Where the allocator has no memory to make something smaller, that stays as it is. No other call does this but .._destroy.
- * With the option `marks` the regions of what was removed are forgotten by the next pass, and not by this call. Takes time
- * by what there is.
+/* Frees the memory that registrations, links, cleanups and unfinished entries don't need, reserved room included. If the
+ * allocator has no memory for a smaller table, the old one stays. No other call but .._destroy does this. With the option
+ * `marks` the regions of removed registrations are forgotten by the next pass, and not by this call. Takes time
+ * proportional to what there is.
  * Refused: NOT_OPEN, PASS_OPEN. */
 derrimas_finalizers_code derrimas_finalizers_shrink(derrimas_finalizers *finalizers) DERRIMAS_NONNULL(1);
 
 /* ---- registrations, links and cleanups */
 
-/* Registers a finalizer of the object, in the place of the one that it has, of whichever kind. An object has one: for
- * several, let the client data be a list that the procedure goes over. `proc` is any number, and so is `cd`; both come back
- * in the entry. Of the registrations that one pass queues, those of kind UNREACHABLE come last; among these and among the
- * others lower ranks come first, and within a rank lower objects. *number, which may be NULL, is the number of the
- * registration, which no other and no cleanup has; *old, which may be NULL, what it replaced.
+/* Registers a finalizer of the object, and replaces the one that it has, of any kind. An object has one: for several, let
+ * the client data be a list that the procedure processes. `proc` and `cd` are any numbers, which the entry has too. Of the
+ * registrations that one pass queues, those of kind UNREACHABLE come last; among these and among the others lower ranks
+ * come first, and within a rank lower objects. *number, which may be NULL, is the number of the registration, which no
+ * other and no cleanup has; *old, which may be NULL, what it replaced.
  * Refused: BAD_KIND, NOT_OPEN, PASS_OPEN, ZERO, EXHAUSTED, FULL, NO_MEMORY. */
 DERRIMAS_CHECKED derrimas_finalizers_code
 derrimas_finalizers_register(derrimas_finalizers *finalizers, uint64_t object, derrimas_finalizers_kind kind, uint64_t proc,
                              uint64_t cd, uint8_t rank, uint64_t *number, derrimas_finalizers_old *old)
     DERRIMAS_NONNULL(1);
 
-/* Removes the finalizer of the object, if it has one, and tells in *old, which may be NULL, what it was. An object whose
- * entry is queued has none any more: it may be registered again, for a further entry.
+/* Removes the finalizer of the object, if it has one; *old, which may be NULL, is what it was. An object whose entry is
+ * queued has none any more: it may be registered again, for a further entry.
  * Refused: NOT_OPEN, PASS_OPEN. */
 derrimas_finalizers_code derrimas_finalizers_unregister(derrimas_finalizers *finalizers, uint64_t object,
                                                         derrimas_finalizers_old *old) DERRIMAS_NONNULL(1);
 
-/* Makes a link from the word to the target. Where the word has one of this kind, its target is replaced, and *answer is
- * DUPLICATE, else LINKED; it may be NULL. A word may have one link of each kind. A pass clears the word once the target is
- * unreachable, and the link goes. It also goes, its word untouched, once the object that has the word isn't marked.
+/* Makes a link from the word to the target. If the word has one of this kind, its target is replaced, and *answer is
+ * DUPLICATE, otherwise LINKED; it may be NULL. A word may have one link of each kind. A pass clears the word and removes
+ * the link when the target is lost: for a SHORT link unmarked when the pass begins, for a LONG one also not retained for a
+ * finalizer. If the object that has the word is left unmarked, the pass removes the link and leaves the word as it is.
  * Refused: BAD_KIND, NOT_OPEN, PASS_OPEN, ZERO, FULL, NO_MEMORY. */
 DERRIMAS_CHECKED derrimas_finalizers_code
 derrimas_finalizers_link(derrimas_finalizers *finalizers, derrimas_finalizers_link_kind kind, uint64_t word, uint64_t target,
                          derrimas_finalizers_linked *answer) DERRIMAS_NONNULL(1);
 
-/* Removes the link of this kind at the word, and tells in *was, which may be NULL, whether there was one.
+/* Removes the link of this kind at the word; *was, which may be NULL, says whether there was one.
  * Refused: BAD_KIND, NOT_OPEN, PASS_OPEN. */
 derrimas_finalizers_code derrimas_finalizers_unlink(derrimas_finalizers *finalizers, derrimas_finalizers_link_kind kind,
                                                     uint64_t word, bool *was) DERRIMAS_NONNULL(1);
 
-/* Moves the link of this kind from the word to the word `to`. *answer, which may be NULL, is LINKED, also where both are
- * the same; or, and then nothing changed, NOT_FOUND or DUPLICATE. It takes no memory. A single move may build the table
- * anew, in the memory that it has: time by the links of the kind.
+/* Moves the link of this kind from the word to the word `to`. *answer, which may be NULL, is LINKED, also if both are the
+ * same; or NOT_FOUND or DUPLICATE, and then nothing changed. It takes no memory. A single move may rebuild the table, in
+ * the memory that it has, which takes time proportional to the links of the kind.
  * Refused: BAD_KIND, NOT_OPEN, PASS_OPEN, ZERO (of `to`). */
 derrimas_finalizers_code derrimas_finalizers_move_link(derrimas_finalizers *finalizers, derrimas_finalizers_link_kind kind,
                                                        uint64_t word, uint64_t to, derrimas_finalizers_linked *answer)
     DERRIMAS_NONNULL(1);
 
 /* Adds a cleanup to the object, which may have any number of them, registered or not. When the object is lost, an entry
- * without it is queued: its obj is 0, and its reg is *number, which no other cleanup and no registration has, and which may
- * be NULL. So the object isn't retained, and may be reclaimed after the same pass. A SHORT cleanup is due in a pass that
- * finds the object unmarked, just as short links to it are cleared; a LONG one in a pass that leaves it unmarked, so when
- * no finalizer retains it either. A pass queues the SHORT ones before all else, and the LONG ones after all else: each by
- * rank, then number. `proc` is any number, and so is `cd`; both come back in the entry. Until then .._roots yields `cd` as
- * REGISTERED_DATA, and the object not at all. Where the host marks what `cd` leads to, that is never the object: else the
- * cleanup never comes.
+ * without it is queued: its obj is 0, and its reg is *number, which no other cleanup and no registration has, and which
+ * may be NULL. So the object isn't retained, and may be reclaimed after the same pass. A SHORT cleanup is due in a pass
+ * that finds the object unmarked, just as short links to it are cleared; a LONG one in a pass that leaves it unmarked, so
+ * when no finalizer retains it either. A pass queues the SHORT ones before all else, and the LONG ones after all else:
+ * each by rank, then number. `proc` and `cd` are any numbers, which the entry has too. Until then .._roots yields `cd` as
+ * REGISTERED_DATA, and the object not at all. If the host marks what `cd` reaches, that must not be the object: otherwise
+ * the cleanup never comes.
  * Refused: BAD_KIND, NOT_OPEN, PASS_OPEN, ZERO, EXHAUSTED, FULL, NO_MEMORY. */
 DERRIMAS_CHECKED derrimas_finalizers_code
 derrimas_finalizers_add_cleanup(derrimas_finalizers *finalizers, uint64_t object, derrimas_finalizers_when when, uint64_t proc,
                                 uint64_t cd, uint8_t rank, uint64_t *number) DERRIMAS_NONNULL(1);
 
-/* Removes the cleanup with this number, and tells in *old, which may be NULL, what it was: nothing where it was queued,
- * cancelled or never added.
+/* Removes the cleanup with this number; *old, which may be NULL, is what it was: nothing if it was queued, cancelled or
+ * never added.
  * Refused: NOT_OPEN, PASS_OPEN. */
 derrimas_finalizers_code derrimas_finalizers_cancel(derrimas_finalizers *finalizers, uint64_t number,
                                                     derrimas_finalizers_old *old) DERRIMAS_NONNULL(1);
@@ -304,15 +305,16 @@ derrimas_finalizers_code derrimas_finalizers_cancel(derrimas_finalizers *finaliz
 /* ---- a pass, by questions and answers */
 
 /* Opens a pass, once the host's marking is done. Until its end entries may be taken and finished; all other changes are
- * refused with PASS_OPEN. Takes time by the cleanups, of which it sorts the SHORT ones.
+ * refused with PASS_OPEN. Takes time proportional to the cleanups, of which it sorts the SHORT ones.
  * Refused: NOT_OPEN, PASS_OPEN. */
 derrimas_finalizers_code derrimas_finalizers_begin(derrimas_finalizers *finalizers) DERRIMAS_NONNULL(1);
 
-/* Takes the answers to the question before (at first any), and puts the next question into *question. If the question before
- * was MARKS, its answers are in question->marks. EMPTY: there is none, and the pass has ended; what it did is in *passed,
- * which may be NULL. A pass takes time by the registrations, the links and the cleanups, and to sort the unmarked objects
- * and the cleanups; a single call may take as much, where it goes on to another list. With the option `marks` it takes time
- * by the regions of registered objects and the unmarked ones, in the place of the registrations.
+/* Takes the answers to the question before (at first any), and puts the next question into *question. If the question
+ * before was MARKS, its answers are in question->marks. EMPTY: there is none, and the pass has ended; what it did is in
+ * *passed, which may be NULL. A pass takes time proportional to the registrations, the links and the cleanups, and sorts
+ * the unmarked objects and the cleanups; a single call may take as much when the pass goes on to another list. With the
+ * option `marks` it takes time proportional to the regions of registered objects and to the unmarked objects, and not to
+ * the registrations.
  * Refused: NOT_OPEN, NO_PASS; EMPTY. */
 derrimas_finalizers_code derrimas_finalizers_next(derrimas_finalizers *finalizers, uint64_t answers,
                                                   derrimas_question *question, derrimas_finalizers_passed *passed)
@@ -326,15 +328,15 @@ derrimas_finalizers_code derrimas_finalizers_abandon(derrimas_finalizers *finali
 
 /* ---- the entries of finalizers and cleanups that are ready */
 
-/* Queues all that is registered, by rank, then object, whatever is marked, those of kind UNREACHABLE after the others:
- * GC_finalize_all. *queued, which may be NULL, is how many. Links and cleanups stay. Takes time by the registrations, which
- * it sorts.
+/* Queues all registrations, by rank, then object, whatever is marked, those of kind UNREACHABLE after the others:
+ * GC_finalize_all. *queued, which may be NULL, is how many. Links and cleanups stay. Takes time proportional to the
+ * registrations, which it sorts.
  * Refused: NOT_OPEN, PASS_OPEN. */
 derrimas_finalizers_code derrimas_finalizers_queue_all(derrimas_finalizers *finalizers, uint64_t *queued)
     DERRIMAS_NONNULL(1);
 
 /* Queues all cleanups, whatever is marked: the SHORT ones, and then the LONG ones, each by rank, then number. *queued,
- * which may be NULL, is how many. Registrations and links stay. Takes time by the cleanups, which it sorts.
+ * which may be NULL, is how many. Registrations and links stay. Takes time proportional to the cleanups, which it sorts.
  * Refused: NOT_OPEN, PASS_OPEN. */
 derrimas_finalizers_code derrimas_finalizers_queue_cleanups(derrimas_finalizers *finalizers, uint64_t *queued)
     DERRIMAS_NONNULL(1);
@@ -345,83 +347,84 @@ derrimas_finalizers_code derrimas_finalizers_queue_cleanups(derrimas_finalizers 
 derrimas_finalizers_code derrimas_finalizers_take(derrimas_finalizers *finalizers, derrimas_finalizers_entry *entry)
     DERRIMAS_NONNULL(1, 2);
 
-/* Takes the first entry that waits, as finished: for a procedure that may never return. Its object and its client data
- * aren't yielded as roots any more: the host retains them until the procedure has them.
+/* Takes the first entry that waits, and finishes it: for a procedure that may never return. .._roots doesn't yield its
+ * object and its client data any more: the host has to retain them until the procedure has them.
  * Refused: NOT_OPEN, EMPTY. */
 derrimas_finalizers_code derrimas_finalizers_take_finished(derrimas_finalizers *finalizers, derrimas_finalizers_entry *entry)
     DERRIMAS_NONNULL(1, 2);
 
-/* Ends the holding of an entry.
+/* Finishes an entry, which isn't held any more: its object and its client data are no roots.
  * Refused: NOT_OPEN, NOT_HELD. */
 derrimas_finalizers_code derrimas_finalizers_finish(derrimas_finalizers *finalizers, const derrimas_finalizers_entry *entry)
     DERRIMAS_NONNULL(1, 2);
 
-/* Whether entries wait, without the lock: a hint, GC_should_invoke_finalizers. What an open pass queues counts from its end. */
+/* Whether entries wait: GC_should_invoke_finalizers. It may be called without the lock, and then it is a hint. What an
+ * open pass queues counts from the end of the pass. */
 bool derrimas_finalizers_has_waiting(const derrimas_finalizers *finalizers) DERRIMAS_NONNULL(1);
 
 /* ---- what a handle has; nothing changes by it, and a pass may be open */
 
-/* The roots: before each pass a host marks what they reach, and it keeps these. */
+/* The roots: before each pass a host marks them and what they reach. */
 typedef enum derrimas_finalizers_root {
     DERRIMAS_FINALIZERS_HELD_OBJECTS = 0,   /* the objects of entries that wait or are held, which are roots themselves; the
                                              * entry of a cleanup has none */
     DERRIMAS_FINALIZERS_HELD_DATA = 1,      /* their client data */
-    DERRIMAS_FINALIZERS_REGISTERED_DATA = 2 /* the client data of registrations and cleanups, for hosts that keep it */
+    DERRIMAS_FINALIZERS_REGISTERED_DATA = 2 /* the client data of registrations and cleanups, if the host retains it */
 } derrimas_finalizers_root;
 
-/* Copies roots of the sort into the buffer, which has `room` words: those from the place *from on, which is 0 at first, and
- * goes on to where the next call starts, by *count or more: a finished entry or that of a cleanup may have a place, and has
- * no root. *count is how many were copied. As long as only calls that take a const handle come between, the parts are one
- * walk, which has each root once. A call takes time by the roots that it copies and the places that it passes, wherever it
- * starts. The buffer may be NULL where `room` is 0.
- * Refused: BAD_KIND, NOT_OPEN; EMPTY where no root is left, or `room` is 0. */
+/* Copies roots of the sort into the buffer, which has `room` words: those from the place *from on, which is 0 at first.
+ * *count is how many were copied. *from becomes the place where the next call starts: it rises by *count or more, since a
+ * finished entry, or that of a cleanup, may have a place without a root. As long as only calls that take a const handle
+ * come between, the parts are one walk, which has each root once. A call takes time proportional to the roots that it
+ * copies and the places that it passes, wherever it starts. The buffer may be NULL if `room` is 0.
+ * Refused: BAD_KIND, NOT_OPEN; EMPTY if no root is left, or `room` is 0. */
 derrimas_finalizers_code derrimas_finalizers_roots(const derrimas_finalizers *finalizers, derrimas_finalizers_root sort,
                                                    uint64_t *from, uint64_t *buffer, size_t room, size_t *count)
     DERRIMAS_NONNULL(1, 3, 6);
 
 /* The first entry whose place in the queue, `seq`, is `from` or more and that isn't finished: it waits or is held. From 0 on,
  * and then each time from behind the one before, these are all unfinished entries, in the queue's order.
- * Refused: NOT_OPEN; EMPTY where there is none. */
+ * Refused: NOT_OPEN; EMPTY if there is none. */
 derrimas_finalizers_code derrimas_finalizers_unfinished(const derrimas_finalizers *finalizers, uint64_t from,
                                                         derrimas_finalizers_entry *entry) DERRIMAS_NONNULL(1, 3);
 
-/* Tells how much there is.
+/* The counts of the handle.
  * Refused: NOT_OPEN. */
 derrimas_finalizers_code derrimas_finalizers_count(const derrimas_finalizers *finalizers, derrimas_finalizers_counts *counts)
     DERRIMAS_NONNULL(1, 2);
 
 /* The registration of an object.
- * Refused: NOT_OPEN; EMPTY where it has none. */
+ * Refused: NOT_OPEN; EMPTY if it has none. */
 derrimas_finalizers_code derrimas_finalizers_registration(const derrimas_finalizers *finalizers, uint64_t object,
                                                           derrimas_finalizers_registration_at *registration)
     DERRIMAS_NONNULL(1, 3);
 
 /* The target of the link of this kind at the word.
- * Refused: BAD_KIND, NOT_OPEN; EMPTY where there is no link. */
+ * Refused: BAD_KIND, NOT_OPEN; EMPTY if there is no link. */
 derrimas_finalizers_code derrimas_finalizers_target(const derrimas_finalizers *finalizers,
                                                     derrimas_finalizers_link_kind kind, uint64_t word, uint64_t *target)
     DERRIMAS_NONNULL(1, 4);
 
 /* The cleanup with this number.
- * Refused: NOT_OPEN; EMPTY where it was queued, cancelled or never added. */
+ * Refused: NOT_OPEN; EMPTY if it was queued, cancelled or never added. */
 derrimas_finalizers_code derrimas_finalizers_cleanup(const derrimas_finalizers *finalizers, uint64_t number,
                                                      derrimas_finalizers_cleanup_at *cleanup) DERRIMAS_NONNULL(1, 3);
 
 /* Copies registrations into the buffer, which has `room` places, as derrimas_finalizers_roots copies roots: from the place
- * *from on, in no order that a host may rely on. A call takes time by what it copies, wherever it starts.
- * Refused: NOT_OPEN; EMPTY where none is left, or `room` is 0. */
+ * *from on, in no order that a host may rely on. A call takes time proportional to what it copies, wherever it starts.
+ * Refused: NOT_OPEN; EMPTY if none is left, or `room` is 0. */
 derrimas_finalizers_code derrimas_finalizers_registrations(const derrimas_finalizers *finalizers, uint64_t *from,
                                                            derrimas_finalizers_registration_at *buffer, size_t room,
                                                            size_t *count) DERRIMAS_NONNULL(1, 2, 5);
 
-/* The same of the links of a kind.
- * Refused: BAD_KIND, NOT_OPEN; EMPTY where none is left, or `room` is 0. */
+/* Copies links of a kind, as derrimas_finalizers_registrations copies registrations.
+ * Refused: BAD_KIND, NOT_OPEN; EMPTY if none is left, or `room` is 0. */
 derrimas_finalizers_code derrimas_finalizers_links(const derrimas_finalizers *finalizers, derrimas_finalizers_link_kind kind,
                                                    uint64_t *from, derrimas_finalizers_link_at *buffer, size_t room,
                                                    size_t *count) DERRIMAS_NONNULL(1, 3, 6);
 
-/* The same of cleanups.
- * Refused: NOT_OPEN; EMPTY where none is left, or `room` is 0. */
+/* Copies cleanups, as derrimas_finalizers_registrations copies registrations.
+ * Refused: NOT_OPEN; EMPTY if none is left, or `room` is 0. */
 derrimas_finalizers_code derrimas_finalizers_cleanups(const derrimas_finalizers *finalizers, uint64_t *from,
                                                       derrimas_finalizers_cleanup_at *buffer, size_t room, size_t *count)
     DERRIMAS_NONNULL(1, 2, 5);
@@ -452,7 +455,7 @@ typedef enum derrimas_why_root {
     DERRIMAS_WHY_HELD_DATA = 4        /* its client data */
 } derrimas_why_root;
 
-/* An answer: the reason; for FOUND the root; for QUEUED the entry; and the path's length, which is 0 where there is none.
+/* An answer: the reason; for FOUND the root; for QUEUED the entry; and the path's length, which is 0 if there is none.
  * What isn't for the reason is 0. */
 typedef struct derrimas_why {
     derrimas_why_reason reason;
@@ -476,11 +479,11 @@ typedef struct derrimas_paths {
     bool (*is_object)(void *data, uint64_t client_data);
 } derrimas_paths;
 
-/* Tells in *why why an object isn't finalized. The buffer `path`, which has `room` places and may be NULL where `room` is 0,
- * gets the first objects of the path that is the evidence, as many as fit. The object may be any number; registered objects
- * and the targets of short links are the host's objects. It changes nothing. By the handle's allocator it takes memory for
- * each word of the objects that roots, registered objects and short links reach, and frees it again. It takes time by these
- * words, and by what is registered and linked.
+/* Says in *why why an object isn't finalized. The buffer `path`, which has `room` places and may be NULL if `room` is 0,
+ * gets the first objects of the path that is the evidence, as many as fit. The object may be any number; registered
+ * objects and the targets of short links are the host's objects. It changes nothing. By the handle's allocator it takes
+ * memory for each word of the objects that roots, registered objects and short links reach, and frees it again. It takes
+ * time proportional to these words, registrations and links.
  * Refused: NOT_OPEN, PASS_OPEN; OVERLAP, NO_MEMORY, whichever comes first. */
 DERRIMAS_CHECKED derrimas_finalizers_code derrimas_finalizers_why(derrimas_finalizers *finalizers, uint64_t object,
                                                                   const derrimas_paths *paths, void *data, derrimas_why *why,
@@ -488,38 +491,38 @@ DERRIMAS_CHECKED derrimas_finalizers_code derrimas_finalizers_why(derrimas_final
 
 /* ---- what happens, for tools */
 
-/* Tells the host of what happens from now on: *trace stays where it is until another takes its place. NULL, as at first:
- * nothing is told. The handle may be open or not; .._destroy ends the telling. */
+/* Sets the functions that are called from now on. *trace has to stay where it is until another one is set. With NULL, as
+ * at first, none is called. The handle may be open or not; .._destroy sets NULL. */
 void derrimas_finalizers_trace(derrimas_finalizers *finalizers, const derrimas_trace *trace) DERRIMAS_NONNULL(1);
 
 /* Describes the handle for a person, by calls of `line` with `data` and a line of text: its counts, the kinds of its
  * registrations, the registration that was made first, and the entry that was queued first and isn't finished, with the
- * pass that queued it; the entry of a cleanup is told by the cleanup's number. Of the registration it says between which
- * passes it was made: exactly for the first 8 passes, and later to within a quarter of all passes. "not open" where the
- * handle isn't. The texts may change. Takes time by the registrations, and no memory. `line` makes no call that changes the
- * handle. */
+ * pass that queued it; for the entry of a cleanup it says the cleanup's number. Of the registration it says between which
+ * passes it was made: exactly for the first 8 passes, and later to within a quarter of all passes. For a handle that isn't
+ * open the line is "not open". The texts may change. Takes time proportional to the registrations, and no memory. `line`
+ * makes no call that changes the handle. */
 void derrimas_finalizers_dump(const derrimas_finalizers *finalizers, void (*line)(void *data, const char *text), void *data)
     DERRIMAS_NONNULL(1, 2);
 
 /* ---- texts */
 
-/* The name of a code ("PassOpen"), or "?" where it is none. */
+/* The name of a code ("PassOpen"), or "?" if it is none. */
 const char *derrimas_finalizers_name(derrimas_finalizers_code code);
 
 /* What a code means: "no pass is open". */
 const char *derrimas_finalizers_strerror(derrimas_finalizers_code code);
 
-/* The name of a reason ("Ring"), or "?" where it is none. */
+/* The name of a reason ("Ring"), or "?" if it is none. */
 const char *derrimas_finalizers_reason_name(derrimas_why_reason reason);
 
 /* ---- a host's procedures, and a pass that they drive */
 
 /* A host: what it does for each question. `data` is what derrimas_finalizers_pass was given. What is promised of a pass
- * holds if there are a graph and a set of marked objects such that: is_marked tells whether the object is in the set; so
- * does each bit of marks, of the object that begins at its place; the three marks add to the set what the questions say, or
- * more; nothing else changes the set in the pass; and at the beginning and after each mark the set has all that its objects
- * reach. With but_itself, mark_children passes over words that point to the object itself. marks returns the word of the
- * region that begins at `first`; it is NULL in a host that doesn't open with the option `marks`. */
+ * holds if there are a graph and a set of marked objects such that: is_marked says whether the object is in the set; so
+ * does each bit of marks, about the object that begins at its place; the three marks add to the set what the questions
+ * say, or more; nothing else changes the set in the pass; and at the beginning and after each mark the set has all that
+ * its objects reach. With but_itself, mark_children passes over words that point to the object itself. marks returns the
+ * word of the region that begins at `first`; it is NULL in a host that doesn't open with the option `marks`. */
 typedef struct derrimas_host {
     bool (*is_marked)(void *data, uint64_t object);
     void (*mark_children)(void *data, uint64_t object, bool but_itself);
@@ -555,7 +558,7 @@ static inline uint64_t derrimas_host_answers(const derrimas_host *host, void *da
 
 /* A whole pass, driven by the procedures of a host. They may make the calls that take a const handle, and must return.
  * *passed, which may be NULL, is what it did. BAD_OPTIONS: the handle was opened with the option `marks`, and the host has
- * no `marks`; is_marked can't stand in for it, since a place of a region may hold no object.
+ * no `marks`; is_marked can't be asked instead, since there may be no object at a place of a region.
  * Refused: BAD_OPTIONS, NOT_OPEN, PASS_OPEN. */
 static inline derrimas_finalizers_code derrimas_finalizers_pass(derrimas_finalizers *finalizers, const derrimas_host *host,
                                                                 void *data, derrimas_finalizers_passed *passed)

@@ -1,8 +1,8 @@
 /* derrimas_finalizers.hpp: derrimas_finalizers.h for C++17 and later, in headers alone.
  *
- * The handle frees what it has at its end, and can be moved but not copied. A refusal is an exception, `derrimas::finalizers::refused`; what may not be there
- * is a std::optional; a walk calls a function for each. Each member is the call of its name: derrimas_finalizers.h says what it does, what it costs, and what
- * a host owes.
+ * The handle is destroyed at the end of its scope, and can be moved but not copied. A refusal is an exception, `derrimas::finalizers::refused`; a result that
+ * may be missing is a std::optional; a walk calls a function for each item. Each member is the call of its name: derrimas_finalizers.h says what it does, what
+ * it costs, and what a host owes.
  *
  *     derrimas::finalizers finalizers;
  *     finalizers.register_object(object, derrimas::finalizers::kind::normal, CLOSE, number);
@@ -83,7 +83,7 @@ public:
     };
 
     finalizers() { check(derrimas_finalizers_open(&handle_, nullptr)); }
-    /* With an allocator, {} being the C library's. With `marks` a pass asks about regions of objects. */
+    /* Opens with an allocator; {} is the C library's. With `marks` a pass asks about regions of objects. */
     explicit finalizers(const allocator &memory, bool marks = false)
     {
         const derrimas_finalizers_options options = {sizeof options, memory, marks};
@@ -162,8 +162,8 @@ public:
         return old.was ? std::optional(old) : std::nullopt;
     }
 
-    /* An open pass, question by question. Its end before the last question abandons it: then the host reclaims nothing before its next pass has ended. The
-     * finalizers have to outlive it where they are. */
+    /* An open pass, question by question. If it is destroyed before the last question, the pass is abandoned: then the host reclaims nothing before its next
+     * pass has ended. The finalizers have to outlive it, and must not be moved. */
     class open_pass {
     public:
         explicit open_pass(finalizers &finalizers) : handle_(&finalizers.handle_) { check(derrimas_finalizers_begin(handle_)); }
@@ -175,7 +175,7 @@ public:
         open_pass(const open_pass &) = delete;
         open_pass &operator=(const open_pass &) = delete;
 
-        /* Takes the answers to the question before, at first any, and tells whether there is a further one, which is in *question then. Those to
+        /* Takes the answers to the question before, at first any, and returns whether there is a further one, which is in *question then. The answers to
          * DERRIMAS_ASK_MARKS are in question->marks. */
         bool next(std::uint64_t answers, question *question)
         {
@@ -200,8 +200,8 @@ public:
     };
 
     /* A whole pass, whose questions the members of `host` answer and carry out: bool is_marked(object), mark_children(object, but_itself), mark(object),
-     * mark_alone(object), clear(word), bool holder_is_marked(word). Where one throws, the pass is abandoned. Over finalizers that ask about regions the host has
-     * std::uint64_t marks(first) too, or the pass is refused with BadOptions. */
+     * mark_alone(object), clear(word), bool holder_is_marked(word). If one throws, the pass is abandoned. For finalizers that ask about regions the host has
+     * std::uint64_t marks(first) too; otherwise the pass is refused with BadOptions. */
     template <typename Host> passed pass(Host &&host)
     {
         if (handle_.asks_marks && !has_marks<Host>::value)
@@ -213,7 +213,7 @@ public:
         return open.did();
     }
 
-    /* The answers to a question by the members of a host. Those to DERRIMAS_ASK_MARKS go into question.marks. */
+    /* The answers to a question by the members of a host. Those to DERRIMAS_ASK_MARKS are stored in question.marks. */
     template <typename Host> static std::uint64_t answers_of(Host &&host, question &question)
     {
         std::uint64_t answers = 0;
@@ -239,8 +239,8 @@ public:
         std::uint64_t word, child;
     };
 
-    /* By the members of `host`: std::optional<pointer> child(object, n), std::optional<std::uint64_t> root(n), bool is_object(client_data). Where one throws,
-     * so does this. */
+    /* Uses the members of `host`: std::optional<pointer> child(object, n), std::optional<std::uint64_t> root(n), bool is_object(client_data). Throws what one
+     * of them throws. */
     template <typename Host> told why(std::uint64_t object, Host &&host)
     {
         using lists = listing<std::remove_reference_t<Host>>;
@@ -276,11 +276,11 @@ public:
     std::optional<entry> take_finished() { return taken(derrimas_finalizers_take_finished); }
     void finish(const entry &entry) { check(derrimas_finalizers_finish(&handle_, &entry)); }
 
-    /* May be called without the lock of the others. */
+    /* May be called without the lock that the other calls need. */
     bool has_waiting() const noexcept { return derrimas_finalizers_has_waiting(&handle_); }
 
-    /* Takes entries until none is left, calls `run` with these finalizers and each, and finishes it, unless `run` did. Where `run` throws, its entry stays
-     * held, and the caller has to finish it. Returns how many it took. */
+    /* Takes entries until none is left, calls `run` with these finalizers and each, and finishes it, unless `run` did. If `run` throws, its entry stays held,
+     * and the caller has to finish it. Returns how many it took. */
     template <typename Run> std::uint64_t invoke(Run run)
     {
         std::uint64_t taken = 0;
@@ -291,7 +291,7 @@ public:
         return taken;
     }
 
-    /* Calls `visit` with each root of the sort. In a walk nothing may change, so `visit` makes no call but those on a const handle. */
+    /* Calls `visit` with each root of the sort. Nothing may change during a walk, so `visit` makes only calls that are const. */
     template <typename Visit> void roots(root sort, Visit visit) const
     {
         std::uint64_t some[PART], from = 0;
@@ -363,7 +363,7 @@ public:
         return counts;
     }
 
-    /* Its functions don't throw, and it stays where it is; NULL ends the telling. */
+    /* Its functions don't throw, and it has to stay where it is; NULL ends the trace. */
     void trace(const derrimas_trace *hooks) noexcept { derrimas_finalizers_trace(&handle_, hooks); }
 
     /* Calls line(text) for each line; it doesn't throw. */
@@ -421,7 +421,7 @@ private:
             throw refused(code);
     }
 
-    /* Whether there is one; throws what was refused for another cause than that there is none. */
+    /* Whether there is one. Throws if the call was refused for any other cause than that there is none. */
     static bool found(derrimas_finalizers_code code)
     {
         if (code == DERRIMAS_FINALIZERS_EMPTY)
@@ -449,7 +449,7 @@ private:
             throw refused(DERRIMAS_FINALIZERS_BAD_OPTIONS);
     }
 
-    /* The answer about one object or word; what is only to be done has none. */
+    /* The answer about one object or word; a command has none. */
     template <typename Host> static bool answer_of(Host &host, ask ask, std::uint64_t what)
     {
         switch (ask) {

@@ -24,12 +24,13 @@
  *   derrimas_workers_start, .._wait and .._stop, without the lock. derrimas_workers_publish is called under the lock.
  *   derrimas_workers_count may be called by any thread between start and stop.
  * - `enter` and `leave` take and give back the lock. They, and the procedure, are called by the workers.
- * - A procedure is a mutator. Where a pass is open between two holds of the lock, it waits, as the others do, before it looks
- *   at the heap: words of links may not be cleared yet. A worker finishes its entry meanwhile.
- * - The procedure returns. While it doesn't, its worker is busy, and the others go on; derrimas_workers_stop tells after
- *   its time that it hasn't ended. A procedure may end its thread by pthread_exit: then its entry is abandoned, which means
- *   that it stays held, and its worker is gone. An exception that leaves it ends the program, by std::terminate. It doesn't
- *   leave by longjmp. It may make calls of derrimas_finalizers.h, under the lock, and derrimas_workers_publish and .._count.
+ * - A procedure is a mutator. If the host releases the lock while a pass is open, the procedure waits before it uses the
+ *   heap, as other mutators do: words of links may not be cleared yet. A worker may finish its entry meanwhile.
+ * - The procedure returns. Until it does, its worker is busy, and the others go on; derrimas_workers_stop returns PENDING
+ *   when its time is over. A procedure may end its thread by pthread_exit: then its entry is abandoned, which means that
+ *   it stays held, and its worker has ended. An exception that leaves it ends the program, by std::terminate. It doesn't
+ *   leave by longjmp. It may make calls of derrimas_finalizers.h, under the lock, and derrimas_workers_publish and
+ *   .._count.
  * - The workers are stopped before the derrimas_finalizers is destroyed, or its lock. If it is destroyed earlier, under the
  *   lock, what a worker has is run, and abandoned.
  * - A forked child has no workers. It makes no call with its copy. */
@@ -68,34 +69,34 @@ typedef struct derrimas_workers_counts {
 } derrimas_workers_counts;
 
 /* Starts the workers: each is a thread that blocks all signals. *started, which may be NULL, is how many there are: fewer
- * than was asked for where the system starts no further thread. It takes memory by malloc.
+ * than was asked for if the system starts no further thread. It takes memory by malloc.
  * Refused: BAD_OPTIONS (the size, or a function or the finalizers are NULL), BAD_COUNT, IS_OPEN, NO_MEMORY, NO_THREAD (not
  * one could be started), BAD_PROCESSOR. */
 DERRIMAS_CHECKED derrimas_finalizers_code derrimas_workers_start(derrimas_workers *workers,
                                                                  const derrimas_workers_options *options, uint64_t *started)
     DERRIMAS_NONNULL(1, 2);
 
-/* Takes all entries that wait and publishes them for the workers, of which it wakes one for each. From then on an entry is
- * held. Where memory is short, one entry is kept, and the others wait: each finish of a worker tries again. A pass may be
- * open: then what it has queued so far is published too. The caller has the lock.
- * Refused: NOT_OPEN (the workers, or their finalizers); NO_MEMORY where not all are published. */
+/* Takes all entries that wait and publishes them for the workers, and wakes one worker for each. From then on an entry is
+ * held. If memory is short, one entry is kept here, and the others wait: each finish of a worker tries again. A pass may
+ * be open: then what it has queued so far is published too. The caller has the lock.
+ * Refused: NOT_OPEN (the workers, or their finalizers); NO_MEMORY if not all are published. */
 derrimas_finalizers_code derrimas_workers_publish(derrimas_workers *workers) DERRIMAS_NONNULL(1);
 
 /* Publishes what waits, and blocks until no entry is pending: each that was published is finished or abandoned. It blocks
- * for at most so many milliseconds; UINT64_MAX sets no limit.
- * Refused: NOT_OPEN, IN_PROCEDURE (a worker calls it); PENDING where the time is over, or no worker is left. */
+ * for at most the given number of milliseconds; UINT64_MAX sets no limit.
+ * Refused: NOT_OPEN, IN_PROCEDURE (a worker calls it); PENDING if the time is over, or no worker is left. */
 DERRIMAS_CHECKED derrimas_finalizers_code derrimas_workers_wait(derrimas_workers *workers, uint64_t milliseconds)
     DERRIMAS_NONNULL(1);
 
-/* Stops the workers once they have run what was published. Blocks until they have ended, for at most so many milliseconds;
- * UINT64_MAX sets no limit. Then it frees all, and leaves *workers as {0}. PENDING: a worker hasn't ended. It will, when its
- * procedure returns; call again then. What waits stays in the derrimas_finalizers; an entry that was kept for lack of memory
- * is abandoned. *counts, which may be NULL, are the last ones.
+/* Stops the workers once they have run what was published. Blocks until they have ended, for at most the given number of
+ * milliseconds; UINT64_MAX sets no limit. Then it frees all, and leaves *workers as {0}. PENDING: a worker hasn't ended.
+ * It will when its procedure returns; call again then. What waits stays in the derrimas_finalizers; an entry that was kept
+ * for lack of memory is abandoned. *counts, which may be NULL, are the last ones.
  * Refused: NOT_OPEN, IN_PROCEDURE (a worker calls it), PENDING. */
 DERRIMAS_CHECKED derrimas_finalizers_code derrimas_workers_stop(derrimas_workers *workers, uint64_t milliseconds,
                                                                 derrimas_workers_counts *counts) DERRIMAS_NONNULL(1);
 
-/* Tells the counts.
+/* The counts of the workers.
  * Refused: NOT_OPEN. */
 derrimas_finalizers_code derrimas_workers_count(const derrimas_workers *workers, derrimas_workers_counts *counts)
     DERRIMAS_NONNULL(1, 2);

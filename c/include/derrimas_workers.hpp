@@ -1,8 +1,7 @@
 /* derrimas_workers.hpp: derrimas_workers.h for C++17 and later, in headers alone.
  *
- * The workers stop at their end of life, once they have run what was published: a destructor waits for a procedure that doesn't return. They can be moved but
- * not copied. A refusal is an exception, `derrimas::finalizers::refused`. Each member is the call of its name: derrimas_workers.h says what it does, and what a
- * host owes.
+ * The destructor stops the workers once they have run what was published, and waits for them, however long a procedure takes. They can be moved but not copied.
+ * A refusal is an exception, `derrimas::finalizers::refused`. Each member is the call of its name: derrimas_workers.h says what it does, and what a host owes.
  *
  *     std::mutex lock;
  *     derrimas::workers workers(finalizers, lock, [](const derrimas::finalizers::entry &entry) { close_file(entry.cd); }, 4);
@@ -52,13 +51,13 @@ public:
     /* How many could be started. */
     std::uint64_t started() const noexcept { return started_; }
 
-    /* With the lock. */
+    /* Called under the lock. */
     void publish() { check(derrimas_workers_publish(&handle_)); }
 
-    /* Whether nothing is pending any more; without a limit it waits for that as long as a worker is left. */
+    /* Whether nothing is pending any more. Without a limit it waits until then, or until no worker is left. */
     bool wait(std::uint64_t milliseconds = UINT64_MAX) { return in_time(derrimas_workers_wait(&handle_, milliseconds)); }
 
-    /* The last counts, or nothing where a worker hasn't ended in time. */
+    /* The last counts, or nothing if a worker hasn't ended in time. */
     std::optional<counts> stop(std::uint64_t milliseconds = UINT64_MAX)
     {
         counts counts;

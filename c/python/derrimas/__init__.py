@@ -40,7 +40,7 @@ class Links(enum.IntEnum):
 
 
 class LinkAnswer(enum.IntEnum):
-    """What is answered about a link."""
+    """The result of a call about a link."""
     LINKED, DUPLICATE, NOT_FOUND = range(128, 131)
 
 
@@ -102,7 +102,8 @@ def sample() -> Samples:
 
 
 class World:
-    """A world with a heap of so many blocks of 64 words, and frames of 16 slots each. Leaving a `with` destroys it, and so does letting go of it."""
+    """A world with a heap of `blocks` blocks of 64 words, and `frames` frames of 16 slots each. It is destroyed at the end of its `with`, or when Python frees
+    it."""
 
     def __init__(self, blocks: int = 64, frames: int = 1) -> None:
         self.handle = Handle()
@@ -139,7 +140,7 @@ class World:
         return self._call("alloc", Slot(*slot), size, words, answer=Made)
 
     def set(self, slot: At, word: int) -> None:
-        """Puts a word into a slot."""
+        """Stores a word in a slot."""
         self._call("set", Slot(*slot), word)
 
     def get(self, slot: At) -> int:
@@ -147,11 +148,11 @@ class World:
         return self._call("get", Slot(*slot), answer=c_uint64)
 
     def copy(self, slot: At, to: At) -> None:
-        """Puts the word of a slot into another."""
+        """Copies the word of a slot into another slot."""
         self._call("copy", Slot(*slot), Slot(*to))
 
     def load(self, slot: At, offset: int, to: At) -> int:
-        """The word at the slot's word plus the offset, which goes into the slot `to`, too."""
+        """The word at the slot's word plus the offset, which is stored in the slot `to`, too."""
         return self._call("load", Slot(*slot), offset, Slot(*to), answer=c_uint64)
 
     def store(self, slot: At, offset: int, source: At) -> None:
@@ -163,7 +164,7 @@ class World:
         self._call("write", Slot(*slot), offset, value)
 
     def read(self, word: int, offset: int = 0) -> int:
-        """The word at this word plus the offset, which nothing keeps."""
+        """The word at this word plus the offset. No slot gets it, so nothing retains what it points to."""
         return self._call("read", word, offset, answer=c_uint64)
 
     def base(self, word: int) -> Optional[Object]:
@@ -171,11 +172,11 @@ class World:
         return self._or_none("base", word, answer=Object)
 
     def register(self, slot: At, proc: int, cd: int = 0, rank: int = 0, kind: Kind = Kind.NORMAL) -> Registered:
-        """Registers a finalizer of the object that starts at the slot's word. Refused where the slot has let go of its object."""
+        """Registers a finalizer of the object that starts at the slot's word. Refused if the slot's word is 0 or outside the heap."""
         return self._call("register_object", Slot(*slot), kind, proc, cd, rank, answer=Registered)
 
     def unregister(self, slot: At) -> Old:
-        """Removes the finalizer of the object, and tells what it was."""
+        """Removes the finalizer of the object, and returns what it was."""
         return self._call("unregister", Slot(*slot), answer=Old)
 
     def link(self, slot: At, offset: int, target: At, kind: Links = Links.SHORT) -> LinkAnswer:
@@ -183,7 +184,7 @@ class World:
         return LinkAnswer(self._call("link", kind, Slot(*slot), offset, Slot(*target), answer=c_uint32))
 
     def unlink(self, slot: At, offset: int, kind: Links = Links.SHORT) -> bool:
-        """Removes the link at the place, and tells whether there was one."""
+        """Removes the link at the place, and returns whether there was one."""
         return self._call("unlink", kind, Slot(*slot), offset, answer=c_bool)
 
     def move_link(self, slot: At, offset: int, to: At, to_offset: int, kind: Links = Links.SHORT) -> LinkAnswer:
@@ -199,7 +200,7 @@ class World:
         self._call("begin")
 
     def mark(self, budget: int) -> bool:
-        """Scans at most `budget` objects, and tells whether none is left."""
+        """Scans at most `budget` objects, and returns whether none is left."""
         return self._call("mark", budget, answer=c_bool)
 
     def pause(self) -> Passed:
@@ -219,15 +220,15 @@ class World:
         return self._call("outstanding", answer=c_uint64)
 
     def forget(self) -> int:
-        """Gives back the memory of finished entries; how many went."""
+        """Frees the memory of finished entries, and returns how many."""
         return self._call("forget", answer=c_uint64)
 
     def hold(self, slot: At, entry: Entry) -> None:
-        """Puts the address of the entry's object into a slot."""
+        """Stores the address of the entry's object in a slot."""
         self._call("hold", Slot(*slot), byref(entry))
 
     def finish(self, entry: Entry) -> None:
-        """Ends the holding of the entry."""
+        """Finishes the entry, which isn't held any more."""
         self._call("finish", byref(entry))
 
     def finalizer(self, proc: int, function: Callable[[World, Any], Any]) -> None:
@@ -285,15 +286,15 @@ class World:
             start = getattr(found, field) + 1
 
     def objects(self) -> Iterator[Object]:
-        """The objects that stand in the heap, by address."""
+        """The objects of the heap, by address."""
         return self._walk("next_object", "start", Object)
 
     def registrations(self) -> Iterator[Registration]:
-        """The registrations that stand, by the addresses of their objects."""
+        """The registrations, by the addresses of their objects."""
         return self._walk("next_registration", "object", Registration)
 
     def links(self, kind: Links = Links.SHORT) -> Iterator[Linked]:
-        """The links of a kind that stand, by the addresses of their words."""
+        """The links of a kind, by the addresses of their words."""
         return self._walk("next_link", "place", Linked, kind)
 
     def held(self) -> Iterator[Entry]:
@@ -314,7 +315,7 @@ class World:
 
 
 class Scope:
-    """Slots of a frame from one on, lent one after another. Leaving its `with` gives them back: each lets go of its object."""
+    """Slots of a frame from one on, lent one after another. Leaving its `with` returns them: each is set to 0."""
 
     def __init__(self, world: World, frame: int, first: int) -> None:
         self.world, self.frame, self.first, self.next = world, frame, first, first

@@ -42,7 +42,7 @@ class When(enum.IntEnum):
 
 
 class LinkAnswer(enum.IntEnum):
-    """What is answered about a link."""
+    """The result of a call about a link."""
     LINKED, DUPLICATE, NOT_FOUND = range(128, 131)
 
 
@@ -146,7 +146,7 @@ LIBRARY = library()
 
 
 class Finalizers:
-    """The finalizers of a heap. Leaving a `with` destroys them, and so does letting go of them.
+    """The finalizers of a heap. They are destroyed at the end of their `with`, or when Python frees them.
 
     An allocator has the methods allocate(size), reallocate(memory, size) and release(memory), whose memory are addresses; None is no memory. What one raises
     is raised by the call in which it came, once that has ended, and counts as no memory. With `marks` a pass asks about regions of objects."""
@@ -216,21 +216,21 @@ class Finalizers:
         self._raise()
 
     def reserve(self, registrations: int, shorts: int = 0, longs: int = 0) -> None:
-        """Makes room for so many further registrations, and links of each kind."""
+        """Makes room for the given numbers of further registrations and links."""
         self._call("reserve", registrations, shorts, longs)
 
     def shrink(self) -> None:
-        """Gives back the memory that isn't needed."""
+        """Frees the memory that isn't needed."""
         self._call("shrink")
 
     def register(self, object: int, proc: int, cd: int = 0, rank: int = 0, kind: Kind = Kind.NORMAL) -> Registered:
-        """Registers a finalizer of the object, in the place of the one that it has."""
+        """Registers a finalizer of the object, and replaces the one that it has."""
         number, old = c_uint64(), Old()
         self._call("register", object, kind, proc, cd, rank, byref(number), byref(old))
         return Registered(number.value, old)
 
     def unregister(self, object: int) -> Old:
-        """Removes the finalizer of the object, and tells what it was."""
+        """Removes the finalizer of the object, and returns what it was."""
         return self._answer(Old, "unregister", object)
 
     def link(self, word: int, target: int, kind: LinkKind = LinkKind.SHORT) -> LinkAnswer:
@@ -238,7 +238,7 @@ class Finalizers:
         return LinkAnswer(self._answer(c_uint32, "link", kind, word, target))
 
     def unlink(self, word: int, kind: LinkKind = LinkKind.SHORT) -> bool:
-        """Removes the link at the word, and tells whether there was one."""
+        """Removes the link at the word, and returns whether there was one."""
         return self._answer(c_bool, "unlink", kind, word)
 
     def move_link(self, word: int, to: int, kind: LinkKind = LinkKind.SHORT) -> LinkAnswer:
@@ -250,7 +250,7 @@ class Finalizers:
         return self._answer(c_uint64, "add_cleanup", object, when, proc, cd, rank)
 
     def cancel(self, number: int) -> Old:
-        """Removes the cleanup with this number, and tells what it was."""
+        """Removes the cleanup with this number, and returns what it was."""
         return self._answer(Old, "cancel", number)
 
     def open_pass(self) -> OpenPass:
@@ -290,23 +290,23 @@ class Finalizers:
                    Entry.from_buffer_copy(told.entry) if reason == Reason.QUEUED else None, list(path[:told.length]))
 
     def queue_all(self) -> int:
-        """Queues all that is registered; how many."""
+        """Queues all registrations, and returns how many."""
         return self._answer(c_uint64, "queue_all")
 
     def queue_cleanups(self) -> int:
-        """Queues all cleanups; how many."""
+        """Queues all cleanups, and returns how many."""
         return self._answer(c_uint64, "queue_cleanups")
 
     def take(self) -> Optional[Entry]:
-        """The first entry that waits, which is held until it is finished; or None."""
+        """Takes the first entry that waits, which is held until it is finished; None if none waits."""
         return self._or_none(Entry, "take")
 
     def take_finished(self) -> Optional[Entry]:
-        """The first entry that waits, as finished; or None."""
+        """Takes the first entry that waits and finishes it; None if none waits."""
         return self._or_none(Entry, "take_finished")
 
     def finish(self, entry: Entry) -> None:
-        """Ends the holding of the entry."""
+        """Finishes the entry, which isn't held any more."""
         self._call("finish", byref(entry))
 
     def has_waiting(self) -> bool:
@@ -347,15 +347,15 @@ class Finalizers:
         return self._walk(c_uint64, "roots", sort)
 
     def registrations(self) -> Iterator[Registration]:
-        """The registrations that stand."""
+        """The registrations."""
         return self._walk(Registration, "registrations")
 
     def links(self, kind: LinkKind = LinkKind.SHORT) -> Iterator[Linked]:
-        """The links of a kind that stand."""
+        """The links of a kind."""
         return self._walk(Linked, "links", kind)
 
     def cleanups(self) -> Iterator[Cleanup]:
-        """The cleanups that stand."""
+        """The cleanups."""
         return self._walk(Cleanup, "cleanups")
 
     def cleanup(self, number: int) -> Optional[Cleanup]:
@@ -375,7 +375,7 @@ class Finalizers:
         return self._or_none(Entry, "unfinished", start)
 
     def counts(self) -> Counts:
-        """How much there is."""
+        """The counts of the handle."""
         return self._answer(Counts, "count")
 
     def trace(self, hooks: Any) -> None:

@@ -42,7 +42,7 @@ def ended(crew: Any, options: Any, finalizers: Finalizers) -> None:
 
 
 class Workers:
-    """Workers, `started` of which could be started. Leaving a `with` stops them, and so does letting go of them, or the program's end."""
+    """Workers, `started` of which could be started. They are stopped at the end of their `with`, when Python frees them, or at the program's end."""
 
     def __init__(self, finalizers: Finalizers, lock: Any, run: Callable[[Entry], Any], count: int) -> None:
         raised = self.raised = []  # type: List[BaseException]
@@ -96,7 +96,7 @@ class Workers:
         return self._is_in_time("wait", NO_LIMIT if milliseconds is None else milliseconds)
 
     def stop(self, milliseconds: Optional[int] = None) -> Optional[Counts]:
-        """Stops the workers once they have run what was published, and tells the last counts; or None where a worker hasn't ended in time."""
+        """Stops the workers once they have run what was published, and returns the last counts; None if a worker hasn't ended in time."""
         counts = Counts()
         return counts if self._is_in_time("stop", NO_LIMIT if milliseconds is None else milliseconds, byref(counts)) else None
 

@@ -240,7 +240,7 @@ fn link_words(rt: &impl Abort, finalizers: &mut Finalizers, kind: LinkKind, word
     }
 }
 
-/// Moves a link from each of these words to the word so many further on.
+/// Moves a link from each of these words to the word that is `by` higher.
 fn move_words(
     rt: &impl Abort,
     finalizers: &mut Finalizers,

@@ -143,7 +143,7 @@ pub(crate) const LARGE_OBJECTS: Row = Row {
     fault: None,
 };
 
-/// A size that takes more blocks than there are is refused for want of room, and so is an object in a heap that is full.
+/// A size that takes more blocks than there are is refused for lack of space, and so is an object in a heap that is full.
 pub(crate) const LARGE_SIZE_AND_FULL_HEAP: Row = Row {
     script: b"open 1 1 1\nnew 0 0 0 scanned\nnew 0 0 65 scanned\nnew 0 0 64 scanned\nnew 0 1 1 scanned\nload 0 0 63 0 1\nload 0 0 64 0 1\nnew 0 16 1 scanned\ncollect\nset 0 0 0\ncollect\nnew 0 0 1 atomic\n",
     report: b"ok\nrefused 4 BadSize\nrefused 5 NoSpace\nnew 65536 0\nrefused 5 NoSpace\nword 0\nrefused 3 OutsideObject\nrefused 1 BadSlot\npass 1 picked 0 reclaimed 0\nok\npass 2 picked 0 reclaimed 1\nnew 65536 1\nend enqueued 0 finished 0 forfeited 0 in_hand 0 left 0\n",
@@ -293,8 +293,8 @@ pub(crate) const TWO_IN_ORDER: Row = Row {
 };
 
 /// Two weak maps with an entry each, whose keys are short links in atomic objects. The first map has the value in an
-/// object of its own, and the value leads to its key: neither ever goes. The second map's value stands in the key: both
-/// go with the last other reference to the key.
+/// object of its own, and the value leads to its key: neither is ever reclaimed. The second map's value is in the key:
+/// both are lost with the last other reference to the key.
 pub(crate) const VALUE_LEADS_TO_ITS_KEY: Row = Row {
     script: b"open 8 1 1\nnew 0 0 1 atomic\nnew 0 1 1 scanned\nnew 0 2 1 scanned\nnew 0 3 1 scanned\nstore 0 3 0 0 2\nstore 0 0 0 0 2\nlink short 0 0 0 0 2\nstore 0 1 0 0 3\nset 0 2 0\nset 0 3 0\ncollect\nload 0 0 0 0 5\nset 0 5 0\nnew 0 4 1 atomic\nnew 0 2 1 scanned\nnew 0 3 1 scanned\nstore 0 3 0 0 2\nstore 0 2 0 0 3\nstore 0 4 0 0 2\nlink short 0 4 0 0 2\nset 0 2 0\nset 0 3 0\ncollect\nload 0 4 0 0 5\n",
     report: b"ok\nnew 65536 0\nnew 65600 1\nnew 65601 2\nnew 65602 3\nok\nok\nsuccess\nok\nok\nok\npass 1 picked 0 reclaimed 0\nword 65601\nok\nnew 65537 4\nnew 65603 5\nnew 65604 6\nok\nok\nok\nsuccess\nok\nok\npass 2 picked 0 reclaimed 2\nword 0\nend enqueued 0 finished 0 forfeited 0 in_hand 0 left 0\n",

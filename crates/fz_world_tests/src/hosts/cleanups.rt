@@ -33,7 +33,7 @@ pub(crate) enum Step {
     Take(u64, u64, Option<usize>),
     /// Finishes the entry that was taken last.
     Finish,
-    /// Whether a record stands.
+    /// Whether a record exists.
     Stands(usize, bool),
 }
 
@@ -391,7 +391,7 @@ pub(crate) fn due(
     }
 }
 
-/// Compares a collection of a graph with a plain reading: which cleanups are queued before and after the finalizers, and which records stand.
+/// Compares a collection of a graph with a plain reading: which cleanups are queued before and after the finalizers, and which records are left.
 fn compare(rt: &impl Abort, alloc: Global, random: &mut Random) -> u64 {
     let (plain, mut records) = drawn(rt, alloc, random);
     let found = found(&plain);

@@ -30,7 +30,7 @@ fn guarded(rt: &impl Abort, runtime: &mut Runtime) -> Option<RecordId> {
     Some(id)
 }
 
-/// Makes the first field of a pair weak: it lets go of the record once that is gone.
+/// Makes the first field of a pair weak: it is cleared when nothing retains the record any more.
 fn weaken(rt: &impl Abort, runtime: &mut Runtime, pair: RecordId, id: RecordId) {
     if runtime.heap().stands(id) {
         let answer = runtime.link(Long, pair.word(0), id);

@@ -378,7 +378,7 @@ fn begun(rt: &impl Abort, alloc: Global, objects: &[Addr]) -> Machine {
     machine
 }
 
-/// The next step is a question about so many regions, of which the first begins here.
+/// The next step is a question about `count` regions, of which the first begins at `first`.
 fn must_ask(rt: &impl Abort, step: Step, about: &[Addr; BATCH], count: usize, first: Addr) {
     let marks = Step::Asks {
         ask: Ask::Marks,
