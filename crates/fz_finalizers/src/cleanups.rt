@@ -29,7 +29,7 @@ pub struct Cleanup {
 }
 
 impl Cleanup {
-    /// Whether it is of this moment: of the beginning of a pass if it is short, and of its end if it is long.
+    /// Whether it is due at this point of a pass: a short one at the beginning, a long one at the end.
     pub fn is_when(self, when: LinkKind) -> bool
         ensures { result ≡ is_when when self.when }
     {

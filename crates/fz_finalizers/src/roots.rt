@@ -64,7 +64,7 @@ impl<'a> Roots<'a> {
         }
     }
 
-    /// How many places remain. Their number at the beginning less this one is how many were passed.
+    /// How many places remain. The number at the start minus this one is how many were passed.
     pub fn places(&self) -> usize
         ensures { result ≡ length self.now }
     {

@@ -9,7 +9,7 @@ use fz_model::Addr;
 use fz_table::{AddressHasher, Pairs};
 use indexmap::IndexMap;
 
-/// Moves a link behind all others.
+/// Moves a link after all others.
 pub(crate) fn put_last(links: &mut IndexMap<Addr, Addr, AddressHasher>, link: Addr)
     ensures same { from_entries {R = nat_cmp} links.new.entries ≡ from_entries links.old.entries }
     ensures count { length links.new.entries ≡ length links.old.entries }

@@ -24,7 +24,7 @@ ComesAfterFlag late registrations p q =
     ((late p.obj ≡ false) × (late q.obj ≡ true)) ⊎ ((late p.obj ≡ late q.obj) × ComesBefore registrations p q)
 
 module _ (place : ℕ → Option ℕ) (old : Parts) (found : ℕ → Bool) where
-  -- the short links of the model: by the words for which they stand
+  -- the short links of the model: by the words that they denote
   abbrev pub short_words : Map ℕ
   short_words = placed place old.short
 

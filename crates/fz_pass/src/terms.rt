@@ -1,4 +1,4 @@
-//! What a pass is told beside what it works on.
+//! The parameters of a pass beside the host and the tables.
 
 /// The numbers of a pass, and whether it has tiers.
 #[derive(Clone, Copy, Debug, PartialEq, Eq)]

@@ -16,7 +16,7 @@ use Rattle.fz_world.specs.Retried.{TriesTwice}
 use Rattle.fz_world.specs.Shown.{IsFirstFrom}
 use Rattle.fz_world.specs.World.{WorldView, MarksMade}
 
--- a refused call leaves what the world shows, and what it stands for
+-- a refused call changes neither what the world shows nor which states it represents
 abbrev pub RefusesWithoutEffect : WorldView → WorldView → Type 0
 RefusesWithoutEffect old new = (e : Event) (r : Refusal) (s : State) → StandsFor old s → Does old e (Err r) new → (new.core ≡ old.core) × StandsFor new s
 
