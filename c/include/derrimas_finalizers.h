@@ -40,7 +40,8 @@
  * pass, a take and a move of a link never lack memory; so a cleanup uses up the room that was reserved for one
  * registration. Where the list of a pass has no room left, .._register, .._link and .._add_cleanup make it grow, even if
  * they replace what there is or are refused. With the option `marks` .._register may also ask for memory for the object's
- * region, even if room is reserved; where there is none it is accepted all the same, and later passes ask of each object.
+ * region, even if room is reserved; where there is none it is accepted all the same, and later passes ask of each object,
+ * until .._shrink finds memory for the regions.
  *
  * Unless a comment says otherwise a call takes constant time: .._register, .._link and .._add_cleanup amortized over the
  * growth of tables, .._move_link over as many moves as there are links of its kind. */
@@ -229,7 +230,8 @@ DERRIMAS_CHECKED derrimas_finalizers_code derrimas_finalizers_open(derrimas_fina
 void derrimas_finalizers_destroy(derrimas_finalizers *finalizers) DERRIMAS_NONNULL(1);
 
 /* Makes room for so many further registrations, and for so many further links of each kind: up to there no call but
- * .._add_cleanup takes memory. It takes memory itself, and time by what it makes room for.
+ * .._add_cleanup takes memory, nor with the option `marks` .._register but for a new region. It takes memory itself, and time
+ * by what it makes room for.
  * Refused: NOT_OPEN, PASS_OPEN, NO_MEMORY. */
 DERRIMAS_CHECKED derrimas_finalizers_code derrimas_finalizers_reserve(derrimas_finalizers *finalizers,
                                                                       uint64_t registrations, uint64_t shorts, uint64_t longs)
@@ -237,8 +239,8 @@ DERRIMAS_CHECKED derrimas_finalizers_code derrimas_finalizers_reserve(derrimas_f
 
 /* Gives back the memory that isn't needed for what is registered, linked, added, waits or is held; also what was reserved.
  * Where the allocator has no memory to make something smaller, that stays as it is. No other call does this but .._destroy.
- * With the option `marks` the regions of what was removed are forgotten by the next pass, and not by this call. Takes time
- * by what there is.
+ * With the option `marks` it notes the registered objects again if there is memory for their regions: those of what was
+ * removed are gone, and passes ask by regions again where memory for one had lacked. Takes time by what there is.
  * Refused: NOT_OPEN, PASS_OPEN. */
 derrimas_finalizers_code derrimas_finalizers_shrink(derrimas_finalizers *finalizers) DERRIMAS_NONNULL(1);
 
