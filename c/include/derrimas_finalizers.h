@@ -40,7 +40,8 @@
  * a link never need memory; so a cleanup uses up the room that was reserved for one registration. If the list that a pass
  * processes has no room left, .._register, .._link and .._add_cleanup enlarge it, even if they replace something or are
  * refused. With the option `marks` .._register may also allocate for the object's region, even if room is reserved; if
- * that fails the call is accepted nevertheless, and later passes ask about each object.
+ * that fails the call is accepted nevertheless, and later passes ask about each object, until .._shrink finds memory for
+ * the regions.
  *
  * Unless a comment says otherwise a call takes constant time: .._register, .._link and .._add_cleanup amortized over the
  * growth of tables, .._move_link over as many moves as there are links of its kind. */
@@ -229,7 +230,8 @@ DERRIMAS_CHECKED derrimas_finalizers_code derrimas_finalizers_open(derrimas_fina
 void derrimas_finalizers_destroy(derrimas_finalizers *finalizers) DERRIMAS_NONNULL(1);
 
 /* Makes room for the given numbers of further registrations and links: until the room is used up no call but
- * .._add_cleanup takes memory. It takes memory itself, and time proportional to the room.
+ * .._add_cleanup takes memory, and with the option `marks` .._register for a new region. It takes memory itself, and time
+ * proportional to the room.
  * Refused: NOT_OPEN, PASS_OPEN, NO_MEMORY. */
 DERRIMAS_CHECKED derrimas_finalizers_code derrimas_finalizers_reserve(derrimas_finalizers *finalizers,
                                                                       uint64_t registrations, uint64_t shorts, uint64_t longs)
@@ -237,8 +239,9 @@ DERRIMAS_CHECKED derrimas_finalizers_code derrimas_finalizers_reserve(derrimas_f
 
 /* Frees the memory that registrations, links, cleanups and unfinished entries don't need, reserved room included. If the
  * allocator has no memory for a smaller table, the old one stays. No other call but .._destroy does this. With the option
- * `marks` the regions of removed registrations are forgotten by the next pass, and not by this call. Takes time
- * proportional to what there is.
+ * `marks` it notes the registered objects again, if there is memory for their regions: the regions of removed registrations
+ * are forgotten, and passes ask by regions again if memory for one had been lacking. Takes time proportional to what there
+ * is.
  * Refused: NOT_OPEN, PASS_OPEN. */
 derrimas_finalizers_code derrimas_finalizers_shrink(derrimas_finalizers *finalizers) DERRIMAS_NONNULL(1);
 

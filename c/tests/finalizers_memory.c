@@ -380,8 +380,9 @@ static void shrinks(void)
     }
 }
 
-/* How many objects of a graph are queued, where so many allocations are granted before one is refused, which comes in the registrations; and whether one was. */
-static uint64_t queued_with(long granted, bool *was_refused)
+/* How many objects of a graph are queued, where so many allocations are granted before one is refused, which comes in the registrations; and whether one was.
+ * A shrink with memory may come before the passes. */
+static uint64_t queued_with(long granted, bool notes_again, bool *was_refused)
 {
     derrimas_finalizers_code code;
     uint64_t picked = 0;
@@ -398,6 +399,8 @@ static uint64_t queued_with(long granted, bool *was_refused)
             first.granted = *was_refused ? -1 : first.granted;
         } while (code == DERRIMAS_FINALIZERS_NO_MEMORY);
     first.granted = -1;
+    if (notes_again)
+        OK(derrimas_finalizers_shrink(&finalizers));
     picked += collect(&all, &finalizers).picked;
     for (size_t n = 0; n < 300; n++)
         objects[n].is_root = false;
@@ -407,7 +410,7 @@ static uint64_t queued_with(long granted, bool *was_refused)
     return picked;
 }
 
-/* Whichever allocation is refused in the registrations, passes queue the same. Without memory for a region they ask of each object. */
+/* Whichever allocation is refused in the registrations, passes queue the same. Without memory for a region they ask of each object, until a shrink has some. */
 static void refused_regions(void)
 {
     uint64_t by_regions = 0, by_objects = 0;
@@ -415,7 +418,9 @@ static void refused_regions(void)
 
     options.marks = true;
     for (long granted = 0; was_refused; granted++) {
-        IS(queued_with(granted, &was_refused), 100200);
+        IS(queued_with(granted, true, &was_refused), 100200);
+        IS(all.asked[DERRIMAS_ASK_MARKS] > 0, true);
+        IS(queued_with(granted, false, &was_refused), 100200);
         by_regions += all.asked[DERRIMAS_ASK_MARKS] > 0;
         by_objects += all.asked[DERRIMAS_ASK_MARKS] == 0;
         IS(all.asked[DERRIMAS_ASK_MARKS] > 0 || was_refused, true);

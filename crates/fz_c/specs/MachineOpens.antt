@@ -8,5 +8,5 @@ use Rattle.fz_c.specs.declared.machine.codes.TheConstants.{OK, IS_OPEN, NO_MEMOR
 -- an open handle keeps what it has; a new one notes objects by regions or not
 abbrev pub Opens : Bool → Option Machine → Option Machine → ℕ → Type 0
 Opens marks (Some old) new code = (code ≡ IS_OPEN) × (new ≡ Some old)
-Opens marks None (Some m) code = (code ≡ OK) × (m.finalizers.state ≡ opening) × IsIdle m × (m.noted ≡ marks)
+Opens marks None (Some m) code = (code ≡ OK) × (m.finalizers.state ≡ opening) × IsIdle m × (m.by_regions ≡ marks) × (m.noted ≡ marks)
 Opens marks None None code = code ≡ NO_MEMORY

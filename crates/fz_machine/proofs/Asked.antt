@@ -1,5 +1,5 @@
 -- A question about regions.
-use Rattle.std.proofs.Common.{All, ◌≡◌, ◌∙◌, ◌≤◌, ◌<◌, ◌+◌, ◌++◌, ℕ, zero, suc, min, List, [], ◌∷◌, length, slice_get, is_some, take, drop, Option, Some, IsTrue, true, refl, ap, sym, subst, ⊎_elim, append_assoc, arith}
+use Rattle.std.proofs.Common.{All, ◌≡◌, ◌∙◌, ◌≤◌, ◌<◌, ◌+◌, ◌++◌, ℕ, zero, suc, min, List, [], ◌∷◌, length, slice_get, is_some, take, drop, Bool, Option, Some, IsTrue, true, false, refl, ap, sym, subst, ⊎_elim, append_assoc, arith}
 use Rattle.std.proofs.lemmas.List.{length-take, take-append-drop}
 use Rattle.std.proofs.lemmas.Option.{same_Some}
 use Rattle.std.specs.Map.{keys_of}
@@ -9,8 +9,10 @@ use Rattle.fz_machine.specs.declared.phase.Phase.{Phase}
 use Rattle.fz_machine.specs.declared.phase.Phase.TheVariants.{Objects}
 use Rattle.fz_machine.specs.declared.question.Ask.TheVariants.{Marks}
 use Rattle.fz_machine.specs.Going.{walk_by, HasFirst, IsInOrder}
-use Rattle.fz_machine.specs.Machines.{AsksRegions}
+use Rattle.fz_machine.specs.declared.question.Question.{Question}
+use Rattle.fz_machine.specs.Machines.{AsksItems, AsksRegions}
 use Rattle.fz_machine.specs.Regions.{Regions, items_in, items_of, objects_in, place_in}
+use Rattle.fz_machine.specs.Steps.{IsQuestion}
 use Rattle.fz_machine.specs.Walks.{Walk}
 use Rattle.fz_machine.proofs.Settling.{some_in}
 
@@ -32,11 +34,37 @@ is_first : (rs : List (ℕ × ℕ)) → 0 < length rs → is_some (slice_get rs 
 is_first [] some = absurd (omega (arith, some))
 is_first (r ∷ rs) some = refl
 
+pub none_taken : (n : ℕ) → take {A = ℕ × ℕ} n [] ≡ []
+none_taken zero = refl
+none_taken (suc n) = refl
+
 none_behind : (rs : List (ℕ × ℕ)) (n : ℕ) → length rs ≤ n → drop n rs ≡ []
 none_behind [] zero le = refl
 none_behind [] (suc n) le = refl
 none_behind (r ∷ rs) zero le = absurd (omega (arith, le))
 none_behind (r ∷ rs) (suc n) le = none_behind rs n (omega (arith, le))
+
+-- it is a question about items: registered objects are asked about only if the regions aren't complete
+module _ (s : State) (walk : Walk) (regions : Regions) (phase : Phase) (order : IsInOrder s walk regions (Some phase) 0) (none : regions.left ≡ []) where
+  unnoted : (q : Question) → IsQuestion phase walk.left q → phase ≡ Objects → regions.complete ≡ false
+  unnoted q question at = by regions.complete refl
+    where
+      by : (b : Bool) → regions.complete ≡ b → regions.complete ≡ false
+      by true is = absurd (let some = question.some in let within = question.within in let nothing = ap length (order.by_regions (ap Some at) is) in omega (arith, some, within, nothing))
+      by false is = is
+
+  pub asks_items : (f : View) (open_phase : Option Phase) (before count : ℕ) (on : Bool) (new : Regions) (q : Question) → f.state ≡ s → new ≡ record regions { asked = count } → IsQuestion phase walk.left q
+      → AsksItems (record { finalizers = f; walk = walk_by f.state walk new; phase = open_phase; asked = q.count; before = before; regions = take new.asked new.left; by_regions = on; noted = new.complete; tabled = length new.order; remaining = length new.left }) phase q
+  asks_items f open_phase before count on new q same new_is question =
+      subst
+      (λ (r : Regions). AsksItems (record { finalizers = f; walk = walk_by f.state walk r; phase = open_phase; asked = q.count; before = before; regions = take r.asked r.left; by_regions = on; noted = r.complete; tabled = length r.order; remaining = length r.left }) phase q)
+      (sym new_is)
+      (record {
+        others = unnoted q question;
+        question = subst (λ xs. IsQuestion phase xs q) (sym (ap (λ rs. items_in f.state rs ++ walk.left) none)) question;
+        asked = refl;
+        regions = ap (take count) none ∙ none_taken count;
+      })
 
 module _ (s : State) (walk : Walk) (regions : Regions) (phase : Phase) (order : IsInOrder s walk regions (Some phase) 0) (first : HasFirst s regions) (count : ℕ) (is : count ≡ min 64 (length regions.left)) (some : 0 < count) where
   many : 0 < length regions.left
@@ -73,18 +101,18 @@ module _ (s : State) (walk : Walk) (regions : Regions) (phase : Phase) (order : 
   )
 
   -- it is a question about regions
-  pub asks_regions : (f : View) (open_phase : Option Phase) (before : ℕ) (new : Regions) (about : List ℕ) → f.state ≡ s → new ≡ record regions { asked = count } → take count about ≡ keys_of (take count regions.left) → All (λ (r : ℕ × ℕ). place_in r.0 ≡ 0) (take count regions.left)
-      → AsksRegions (record { finalizers = f; walk = walk_by f.state walk new; phase = open_phase; asked = 0; before = before; regions = take new.asked new.left; noted = new.complete }) phase (record { ask = Marks; about = about; count = count })
-  asks_regions f open_phase before new about same new_is written begin =
+  pub asks_regions : (f : View) (open_phase : Option Phase) (before : ℕ) (on : Bool) (new : Regions) (about : List ℕ) → f.state ≡ s → new ≡ record regions { asked = count } → take count about ≡ keys_of (take count regions.left) → All (λ (r : ℕ × ℕ). place_in r.0 ≡ 0) (take count regions.left)
+      → AsksRegions (record { finalizers = f; walk = walk_by f.state walk new; phase = open_phase; asked = 0; before = before; regions = take new.asked new.left; by_regions = on; noted = new.complete; tabled = length new.order; remaining = length new.left }) phase (record { ask = Marks; about = about; count = count })
+  asks_regions f open_phase before on new about same new_is written begin =
       subst
-      (λ (r : Regions). AsksRegions (record { finalizers = f; walk = walk_by f.state walk r; phase = open_phase; asked = 0; before = before; regions = take r.asked r.left; noted = r.complete }) phase (record { ask = Marks; about = about; count = count }))
+      (λ (r : Regions). AsksRegions (record { finalizers = f; walk = walk_by f.state walk r; phase = open_phase; asked = 0; before = before; regions = take r.asked r.left; by_regions = on; noted = r.complete; tabled = length r.order; remaining = length r.left }) phase (record { ask = Marks; about = about; count = count }))
       (sym new_is)
       (record {
         objects = objects.0;
         noted = objects.1;
         ask = refl;
         some = subst (λ (t : State). 0 < length (items_in t (take count regions.left))) (sym same) some_item;
-        few = omega (arith, is);
+        most = is;
         count = as_many;
         about = written;
         begin = begin;

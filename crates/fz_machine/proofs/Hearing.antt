@@ -1,6 +1,8 @@
 -- Marks that are heard, region by region.
-use Rattle.std.proofs.Common.{◌≡◌, ◌⊎◌, ℕ, zero, suc, ◌-◌, ◌+◌, ◌*◌, ◌<◌, ◌≤◌, min, Bool, true, false, cond, not, ◌&&◌, ◌||◌, List, [], ◌∷◌, ◌++◌, filter, take, drop, length, get_or, inl, inr, refl, sym, ap, ◌∙◌, ⊎_elim, append_assoc, arith}
+use Rattle.std.proofs.Common.{◌≡◌, ◌⊎◌, ℕ, zero, suc, ◌-◌, ◌+◌, ◌*◌, ◌<◌, ◌≤◌, min, Bool, true, false, cond, not, ◌&&◌, ◌||◌, List, [], ◌∷◌, ◌++◌, filter, take, drop, length, get_or, slice_get, Some, inl, inr, refl, sym, ap, subst, ◌∙◌, ⊎_elim, append_assoc, arith}
 use Rattle.std.proofs.lemmas.Bool.{cases_lt}
+use Rattle.std.proofs.lemmas.List.{length-append}
+use Rattle.std.proofs.lemmas.Option.{none-some, same_Some}
 use Rattle.std.specs.FinMap.{contains_key}
 use Rattle.fz_model.specs.declared.answers.Registration.{Registration}
 use Rattle.fz_model.specs.State.{Map}
@@ -8,13 +10,27 @@ use Rattle.fz_model.specs.Bits.{has_bit}
 use Rattle.fz_finalizers.specs.States.{State}
 use Rattle.fz_machine.specs.declared.item.Item.{Item}
 use Rattle.fz_machine.specs.declared.phase.Phase.TheVariants.{Objects}
-use Rattle.fz_machine.specs.Regions.{place_in, region_of, objects_in, items_of, items_in, marks_say}
+use Rattle.fz_machine.specs.Going.{HasRoomToKeep}
+use Rattle.fz_machine.specs.Regions.{Regions, place_in, region_of, objects_in, items_of, items_in, marks_say}
 use Rattle.fz_machine.specs.Steps.{Going, steps}
+use Rattle.fz_machine.specs.Walks.{Walk}
 use Rattle.fz_machine.proofs.Marked.{says_none, steps_marks}
 use Rattle.fz_machine.proofs.Places.{object_back}
 
 abbrev pub at : State → List Item → List Item → Going
 at s kept left = record { finalizers = s; kept = kept; left = left }
+
+-- the items of the region to process next have room
+pub fits_first : (s : State) (walk : Walk) (regions : Regions) (r : ℕ × ℕ) → slice_get regions.left 0 ≡ Some r → HasRoomToKeep s walk regions → length walk.kept + length (items_of s (objects_in r)) ≤ walk.room
+fits_first s walk regions r first room = by regions.left first room
+  where
+    by : (rs : List (ℕ × ℕ)) → slice_get rs 0 ≡ Some r → (rs ≡ []) ⊎ ((walk.left ≡ []) × (length walk.kept + length (items_in s rs) ≤ walk.room)) → length walk.kept + length (items_of s (objects_in r)) ≤ walk.room
+    by [] at h = absurd (none-some r at)
+    by (q ∷ rs) at (inl none) = absurd (let no = ap length none in omega (arith, no))
+    by (q ∷ rs) at (inr on) =
+        let few = on.1 in
+        let long = length-append (items_of s (objects_in q)) (items_in s rs) in
+        subst (λ (x : ℕ × ℕ). length walk.kept + length (items_of s (objects_in x)) ≤ walk.room) (same_Some q r at) (omega (arith, few, long))
 
 -- the first of the regions that were asked about
 pub heard_one : (s : State) (kept new : List Item) (r : ℕ × ℕ) (rs : List (ℕ × ℕ)) (others : List Item) (word asked : ℕ) (words : List ℕ) → 0 < asked

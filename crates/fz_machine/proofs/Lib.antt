@@ -15,6 +15,8 @@ pub mod Marked
 pub mod Hearing
 pub mod Settling
 pub mod Asked
+pub mod Remained
+pub mod Renewed
 pub mod Retold
 pub mod Among
 pub mod Sifting

@@ -49,6 +49,14 @@ take_written [] i w = refl
 take_written (e ∷ es) zero w = refl
 take_written (e ∷ es) (suc i) w = ap (λ fs. e ∷ fs) (take_written es i w)
 
+-- where none remain, none do in another table
+pub still_none : (es ns : List (ℕ × ℕ)) (left : ℕ) → left ≤ length es → reverse (take left es) ≡ [] → reverse (take left ns) ≡ []
+still_none es ns left le none = by left (let no = ap length none in let turned = length-reverse (take left es) in let long = length-take left es in omega (arith, le, no, turned, long))
+  where
+    by : (n : ℕ) → n ≡ 0 → reverse (take n ns) ≡ []
+    by zero is = refl
+    by (suc n) is = absurd (omega (arith, is))
+
 -- ---- what is noted after the bits of one region change
 
 module _ (es ns : List (ℕ × ℕ)) (region : ℕ) (new : Option ℕ) (updates : (q : ℕ) → lookup (nat_eq q) ns ≡ cond (nat_eq region q) new (lookup (nat_eq q) es)) where
@@ -77,12 +85,6 @@ module _ (es : List (ℕ × ℕ)) (object region place one bits : ℕ) (region_i
     (bits_are : bits ≡ option_map_or (λ (b : ℕ). b) (lookup (nat_eq region) es) 0) where
   with_it : has_bit (bit_or bits one) (place_in object) ≡ true
   with_it = ap (λ k. has_bit (bit_or bits one) k) (sym place_is) ∙ ap (λ k. has_bit (bit_or bits k) place) one_is ∙ set_here bits place
-
-  bits_of : has_bit (option_map_or (λ (b : ℕ). b) (lookup (nat_eq (region_of object)) es) 0) (place_in object) ≡ has_bit bits (place_in object)
-  bits_of = ap (λ k. has_bit (option_map_or (λ (b : ℕ). b) (lookup (nat_eq k) es) 0) (place_in object)) (sym region_is) ∙ ap (λ k. has_bit k (place_in object)) (sym bits_are)
-
-  pub noted_before : bit_or bits one ≡ bits → IsNoted es object
-  noted_before same = bits_of ∙ ap (λ k. has_bit k (place_in object)) (sym same) ∙ with_it
 
   module _ (ns : List (ℕ × ℕ)) (updates : (q : ℕ) → lookup (nat_eq q) ns ≡ cond (nat_eq region q) (Some (bit_or bits one)) (lookup (nat_eq q) es)) where
     pub noted_after : IsNoted ns object

@@ -131,7 +131,11 @@ module _ (s : State) (walk : Walk) (regions : Regions) (phase : Option Phase) (a
 
   -- a call takes registrations away, or leaves them
   pub calm : (t : State) (other : Walk) → HasRoom t other.room → IsFewer s.registrations t.registrations → IsInOrder t other regions phase asked
-  calm t other room fewer = record { room = room; keeps = inl none_remain; noted = λ complete. noted_fewer s t regions.order fewer (order.noted complete); during = inl none_remain }
+  calm t other room fewer = record { room = room; keeps = inl none_remain; noted = λ complete. noted_fewer s t regions.order fewer (order.noted complete); during = inl none_remain; by_regions = λ at all. absurd (none-some Objects (sym idle ∙ at)) }
+
+  -- the regions are those of the registrations
+  pub renewed : (t : State) (other : Walk) (new : Regions) → HasRoom t other.room → new.left ≡ [] → (IsTrue new.complete → AreNoted t new.order) → IsInOrder t other new phase asked
+  renewed t other new room none noted = record { room = room; keeps = inl none; noted = noted; during = inl none; by_regions = λ at all. absurd (none-some Objects (sym idle ∙ at)) }
 
 unlinks : (s : State) (kind : LinkKind) (links : Map ℕ) → (with_links s kind links).registrations ≡ s.registrations
 unlinks s Short links = refl
@@ -155,7 +159,7 @@ module _ (s t : State) (registrations : t.registrations ≡ s.registrations) (la
   still_fits h = ⊎_elim (λ (none : regions.left ≡ []). inl none) (λ (on : (walk.left ≡ []) × (length walk.kept + length (items_in s regions.left) ≤ walk.room)). inr (on.0, subst (λ xs. length walk.kept + length xs ≤ walk.room) (sym (items_same s t registrations late regions.left)) on.1)) h
 
   pub works_on : (phase : Option Phase) (asked : ℕ) → HasRoom t walk.room → IsInOrder s walk regions phase asked → IsInOrder t walk regions phase asked
-  works_on phase asked room order = record { room = room; keeps = still_fits order.keeps; noted = λ complete. noted_fewer s t regions.order (same_fewer s.registrations t.registrations registrations) (order.noted complete); during = order.during }
+  works_on phase asked room order = record { room = room; keeps = still_fits order.keeps; noted = λ complete. noted_fewer s t regions.order (same_fewer s.registrations t.registrations registrations) (order.noted complete); during = order.during; by_regions = order.by_regions }
 
 -- ---- a region is processed
 

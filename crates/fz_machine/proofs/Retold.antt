@@ -1,22 +1,21 @@
 -- Answers that are heard before a machine goes on.
-use Rattle.std.proofs.Common.{◌≡◌, ◌∙◌, ◌≤◌, ◌+◌, ◌++◌, ℕ, zero, suc, min, Bool, List, [], length, take, Option, Some, IsTrue, inl, inr, refl, ap, sym, subst, ⊎_elim, arith}
+use Rattle.std.proofs.Common.{◌≡◌, ◌∙◌, ◌≤◌, ◌+◌, ◌++◌, ℕ, min, Bool, List, [], drop, length, take, Option, Some, IsTrue, inl, inr, refl, ap, sym, subst, ⊎_elim, arith}
 use Rattle.std.proofs.lemmas.Option.{same_Some}
 use Rattle.fz_finalizers.specs.States.{State, View}
 use Rattle.fz_machine.specs.declared.pass.Next.{Next}
 use Rattle.fz_machine.specs.declared.phase.Phase.{Phase}
 use Rattle.fz_machine.specs.declared.phase.Phase.TheVariants.{Objects}
 use Rattle.fz_machine.specs.Going.{going, going_by, HasRoomToKeep, IsInOrder}
-use Rattle.fz_machine.specs.Machines.{Machine, GoesTo}
+use Rattle.fz_machine.specs.Machines.{Machine, GoesTo, regions_left}
 use Rattle.fz_machine.specs.Regions.{Regions, AreNoted, items_in, marks_say}
 use Rattle.fz_machine.specs.Steps.{Going, GoesOn, steps}
 use Rattle.fz_machine.specs.Walks.{Walk}
+use Rattle.fz_machine.proofs.Asked.{none_taken}
+use Rattle.fz_machine.proofs.Remained.{IsDuring, all_passed, through}
 use Rattle.fz_machine.proofs.Remaining.{steps_noted}
 use Rattle.fz_machine.proofs.Rooms.{roomier, same_room, steps_room}
 use Rattle.fz_machine.proofs.Settling.{no_regions}
 use Rattle.fz_machine.proofs.Stepping as stepping
-
-abbrev IsDuring : Regions → Option Phase → ℕ → Type 0
-IsDuring regions phase asked = (phase ≡ Some Objects) × (asked ≡ 0) × IsTrue regions.complete
 
 -- answers about items
 module _ (f g : View) (walk new : Walk) (regions : Regions) (phase : Option Phase) (p : Phase) (asked n : ℕ) (answers : List Bool) (order : IsInOrder f.state walk regions phase asked)
@@ -41,6 +40,7 @@ module _ (f g : View) (walk new : Walk) (regions : Regions) (phase : Option Phas
     keeps = ⊎_elim (λ (ended : regions.left ≡ []). inl ended) (λ (on : IsDuring regions phase asked). fits on.1 order.keeps) order.during;
     noted = λ all. subst (λ (s : State). AreNoted s regions.order) (sym (ap (λ (k : Going). k.finalizers) heard)) (steps_noted regions.order p (take n answers) (going f walk) (order.noted all));
     during = order.during;
+    by_regions = λ at all. let none = order.by_regions at all in ap (λ (k : Going). k.left) (heard ∙ stepping.steps_none p (take n answers) (going f walk) none) ∙ none;
   }
 
   pub heard_on : going_by g new regions ≡ steps p (take asked answers) (going_by f walk regions)
@@ -52,20 +52,20 @@ module _ (f g : View) (walk new : Walk) (regions : Regions) (phase : Option Phas
       ap (λ (k : Going). record { finalizers = k.finalizers; kept = k.kept; left = items_in k.finalizers regions.left ++ k.left }) (same on.1) ∙ ap (λ k. steps p (take k answers) (going_by f walk regions)) (sym on.1))
       order.during
 
-none_taken : (n : ℕ) → take {A = ℕ × ℕ} n [] ≡ []
-none_taken zero = refl
-none_taken (suc n) = refl
-
 -- marks of regions
 module _ (f : View) (walk new : Walk) (old regions : Regions) (phase : Option Phase) (p : Phase) (asked : ℕ) (marks : List ℕ) (order : IsInOrder f.state walk old phase asked) (is : phase ≡ Some p)
     (heard : going_by f new regions ≡ steps Objects (marks_say f.state (take old.asked old.left) marks) (going_by f walk old)) (room : HasRoomToKeep f.state new regions × (walk.room ≤ new.room))
-    (complete : regions.complete ≡ old.complete) (ended : old.left ≡ [] → regions.left ≡ []) (noted : AreNoted f.state old.order → AreNoted f.state regions.order) where
+    (complete : regions.complete ≡ old.complete) (left : regions.left ≡ drop (min old.asked 64) old.left) (none_new : walk.left ≡ [] → new.left ≡ []) (noted : AreNoted f.state old.order → AreNoted f.state regions.order) where
+  ended : old.left ≡ [] → regions.left ≡ []
+  ended none = left ∙ all_passed old.left 0 (min old.asked 64) (omega arith) none
+
   pub marked_in_order : IsInOrder f.state new regions phase asked
   marked_in_order = record {
     room = roomier _ _ _ room.1 order.room;
     keeps = room.0;
     noted = λ all. noted (order.noted (sym complete ∙ all));
     during = ⊎_elim (λ (none : old.left ≡ []). inl (ended none)) (λ (on : IsDuring old phase asked). inr (on.0, on.1, complete ∙ on.2)) order.during;
+    by_regions = λ at all. none_new (order.by_regions at (sym complete ∙ all));
   }
 
   pub marked_on : going_by f new regions ≡ steps p (marks_say f.state (take old.asked old.left) marks) (going_by f walk old)
@@ -78,9 +78,9 @@ module _ (f : View) (walk new : Walk) (old regions : Regions) (phase : Option Ph
       order.during
 
 -- the answers before it goes on
-pub after_answers : (old mid new : Machine) (answers : List Bool) (next : Next) (p : Phase) → old.phase ≡ Some p → mid.phase ≡ old.phase → going mid.finalizers mid.walk ≡ steps p answers (going old.finalizers old.walk) → mid.before ≡ old.before → mid.noted ≡ old.noted
-    → GoesTo mid [] new next → GoesTo old answers new next
-after_answers old mid new answers next p is same heard before noted goes =
+pub after_answers : (old mid new : Machine) (answers : List Bool) (next : Next) (p : Phase) → old.phase ≡ Some p → mid.phase ≡ old.phase → going mid.finalizers mid.walk ≡ steps p answers (going old.finalizers old.walk) → mid.before ≡ old.before → mid.by_regions ≡ old.by_regions → mid.noted ≡ old.noted
+    → mid.tabled ≤ old.tabled → regions_left mid ≤ regions_left old → GoesTo mid [] new next → GoesTo old answers new next
+after_answers old mid new answers next p is same heard before on noted tabled fewer goes =
     let at : p ≡ goes.phase = same_Some p goes.phase (sym is ∙ sym same ∙ goes.was) in
     record {
       phase = goes.phase;
@@ -88,5 +88,8 @@ after_answers old mid new answers next p is same heard before noted goes =
       goes = subst (λ (k : Going). GoesOn goes.phase k new.phase (going new.finalizers new.walk)) (heard ∙ ap (λ q. steps q answers (going old.finalizers old.walk)) at) goes.goes;
       tells = goes.tells;
       before = goes.before ∙ before;
+      by_regions = goes.by_regions ∙ on;
       noted = goes.noted ∙ noted;
+      tabled = through new.tabled mid.tabled old.tabled old.tabled goes.tabled tabled (omega arith);
+      fewer = through (regions_left new) (regions_left mid) (regions_left old) (regions_left old) goes.fewer fewer (omega arith);
     }

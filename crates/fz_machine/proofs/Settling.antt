@@ -70,6 +70,7 @@ module _ (f : View) (walk : Walk) (old new : Regions) (phase : Phase) (order : I
           order.keeps;
       noted = λ all. noted (order.noted (sym complete ∙ all));
       during = inr (ap Some objects.0, refl, complete ∙ objects.1);
+      by_regions = λ at all. order.by_regions at (sym complete ∙ all);
     }
 
   -- no region remains

@@ -1,5 +1,6 @@
 -- A machine whose entries are taken and finished, or that has another registration.
-use Rattle.std.proofs.Common.{◌≡◌, ◌++◌, [], ℕ, Option, Some, None, Result, Ok, Err, OnOk, OnErr, MatchOption, IsTrue, inl, sym, ap, subst}
+use Rattle.std.proofs.Common.{◌≡◌, ◌++◌, [], ℕ, Option, Some, None, Result, Ok, Err, OnOk, OnErr, MatchOption, IsTrue, inl, sym, ap, subst, ◌∙◌}
+use Rattle.std.proofs.lemmas.Option.{none-some}
 use Rattle.fz_model.specs.declared.answers.Entry.{Entry}
 use Rattle.fz_model.specs.Steps.{registration_of}
 use Rattle.fz_finalizers.specs.declared.kinds.Finalizer.{Finalizer}
@@ -8,6 +9,7 @@ use Rattle.fz_finalizers.specs.Follows.{Event, Follows, Register}
 use Rattle.fz_finalizers.specs.Kinds.{table_finalizer}
 use Rattle.fz_finalizers.specs.States.{State, waiting}
 use Rattle.fz_machine.specs.declared.phase.Phase.{Phase}
+use Rattle.fz_machine.specs.declared.phase.Phase.TheVariants.{Objects}
 use Rattle.fz_machine.specs.Going.{walk_by, HasRoom, IsInOrder}
 use Rattle.fz_machine.specs.Machines.{IsWork}
 use Rattle.fz_machine.specs.Regions.{Regions, IsNoted}
@@ -54,18 +56,20 @@ module _ (walk : Walk) (regions : Regions) where
     finished_in_order phase asked (Err r) same follows order = subst (λ (u : State). IsInOrder u walk regions phase asked) (sym same) order
 
 -- an object is registered, after it was noted
-pub registered_in_order : {A : Type 0} (s t : State) (walk other : Walk) (old new : Regions) (phase : Option Phase) (asked object : ℕ) (finalizer : Finalizer) → IsInOrder s walk old phase asked → HasRoom t other.room → new.left ≡ []
+pub registered_in_order : {A : Type 0} (s t : State) (walk other : Walk) (old new : Regions) (phase : Option Phase) (asked object : ℕ) (finalizer : Finalizer) → IsInOrder s walk old phase asked → phase ≡ None → HasRoom t other.room → new.left ≡ []
     → (IsTrue new.complete → IsTrue old.complete × IsNoted new.order object) → ((q : ℕ) → IsNoted old.order q → IsNoted new.order q)
     → (result : Result A Refused) → OnErr result (t ≡ s) → OnOk result (Follows s (Register object finalizer) t) → IsInOrder t other new phase asked
-registered_in_order s t walk other old new phase asked object finalizer order room none complete kept (Ok x) same follows = record {
+registered_in_order s t walk other old new phase asked object finalizer order idle room none complete kept (Ok x) same follows = record {
   room = room;
   keeps = inl none;
   noted = λ all. noted_more s t old.order new.order object (registration_of s.next_number (table_finalizer finalizer)) (ap (λ (u : State). u.registrations) follows) (complete all).1 kept (order.noted (complete all).0);
   during = inl none;
+  by_regions = λ at all. absurd (none-some Objects (sym idle ∙ at));
 }
-registered_in_order s t walk other old new phase asked object finalizer order room none complete kept (Err r) same follows = record {
+registered_in_order s t walk other old new phase asked object finalizer order idle room none complete kept (Err r) same follows = record {
   room = room;
   keeps = inl none;
   noted = λ all q there. kept q (order.noted (complete all).0 q (same_fewer s.registrations t.registrations (ap (λ (u : State). u.registrations) same) q there));
   during = inl none;
+  by_regions = λ at all. absurd (none-some Objects (sym idle ∙ at));
 }

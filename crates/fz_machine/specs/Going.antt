@@ -5,7 +5,7 @@ use Rattle.std.specs.FinMap.{get, len}
 use Rattle.fz_model.specs.declared.kinds.LinkKind.{LinkKind}
 use Rattle.fz_finalizers.specs.States.{State, View, limited, links_of}
 use Rattle.fz_machine.specs.declared.phase.Phase.{Phase}
-use Rattle.fz_machine.specs.declared.phase.Phase.TheVariants.{Objects}
+use Rattle.fz_machine.specs.declared.phase.Phase.TheVariants.{ShortCleanups, ShortTargets, ShortWords, Objects}
 use Rattle.fz_machine.specs.Regions.{Regions, AreNoted, items_in, items_of, objects_in}
 use Rattle.fz_machine.specs.Steps.{Going}
 use Rattle.fz_machine.specs.Walks.{Walk}
@@ -35,13 +35,34 @@ pub record HasRoom (s : State) (room : ℕ) : Type 0 where
   pub long : len s.long ≤ room
   pub cleanups : len s.cleanups ≤ room
 
--- the invariant of a machine: its list has room; each registered object is noted, if the regions are complete; and regions remain only while registered
--- objects are processed, after no question or one about regions
+-- no more regions are there than before, and no more of them remain
+pub record AreFewer (old new : Regions) : Type 0 where
+  pub tabled : length new.order ≤ length old.order
+  pub left : length new.left ≤ length old.left
+
+-- how many regions a pass has still to process: all that there are, until it comes to registered objects, and then those that remain
+abbrev pub to_process : Option Phase → ℕ → ℕ → ℕ
+to_process (Some ShortCleanups) all remaining = all
+to_process (Some ShortTargets) all remaining = all
+to_process (Some ShortWords) all remaining = all
+to_process phase all remaining = remaining
+
+abbrev pub to_process_by : Option Phase → Regions → ℕ
+to_process_by phase regions = to_process phase (length regions.order) (length regions.left)
+
+-- how many of so many a phase begins with
+abbrev pub begins_with : Phase → ℕ → ℕ
+begins_with Objects all = all
+begins_with phase all = 0
+
+-- the invariant of a machine: its list has room; each registered object is noted, if the regions are complete; regions remain only while registered objects
+-- are processed, after no question or one about regions; and if they are complete, all registered objects are processed by regions
 pub record IsInOrder (s : State) (walk : Walk) (regions : Regions) (phase : Option Phase) (asked : ℕ) : Type 0 where
   pub room : HasRoom s walk.room
   pub keeps : HasRoomToKeep s walk regions
   pub noted : IsTrue regions.complete → AreNoted s regions.order
   pub during : (regions.left ≡ []) ⊎ ((phase ≡ Some Objects) × (asked ≡ 0) × IsTrue regions.complete)
+  pub by_regions : phase ≡ Some Objects → IsTrue regions.complete → walk.left ≡ []
 
 -- the same with further registrations and links
 pub record HasRoomForMore (s : State) (registrations shorts longs room : ℕ) : Type 0 where

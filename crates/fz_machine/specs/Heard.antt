@@ -1,12 +1,15 @@
 -- What holds of a pass whatever the host answers: it ends, and consists of calls of the finalizers.
 -- code: fz_machine/src/law.rt
-use Rattle.std.specs.Prelude.{◌≡◌, ◌⊎◌, ℕ, ◌+◌, ◌*◌, ◌≤◌, Bool, List, length}
+use Rattle.std.specs.Prelude.{◌≡◌, ◌⊎◌, ℕ, suc, ◌+◌, ◌*◌, ◌≤◌, ◌<◌, Bool, List, length, Some}
 use Rattle.std.specs.FinMap.{len}
 use Rattle.fz_finalizers.specs.Promises.{Past, IsReached}
 use Rattle.fz_finalizers.specs.States.{State}
 use Rattle.fz_machine.specs.declared.pass.Next.{Next}
+use Rattle.fz_machine.specs.declared.phase.Phase.TheVariants.{Objects}
+use Rattle.fz_machine.specs.declared.question.Question.{Question}
+use Rattle.fz_machine.specs.declared.question.TheConstants.{BATCH}
 use Rattle.fz_machine.specs.Regions.{items_in}
-use Rattle.fz_machine.specs.Machines.{Machine, IsBegun, GoesTo, IsAbandoned, IsWorked}
+use Rattle.fz_machine.specs.Machines.{Machine, AsksRegions, IsBegun, GoesTo, IsAbandoned, IsWorked, PassesOver}
 
 -- how many items the last question covers: those that it was about, or those in the regions that it was about
 abbrev pub covered : Machine → ℕ
@@ -24,6 +27,18 @@ most_answers s = 6 * len s.registrations + 3 * (len s.short + len s.long) + len 
 
 abbrev pub PassesEnd : Type 0
 PassesEnd = (old begun m : Machine) (n : ℕ) → IsBegun old begun → Hears begun m n → n ≤ most_answers old.finalizers.state
+
+-- this many questions about regions were answered since a pass began, each by `next_marks`; meanwhile other questions are answered, and workers take and
+-- finish entries
+pub data HearsMarks (begun : Machine) : Machine → ℕ → Type 0 where
+  Opened : HearsMarks begun begun 0
+  Marks : {m new : Machine} {n : ℕ} (question : Question) → m.phase ≡ Some Objects → AsksRegions m Objects question → PassesOver m new → HearsMarks begun m n → HearsMarks begun new (suc n)
+  Others : {m new : Machine} {next : Next} {n : ℕ} (answers : List Bool) → GoesTo m answers new next → HearsMarks begun m n → HearsMarks begun new n
+  Beside : {m new : Machine} {n : ℕ} → IsWorked m new → HearsMarks begun m n → HearsMarks begun new n
+
+-- at most one question for each 64 regions, and one for those left over
+abbrev pub RegionQuestionsEnd : Type 0
+RegionQuestionsEnd = (old begun m : Machine) (n : ℕ) → IsBegun old begun → HearsMarks begun m n → n * BATCH < old.tabled + BATCH
 
 -- calls lead to the state, and they take and finish no more than the given history
 pub record IsCalled (past : Past) (s : State) : Type 0 where

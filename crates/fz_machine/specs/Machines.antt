@@ -1,7 +1,8 @@
 -- The model of finalizers whose pass asks questions.
 -- code: fz_machine/src/machine.rt, pass.rt
-use Rattle.std.specs.Prelude.{◌≡◌, ◌⊎◌, ℕ, ◌-◌, ◌<◌, ◌≤◌, zero, suc, Bool, List, [], ◌++◌, length, take, Option, Some, None, is_some, All, IsTrue, refl}
+use Rattle.std.specs.Prelude.{◌≡◌, ◌⊎◌, ℕ, ◌+◌, ◌-◌, ◌<◌, ◌≤◌, min, zero, suc, Bool, false, List, [], ◌++◌, length, take, Option, Some, None, is_some, All, IsTrue, refl}
 use Rattle.std.specs.Coded.{Coded, code_by, coded×, coded_ℕ, coded_option, coded_list, coded_bool}
+use Rattle.std.specs.FinMap.{len}
 use Rattle.std.specs.Map.{keys_of}
 use Rattle.fz_model.specs.declared.answers.Entry.{Entry}
 use Rattle.fz_finalizers.specs.States.{State, View, view_code, waiting}
@@ -16,7 +17,7 @@ use Rattle.fz_machine.specs.declared.pass.Step.{Step}
 use Rattle.fz_machine.specs.declared.pass.Step.TheVariants as written
 use Rattle.fz_machine.specs.declared.pass.Next.TheVariants.{Asks, Ended}
 use Rattle.fz_finalizers.specs.Follows.{Event, Follows, Take, TakeFinished, Finish, next_pass}
-use Rattle.fz_machine.specs.Going.{going}
+use Rattle.fz_machine.specs.Going.{going, to_process}
 use Rattle.fz_machine.specs.Regions.{items_in, place_in}
 use Rattle.fz_machine.specs.Steps.{Begins, GoesOn, IsQuestion, steps}
 use Rattle.fz_machine.specs.Walks.{Walk, walk_code}
@@ -28,7 +29,10 @@ pub record Machine : Type 0 where
   pub asked : ℕ  -- how many items the last question was about
   pub before : ℕ  -- how many entries had been queued when the pass began
   pub regions : List (ℕ × ℕ)  -- the regions that the last question was about, each with the bits of its noted places
+  pub by_regions : Bool  -- whether it was opened with regions: if not, no object is noted
   pub noted : Bool  -- whether each registered object is noted: if so, a pass asks about regions
+  pub tabled : ℕ  -- how many regions there are
+  pub remaining : ℕ  -- how many of them remain while registered objects are processed by regions
 
 abbrev phase_code : Coded Phase
 phase_code = code_by ℕ coded_ℕ to back same
@@ -83,9 +87,25 @@ phase_code = code_by ℕ coded_ℕ to back same
 
 abbrev pub machine_code : Coded Machine
 machine_code =
-    code_by (View × (Walk × (Option Phase × (ℕ × (ℕ × (List (ℕ × ℕ) × Bool)))))) (coded× view_code (coded× walk_code (coded× (coded_option phase_code) (coded× coded_ℕ (coded× coded_ℕ (coded× (coded_list (coded× coded_ℕ coded_ℕ)) coded_bool))))))
-    (λ m. (m.finalizers, (m.walk, (m.phase, (m.asked, (m.before, (m.regions, m.noted)))))))
-    (λ p. record { finalizers = p.0; walk = p.1.0; phase = p.1.1.0; asked = p.1.1.1.0; before = p.1.1.1.1.0; regions = p.1.1.1.1.1.0; noted = p.1.1.1.1.1.1 }) (λ _. refl)
+    code_by (View × (Walk × (Option Phase × (ℕ × (ℕ × (List (ℕ × ℕ) × (Bool × (Bool × (ℕ × ℕ))))))))) (coded× view_code (coded× walk_code (coded× (coded_option phase_code) (coded× coded_ℕ (coded× coded_ℕ (coded× (coded_list (coded× coded_ℕ coded_ℕ)) (coded× coded_bool (coded× coded_bool (coded× coded_ℕ coded_ℕ)))))))))
+    (λ m. (m.finalizers, (m.walk, (m.phase, (m.asked, (m.before, (m.regions, (m.by_regions, (m.noted, (m.tabled, m.remaining))))))))))
+    (λ p. record { finalizers = p.0; walk = p.1.0; phase = p.1.1.0; asked = p.1.1.1.0; before = p.1.1.1.1.0; regions = p.1.1.1.1.1.0; by_regions = p.1.1.1.1.1.1.0; noted = p.1.1.1.1.1.1.1.0; tabled = p.1.1.1.1.1.1.1.1.0; remaining = p.1.1.1.1.1.1.1.1.1 }) (λ _. refl)
+
+-- how many regions an open pass has still to process
+abbrev pub regions_left : Machine → ℕ
+regions_left m = to_process m.phase m.tabled m.remaining
+
+-- the regions of the last question are processed, as many as have a word
+abbrev pub PassesOver : Machine → Machine → Type 0
+PassesOver old new = regions_left new + min BATCH (length old.regions) ≤ regions_left old
+
+-- the regions are those of before
+abbrev pub KeepsRegions : Machine → Machine → Type 0
+KeepsRegions old new = (new.by_regions ≡ old.by_regions) × (new.noted ≡ old.noted) × (new.tabled ≡ old.tabled)
+
+-- all registered objects are noted again, in no more regions than there are of them
+abbrev pub RenewsRegions : Machine → Machine → Type 0
+RenewsRegions old new = IsTrue old.by_regions × (new.by_regions ≡ old.by_regions) × IsTrue new.noted × (new.tabled ≤ len old.finalizers.registrations)
 
 -- no pass is open
 abbrev pub IsIdle : Machine → Type 0
@@ -126,10 +146,13 @@ pub record IsBegun (old new : Machine) : Type 0 where
   pub asked : new.asked ≡ 0
   pub regions : new.regions ≡ []
   pub before : new.before ≡ length old.finalizers.queue
+  pub by_regions : new.by_regions ≡ old.by_regions
   pub noted : new.noted ≡ old.noted
+  pub tabled : new.tabled ≡ old.tabled
 
--- a question about items
+-- a question about items: registered objects are asked about only if they aren't all noted
 pub record AsksItems (m : Machine) (phase : Phase) (q : Question) : Type 0 where
+  pub others : phase ≡ Objects → m.noted ≡ false
   pub question : IsQuestion phase m.walk.left q
   pub asked : m.asked ≡ q.count
   pub regions : m.regions ≡ []
@@ -140,7 +163,7 @@ pub record AsksRegions (m : Machine) (phase : Phase) (q : Question) : Type 0 whe
   pub noted : IsTrue m.noted
   pub ask : q.ask ≡ Marks
   pub some : 0 < length (items_in m.finalizers.state m.regions)
-  pub few : q.count ≤ BATCH
+  pub most : q.count ≡ min BATCH m.remaining
   pub count : length m.regions ≡ q.count
   pub about : take q.count q.about ≡ keys_of m.regions
   pub begin : All (λ (r : ℕ × ℕ). place_in r.0 ≡ 0) m.regions
@@ -169,11 +192,16 @@ pub record GoesTo (old : Machine) (answers : List Bool) (new : Machine) (next : 
   pub goes : GoesOn phase (steps phase answers (going old.finalizers old.walk)) new.phase (going new.finalizers new.walk)
   pub tells : Tells new next
   pub before : new.before ≡ old.before
+  pub by_regions : new.by_regions ≡ old.by_regions
   pub noted : new.noted ≡ old.noted
+  pub tabled : new.tabled ≤ old.tabled
+  pub fewer : regions_left new ≤ regions_left old
 
 -- an open pass is ended early: the finalizers are unchanged
 pub record IsAbandoned (old new : Machine) : Type 0 where
   pub was : IsTrue (is_some old.phase)
   pub idle : IsIdle new
   pub same : new.finalizers ≡ old.finalizers
+  pub by_regions : new.by_regions ≡ old.by_regions
   pub noted : new.noted ≡ old.noted
+  pub tabled : new.tabled ≡ old.tabled

@@ -11,10 +11,11 @@ ghost use Rattle.fz_finalizers.specs.Passed.{CleansAll};
 ghost use Rattle.fz_finalizers.specs.States.{HasRooms, IsRoomier, KeepsTables, links_of, room_of};
 ghost use Rattle.fz_machine.specs.Causes.{IsJudgedBy, IsJudgedOrLacks};
 ghost use Rattle.fz_machine.specs.Going.{HasRoomForMore};
-ghost use Rattle.fz_machine.specs.Machines.{IsIdle, IsTaken, KeepsPass};
+ghost use Rattle.fz_machine.specs.Machines.{IsIdle, IsTaken, KeepsPass, KeepsRegions, RenewsRegions};
 ghost use Rattle.fz_finalizers.specs.declared.refused.Refused.TheVariants.{NoMemory};
 
 use crate::machine::Machine;
+use crate::marks::renew;
 use crate::refused::Refused;
 use crate::reserving;
 use fz_finalizers::{
@@ -33,7 +34,8 @@ impl Machine {
     }
 
     /// Reserves room for further registrations, and for further links of both kinds: for at most 2^32 of each. Registering and linking take no memory
-    /// until this room is used up, and `shrink` frees what is left of it. Takes time proportional to the room.
+    /// until this room is used up, and `shrink` frees what is left of it; only a registration in a new region of a machine with regions asks for memory then, too.
+    /// Takes time proportional to the room.
     ///
     /// Fails with, in this order: `PassOpen`, `NoMemory` if an allocation fails.
     pub fn reserve(
@@ -43,7 +45,7 @@ impl Machine {
         longs: usize,
     ) -> Result<(), Refused>
         ensures judged { IsJudgedOrLacks self.old.phase [] result }
-        ensures noted { self.new.noted ≡ self.old.noted }
+        ensures regions { KeepsRegions self.old self.new }
         ensures wanting { IfErr result (λ r. r ≡ Refused.Finalizers NoMemory → HasRooms self.old.finalizers.rooms registrations shorts longs → HasRoomForMore self.old.finalizers.state registrations shorts longs self.old.walk.room → ⊥) }
         ensures same { (self.new.phase ≡ self.old.phase) × (self.new.finalizers.state ≡ self.old.finalizers.state) }
         ensures room { OnOk result (HasRooms self.new.finalizers.rooms registrations shorts longs × HasRoomForMore self.old.finalizers.state registrations shorts longs self.new.walk.room) }
@@ -61,10 +63,12 @@ impl Machine {
         }
     }
 
-    /// Frees the memory that isn't needed, as `Finalizers::shrink` does, and that of the list that a pass processes. Fails with `PassOpen`.
+    /// Frees the memory that isn't needed, as `Finalizers::shrink` does, and that of the list that a pass processes. A machine with regions notes its registered
+    /// objects again, which takes time for each registration: regions without any go, and if one couldn't be noted for lack of memory, passes ask by regions
+    /// again. If there isn't memory for that, the regions stay as they are. Fails with `PassOpen`.
     pub fn shrink(&mut self) -> Result<(), Refused>
         ensures judged { IsJudgedBy self.old.phase [] result }
-        ensures noted { self.new.noted ≡ self.old.noted }
+        ensures regions { KeepsRegions self.old self.new ⊎ RenewsRegions self.old self.new }
         ensures refused { OnErr result (self.new ≡ self.old) }
         ensures idle { OnOk result (IsIdle self.new) }
         ensures state { self.new.finalizers.state ≡ self.old.finalizers.state }
@@ -72,7 +76,9 @@ impl Machine {
     {
         self.check()?;
         reserving::shrink(&mut self.finalizers, &mut self.walk);
-        self.regions.shrink();
+        if self.by_regions {
+            renew(&self.finalizers, &mut self.regions);
+        }
         Ok(())
     }
 
@@ -85,7 +91,10 @@ impl Machine {
         finalizer: Finalizer,
     ) -> Result<(u64, Option<Old>), Refused>
         ensures judged { IsJudgedOrLacks self.old.phase (register_causes self.old.finalizers.registrations self.old.finalizers.next_number object) result }
-        ensures noted { IsTrue self.new.noted → IsTrue self.old.noted }
+        ensures noted { (self.new.by_regions ≡ self.old.by_regions) × (IsTrue self.new.noted → IsTrue self.old.noted) }
+        // A registration that is replaced needs no memory for its region, and another needs at most one region more.
+        ensures stays { IsTrue (contains_key self.old.finalizers.registrations object) → IsTrue self.old.noted → IsTrue self.new.noted }
+        ensures tabled { self.new.tabled ≤ self.old.tabled + 1 }
         // Only an object that isn't registered can run out of memory, and only if no room is reserved.
         ensures fresh { IfErr result (λ r. r ≡ Refused.Finalizers NoMemory → get self.old.finalizers.registrations object ≡ None) }
         ensures wanting { IfErr result (λ r. r ≡ Refused.Finalizers NoMemory → (self.old.finalizers.rooms.registrations ≡ 0) ⊎ (self.old.walk.room ≤ len self.old.finalizers.registrations)) }
@@ -107,7 +116,7 @@ impl Machine {
     /// Fails with `PassOpen`, and then as `Finalizers::link` does.
     pub fn link(&mut self, kind: LinkKind, word: Addr, target: Addr) -> Result<LinkAnswer, Refused>
         ensures judged { IsJudgedOrLacks self.old.phase (link_causes (links_of self.old.finalizers.state kind) word target) result }
-        ensures noted { self.new.noted ≡ self.old.noted }
+        ensures regions { KeepsRegions self.old self.new }
         // Only a new link can run out of memory, and only if no room is reserved.
         ensures fresh { IfErr result (λ r. r ≡ Refused.Finalizers NoMemory → get (links_of self.old.finalizers.state kind) word ≡ None) }
         ensures wanting { IfErr result (λ r. r ≡ Refused.Finalizers NoMemory → (room_of self.old.finalizers.rooms kind ≡ 0) ⊎ (self.old.walk.room ≤ len (links_of self.old.finalizers.state kind))) }
@@ -127,7 +136,7 @@ impl Machine {
     /// Fails with `PassOpen`, and then as `Finalizers::add_cleanup` does.
     pub fn add_cleanup(&mut self, object: Addr, cleanup: Cleanup) -> Result<u64, Refused>
         ensures judged { IsJudgedOrLacks self.old.phase (add_causes self.old.finalizers.cleanups self.old.finalizers.next_number object) result }
-        ensures noted { self.new.noted ≡ self.old.noted }
+        ensures regions { KeepsRegions self.old self.new }
         // Only a call without reserved room can run out of memory.
         ensures wanting { IfErr result (λ r. r ≡ Refused.Finalizers NoMemory → (self.old.finalizers.rooms.cleanups ≡ 0) ⊎ (self.old.walk.room ≤ len self.old.finalizers.cleanups)) }
         ensures refused { OnErr result ((self.new.phase ≡ self.old.phase) × (self.new.finalizers.state ≡ self.old.finalizers.state)) }
@@ -144,7 +153,7 @@ impl Machine {
     /// Removes a cleanup, and returns it with its object. Returns none if it was queued or cancelled, or never added. Fails with `PassOpen`.
     pub fn cancel(&mut self, number: u64) -> Result<Option<Attached>, Refused>
         ensures judged { IsJudgedBy self.old.phase [] result }
-        ensures noted { self.new.noted ≡ self.old.noted }
+        ensures regions { KeepsRegions self.old self.new }
         ensures refused { OnErr result (self.new ≡ self.old) }
         ensures answer { IfOk result (λ attached. attached ≡ get self.old.finalizers.cleanups number) }
         ensures follows { OnOk result (IsIdle self.new × Follows self.old.finalizers.state (Cancel number) self.new.finalizers.state) }
@@ -156,7 +165,7 @@ impl Machine {
     /// Removes an object's registration, and returns its procedure and client data, if it was registered. Fails with `PassOpen`.
     pub fn unregister(&mut self, object: Addr) -> Result<Option<Old>, Refused>
         ensures judged { IsJudgedBy self.old.phase [] result }
-        ensures noted { self.new.noted ≡ self.old.noted }
+        ensures regions { KeepsRegions self.old self.new }
         ensures refused { OnErr result (self.new ≡ self.old) }
         ensures answer { IfOk result (λ old. old ≡ old_of self.old.finalizers.registrations object) }
         ensures follows { OnOk result (IsIdle self.new × Follows self.old.finalizers.state (Unregister object) self.new.finalizers.state) }
@@ -168,7 +177,7 @@ impl Machine {
     /// Removes the link of a word, and returns whether there was one. Fails with `PassOpen`.
     pub fn unlink(&mut self, kind: LinkKind, word: Addr) -> Result<bool, Refused>
         ensures judged { IsJudgedBy self.old.phase [] result }
-        ensures noted { self.new.noted ≡ self.old.noted }
+        ensures regions { KeepsRegions self.old self.new }
         ensures refused { OnErr result (self.new ≡ self.old) }
         ensures answer { IfOk result (λ was. was ≡ contains_key (links_of self.old.finalizers.state kind) word) }
         ensures follows { OnOk result (IsIdle self.new × Follows self.old.finalizers.state (Unlink kind word) self.new.finalizers.state) }
@@ -180,7 +189,7 @@ impl Machine {
     /// Moves a link from one word to another; its target stays the same. Fails with, in this order: `PassOpen`, `Zero` if the other word is 0.
     pub fn move_link(&mut self, kind: LinkKind, word: Addr, to: Addr) -> Result<MoveAnswer, Refused>
         ensures judged { IsJudgedBy self.old.phase (move_causes to) result }
-        ensures noted { self.new.noted ≡ self.old.noted }
+        ensures regions { KeepsRegions self.old self.new }
         ensures refused { OnErr result ((self.new.phase ≡ self.old.phase) × (self.new.finalizers.state ≡ self.old.finalizers.state)) }
         ensures answer { IfOk result (λ answer. answer ≡ move_answer (links_of self.old.finalizers.state kind) word to) }
         ensures follows { OnOk result (IsIdle self.new × Follows self.old.finalizers.state (Move kind word to) self.new.finalizers.state) }
@@ -198,7 +207,7 @@ impl Machine {
     /// with `PassOpen`.
     pub fn queue_all(&mut self) -> Result<u64, Refused>
         ensures judged { IsJudgedBy self.old.phase [] result }
-        ensures noted { self.new.noted ≡ self.old.noted }
+        ensures regions { KeepsRegions self.old self.new }
         ensures refused { OnErr result (self.new ≡ self.old) }
         ensures queued { OnOk result (QueuesAll (length self.old.finalizers.queue) self.old.finalizers.registrations (contains self.old.finalizers.late) self.old.finalizers.queue self.new.finalizers.queue) }
         ensures follows { OnOk result (IsIdle self.new × Follows self.old.finalizers.state QueueAll self.new.finalizers.state) }
@@ -212,7 +221,7 @@ impl Machine {
     /// entries' pass is 0. Takes time proportional to the cleanups. Fails with `PassOpen`.
     pub fn queue_cleanups(&mut self) -> Result<u64, Refused>
         ensures judged { IsJudgedBy self.old.phase [] result }
-        ensures noted { self.new.noted ≡ self.old.noted }
+        ensures regions { KeepsRegions self.old self.new }
         ensures refused { OnErr result (self.new ≡ self.old) }
         ensures idle { OnOk result (IsIdle self.new) }
         ensures queued { OnOk result (CleansAll self.old.finalizers.state self.new.finalizers.state) }

@@ -4,7 +4,7 @@ ghost use Rattle.std.specs.Prelude.{◌≡◌, ◌≤◌, ◌<◌, ◌∷◌, []
 ghost use Rattle.fz_machine.specs.declared.item.Item.{Item};
 ghost use Rattle.fz_machine.specs.declared.question.TheConstants.{BATCH};
 ghost use Rattle.fz_machine.specs.Phases.{asks, subject};
-ghost use Rattle.fz_machine.specs.Going.{going_by, walk_by, HasFirst, HasRoom, IsInOrder};
+ghost use Rattle.fz_machine.specs.Going.{begins_with, going_by, to_process_by, walk_by, AreFewer, HasFirst, HasRoom, IsInOrder};
 ghost use Rattle.fz_machine.specs.Regions.{AreNoted};
 ghost use Rattle.fz_machine.specs.Steps.{Begins, GoesOn, IsQuestion, skip};
 
@@ -32,6 +32,7 @@ fn skip_by(
     ensures order { IsInOrder finalizers.new.state walk.new regions.new (Some phase) 0 }
     ensures first { HasFirst finalizers.new.state regions.new }
     ensures none { IsFalse result → regions.new.left ≡ [] }
+    ensures fewer { AreFewer regions.old regions.new }
     ensures same { regions.new.complete ≡ regions.old.complete }
 {
     if settle(finalizers, regions) {
@@ -48,6 +49,8 @@ fn begin_by(finalizers: &Finalizers, walk: &mut Walk, regions: &mut Regions, pha
     requires noted { IsTrue regions.old.complete → AreNoted finalizers.now.state regions.old.order }
     ensures begins { Begins phase (going_by finalizers.now walk.old regions.old) (going_by finalizers.now walk.new regions.new) }
     ensures order { IsInOrder finalizers.now.state walk.new regions.new (Some phase) 0 }
+    ensures tabled { regions.new.order ≡ regions.old.order }
+    ensures left { length regions.new.left ≤ begins_with phase (length regions.old.order) }
     ensures same { regions.new.complete ≡ regions.old.complete }
 {
     if phase == Phase::Objects && regions.is_complete() {
@@ -68,6 +71,8 @@ pub(crate) fn go_on(
     requires order { IsInOrder finalizers.old.state walk.old regions.old (Some phase) 0 }
     ensures goes { GoesOn phase (going_by finalizers.old walk.old regions.old) result (going_by finalizers.new walk.new regions.new) }
     ensures order { IsInOrder finalizers.new.state walk.new regions.new result 0 }
+    ensures tabled { length regions.new.order ≤ length regions.old.order }
+    ensures fewer { to_process_by result regions.new ≤ to_process_by (Some phase) regions.old }
     ensures first { HasFirst finalizers.new.state regions.new }
     ensures same { regions.new.complete ≡ regions.old.complete }
 {

@@ -1,6 +1,6 @@
 //! The result of a run of questions and answers.
 
-ghost use Rattle.fz_machine.specs.Heard.{PassesAreCalls, PassesEnd};
+ghost use Rattle.fz_machine.specs.Heard.{PassesAreCalls, PassesEnd, RegionQuestionsEnd};
 ghost use Rattle.fz_machine.specs.Runs.{AsksRightly, RunsPass, WordsAreAnswers};
 
 /// A run whose answers are true of a graph carries out the model's pass, as `Finalizers::pass` does. Entries that are taken and finished between its questions
@@ -18,6 +18,12 @@ pub fn runs_make_the_pass()
 /// end. Each question is about at least one item, so a host that answers at least one item of each question reaches the end after at most that many questions.
 pub fn passes_end()
     ensures { PassesEnd }
+{}
+
+/// Whatever the host answers, and whatever is taken and finished meanwhile, a pass of a machine with regions processes words for at most one question for each
+/// 64 regions that are there when it begins, and one for those left over: each region is in one of them. A call of `next` repeats the question, as above.
+pub fn region_questions_end()
+    ensures { RegionQuestionsEnd }
 {}
 
 /// Whatever the host answers, a pass consists of calls of the finalizers that take and finish nothing, even if it is abandoned. So what `every_sequence` of

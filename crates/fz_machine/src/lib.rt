@@ -22,7 +22,8 @@ mod walk;
 
 pub use item::Item;
 pub use law::{
-    passes_are_calls, passes_end, questions_may_be_asked, runs_make_the_pass, words_are_answers,
+    passes_are_calls, passes_end, questions_may_be_asked, region_questions_end, runs_make_the_pass,
+    words_are_answers,
 };
 pub use machine::Machine;
 pub use pass::{Next, Step};

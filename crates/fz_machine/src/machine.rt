@@ -17,6 +17,8 @@ pub struct Machine {
     pub(crate) finalizers: Finalizers,
     pub(crate) walk: Walk,
     pub(crate) regions: Regions,
+    /// Whether registered objects are noted in regions.
+    pub(crate) by_regions: bool,
     pub(crate) phase: Option<Phase>,
     /// How many items the last question was about: none if it was about regions.
     pub(crate) asked: usize,
@@ -31,6 +33,7 @@ impl Drop for Machine {
             finalizers: _,
             walk: _,
             regions: _,
+            by_regions: _,
             phase: _,
             asked: _,
             before: _,
@@ -39,7 +42,7 @@ impl Drop for Machine {
 }
 
 impl Model for Machine {
-    ghost use Rattle.std.specs.Prelude.{take};
+    ghost use Rattle.std.specs.Prelude.{length, take};
     ghost use Rattle.fz_machine.specs.Machines.{Machine, machine_code};
     ghost use Rattle.fz_machine.specs.Going.{walk_by, IsInOrder};
 
@@ -54,7 +57,10 @@ impl Model for Machine {
       asked = m.asked;
       before = m.before;
       regions = take m.regions.asked m.regions.left;
+      by_regions = m.by_regions;
       noted = m.regions.complete;
+      tabled = length m.regions.order;
+      remaining = length m.regions.left;
     } };
 
     ghost invariant = { λ m. IsInOrder m.finalizers.state m.walk m.regions m.phase m.asked };
@@ -66,35 +72,39 @@ impl Machine {
         ensures refused { IfErr result (λ r. r ≡ Refused.NoMemory) }
         ensures finalizers { IfOk result (λ m. m.finalizers.state ≡ opening) }
         ensures phase { IfOk result (λ m. m.phase ≡ None) }
-        ensures noted { IfOk result (λ m. m.noted ≡ false) }
+        ensures noted { IfOk result (λ m. (m.by_regions ≡ false) × (m.noted ≡ false)) }
+        ensures tabled { IfOk result (λ m. m.tabled ≡ 0) }
     {
         Machine::opening(alloc, false)
     }
 
     /// The same, but a pass asks for the marks of regions (`Ask::Marks`), not about each registered object. So instead of the time for each registration it
     /// takes time for each region with registrations, and for each of them whose object isn't marked. A new registration may take memory for a region, too. If
-    /// that can't be allocated, the registration succeeds, and from then on passes ask about each object. Fails with `NoMemory` if an allocation fails.
+    /// that can't be allocated, the registration succeeds, and from then on passes ask about each object, until `shrink` finds memory for it. Fails with `NoMemory` if an allocation fails.
     pub fn with_regions(alloc: Global) -> Result<Machine, Refused>
         ensures refused { IfErr result (λ r. r ≡ Refused.NoMemory) }
         ensures finalizers { IfOk result (λ m. m.finalizers.state ≡ opening) }
         ensures phase { IfOk result (λ m. m.phase ≡ None) }
-        ensures noted { IfOk result (λ m. m.noted ≡ true) }
+        ensures noted { IfOk result (λ m. (m.by_regions ≡ true) × (m.noted ≡ true)) }
+        ensures tabled { IfOk result (λ m. m.tabled ≡ 0) }
     {
         Machine::opening(alloc, true)
     }
 
     /// Finalizers without registrations, whose objects are noted or not.
-    fn opening(alloc: Global, noted: bool) -> Result<Machine, Refused>
+    fn opening(alloc: Global, by_regions: bool) -> Result<Machine, Refused>
         ensures refused { IfErr result (λ r. r ≡ Refused.NoMemory) }
         ensures finalizers { IfOk result (λ m. m.finalizers.state ≡ opening) }
         ensures phase { IfOk result (λ m. m.phase ≡ None) }
-        ensures noted { IfOk result (λ m. m.noted ≡ noted) }
+        ensures noted { IfOk result (λ m. (m.by_regions ≡ by_regions) × (m.noted ≡ by_regions)) }
+        ensures tabled { IfOk result (λ m. m.tabled ≡ 0) }
     {
         let finalizers = Finalizers::new(alloc)?;
         Ok(Machine {
             finalizers,
             walk: Walk::new(alloc),
-            regions: Regions::new(alloc, noted),
+            regions: Regions::new(alloc, by_regions),
+            by_regions,
             phase: None,
             asked: 0,
             before: 0,

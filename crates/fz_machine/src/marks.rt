@@ -1,12 +1,13 @@
 //! Regions, processed by their marks.
 
-ghost use Rattle.std.specs.Prelude.{◌≡◌, ◌≤◌, ◌<◌, ◌+◌, ◌*◌, ◌⊎◌, ◌++◌, ◌&&◌, ◌||◌, ℕ, [], filter, not, take, length, is_some, slice_get, None, OnOk, OnErr, IfOk, IfErr, IsTrue, IsFalse};
-ghost use Rattle.std.specs.FinMap.{contains_key};
+ghost use Rattle.std.specs.Prelude.{◌≡◌, ◌≤◌, ◌<◌, ◌+◌, ◌*◌, ◌⊎◌, ◌++◌, ◌&&◌, ◌||◌, ℕ, [], drop, filter, min, not, take, length, is_some, slice_get, None, OnOk, OnErr, IfOk, IfErr, IsTrue, IsFalse};
+ghost use Rattle.std.specs.FinMap.{contains_key, len};
 ghost use Rattle.fz_model.specs.Bits.{has_bit};
 ghost use Rattle.fz_machine.specs.declared.phase.Phase.TheVariants.{Objects};
-ghost use Rattle.fz_machine.specs.Going.{going_by, HasFirst, HasRoomToKeep};
+ghost use Rattle.fz_machine.specs.declared.question.TheConstants.{BATCH};
+ghost use Rattle.fz_machine.specs.Going.{going_by, AreFewer, HasFirst, HasRoomToKeep};
 ghost use Rattle.fz_machine.specs.Regions.{place_in, objects_in, item_at, items_of, items_in, marks_say, AreNoted};
-ghost use Rattle.fz_machine.specs.Machines.{GoesTo, Writes, next_of};
+ghost use Rattle.fz_machine.specs.Machines.{GoesTo, PassesOver, Writes, next_of};
 ghost use Rattle.fz_machine.specs.Steps.{steps};
 ghost use Rattle.fz_machine.specs.declared.refused.Refused.TheVariants.{NoPass};
 
@@ -19,6 +20,7 @@ use crate::regions::{Regions, bit, lowest, object_at};
 use crate::walk::Walk;
 use fz_finalizers::{Finalizers, Kind};
 use fz_model::Addr;
+use std::alloc::Global;
 
 /// The item of an object, if it is registered.
 fn item_at(finalizers: &Finalizers, object: Addr) -> Option<Item>
@@ -50,6 +52,7 @@ fn has_registered(finalizers: &Finalizers, region: Addr, bits: u64) -> bool
 pub(crate) fn settle(finalizers: &Finalizers, regions: &mut Regions) -> bool
     ensures same { items_in finalizers.now.state regions.new.left ≡ items_in finalizers.now.state regions.old.left }
     ensures others { (regions.new.asked ≡ regions.old.asked) × (regions.new.complete ≡ regions.old.complete) }
+    ensures fewer { AreFewer regions.old regions.new }
     ensures some { result ≡ is_some (slice_get regions.new.left 0) }
     ensures first { HasFirst finalizers.now.state regions.new }
     ensures noted { AreNoted finalizers.now.state regions.old.order → AreNoted finalizers.now.state regions.new.order }
@@ -61,6 +64,32 @@ pub(crate) fn settle(finalizers: &Finalizers, regions: &mut Regions) -> bool
         regions.pass_on(region, 0);
     }
     false
+}
+
+/// Notes all registered objects in new regions, as far as there is memory for these.
+fn noted_again(finalizers: &Finalizers, alloc: Global) -> Regions
+    ensures none { result.left ≡ [] }
+    ensures noted { IsTrue result.complete → AreNoted finalizers.now.state result.order }
+    ensures few { length result.order ≤ len finalizers.now.registrations }
+{
+    let mut regions = Regions::new(alloc, true);
+    for (object, _) in finalizers.iter_stored() {
+        regions.note(object);
+    }
+    regions
+}
+
+/// Replaces regions by those of the registered objects, if there is memory for these.
+pub(crate) fn renew(finalizers: &Finalizers, regions: &mut Regions)
+    ensures none { regions.old.left ≡ [] → regions.new.left ≡ [] }
+    ensures noted { (IsTrue regions.old.complete → AreNoted finalizers.now.state regions.old.order) → IsTrue regions.new.complete → AreNoted finalizers.now.state regions.new.order }
+    ensures renewed { (regions.new ≡ regions.old) ⊎ (IsTrue regions.new.complete × (length regions.new.order ≤ len finalizers.now.registrations)) }
+{
+    let again = noted_again(finalizers, regions.allocator());
+    if again.is_complete() {
+        *regions = again;
+    }
+    regions.shrink();
 }
 
 /// Keeps the registered objects of a region that aren't marked. Returns the bits that stay: all but those of unmarked places without a registered object.
@@ -97,7 +126,9 @@ pub(crate) fn hear_marks(
     ensures heard { going_by finalizers.now walk.new regions.new ≡ steps Objects (marks_say finalizers.now.state (take regions.old.asked regions.old.left) marks.now) (going_by finalizers.now walk.old regions.old) }
     ensures room { HasRoomToKeep finalizers.now.state walk.new regions.new × (walk.old.room ≤ walk.new.room) }
     ensures same { regions.new.complete ≡ regions.old.complete }
-    ensures none { regions.old.left ≡ [] → regions.new.left ≡ [] }
+    ensures left { regions.new.left ≡ drop (min regions.old.asked BATCH) regions.old.left }
+    ensures tabled { length regions.new.order ≤ length regions.old.order }
+    ensures none { walk.old.left ≡ [] → walk.new.left ≡ [] }
     ensures noted { AreNoted finalizers.now.state regions.old.order → AreNoted finalizers.now.state regions.new.order }
 {
     let asked = regions.asked().min(BATCH);
@@ -123,6 +154,7 @@ impl Machine {
         ensures refused { OnErr result ((self.old.phase ≡ None) × (self.new ≡ self.old) × (about.new ≡ about.old)) }
         ensures cause { IfErr result (λ r. r ≡ NoPass) }
         ensures goes { IfOk result (λ step. GoesTo self.old (marks_say self.old.finalizers.state self.old.regions marks.now) self.new (next_of step about.new)) }
+        ensures over { OnOk result (PassesOver self.old self.new) }
         ensures written { IfOk result (λ step. Writes step about.old about.new) }
     {
         let Some(phase) = self.phase else {

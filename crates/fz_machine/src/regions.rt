@@ -1,8 +1,7 @@
 //! Where registered objects may begin.
 
-ghost use Rattle.std.specs.Prelude.{◌≡◌, ◌≤◌, ◌<◌, ◌+◌, ◌*◌, ◌^◌, ◌∷◌, ℕ, [], true, false, min, drop, take, length, reverse, nat_eq, slice_get, All, Some, IfSome, IsTrue, OnOk};
-ghost use Rattle.std.specs.Map.{keys_of, lookup};
-ghost use Rattle.std.specs.Option.{option_map_or};
+ghost use Rattle.std.specs.Prelude.{◌≡◌, ◌≤◌, ◌<◌, ◌+◌, ◌*◌, ◌^◌, ◌∷◌, ℕ, [], true, false, min, drop, take, length, reverse, slice_get, All, Some, IfSome, IsOk, IsTrue, OnOk};
+ghost use Rattle.std.specs.Map.{keys_of};
 ghost use Rattle.fz_model.specs.Bits.{has_bit};
 ghost use Rattle.fz_machine.specs.declared.question.TheConstants.{BATCH};
 ghost use Rattle.fz_machine.specs.Regions.{place_in, places, region_of, AreRegions, IsNoted};
@@ -111,6 +110,11 @@ impl Regions {
         }
     }
 
+    /// The allocator of the regions.
+    pub(crate) fn allocator(&self) -> Global {
+        *self.noted.allocator()
+    }
+
     /// Whether each registered object is noted.
     pub(crate) fn is_complete(&self) -> bool
         ensures { result ≡ self.now.complete }
@@ -118,27 +122,22 @@ impl Regions {
         self.complete
     }
 
-    /// The bits of a region.
-    fn bits_of(&self, region: Addr) -> u64
-        ensures { result ≡ option_map_or (λ (bits : ℕ). bits) (lookup (nat_eq region) self.now.order) 0 }
-    {
-        self.noted.get(&region).copied().unwrap_or(0)
-    }
-
     /// Notes an object in its region.
     fn note_there(&mut self, object: Addr) -> Result<(), AllocError>
         requires idle { self.old.left ≡ [] }
         ensures same { (self.new.left ≡ []) × (self.new.asked ≡ self.old.asked) × (self.new.complete ≡ self.old.complete) }
         ensures noted { OnOk result (IsNoted self.new.order object) }
+        ensures stays { IsNoted self.old.order object → IsOk result }
         ensures kept { (other : ℕ) → IsNoted self.old.order other → IsNoted self.new.order other }
+        ensures tabled { length self.new.order ≤ length self.old.order + 1 }
     {
         let region = region_of(object);
-        let bits = self.bits_of(region);
-        let with = bits | bit(place_in(object));
-        if with == bits {
+        let place = bit(place_in(object));
+        if let Some(bits) = self.noted.get_mut(&region) {
+            *bits |= place;
             return Ok(());
         }
-        match self.noted.insert(region, with) {
+        match self.noted.insert(region, place) {
             Ok(_) => Ok(()),
             Err(_) => Err(AllocError),
         }
@@ -149,7 +148,9 @@ impl Regions {
         requires idle { self.old.left ≡ [] }
         ensures same { (self.new.left ≡ []) × (self.new.asked ≡ self.old.asked) }
         ensures complete { IsTrue self.new.complete → IsTrue self.old.complete × IsNoted self.new.order object }
+        ensures stays { IsNoted self.old.order object → self.new.complete ≡ self.old.complete }
         ensures kept { (other : ℕ) → IsNoted self.old.order other → IsNoted self.new.order other }
+        ensures tabled { length self.new.order ≤ length self.old.order + 1 }
     {
         if self.complete && self.note_there(object).is_err() {
             self.complete = false;
@@ -187,6 +188,7 @@ impl Regions {
     pub(crate) fn pass_on(&mut self, region: Addr, bits: u64)
         requires first { (old : ℕ) × (slice_get self.old.left 0 ≡ Some (region, old)) }
         ensures left { self.new.left ≡ drop 1 self.old.left }
+        ensures tabled { length self.new.order ≤ length self.old.order }
         ensures same { (self.new.asked ≡ self.old.asked) × (self.new.complete ≡ self.old.complete) }
         ensures others { (object : ℕ) → (region_of object ≡ region → ⊥) → IsNoted self.old.order object → IsNoted self.new.order object }
         ensures noted { (object : ℕ) → region_of object ≡ region → IsTrue (has_bit bits (place_in object)) → IsNoted self.new.order object }

@@ -19,7 +19,7 @@ use std::alloc::Global;
 fn made(alloc: Global, marks: bool) -> Result<Machine, Refused>
     ensures finalizers { IfOk result (λ m. m.finalizers.state ≡ opening) }
     ensures idle { IfOk result (λ m. IsIdle m) }
-    ensures noted { IfOk result (λ m. m.noted ≡ marks) }
+    ensures noted { IfOk result (λ m. (m.by_regions ≡ marks) × (m.noted ≡ marks)) }
 {
     if marks {
         Machine::with_regions(alloc)

@@ -242,7 +242,7 @@ fn refer(side: &mut Side, turn: Turn) {
     }
 }
 
-/// Registers or links an object, removes its registration, or changes its word.
+/// Registers or links an object, removes its registration, changes its word, or frees memory.
 fn change_one(rt: &impl Abort, side: &mut Side, turn: Turn) {
     let start = side.heap.starts.get(turn.index).copied().unwrap_or(1);
     match turn.what {
@@ -251,6 +251,7 @@ fn change_one(rt: &impl Abort, side: &mut Side, turn: Turn) {
             side.machine.unregister(start).expect(rt, "no pass");
         }
         5 => link(rt, side, start, turn),
+        6 => side.machine.shrink().expect(rt, "no pass"),
         _ => refer(side, turn),
     }
 }

@@ -1,9 +1,10 @@
-use Rattle.std.proofs.Common.{rules, ◌≡◌, ◌++◌, [], length, reverse, Some, ap, sym, subst, refl, inr, ◌∙◌, append-nil, arith}
+use Rattle.std.proofs.Common.{rules, ◌≡◌, ◌≤◌, ◌++◌, [], length, reverse, Some, ap, sym, subst, refl, inr, ◌∙◌, append-nil, arith}
 use denote.Enum.Bare.{same_true}
 use Rattle.fz_machine.specs.contracts.phase.Phase.{the_type}
 use Rattle.fz_machine.specs.declared.phase.Phase.{Phase}
 use Rattle.fz_machine.specs.declared.phase.Phase.TheVariants.{Objects}
-use Rattle.fz_machine.specs.Going.{HasRoom}
+use Rattle.std.proofs.lemmas.List.{length-reverse}
+use Rattle.fz_machine.specs.Going.{HasRoom, begins_with}
 use Rattle.fz_machine.specs.Items.{AreObjects}
 use Rattle.fz_machine.specs.Phases.{Lists}
 use Rattle.fz_machine.specs.Regions.{Regions, AreNoted, items_in}
@@ -43,4 +44,12 @@ returns-then-is_complete-clause-order c =
       keeps = inr (ap (λ (w : Walk). w.left) c.clear.ensures, omega (arith, left, room, kept, fit, few));
       noted = λ complete. subst (AreNoted s) (sym (ap (λ (r : Regions). r.order) c.begin.ensures.begun)) noted;
       during = inr (ap Some (let is : c.args.phase ≡ Objects = same_true the_type (search rules) _ _ (sym c.if-eq.ensures) in is), refl, ap (λ (r : Regions). r.complete) c.begin.ensures.begun ∙ sym c.is_complete.ensures ∙ c.if-is_complete.true);
+      by_regions = λ at all. ap (λ (w : Walk). w.left) c.clear.ensures;
     }
+
+pub returns-then-is_complete-clause-left : goal.returns-then-is_complete-clause-left
+returns-then-is_complete-clause-left c =
+    let is : c.args.phase ≡ Objects = same_true the_type (search rules) _ _ (sym c.if-eq.ensures) in
+    let all = ap (λ (r : Regions). length r.left) c.begin.ensures.begun in
+    let turned = length-reverse c.args.regions.now.order in
+    subst (λ (p : Phase). length c.begin.new.self.left ≤ begins_with p (length c.args.regions.now.order)) (sym is) (omega (arith, all, turned))

@@ -1,7 +1,7 @@
 -- Wherever it goes on to from here, it goes on to from the start.
-use Rattle.std.proofs.Common.{◌≡◌, Option, Some}
+use Rattle.std.proofs.Common.{◌≡◌, ◌≤◌, Option, Some, length}
 use Rattle.fz_machine.specs.declared.phase.Phase.{Phase}
-use Rattle.fz_machine.specs.Going.{going_by, IsInOrder}
+use Rattle.fz_machine.specs.Going.{going_by, to_process_by, IsInOrder}
 use Rattle.fz_machine.specs.Steps.{Going, GoesOn}
 use Rattle.fz_machine.proofs.Ending.{phases_left}
 use Rattle.fz_machine.proofs.going_on.go_on.Given as goal
@@ -10,6 +10,8 @@ abbrev pub invariant-loop-phase : goal.invariant-loop-phase
 invariant-loop-phase l = record {
   goes : (last : Option Phase) (k : Going) → GoesOn l.phase (going_by l.finalizers l.walk l.regions) last k → GoesOn l.initial.phase (going_by l.initial.finalizers l.initial.walk l.initial.regions) last k;
   order : IsInOrder l.finalizers.state l.walk l.regions (Some l.phase) 0;
+  tabled : length l.regions.order ≤ length l.initial.regions.order;
+  fewer : to_process_by (Some l.phase) l.regions ≤ to_process_by (Some l.initial.phase) l.initial.regions;
   complete : l.regions.complete ≡ l.initial.regions.complete;
 }
 

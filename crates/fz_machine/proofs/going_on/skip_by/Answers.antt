@@ -6,6 +6,7 @@ use Rattle.fz_finalizers.specs.States.{State}
 use Rattle.fz_machine.proofs.Settling.{by_itself, in_order, is_left, no_regions, none_at, nothing_skipped}
 use Rattle.fz_machine.proofs.Remaining.{skip_noted}
 use Rattle.fz_machine.proofs.Rooms.{same_room, skip_room}
+use Rattle.fz_machine.proofs.Stepping.{skip_none}
 use Rattle.fz_machine.proofs.going_on.skip_by.Goals as goal
 
 pub returns-then-settle-clause-skipped : goal.returns-then-settle-clause-skipped
@@ -39,6 +40,9 @@ returns-clause-order c =
       noted = λ all. subst (λ (s : State). AreNoted s c.settle.new.regions.order) (sym same)
           (skip_noted c.settle.new.regions.order c.args.phase g (c.settle.ensures.noted (c.requires.order.noted (sym c.settle.ensures.others.1 ∙ all))));
       during = inl (none c);
+      by_regions = λ at all.
+          let empty = c.requires.order.by_regions at (sym c.settle.ensures.others.1 ∙ all) in
+          ap (λ (k : Going). k.left) (c.skip.ensures.skipped ∙ skip_none c.args.phase g empty) ∙ empty;
     }
 
 pub returns-clause-none : goal.returns-clause-none

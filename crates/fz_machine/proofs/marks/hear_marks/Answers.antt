@@ -1,5 +1,5 @@
-use Rattle.std.proofs.Common.{◌≡◌, ◌∙◌, ◌≤◌, ◌<◌, ◌-◌, ◌+◌, ◌∷◌, ◌++◌, not, [], take, drop, filter, length, get_or, slice_get, ap, sym, inl, inr, ⊎_elim, arith}
-use Rattle.std.proofs.lemmas.List.{length-append, length-take, length-drop}
+use Rattle.std.proofs.Common.{◌≡◌, ◌∙◌, min, ◌≤◌, ◌<◌, ◌-◌, ◌+◌, ◌∷◌, ◌++◌, not, [], take, drop, filter, length, get_or, slice_get, is_some, ap, sym, inl, inr, ⊎_elim, arith}
+use Rattle.std.proofs.lemmas.List.{length-append, length-take, length-drop, drop-drop}
 use Rattle.std.proofs.lemmas.Option.{none-some}
 use Rattle.fz_model.specs.Bits.{has_bit}
 use Rattle.fz_machine.specs.declared.item.Item.{Item}
@@ -7,10 +7,12 @@ use Rattle.fz_machine.specs.declared.phase.Phase.TheVariants.{Objects}
 use Rattle.fz_machine.specs.Going.{going_by}
 use Rattle.fz_machine.specs.Regions.{items_in, items_of, objects_in, marks_say, place_in}
 use Rattle.fz_machine.specs.Steps.{steps}
-use Rattle.fz_machine.proofs.Hearing.{at, at_end, fewer, heard_one, says_over, stays_on, word_at}
+use Rattle.fz_machine.proofs.Hearing.{at, at_end, fewer, fits_first, heard_one, says_over, stays_on, word_at}
 use Rattle.fz_machine.proofs.Kept.{first_is}
 use Rattle.fz_machine.proofs.Places.{place_less}
+use Rattle.fz_machine.proofs.Remained.{all_passed}
 use Rattle.fz_machine.proofs.Remaining.{passed_noted}
+use Rattle.fz_machine.proofs.Settling.{none_at}
 use Rattle.fz_machine.proofs.marks.hear_marks.Goals as goal
 
 module _ (c : goal.After-pass_on) where
@@ -53,7 +55,9 @@ loop-word-preserved c =
           ∙ c.loop-word.invariant.heard;
       room = inr (c.sift-noted.ensures.none, omega (arith, kept_long, fewer_kept, old_long, new_long, room, roomier));
       grown = omega (arith, grown, roomier);
-      ended = λ none. c.pass_on.ensures.left ∙ ap (drop 1) (c.loop-word.invariant.ended none);
+      left = c.pass_on.ensures.left ∙ ap (drop 1) c.loop-word.invariant.left ∙ drop-drop 1 i c.args.regions.now.left;
+      tabled = let few = c.pass_on.ensures.tabled in let so_far = c.loop-word.invariant.tabled in omega (arith, few, so_far);
+      none = λ _. c.sift-noted.ensures.none;
       complete = c.pass_on.ensures.same.1 ∙ c.loop-word.invariant.complete;
       noted = λ noted.
           passed_noted s c.loop-word.regions.order c.pass_on.new.self.order region bits c.sift-noted.result c.in-Some.ensures.noted c.pass_on.ensures.others c.pass_on.ensures.noted
@@ -75,3 +79,29 @@ returns-clause-heard c =
     let end = at_end c.args.regions.now.asked i (omega (arith, test, most, long, all, few, is)) in
     let over = says_over s c.loop-word.regions.left (drop i c.args.marks.now) (c.args.regions.now.asked - i) (⊎_elim (λ (none : c.args.regions.now.asked - i ≡ 0). inl none) (λ (none : 64 - i ≡ 0). inr (omega (arith, none, dropped, all))) end) in
     ap (λ xs. steps Objects xs (going_by c.args.finalizers.now c.loop-word.walk c.loop-word.regions)) (sym over) ∙ c.loop-word.invariant.heard
+
+pub returns-clause-left : goal.returns-clause-left
+returns-clause-left c =
+    let i = c.loop-word.word-index in
+    let test = c.loop-word-test.false in
+    let most = c.loop-word.auto.word-index-end in
+    let long = length-take c.min-asked.result c.args.marks.now in
+    let all = c.told-marks in
+    let few = c.min-asked.ensures in
+    let is = c.asked.ensures in
+    let end : i ≡ min c.args.regions.now.asked 64 = omega (arith, test, most, long, all, few, is) in
+    c.loop-word.invariant.left ∙ ap (λ k. drop k c.args.regions.now.left) end
+
+pub returns-in_default-clause-left : goal.returns-in_default-clause-left
+returns-in_default-clause-left c =
+    let i = c.loop-word.word-index in
+    let test = c.loop-word-test.true in
+    let long = length-take c.min-asked.result c.args.marks.now in
+    let few = c.min-asked.ensures in
+    let is = c.asked.ensures in
+    let le : i ≤ min c.args.regions.now.asked 64 = omega (arith, test, long, few, is) in
+    let none = none_at c.loop-word.regions.left (ap is_some (sym c.first.ensures.first ∙ c.in_default.is)) in
+    none ∙ sym (all_passed c.args.regions.now.left i (min c.args.regions.now.asked 64) le (sym c.loop-word.invariant.left ∙ none))
+
+pub sift-noted-requires-clause-room : goal.sift-noted-requires-clause-room
+sift-noted-requires-clause-room c = fits_first c.args.finalizers.now.state c.loop-word.walk c.loop-word.regions (c.in-Some.region, c.in-Some.bits) (sym c.in-Some.ensures.first) c.loop-word.invariant.room

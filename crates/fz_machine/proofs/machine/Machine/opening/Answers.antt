@@ -1,7 +1,9 @@
 use Rattle.std.proofs.Common.{ap, sym, subst, inl, ◌∙◌, true≢false, is_some}
+use Rattle.std.proofs.lemmas.Option.{none-some}
 use Rattle.std.specs.FinMap.{get, get-empty}
 use Rattle.std.specs.Ordering.{nat_cmp}
 use Rattle.fz_finalizers.specs.States.{State}
+use Rattle.fz_machine.specs.declared.phase.Phase.TheVariants.{Objects}
 use Rattle.fz_machine.specs.Going.{HasRoom}
 use Rattle.fz_machine.specs.Regions.{Regions}
 use Rattle.fz_machine.proofs.Rooms.{opened}
@@ -13,4 +15,5 @@ invariant_of-result c = record {
   keeps = inl (ap (λ (r : Regions). r.left) c.new-3.ensures);
   noted = λ complete object there. absurd (true≢false (sym there ∙ ap (λ (s : State). is_some (get s.registrations object)) c.in_ok-finalizers.ensures.opened ∙ ap is_some (get-empty nat_cmp object)));
   during = inl (ap (λ (r : Regions). r.left) c.new-3.ensures);
+  by_regions = λ at all. absurd (none-some Objects at);
 }

@@ -1,4 +1,4 @@
-use Rattle.std.proofs.Common.{◌∙◌, take, ap}
+use Rattle.std.proofs.Common.{◌∙◌, length, take, ap}
 use Rattle.fz_finalizers.specs.Follows.{TakeFinished}
 use Rattle.fz_machine.specs.Machines.{Machine}
 use Rattle.fz_machine.specs.Machines as machines
@@ -12,6 +12,6 @@ invariant_of-self c =
 
 pub returns-clause-keeps : goal.returns-clause-keeps
 returns-clause-keeps c =
-    ap (λ (w : Walk). record { finalizers = c.take_finished.new.self; walk = w; phase = c.self.inside.phase; asked = c.self.inside.asked; before = c.self.inside.before; regions = take c.self.inside.regions.asked c.self.inside.regions.left; noted = c.self.inside.regions.complete })
+    ap (λ (w : Walk). record { finalizers = c.take_finished.new.self; walk = w; phase = c.self.inside.phase; asked = c.self.inside.asked; before = c.self.inside.before; regions = take c.self.inside.regions.asked c.self.inside.regions.left; by_regions = c.self.inside.by_regions; noted = c.self.inside.regions.complete; tabled = length c.self.inside.regions.order; remaining = length c.self.inside.regions.left })
     (taken_walk c.self.inside.walk c.self.inside.regions c.self.inside.finalizers.state c.take_finished.new.self.state TakeFinished machines.TakesFinished c.take_finished.result c.take_finished.ensures)
     ∙ ap (λ (m : Machine). record m { finalizers = c.take_finished.new.self }) c.self.view_is

@@ -1,4 +1,4 @@
-use Rattle.std.proofs.Common.{◌≡◌, ◌-◌, ◌∙◌, ℕ, reverse, take, drop, slice_get, nat_eq, cond, Some, None, ap, sym, subst, refl, arith}
+use Rattle.std.proofs.Common.{◌≡◌, ◌-◌, ◌∙◌, ℕ, length, reverse, take, drop, slice_get, nat_eq, cond, Some, None, ap, sym, subst, refl, arith}
 use Rattle.std.proofs.lemmas.Option.{slice_get_within}
 use Rattle.std.specs.Cmp.{nat_eq_equiv}
 use Rattle.std.specs.List.{IsDistinct}
@@ -66,3 +66,15 @@ returns-else-bits-eq0-clause-others c = λ object ne noted.
 pub returns-else-bits-eq0-clause-noted : goal.returns-else-bits-eq0-clause-noted
 returns-else-bits-eq0-clause-noted c = λ object here on.
     now_noted c.self.inside.noted.entries (set_value_at c.self.inside.noted.entries (c.self.inside.left - 1) c.args.bits) c.args.region (Some c.args.bits) (written c) c.args.bits object refl here on
+
+pub returns-then-bits-eq0-clause-tabled : goal.returns-then-bits-eq0-clause-tabled
+returns-then-bits-eq0-clause-tabled c =
+    let less = c.swap_remove_index.ensures.len in
+    let same = ap (λ (r : Regions). length r.order) c.self.view_is in
+    omega (arith, less, same)
+
+pub returns-else-bits-eq0-clause-tabled : goal.returns-else-bits-eq0-clause-tabled
+returns-else-bits-eq0-clause-tabled c =
+    let long = index_map_len-with_value_at c.self.inside.noted (c.self.inside.left - 1) c.args.bits in
+    let same = ap (λ (r : Regions). length r.order) c.self.view_is in
+    omega (arith, long, same)
