@@ -9,7 +9,8 @@ ghost use Rattle.fz_finalizers.specs.Follows.{Follows, Register, Unregister, Lin
 ghost use Rattle.own_heap.specs.Outside.{place_of_link};
 ghost use Rattle.own_heap.specs.Records.{address_of, addresses_of, objects_of, slot, with_field, IsFull, IsMade};
 ghost use Rattle.fz_pass.specs.Marks.{IsClosed};
-ghost use Rattle.fz_why.specs.Why.{IsToldOf};
+ghost use Rattle.fz_finalizers.specs.Walks.{registrations_in_order};
+ghost use Rattle.fz_why.specs.Why.{AreStuck, IsToldOf, WithFound};
 ghost use Rattle.own_heap.specs.Sound.{HeldStand, IsSound};
 ghost use Rattle.own_heap.specs.Marking.{is_marked};
 ghost use Rattle.own_heap.specs.Collected.{Collects, MarksKept};
@@ -21,7 +22,7 @@ use fz_finalizers::{
     Refused, Root,
 };
 use fz_model::Addr;
-use fz_why::{NoMemory, Reason, why};
+use fz_why::{NoMemory, Reason, stuck, why};
 use std::alloc::{AllocError, Global};
 
 /// Marks everything that one kind of the finalizers' roots reaches.
@@ -235,6 +236,13 @@ impl Runtime {
         ensures told { IfOk result (λ reason. IsToldOf place_of_link (objects_of self.now.heap.records.slots.items) (addresses_of self.now.heap.roots.items) self.now.finalizers.state reason (address_of id.place)) }
     {
         why(alloc, &self.finalizers, &self.heap, id.address())
+    }
+
+    /// Which records wait for a ring, as `fz_why::stuck` says, by their addresses.
+    pub fn stuck(&self, alloc: Global) -> Result<Vec<Addr>, NoMemory>
+        ensures listed { IfOk result (λ objects. WithFound (objects_of self.now.heap.records.slots.items) (addresses_of self.now.heap.roots.items) self.now.finalizers.state (λ found. AreStuck place_of_link (objects_of self.now.heap.records.slots.items) self.now.finalizers.state found (registrations_in_order self.now.finalizers) objects.items)) }
+    {
+        stuck(alloc, &self.finalizers, &self.heap)
     }
 
     /// A collection: marks what the roots, the unfinished entries and the client data reach, runs the finalizers' pass, and frees all other records, those
