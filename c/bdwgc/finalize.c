@@ -464,6 +464,100 @@ GC_API void GC_CALL GC_push_finalizer_structures(void)
         push_roots(DERRIMAS_FINALIZERS_REGISTERED_DATA);
 }
 
+/* ---- rings: no pass queues an object that leads to itself, and bdwgc warns of it. In a pass no call may ask why, so it is told once that has ended. */
+
+enum { MOST_STEPS = 32 }; /* of a ring that is told; a longer one is told up to there */
+
+static uint64_t ring, told_ring; /* the first object of this pass that leads to itself, or 0; the one of the last pass, whose ring was told */
+
+/* How many words of an object are looked at. Where a descriptor isn't a length it isn't read, and no ring goes by the object. */
+static word scanned_words(const hdr *header)
+{
+    const word descr = header->hb_descr;
+
+    return (descr & GC_DS_TAGS) != GC_DS_LENGTH ? 0 : BYTES_TO_WORDS(descr < header->hb_sz ? descr : header->hb_sz);
+}
+
+/* The object to which a word points, or NULL. */
+static ptr_t pointed(word value)
+{
+    const ptr_t object = (ptr_t)GC_base((void *)value);
+
+    return GC_all_interior_pointers || object == (ptr_t)value ? object : NULL;
+}
+
+static bool ring_child(void *from, uint64_t object, uint64_t n, uint64_t *link, uint64_t *child)
+{
+    word *const at = (word *)(void *)SHOW(object) + n;
+    ptr_t target;
+
+    (void)from;
+    if (n >= scanned_words(HDR(SHOW(object))))
+        return false;
+    target = pointed(*at);
+    *link = HIDE(at);
+    *child = target ? HIDE(target) : 0;
+    return true;
+}
+
+/* The short links that are left lead to objects that were found, so their words count. Other roots don't matter: no ring was found. */
+static bool ring_root(void *from, uint64_t n, uint64_t *root)
+{
+    derrimas_finalizers_link_at link;
+    size_t count;
+
+    (void)n;
+    if (derrimas_finalizers_links(&finalizers, DERRIMAS_FINALIZERS_SHORT, (uint64_t *)from, &link, 1, &count) != DERRIMAS_FINALIZERS_OK)
+        return false;
+    *root = link.target;
+    return true;
+}
+
+static bool is_ring_data(void *from, uint64_t cd)
+{
+    (void)from;
+    return SHOW(cd) != NULL && (ptr_t)GC_base(SHOW(cd)) == SHOW(cd);
+}
+
+/* The first word of an object that points to another. */
+static ptr_t word_to(ptr_t object, ptr_t other)
+{
+    word *at = (word *)(void *)object;
+
+    while (pointed(*at) != other)
+        at++;
+    return (ptr_t)at;
+}
+
+/* Warns of each object of the ring, and of its word by which the ring goes on. Any of these words may be cut. */
+static void tell_ring(const uint64_t *path, size_t length)
+{
+    size_t i;
+
+    for (i = 0; i + 1 < length && i + 1 < MOST_STEPS; i++) {
+        WARN("A ring of objects with a finalizer leads by the object %p\n", SHOW(path[i]));
+        WARN(".. and its word %p\n", word_to(SHOW(path[i]), SHOW(path[i + 1])));
+    }
+}
+
+/* The same ring is told once in the passes that follow each other, since that takes as long as marking. */
+static void warn_of_ring(void)
+{
+    static const derrimas_paths paths = {ring_child, ring_root, is_ring_data};
+    uint64_t path[MOST_STEPS], from = 0;
+    derrimas_why why;
+
+    if (ring && GC_current_warn_proc != GC_ignore_warn_proc) {
+        if (ring != told_ring && derrimas_finalizers_why(&finalizers, ring, &paths, &from, &why, path, MOST_STEPS) == DERRIMAS_FINALIZERS_OK
+            && why.reason == DERRIMAS_WHY_RING)
+            tell_ring(path, why.length);
+        else
+            WARN("An object with a finalizer leads to itself: %p\n", SHOW(ring));
+    }
+    told_ring = ring;
+    ring = 0;
+}
+
 /* ---- the answers to a pass */
 
 /* What was looked up last for a question: its objects and words are often neighbours. */
@@ -504,8 +598,12 @@ GC_INLINE bool mark_words(struct lookup *last, ptr_t object, void (*words)(ptr_t
         return false; /* by the mark of another in this question, with all to which it leads */
     GC_MARKED_FOR_FINALIZATION(object);
     GC_MARK_FO(object, words);
-    if (is_marked(last, object))
+    if (!is_marked(last, object))
+        return false;
+    if (ring)
         WARN("An object with a finalizer leads to itself: %p\n", object);
+    else
+        ring = HIDE(object);
     return false;
 }
 
@@ -644,6 +742,7 @@ GC_INNER void GC_finalize(void)
     if (derrimas_finalizers_begin(&finalizers) == DERRIMAS_FINALIZERS_OK)
         while (derrimas_finalizers_next(&finalizers, answers, &question, NULL) == DERRIMAS_FINALIZERS_OK)
             answers = answers_to(&question);
+    warn_of_ring();
 #ifndef GC_TOGGLE_REFS_NOT_NEEDED
     GC_clear_togglerefs();
 #endif

@@ -2,7 +2,7 @@
 #include "lisp.h"
 #include <string.h>
 
-enum { ANY_NUMBER = 100, MOST_FILES = 16 };
+enum { ANY_NUMBER = 100, MOST_FILES = 16, MOST_STEPS = 64 };
 
 /* ---- files: a port has a place in this table, and its file is closed once, by hand or by the port's cleanup */
 
@@ -168,6 +168,37 @@ value call_guardian(value guardian, value arguments)
     return field(first, FINALIZER, 2);
 }
 
+/* A step of a path, as a program may see it: of a variable its name, of the stack `stack`, of what C alone knows NOTHING. */
+static value seen_step(const value *path, uint64_t n)
+{
+    const enum type type = type_of(path[n]);
+
+    if (n == 1 && type_of(path[0]) == GLOBAL)
+        for (value name = 0; name < MOST_SYMBOLS; name++)
+            if (field(path[0], GLOBAL, 1 + name) == path[1])
+                return name;
+    return type == PART ? intern("stack") : type == GLOBAL || type == FINALIZER ? NOTHING : path[n];
+}
+
+/* (why weak): the steps by which a variable, the stack or a finalizer leads to the object of a weak box or a weak pair, which is the last
+ * of them; () if nothing leads to it, so that the next collection finds it lost; #f if no object is in it. The list keeps the object. */
+static value why(value list)
+{
+    value weak = car(list), path[MOST_STEPS], steps = NIL;
+    const value object = in_box(type_of(weak) == WEAK_PAIR ? field(weak, WEAK_PAIR, 1) : weak);
+
+    if (!is_object(object))
+        return FALSE;
+    uint64_t length = path_to(object, path, MOST_STEPS);
+    for (uint64_t n = length < MOST_STEPS ? length : MOST_STEPS; n-- > 0;) {
+        const value step = seen_step(path, n);
+
+        if (step != NOTHING && !(is_symbol(step) && steps != NIL && car(steps) == step)) /* the stack has several parts */
+            steps = cons(step, steps);
+    }
+    return steps;
+}
+
 static value collect_all(value list)
 {
     (void)list;
@@ -189,6 +220,7 @@ static const struct { const char *name; uint64_t arguments; value (*call)(value 
     {"print", ANY_NUMBER, print},       {"error", 1, error},
     {"open", 1, open_port},             {"read-line", 1, read_line},
     {"close", 1, close_port},           {"files", 0, count_files},
+    {"why", 1, why},
 };
 
 enum { BUILTINS = sizeof builtins / sizeof *builtins };

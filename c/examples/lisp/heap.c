@@ -185,6 +185,19 @@ uint64_t when_gone(value object, uint64_t procedure, uint64_t number)
 
 void never_mind(value object, uint64_t cleanup) { heap->never_mind(object, cleanup); }
 
+/* What keeps an object: the first of the objects that lead to it, with the object as the last. */
+uint64_t path_to(value object, value *path, uint64_t room)
+{
+    uint64_t length;
+
+    if (!heap->why)
+        fail("this heap can't tell what keeps an object", "");
+    set(NEW, NOTHING);
+    if (!heap->why(object, path, room, &length))
+        fail("out of memory", "");
+    return length;
+}
+
 /* ---- the heap as a whole */
 
 void open_heap(const struct heap *chosen, uint64_t blocks, bool stress)

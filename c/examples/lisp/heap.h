@@ -31,6 +31,11 @@ struct heap {
     bool (*when_gone)(value object, uint64_t procedure, uint64_t number, uint64_t *cleanup);
     void (*never_mind)(value object, uint64_t cleanup);
     uint64_t (*collect)(void); /* returns how many objects it freed */
+
+    /* Puts the first objects of a path into an array of so many places: from one that a register or a finalizer keeps, each leads to
+     * the next one, and the last is the object. The length of the path is 0 where nothing keeps the object. NULL in a heap that
+     * can't tell. */
+    bool (*why)(value object, value *path, uint64_t room, uint64_t *length);
 };
 
 extern const struct heap over_world, over_own;

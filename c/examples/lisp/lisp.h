@@ -79,6 +79,7 @@ uint64_t collect(void); /* returns how many objects it freed */
 void on_collect(value object, value by);
 uint64_t when_gone(value object, uint64_t procedure, uint64_t number);
 void never_mind(value object, uint64_t cleanup);
+uint64_t path_to(value object, value *path, uint64_t room); /* the length of the path that keeps it, or 0 */
 value first_guarded(value guardian); /* a FINALIZER, or NIL */
 void remove_first_guarded(value guardian);
 

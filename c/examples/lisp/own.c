@@ -45,6 +45,23 @@ static void never_mind_object(value object, uint64_t cleanup)
     (void)derrimas_finalizers_cancel(&heap.finalizers, cleanup, NULL);
 }
 
+/* The library tells of registered objects: another one is registered as long as it is asked about. */
+static bool why_object(value object, value *path, uint64_t room, uint64_t *length)
+{
+    derrimas_finalizers_registration_at registration;
+    const bool is_registered = derrimas_finalizers_registration(&heap.finalizers, object, &registration) == DERRIMAS_FINALIZERS_OK;
+    derrimas_why why;
+
+    if (!is_registered && derrimas_finalizers_register(&heap.finalizers, object, DERRIMAS_FINALIZERS_NO_ORDER, CALL_LISP, NIL, 0, NULL, NULL))
+        return false;
+    bool is_told = own_heap_why(&heap, words_of(object), &why, path, room) == DERRIMAS_FINALIZERS_OK;
+    if (!is_registered)
+        (void)derrimas_finalizers_unregister(&heap.finalizers, object, NULL);
+    if (is_told)
+        *length = why.reason == DERRIMAS_WHY_FOUND ? why.length : 0;
+    return is_told;
+}
+
 static void run(const derrimas_finalizers_entry *entry) { finalize(entry->proc, entry->obj, entry->cd); }
 
 static uint64_t collect_own(void)
@@ -66,5 +83,5 @@ static void close_own(void)
 
 const struct heap over_own = {
     "own", BLOCKS, open_own, close_own, get_register, set_register, read_word, write_word, alloc,
-    link_word, on_collect_object, when_object_gone, never_mind_object, collect_own,
+    link_word, on_collect_object, when_object_gone, never_mind_object, collect_own, why_object,
 };

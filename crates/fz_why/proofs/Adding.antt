@@ -1,9 +1,9 @@
 -- What is added to a trail, in parts.
-use Rattle.std.proofs.Common.{◌≡◌, ℕ, ◌+◌, ◌||◌, ◌↔◌, ◌⊎◌, ◌++◌, Bool, true, false, cond, is_some, nat_eq, List, [], ◌∷◌, length, Option, Some, None, slice_get, refl, sym, ap, ◌∙◌, subst, inl, inr, ⊎_elim, arith, zero, suc, IsTrue}
+use Rattle.std.proofs.Common.{◌≡◌, ℕ, ◌+◌, ◌↔◌, ◌⊎◌, ◌++◌, Bool, true, false, cond, [], ◌∷◌, length, Option, Some, None, slice_get, refl, sym, ap, ◌∙◌, inl, inr, ⊎_elim, arith, zero, suc, IsTrue}
 use Rattle.std.proofs.lemmas.Option.{none-some, same_Some, slice_get_past}
 use Rattle.fz_model.proofs.Lists.{slice_get-left, slice_get-right, slice_get-cases}
 use Rattle.fz_why.specs.declared.origin.Origin.{Origin}
-use Rattle.fz_why.specs.Trail.{Trail, has, added, IsAt, Adds}
+use Rattle.fz_why.specs.Trail.{Trail, has, added, Adds}
 use Rattle.fz_why.proofs.Trails.{has_at, at_some}
 
 -- what is there stays there

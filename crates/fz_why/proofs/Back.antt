@@ -1,10 +1,10 @@
 -- The path along a trail, from its end back to its beginning.
-use Rattle.std.proofs.Common.{◌≡◌, ℕ, ◌<◌, List, [], ◌∷◌, ◌++◌, Some, slice_get, get_or, length, refl, sym, ap, ◌∙◌, subst, arith}
+use Rattle.std.proofs.Common.{◌≡◌, ℕ, ◌<◌, List, [], ◌∷◌, ◌++◌, Some, slice_get, get_or, refl, sym, ap, ◌∙◌, subst, arith}
 use Rattle.std.specs.Prelude.{reverse}
 use Rattle.std.proofs.lemmas.List.{reverse-append}
 use Rattle.std.proofs.lemmas.Option.{slice_get_within, slice_get-get_or}
 use Rattle.fz_why.specs.declared.origin.Origin.{Origin}
-use Rattle.fz_why.specs.declared.origin.Origin.TheVariants.{First, After}
+use Rattle.fz_why.specs.declared.origin.Origin.TheVariants.{After}
 use Rattle.fz_why.specs.Paths.{IsPath}
 use Rattle.fz_why.specs.Trail.{Trail, IsAt, IsNext, IsOrdered, IsStart, IsTrailPath, from_start}
 use Rattle.fz_why.proofs.Spreading.{same_at}

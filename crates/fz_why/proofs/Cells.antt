@@ -1,8 +1,8 @@
 -- The words of a copy, and the objects whose words they are.
-use Rattle.std.proofs.Common.{◌≡◌, ◌≢◌, ℕ, ◌+◌, ◌-◌, ◌^◌, ◌<◌, ◌≤◌, ◌⊎◌, ◌++◌, ◌||◌, ◌==◌, Bool, true, false, true≢false, cond, if◌then◌else◌, is_some, nat_cmp, nat_eq, List, [], ◌∷◌, length, slice_get, get_or, Option, Some, None, option_map, option_and_then, refl, sym, ap, ◌∙◌, subst, inl, inr, ⊎_elim, arith, zero, suc}
+use Rattle.std.proofs.Common.{◌≡◌, ◌≢◌, ℕ, ◌+◌, ◌-◌, ◌^◌, ◌<◌, ◌≤◌, ◌⊎◌, ◌++◌, ◌||◌, Bool, true, false, if◌then◌else◌, is_some, nat_cmp, nat_eq, List, [], ◌∷◌, length, slice_get, get_or, Option, Some, None, option_map, option_and_then, refl, sym, ap, ◌∙◌, subst, inl, inr, ⊎_elim, arith, zero, suc}
 use Rattle.std.proofs.lemmas.Bool.{cases_eq, eqb-true, eq-eqb, both_ways, or_parts}
-use Rattle.std.proofs.lemmas.Option.{none-some, same_Some, slice_get_past, slice_get_within, slice_get-get_or}
-use Rattle.std.specs.FinMap.{get, insert, empty, get-empty, contains_key}
+use Rattle.std.proofs.lemmas.Option.{none-some, same_Some, slice_get_within, slice_get-get_or}
+use Rattle.std.specs.FinMap.{get, empty, get-empty, contains_key}
 use Rattle.std.specs.Map.{lookup}
 use Rattle.std.specs.Option.{option_map_or}
 use Rattle.fz_model.specs.declared.kinds.ObjKind.TheVariants.{Scanned}
@@ -17,7 +17,7 @@ use Rattle.fz_why.specs.declared.paths.Pointer.{Pointer}
 use Rattle.fz_why.specs.declared.snapshot.listing.Cell.{Cell}
 use Rattle.fz_why.specs.Paths.{all_pointers}
 use Rattle.fz_why.specs.Hosts.{all_at, all_none, all_within}
-use Rattle.fz_why.specs.Snapshot.{AreCells, Cells, Links, IsNext, IsPut, IsWordOf, Lists, back, holder_of, is_same, is_taken, linked_at, links_to, listed, objects_of, place_of, with_cell, word_of, words_in}
+use Rattle.fz_why.specs.Snapshot.{AreCells, Cells, Links, IsNext, IsPut, IsWordOf, Lists, holder_of, is_same, is_taken, linked_at, links_to, listed, objects_of, place_of, with_cell, word_of, words_in}
 
 -- ---- one more word
 

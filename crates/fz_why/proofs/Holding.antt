@@ -1,19 +1,19 @@
 -- What the trail of first steps says of what holds an object back.
-use Rattle.std.proofs.Common.{◌≡◌, ◌≢◌, ℕ, ◌↔◌, ◌⊎◌, ◌&&◌, Bool, true, false, not, List, [], ◌∷◌, Option, Some, None, slice_get, refl, sym, ap, ◌∙◌, subst, inl, inr, ⊎_elim, IsTrue}
+use Rattle.std.proofs.Common.{◌≡◌, ℕ, ◌↔◌, Bool, false, not, List, ◌∷◌, Option, Some, sym, ap, ◌∙◌}
 use Rattle.std.proofs.lemmas.Bool.{and_from}
 use Rattle.std.specs.FinMap.{get, contains_key}
 use Rattle.fz_model.specs.declared.kinds.RegKind.{RegKind}
 use Rattle.fz_model.specs.declared.kinds.RegKind.TheVariants.{Normal, IgnoreSelf, NoOrder}
 use Rattle.fz_model.specs.declared.answers.Registration.{Registration}
 use Rattle.fz_model.specs.State.{Map, Object}
-use Rattle.fz_model.specs.Reachability.{Child, Leads}
+use Rattle.fz_model.specs.Reachability.{Child}
 use Rattle.fz_model.specs.Pass.{is_dead, cleared, LeadsFirst}
 use Rattle.fz_pass.specs.Places.{placed}
 use Rattle.fz_finalizers.specs.States.{State}
 use Rattle.fz_why.specs.declared.paths.Pointer.{Pointer}
 use Rattle.fz_why.specs.declared.origin.Origin.{Origin}
 use Rattle.fz_why.specs.declared.origin.Origin.TheVariants.{First}
-use Rattle.fz_why.specs.Paths.{AreLinks, ArePointers, IsPath}
+use Rattle.fz_why.specs.Paths.{AreLinks, ArePointers}
 use Rattle.fz_why.specs.Why.{kind_toward, IsUnfound, IsBackPath}
 use Rattle.fz_why.specs.Trail.{Trail, has, is_cut, from_start, IsStepBy, IsFirstBy, IsSound, IsNext, IsTrailPath}
 use Rattle.fz_why.proofs.Stepping.{step_as, cut_is, step_cleared}

@@ -1,9 +1,9 @@
 -- What answers say of passes.
-use Rattle.std.proofs.Common.{◌≡◌, ◌≢◌, ℕ, ◌↔◌, ◌⊎◌, ◌&&◌, Bool, true, false, not, List, [], ◌∷◌, map, option_map, slice_get, Option, Some, None, refl, sym, ap, ◌∙◌, subst, inl, inr, ⊎_elim, arith, zero, suc, IsTrue, Contains, All}
+use Rattle.std.proofs.Common.{◌≡◌, ◌≢◌, ℕ, ◌⊎◌, Bool, true, false, not, List, [], ◌∷◌, map, option_map, slice_get, Option, Some, None, refl, sym, ap, ◌∙◌, subst, inl, inr, ⊎_elim, arith, IsTrue, Contains, All}
 use Rattle.std.proofs.lemmas.Bool.{and_parts, both_ways, cases_eq, not-true}
 use Rattle.std.proofs.lemmas.Option.{none-some, same_Some, slice_get-map}
 use Rattle.std.proofs.lemmas.List.Elements.{All-contains, Contains-append_right}
-use Rattle.std.specs.FinMap.{get, contains_key}
+use Rattle.std.specs.FinMap.{contains_key}
 use Rattle.std.specs.FinSet.{contains}
 use Rattle.fz_model.specs.declared.kinds.RegKind.{RegKind}
 use Rattle.fz_model.specs.declared.kinds.RegKind.TheVariants.{Normal, IgnoreSelf, NoOrder}
@@ -21,8 +21,8 @@ use Rattle.fz_finalizers.specs.Passed.{DecidesFor, parts_in}
 use Rattle.fz_why.specs.declared.reason.Reason.{Reason}
 use Rattle.fz_why.specs.declared.reason.Reason.TheVariants.{Unregistered, Queued, Found, Ring, Waits, Ready}
 use Rattle.fz_why.specs.Paths.{IsPath}
-use Rattle.fz_why.specs.Why.{kind_toward, IsReached, IsRootPath, IsUnfound, HoldsBack, IsBackPath, WaitsFor, IsRing, IsReady, IsToldOf, WithFound}
-use Rattle.fz_why.specs.Laws.{IsQueuedBy, IsNotQueuedBy, IsHeldBack, StandsBy, IsApart, IsJudgedByPasses, RingStays}
+use Rattle.fz_why.specs.Why.{kind_toward, IsReached, IsUnfound, HoldsBack, IsBackPath, WaitsFor, IsReady, IsToldOf}
+use Rattle.fz_why.specs.Laws.{IsNotQueuedBy, StandsBy, IsApart, IsJudgedByPasses, RingStays}
 
 -- two tests of one set are the same
 same_test : (p q : Bool) → (IsTrue p → IsTrue q) → (IsTrue q → IsTrue p) → p ≡ q

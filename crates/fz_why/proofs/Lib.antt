@@ -12,3 +12,4 @@ pub mod Told
 pub mod Back
 pub mod Cells
 pub mod Whole
+pub mod Circles

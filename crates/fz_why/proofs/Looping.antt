@@ -1,11 +1,9 @@
 -- What loops have added so far.
-use Rattle.std.proofs.Common.{◌≡◌, ◌≢◌, ℕ, ◌+◌, ◌<◌, ◌≤◌, ◌↔◌, ◌⊎◌, ◌++◌, Bool, true, false, List, [], ◌∷◌, length, Option, Some, None, nat_eq, slice_get, refl, sym, ap, ◌∙◌, subst, inl, inr, ⊎_elim, arith, Contains, IsTrue}
+use Rattle.std.proofs.Common.{◌≡◌, ◌≢◌, ℕ, ◌+◌, ◌<◌, ◌↔◌, ◌⊎◌, ◌++◌, Bool, false, List, [], ◌∷◌, Option, Some, None, slice_get, sym, ap, ◌∙◌, subst, inl, inr, ⊎_elim, arith, Contains}
 use Rattle.std.proofs.lemmas.Bool.{cases_lt}
-use Rattle.std.proofs.lemmas.Option.{none-some, same_Some, slice_get_within}
+use Rattle.std.proofs.lemmas.Option.{same_Some, slice_get_within}
 use Rattle.std.proofs.lemmas.List.Elements.{Contains-append_left, Contains-push, Contains-push_cases}
-use Rattle.std.specs.FinMap.{get, from_entries}
-use Rattle.std.specs.List.{IsDistinct}
-use Rattle.std.specs.Map.{keys_of}
+use Rattle.std.specs.FinMap.{get}
 use Rattle.fz_model.specs.declared.answers.Entry.{Entry}
 use Rattle.fz_model.specs.declared.answers.Registration.{Registration}
 use Rattle.fz_model.specs.State.{Map, Object}
@@ -20,7 +18,7 @@ use Rattle.fz_why.specs.declared.origin.Origin.{Origin}
 use Rattle.fz_why.specs.declared.origin.Origin.TheVariants.{Root, First}
 use Rattle.fz_why.specs.declared.reason.RootOf.TheVariants.{Host, RegisteredData, CleanupData, HeldObject, HeldData}
 use Rattle.fz_why.specs.Why.{kind_toward}
-use Rattle.fz_why.specs.Trail.{Trail, has, is_cut, IsStepBut, IsFirstBy, IsByHost, IsByRegistration, IsByCleanup, IsByEntry, IsByOther}
+use Rattle.fz_why.specs.Trail.{Trail, has, is_cut, IsStepBut, IsFirstBy, IsByHost, IsByRegistration, IsByCleanup, IsByOther}
 use Rattle.fz_why.proofs.Spreading.{past_end}
 
 -- by one of the first elements of a list, and by one of all

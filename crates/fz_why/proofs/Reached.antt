@@ -1,13 +1,13 @@
 -- What a trail says of what some objects reach.
-use Rattle.std.proofs.Common.{◌≡◌, ℕ, ◌+◌, ◌<◌, ◌≤◌, ◌↔◌, ◌⊎◌, List, [], ◌∷◌, length, Option, Some, None, slice_get, refl, sym, ap, ◌∙◌, subst, inl, inr, ⊎_elim, arith, zero, suc, IsTrue}
-use Rattle.std.proofs.lemmas.Option.{none-some, same_Some}
+use Rattle.std.proofs.Common.{◌≡◌, ℕ, ◌+◌, ◌<◌, ◌↔◌, List, [], ◌∷◌, Some, slice_get, refl, sym, ap, ◌∙◌, subst, inl, inr, ⊎_elim, arith, zero, suc, IsTrue}
+use Rattle.std.proofs.lemmas.Option.{none-some}
 use Rattle.fz_model.specs.State.{Map, Object}
 use Rattle.fz_model.specs.Reachability.{Child, Leads, Itself, OneMore}
 use Rattle.fz_why.specs.declared.origin.Origin.{Origin}
 use Rattle.fz_why.specs.declared.origin.Origin.TheVariants.{Root, First, After}
 use Rattle.fz_why.specs.Paths.{IsPath}
-use Rattle.fz_why.specs.Trail.{Trail, has, IsAt, IsAfter, Adds, SpreadsAll, IsNext, IsStart, IsOrdered, IsTrailPath, IsReachedTrail}
-use Rattle.fz_why.proofs.Trails.{has_at, at_some}
+use Rattle.fz_why.specs.Trail.{Trail, has, Adds, SpreadsAll, IsNext, IsStart, IsOrdered, IsReachedTrail}
+use Rattle.fz_why.proofs.Trails.{at_some}
 use Rattle.fz_why.proofs.Adding.{still}
 use Rattle.fz_why.proofs.Spreading.{same_at}
 

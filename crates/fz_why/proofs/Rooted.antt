@@ -1,6 +1,5 @@
 -- Roots, in the words of a search and in those of an answer.
-use Rattle.std.proofs.Common.{◌≡◌, ℕ, ◌↔◌, ◌⊎◌, List, Some, refl, sym, ap, ◌∙◌, inl, inr, ⊎_elim}
-use Rattle.fz_model.specs.declared.answers.Entry.{Entry}
+use Rattle.std.proofs.Common.{◌≡◌, ℕ, ◌↔◌, ◌⊎◌, List, refl, sym, ap, ◌∙◌, inl, inr, ⊎_elim}
 use Rattle.fz_model.specs.State.{Map, Object}
 use Rattle.fz_model.specs.Memory.{points}
 use Rattle.fz_finalizers.specs.States.{State, unfinished}

@@ -1,11 +1,11 @@
 -- Steps from one object on a trail after the other.
-use Rattle.std.proofs.Common.{◌≡◌, ℕ, ◌+◌, ◌<◌, ◌≤◌, ◌↔◌, ◌⊎◌, List, [], ◌∷◌, get_or, length, Option, Some, None, slice_get, refl, sym, ap, ◌∙◌, subst, inl, inr, ⊎_elim, arith, IsTrue}
+use Rattle.std.proofs.Common.{◌≡◌, ℕ, ◌+◌, ◌<◌, ◌≤◌, List, [], ◌∷◌, get_or, length, Some, None, slice_get, refl, sym, ap, ◌∙◌, subst, inl, inr, ⊎_elim, arith, IsTrue}
 use Rattle.std.proofs.lemmas.Bool.{cases_lt}
 use Rattle.std.proofs.lemmas.Option.{none-some, same_Some, slice_get_within, slice_get-get_or}
 use Rattle.fz_why.specs.declared.origin.Origin.{Origin}
 use Rattle.fz_why.specs.declared.origin.Origin.TheVariants.{After}
 use Rattle.fz_why.specs.Trail.{Trail, has, IsAt, IsAfter, Adds, Spreads, SpreadsAll}
-use Rattle.fz_why.proofs.Trails.{has_at, at_some}
+use Rattle.fz_why.proofs.Trails.{at_some}
 use Rattle.fz_why.proofs.Adding.{still}
 
 -- past the end there is nothing

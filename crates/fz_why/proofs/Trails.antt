@@ -1,11 +1,10 @@
 -- What is on a trail.
-use Rattle.std.proofs.Common.{◌≡◌, ℕ, ◌+◌, ◌||◌, ◌⊎◌, ◌++◌, Bool, true, false, cond, is_some, nat_eq, eq-eqb, List, [], ◌∷◌, length, Option, Some, None, slice_get, refl, sym, ap, ◌∙◌, subst, inl, inr, ⊎_elim, arith, zero, suc, IsTrue}
+use Rattle.std.proofs.Common.{◌≡◌, ℕ, ◌++◌, Bool, true, false, cond, is_some, nat_eq, eq-eqb, [], ◌∷◌, Some, slice_get, refl, sym, ap, ◌∙◌, zero, suc, IsTrue}
 use Rattle.std.specs.Map.{lookup, lookup_key}
 use Rattle.std.proofs.lemmas.Map.Made.{lookup_key_passes}
 use Rattle.indexmap.specs.IndexMap.{insert_entry}
 use Rattle.std.proofs.lemmas.Bool.{eqb-true, both_ways}
 use Rattle.std.proofs.lemmas.Option.{none-some, same_Some}
-use Rattle.fz_model.proofs.Lists.{slice_get-left, slice_get-cases}
 use Rattle.fz_why.specs.declared.origin.Origin.{Origin}
 use Rattle.fz_why.specs.Trail.{Trail, has, added, IsAt}
 

@@ -5,7 +5,7 @@ use Rattle.std.specs.FinMap.{get}
 use Rattle.fz_model.specs.declared.answers.Pick.{Pick}
 use Rattle.fz_model.specs.declared.answers.Registration.{Registration}
 use Rattle.fz_model.specs.State.{Map, Object}
-use Rattle.fz_model.specs.Reachability.{Child, Computes}
+use Rattle.fz_model.specs.Reachability.{Child}
 use Rattle.fz_model.specs.Pass.{cleared}
 use Rattle.fz_pass.specs.Places.{placed}
 use Rattle.fz_finalizers.specs.States.{State}

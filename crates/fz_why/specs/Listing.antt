@@ -1,6 +1,6 @@
 -- A copy of a heap lists the words of its objects, and finds links by the words that they denote.
 -- code: fz_why/src/snapshot.rt
-use Rattle.std.proofs.Common.{◌≡◌, ◌≢◌, ℕ, ◌↔◌, ◌++◌, Bool, true, false, true≢false, if◌then◌else◌, nat_cmp, nat_eq, List, [], ◌∷◌, Option, Some, None, option_and_then, ⊎_elim, refl, sym, ap, ◌∙◌}
+use Rattle.std.proofs.Common.{◌≡◌, ℕ, ◌++◌, Bool, true, false, true≢false, if◌then◌else◌, nat_cmp, [], ◌∷◌, Option, Some, None, option_and_then, ⊎_elim, refl, sym, ap, ◌∙◌}
 use Rattle.std.proofs.lemmas.Bool.{cases_eq, eqb-true, eq-eqb}
 use Rattle.std.proofs.lemmas.Option.{none-some, same_Some}
 use Rattle.std.specs.FinMap.{get, empty, get-empty}

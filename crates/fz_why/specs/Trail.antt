@@ -1,7 +1,7 @@
 -- How a search goes: what it adds to a trail, and which objects it comes to. Means only: no public contract cites this.
--- code: fz_why/src/trail.rt, searching.rt, reaching.rt
-use Rattle.std.specs.Prelude.{◌≡◌, ◌≢◌, ◌↔◌, ℕ, ◌<◌, ◌⊎◌, ◌++◌, Bool, true, false, not, if◌then◌else◌, is_some, nat_eq, List, [], ◌∷◌, slice_get, Option, Some, None, Contains, IsTrue, MatchOption}
-use Rattle.std.specs.FinMap.{get}
+-- code: fz_why/src/trail.rt, searching.rt, reaching.rt, stuck_objects.rt
+use Rattle.std.specs.Prelude.{◌≡◌, ◌≢◌, ℕ, ◌<◌, ◌⊎◌, ◌++◌, ◌&&◌, Bool, false, not, if◌then◌else◌, is_some, nat_eq, List, [], ◌∷◌, slice_get, Option, Some, None, Contains, IsTrue, MatchOption}
+use Rattle.std.specs.FinMap.{get, contains_key}
 use Rattle.std.specs.Map.{lookup}
 use Rattle.std.specs.Option.{option_map_or}
 use Rattle.fz_model.specs.declared.kinds.RegKind.{RegKind}
@@ -170,6 +170,21 @@ IsByRing heap object kind origin b = (origin ≡ First object) × LeadsFirst hea
 abbrev pub IsByWait : (ℕ → Option ℕ) → Map Object → State → (ℕ → Bool) → Bool → ℕ → Origin → ℕ → Type 0
 IsByWait place objects s found late object origin b =
     (from : ℕ) × (by : Registration) × IsUnfound place objects s found from by × (from ≢ object) × (origin ≡ First from) × LeadsFirst (cleared (placed place s.short) found objects) from (kind_toward late by.kind) b
+
+-- the first steps of an object on a ring, and those of all of them
+abbrev pub IsByCircle : (ℕ → Option ℕ) → Map Object → State → (ℕ → Bool) → ℕ → Origin → ℕ → Type 0
+IsByCircle place objects s found from origin b =
+    (by : Registration) × IsUnfound place objects s found from by × HoldsBack place objects s found false from from × (origin ≡ First from) × LeadsFirst (cleared (placed place s.short) found objects) from by.kind b
+
+abbrev pub IsByCircles : (ℕ → Option ℕ) → Map Object → State → (ℕ → Bool) → Origin → ℕ → Type 0
+IsByCircles place objects s found origin b = (from : ℕ) × IsByCircle place objects s found from origin b
+
+-- an object isn't on the one trail, and is on the other; the same of a registered one
+abbrev pub is_behind : Trail → Trail → ℕ → Bool
+is_behind found reached o = not (has found o) && has reached o
+
+abbrev pub is_stuck_by : State → Trail → Trail → ℕ → Bool
+is_stuck_by s found reached o = contains_key s.registrations o && is_behind found reached o
 
 -- the path by which an object holds itself back, or that it doesn't
 abbrev pub TellsRing : (ℕ → Option ℕ) → Map Object → State → (ℕ → Bool) → ℕ → Option (List ℕ) → Type 0

@@ -1,8 +1,9 @@
 -- Why an object isn't finalized. Words are as they are once a pass has cleared those of its dead short links; roots reach by the words as they are.
--- code: fz_why/src/asking.rt, reaching.rt, rooting.rt
-use Rattle.std.specs.Prelude.{◌≡◌, ◌≢◌, ℕ, Bool, true, false, List, [], ◌∷◌, slice_get, Option, Some, None, Contains}
+-- code: fz_why/src/asking.rt, reaching.rt, rooting.rt, stuck_objects.rt
+use Rattle.std.specs.Prelude.{◌≡◌, ◌≢◌, ℕ, Bool, true, false, List, ◌∷◌, filter, slice_get, Option, Some, None, Contains}
 use Rattle.std.specs.FinMap.{get}
 use Rattle.std.specs.FinSet.{contains}
+use Rattle.std.specs.Map.{keys_of}
 use Rattle.fz_model.specs.declared.kinds.RegKind.{RegKind}
 use Rattle.fz_model.specs.declared.kinds.RegKind.TheVariants.{Normal}
 use Rattle.fz_model.specs.declared.answers.Entry.{Entry}
@@ -87,6 +88,14 @@ module _ (place : ℕ → Option ℕ) (objects : Map Object) (s : State) (found 
   -- it is unreachable, and no such object reaches it
   abbrev pub IsReady : ℕ → Type 0
   IsReady o = ((r : Registration) × IsUnfound o r) × (HoldsBack false o o → ⊥) × ((from : ℕ) → WaitsFor o from → ⊥)
+
+  -- it is unreachable, and on a ring, or one on a ring holds it back
+  abbrev pub IsStuck : ℕ → Type 0
+  IsStuck o = ((r : Registration) × IsUnfound o r) × ((from : ℕ) × HoldsBack false from from × HoldsBack false from o)
+
+  -- of these registrations just the objects that are stuck, in their order
+  abbrev pub AreStuck : List (ℕ × Registration) → List ℕ → Type 0
+  AreStuck registrations objects = (is_stuck : ℕ → Bool) × Computes is_stuck IsStuck × (objects ≡ filter is_stuck (keys_of registrations))
 
 -- something holds with what the roots reach as the found set
 abbrev pub WithFound : Map Object → List ℕ → State → ((ℕ → Bool) → Type 0) → Type 0

@@ -1,4 +1,5 @@
-//! Why an object isn't finalized: what retains it, which other objects with finalizers it waits for, or on which ring it is.
+//! Why an object isn't finalized: what retains it, which other objects with finalizers it waits for, or on which ring it is; and which objects wait for a
+//! ring.
 #![tactic(auto)]
 
 mod asking;
@@ -11,6 +12,7 @@ mod room;
 mod rooting;
 mod searching;
 mod snapshot;
+mod stuck_objects;
 mod trail;
 mod waiting;
 
@@ -20,3 +22,4 @@ pub use paths::{Paths, Pointer};
 pub use reason::{Reason, RootOf};
 pub use room::NoMemory;
 pub use snapshot::{Cell, Listed, Snapshot, why_of};
+pub use stuck_objects::{stuck, stuck_of};

@@ -163,7 +163,7 @@ impl Snapshot {
     }
 
     /// Whether all registered objects were listed.
-    fn has_registered(&self, finalizers: &Finalizers) -> bool
+    pub(crate) fn has_registered(&self, finalizers: &Finalizers) -> bool
         ensures { IsTrue result ↔ AreRegistered (objects_of self.now.cells) finalizers.now.state.registrations }
     {
         for each in finalizers.iter() {
@@ -175,7 +175,7 @@ impl Snapshot {
     }
 
     /// Whether the targets of all short links were listed.
-    fn has_targets(&self, finalizers: &Finalizers) -> bool
+    pub(crate) fn has_targets(&self, finalizers: &Finalizers) -> bool
         ensures { IsTrue result ↔ AreTargets (objects_of self.now.cells) finalizers.now.state.short }
     {
         for each in finalizers.iter_links(LinkKind::Short) {

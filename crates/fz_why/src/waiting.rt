@@ -63,7 +63,7 @@ fn add_others<H: Paths>(
 }
 
 /// What a registered object reaches by its first steps.
-fn reach_itself<H: Paths>(
+pub(crate) fn reach_itself<H: Paths>(
     alloc: Global,
     finalizers: &Finalizers,
     host: &H,

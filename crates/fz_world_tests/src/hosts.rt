@@ -8,4 +8,5 @@ mod cleanups;
 mod guardians;
 mod regions;
 mod runtime;
+mod snapshot;
 mod why;

@@ -15,7 +15,7 @@ use Rattle.own_heap.specs.Collected.{MarksKept}
 use Rattle.own_heap.proofs.Slots.{stands, address_at, points_is}
 
 -- an object's start points to it
-object_points : (slots : List (Option Record)) (a : ℕ) → IsTrue (contains_key (objects_of slots) a) → points (objects_of slots) a ≡ Some a
+pub object_points : (slots : List (Option Record)) (a : ℕ) → IsTrue (contains_key (objects_of slots) a) → points (objects_of slots) a ≡ Some a
 object_points slots a here = at (get (objects_of slots) a) refl here
   where
     at : (o : Option Object) → get (objects_of slots) a ≡ o → IsTrue (is_some o) → points (objects_of slots) a ≡ Some a

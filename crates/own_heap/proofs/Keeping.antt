@@ -3,14 +3,14 @@ use Rattle.std.proofs.Common.{◌≡◌, ◌≢◌, ℕ, ◌+◌, ◌<◌, lengt
 use Rattle.std.proofs.lemmas.Bool.{both_ways, cases_eq, and_parts, and_from}
 use Rattle.std.proofs.lemmas.Option.{same_Some, none-some}
 use Rattle.std.specs.Option.{option_map_or}
-use Rattle.std.specs.FinMap.{get, insert, contains_key, get-empty}
+use Rattle.std.specs.FinMap.{get, insert, remove, contains_key, get-empty}
 use Rattle.std.specs.Ordering.{nat_cmp}
 use Rattle.fz_model.specs.declared.answers.Registration.{Registration}
 use Rattle.fz_model.specs.State.{Map, Object}
 use Rattle.fz_model.specs.Memory.{filled}
 use Rattle.fz_model.specs.Pass.{cleared, FoundItself, LedFrom}
 use Rattle.fz_model.specs.Reachability.{Itself}
-use Rattle.fz_model.proofs.Maps.{get-insert_same, get-insert_other, get-retain, retained_back}
+use Rattle.fz_model.proofs.Maps.{get-insert_same, get-insert_other, get-remove_same, get-remove_other, get-retain, retained_back}
 use Rattle.fz_model.proofs.Sound.{left_back}
 use Rattle.fz_pass.specs.Decides.{Parts}
 use Rattle.fz_pass.specs.Flagged.{DecidesFlagged, IsLast}
@@ -26,7 +26,7 @@ use Rattle.own_heap.proofs.References.{made_is_inserted}
 use Rattle.fz_model.specs.declared.answers.Entry.{Entry}
 use Rattle.fz_model.specs.declared.kinds.LinkKind.{LinkKind}
 use Rattle.fz_model.specs.declared.kinds.LinkKind.TheVariants.{Short, Long}
-use Rattle.fz_model.specs.Steps.{registration_of}
+use Rattle.fz_model.specs.Steps.{moved_to, registration_of}
 use Rattle.fz_model.specs.Pass.{is_dead}
 use Rattle.fz_model.proofs.Maps.{get-mapped, filling}
 use Rattle.fz_finalizers.specs.declared.kinds.Finalizer.{Finalizer}
@@ -35,7 +35,7 @@ use Rattle.fz_finalizers.specs.States.{State, opening, links_of, unfinished, wai
 use Rattle.fz_finalizers.specs.declared.cleanups.Attached.{Attached}
 use Rattle.fz_finalizers.specs.declared.cleanups.Cleanup.{Cleanup}
 use Rattle.fz_finalizers.specs.Cleanups as cleanups
-use Rattle.fz_finalizers.specs.Follows.{Cleans, Follows, Register, Link, Take, Finish, AddCleanup, Cancel, with_registration, with_cleanup, without_cleanup}
+use Rattle.fz_finalizers.specs.Follows.{Cleans, Follows, Register, Unregister, Link, Unlink, Move, Take, Finish, AddCleanup, Cancel, with_registration, without_registration, with_cleanup, without_cleanup}
 use Rattle.fz_model.specs.declared.answers.Pick.{Pick}
 use Rattle.fz_model.specs.Pass.{entries_of, IsPicked}
 use Rattle.std.proofs.lemmas.List.Elements.{All-contains, Contains-append_cases, Contains-append_left, Contains-append_right}
@@ -59,6 +59,28 @@ module _ (objects : Map Object) where
   targets_more m word target here all link x is =
       ⊎_elim (λ same. subst (λ b. IsTrue (contains_key objects b)) (same_Some target x (sym (get-insert_same m word target) ∙ ap (get (insert m word target)) (sym same) ∙ is)) here)
       (λ far. all link x (sym (get-insert_other m word target link far) ∙ is)) (cases_eq link word)
+
+  -- one less
+  removed_back : {X : Type 0} (m : Map X) (k a : ℕ) (x : X) → get (remove m k) a ≡ Some x → get m a ≡ Some x
+  removed_back m k a x is =
+      ⊎_elim (λ same. absurd (none-some x (sym (ap (get (remove m k)) same ∙ get-remove_same m k) ∙ is))) (λ far. sym (get-remove_other m k a far) ∙ is) (cases_eq a k)
+
+  pub registered_less : (m : Map Registration) (o : ℕ) → AreRegistered objects m → AreRegistered objects (remove m o)
+  registered_less m o all a r is = all a r (removed_back m o a r is)
+
+  pub targets_less : (m : Map ℕ) (word : ℕ) → AreTargets objects m → AreTargets objects (remove m word)
+  targets_less m word all link x is = all link x (removed_back m word link x is)
+
+  pub targets_moved : (m : Map ℕ) (word to : ℕ) → AreTargets objects m → AreTargets objects (moved_to m word to (get m word))
+  targets_moved m word to all = at (get m word) refl
+    where
+      by : (target : ℕ) → get m word ≡ Some target → (b : Bool) → AreTargets objects (cond b m (insert (remove m word) to target))
+      by target here true = all
+      by target here false = targets_more (remove m word) to target (all word target here) (targets_less m word all)
+
+      at : (o : Option ℕ) → get m word ≡ o → AreTargets objects (moved_to m word to o)
+      at None here = all
+      at (Some target) here = by target here (contains_key m to)
 
 -- ---- other objects
 
@@ -121,13 +143,35 @@ pub register_sound : {A E : Type 0} (objects : Map Object) (old new : State) (o 
 register_sound objects old new o f (Ok x) refused follows here sound = subst (IsSound objects) (sym follows) (with_registration_sound objects old o f here sound)
 register_sound objects old new o f (Err e) refused follows here sound = subst (IsSound objects) (sym refused) sound
 
-with_link_sound : (objects : Map Object) (s : State) (kind : LinkKind) (word target : ℕ) → IsTrue (contains_key objects target) → IsSound objects s → IsSound objects (with_links s kind (insert (links_of s kind) word target))
-with_link_sound objects s Short word target here sound = record { registered = sound.registered; short = targets_more objects s.short word target here sound.short; long = sound.long; held = sound.held }
-with_link_sound objects s Long word target here sound = record { registered = sound.registered; short = sound.short; long = targets_more objects s.long word target here sound.long; held = sound.held }
+with_links_sound : (objects : Map Object) (s : State) (kind : LinkKind) (links : Map ℕ) → AreTargets objects links → IsSound objects s → IsSound objects (with_links s kind links)
+with_links_sound objects s Short links are sound = record { registered = sound.registered; short = are; long = sound.long; held = sound.held }
+with_links_sound objects s Long links are sound = record { registered = sound.registered; short = sound.short; long = are; held = sound.held }
+
+targets_of : (objects : Map Object) (s : State) (kind : LinkKind) → IsSound objects s → AreTargets objects (links_of s kind)
+targets_of objects s Short sound = sound.short
+targets_of objects s Long sound = sound.long
 
 pub link_sound : {A E : Type 0} (objects : Map Object) (old new : State) (kind : LinkKind) (word target : ℕ) (r : Result A E) → OnErr r (new ≡ old) → OnOk r (Follows old (Link kind word target) new) → IsTrue (contains_key objects target) → IsSound objects old → IsSound objects new
-link_sound objects old new kind word target (Ok x) refused follows here sound = subst (IsSound objects) (sym follows) (with_link_sound objects old kind word target here sound)
+link_sound objects old new kind word target (Ok x) refused follows here sound =
+    let links = links_of old kind in
+    subst (IsSound objects) (sym follows) (with_links_sound objects old kind (insert links word target) (targets_more objects links word target here (targets_of objects old kind sound)) sound)
 link_sound objects old new kind word target (Err e) refused follows here sound = subst (IsSound objects) (sym refused) sound
+
+without_registration_sound : (objects : Map Object) (s : State) (o : ℕ) → IsSound objects s → IsSound objects (without_registration s o)
+without_registration_sound objects s o sound = record { registered = registered_less objects s.registrations o sound.registered; short = sound.short; long = sound.long; held = sound.held }
+
+pub unregister_sound : (objects : Map Object) (old new : State) (o : ℕ) → Follows old (Unregister o) new → IsSound objects old → IsSound objects new
+unregister_sound objects old new o follows sound = subst (IsSound objects) (sym follows) (without_registration_sound objects old o sound)
+
+pub unlink_sound : (objects : Map Object) (old new : State) (kind : LinkKind) (word : ℕ) → Follows old (Unlink kind word) new → IsSound objects old → IsSound objects new
+unlink_sound objects old new kind word follows sound =
+    subst (IsSound objects) (sym follows) (with_links_sound objects old kind (remove (links_of old kind) word) (targets_less objects (links_of old kind) word (targets_of objects old kind sound)) sound)
+
+pub move_sound : {A E : Type 0} (objects : Map Object) (old new : State) (kind : LinkKind) (word to : ℕ) (r : Result A E) → OnErr r (new ≡ old) → OnOk r (Follows old (Move kind word to) new) → IsSound objects old → IsSound objects new
+move_sound objects old new kind word to (Ok x) refused follows sound =
+    let links = links_of old kind in
+    subst (IsSound objects) (sym follows) (with_links_sound objects old kind (moved_to links word to (get links word)) (targets_moved objects links word to (targets_of objects old kind sound)) sound)
+move_sound objects old new kind word to (Err e) refused follows sound = subst (IsSound objects) (sym refused) sound
 
 -- what is taken isn't finished, as before
 taken_unfinished : (s : State) (entry : Entry) → slice_get s.queue s.taken ≡ Some entry → unfinished s ≡ (s.held ++ entry ∷ []) ++ drop (s.taken + 1) s.queue
@@ -238,14 +282,9 @@ module _ (E : Type 0) (place : ℕ → Option ℕ) (late : ℕ → Bool) (pass f
   abbrev long : Map ℕ
   long = placed place old.long
 
-  -- an object that was kept stands
-  kept_stands : (a : ℕ) → IsTrue (d.kept a) → IsTrue (contains_key old.objects a) → IsTrue (contains_key new.objects a)
-  kept_stands a kept here =
-      ap (λ (p : Parts). contains_key p.objects a) d.is
-      ∙ ap is_some (get-retain (cleared long d.kept (cleared short found old.objects)) d.kept a ∙ ap (λ b. cond b (get (cleared long d.kept (cleared short found old.objects)) a) None) kept)
-      ∙ filled_keys (is_dead (cleared short found old.objects) long d.kept) (cleared short found old.objects) a
-      ∙ filled_keys (is_dead old.objects short found) old.objects a
-      ∙ here
+  -- the objects that were kept remain, and no others
+  remains : (a : ℕ) → contains_key new.objects a ≡ (d.kept a && contains_key old.objects a)
+  remains a = ap (λ (p : Parts). contains_key p.objects a) d.is ∙ ap is_some (get-retain (cleared long d.kept (cleared short found old.objects)) d.kept a) ∙ by (d.kept a)
     where
       same : {X Y : Type 0} (f : X → Y) (o : Option X) → is_some (option_map f o) ≡ is_some o
       same f None = refl
@@ -253,6 +292,16 @@ module _ (E : Type 0) (place : ℕ → Option ℕ) (late : ℕ → Bool) (pass f
 
       filled_keys : (test : ℕ → Bool) (m : Map Object) (a : ℕ) → contains_key (filled test 0 m) a ≡ contains_key m a
       filled_keys test m a = ap is_some (get-mapped (filling test 0) m a) ∙ same (filling test 0 a) (get m a)
+
+      by : (b : Bool) → is_some (cond b (get (cleared long d.kept (cleared short found old.objects)) a) None) ≡ (b && contains_key old.objects a)
+      by true = filled_keys (is_dead (cleared short found old.objects) long d.kept) (cleared short found old.objects) a ∙ filled_keys (is_dead old.objects short found) old.objects a
+      by false = refl
+
+  pub kept_stands : (a : ℕ) → IsTrue (d.kept a) → IsTrue (contains_key old.objects a) → IsTrue (contains_key new.objects a)
+  kept_stands a kept here = remains a ∙ and_from (d.kept a) (contains_key old.objects a) kept here
+
+  pub left_kept : (a : ℕ) → IsTrue (contains_key new.objects a) → IsTrue (d.kept a) × IsTrue (contains_key old.objects a)
+  left_kept a left = and_parts (d.kept a) (contains_key old.objects a) (sym (remains a) ∙ left)
 
   found_kept : (a : ℕ) → IsTrue (found a) → IsTrue (d.kept a)
   found_kept a on = d.keeps a (FoundItself on)

@@ -8,3 +8,5 @@ pub mod References
 pub mod Keeping
 pub mod Holding
 pub mod Pointed
+pub mod Guarding
+pub mod Weak

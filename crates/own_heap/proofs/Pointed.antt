@@ -1,5 +1,5 @@
 -- The words of a record, one after the other.
-use Rattle.std.proofs.Common.{◌≡◌, ℕ, ◌+◌, ◌<◌, ◌≤◌, List, [], length, map, Option, Some, None, slice_get, slice_index, get_or, refl, sym, ap, ◌∙◌, subst, arith}
+use Rattle.std.proofs.Common.{◌≡◌, ℕ, ◌+◌, ◌<◌, ◌≤◌, length, map, Some, None, slice_get, slice_index, get_or, sym, ap, ◌∙◌, subst, arith}
 use Rattle.std.specs.List.{range_with_len}
 use Rattle.std.proofs.lemmas.List.FromFn.{get_or-map-range_with_len, length-map-range_with_len}
 use Rattle.std.proofs.lemmas.Option.{slice_get_past, slice_get_within, get_or_from_slice_get}
@@ -11,7 +11,7 @@ use Rattle.fz_why.specs.Hosts.{all_are, all_none, all_at}
 use Rattle.own_heap.specs.declared.record.Field.{Field}
 use Rattle.own_heap.specs.declared.record.Field.TheVariants.{Nothing}
 use Rattle.own_heap.specs.declared.record.Record.{Record}
-use Rattle.own_heap.specs.Records.{object_of, objects_of, word_of, words_of}
+use Rattle.own_heap.specs.Records.{object_of, word_of, words_of}
 
 module _ (objects : Map Object) (a : ℕ) (index : ℕ) where
   pub pointer_none : get objects a ≡ None → slice_get (all_pointers objects a) index ≡ None

@@ -5,3 +5,4 @@ pub mod Kept
 pub mod Sound
 pub mod Collected
 pub mod Pointing
+pub mod Guarding

@@ -5,17 +5,21 @@
 //! a field, and has its address as its number; or it lies outside of the heap, and has a number from `OUTSIDE` on.
 #![tactic(auto)]
 
+mod guardian;
 mod heap;
 mod host;
 mod law;
 mod marking;
 mod marks;
+mod pair;
 mod paths;
 mod record;
 mod records;
 mod runtime;
 
+pub use guardian::Guardian;
 pub use heap::Heap;
-pub use law::objects_are_records;
+pub use law::{objects_are_records, pairs_are_weak};
+pub use pair::WeakPair;
 pub use record::{FIELDS, Field, OUTSIDE, Record, RecordId};
 pub use runtime::Runtime;

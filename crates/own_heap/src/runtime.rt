@@ -2,14 +2,15 @@
 
 ghost use Rattle.std.specs.Prelude.{◌≡◌, ◌+◌, ◌++◌, ◌∷◌, ◌⊎◌, ◌^◌, [], ◌<◌, if◌then◌else◌, is_some, length, option_map, replicate, slice_set, IfErr, IfOk, IfSome, IsTrue, MatchOption, OnErr, OnOk, None};
 ghost use Rattle.std.specs.FinMap.{contains_key, get};
-ghost use Rattle.fz_model.specs.Steps.{old_of};
-ghost use Rattle.fz_finalizers.specs.Causes.{IsJudgedBy, IsJudgedOrLacks, add_causes, finish_causes, link_causes, register_causes};
+ghost use Rattle.fz_model.specs.Steps.{move_answer, old_of};
+ghost use Rattle.fz_finalizers.specs.Causes.{IsJudgedBy, IsJudgedOrLacks, add_causes, finish_causes, link_causes, move_causes, register_causes};
 ghost use Rattle.fz_finalizers.specs.States.{HasRooms, links_of, opening, room_of, waiting};
-ghost use Rattle.fz_finalizers.specs.Follows.{Follows, Register, Link, AddCleanup, Cancel, Take, Finish, next_pass};
+ghost use Rattle.fz_finalizers.specs.Follows.{Follows, Register, Unregister, Link, Unlink, Move, AddCleanup, Cancel, Take, Finish, next_pass};
 ghost use Rattle.own_heap.specs.Outside.{place_of_link};
 ghost use Rattle.own_heap.specs.Records.{address_of, addresses_of, objects_of, slot, with_field, IsFull, IsMade};
 ghost use Rattle.fz_pass.specs.Marks.{IsClosed};
-ghost use Rattle.fz_why.specs.Why.{IsToldOf};
+ghost use Rattle.fz_finalizers.specs.Walks.{registrations_in_order};
+ghost use Rattle.fz_why.specs.Why.{AreStuck, IsToldOf, WithFound};
 ghost use Rattle.own_heap.specs.Sound.{HeldStand, IsSound};
 ghost use Rattle.own_heap.specs.Marking.{is_marked};
 ghost use Rattle.own_heap.specs.Collected.{Collects, MarksKept};
@@ -17,11 +18,11 @@ ghost use Rattle.own_heap.specs.Collected.{Collects, MarksKept};
 use crate::heap::Heap;
 use crate::record::{FIELDS, Field, RecordId};
 use fz_finalizers::{
-    Attached, Cleanup, Entry, Finalizer, Finalizers, LinkAnswer, LinkKind, Old, Passed, Refused,
-    Root,
+    Attached, Cleanup, Entry, Finalizer, Finalizers, LinkAnswer, LinkKind, MoveAnswer, Old, Passed,
+    Refused, Root,
 };
 use fz_model::Addr;
-use fz_why::{NoMemory, Reason, why};
+use fz_why::{NoMemory, Reason, stuck, why};
 use std::alloc::{AllocError, Global};
 
 /// Marks everything that one kind of the finalizers' roots reaches.
@@ -136,6 +137,15 @@ impl Runtime {
         self.finalizers.register(id.address(), finalizer)
     }
 
+    /// Removes a record's registration, and returns its procedure and client data, if it was registered.
+    pub fn unregister(&mut self, id: RecordId) -> Option<Old>
+        ensures heap { self.new.heap ≡ self.old.heap }
+        ensures answer { result ≡ old_of self.old.finalizers.registrations (address_of id.place) }
+        ensures follows { Follows self.old.finalizers.state (Unregister (address_of id.place)) self.new.finalizers.state }
+    {
+        self.finalizers.unregister(id.address())
+    }
+
     /// Makes a link to an existing record: from a field of a record (`RecordId::word`), or, with a number from `OUTSIDE` on, from outside of the heap.
     pub fn link(
         &mut self,
@@ -153,6 +163,26 @@ impl Runtime {
         ensures follows { OnOk result (Follows self.old.finalizers.state (Link kind word (address_of target.place)) self.new.finalizers.state) }
     {
         self.finalizers.link(kind, word, target.address())
+    }
+
+    /// Removes the link of a word, and returns whether there was one.
+    pub fn unlink(&mut self, kind: LinkKind, word: Addr) -> bool
+        ensures heap { self.new.heap ≡ self.old.heap }
+        ensures answer { result ≡ contains_key (links_of self.old.finalizers.state kind) word }
+        ensures follows { Follows self.old.finalizers.state (Unlink kind word) self.new.finalizers.state }
+    {
+        self.finalizers.unlink(kind, word)
+    }
+
+    /// Moves a link from one word to another; its target stays the same, and so do both fields. Fails with `Zero` if the other word is 0.
+    pub fn move_link(&mut self, kind: LinkKind, word: Addr, to: Addr) -> Result<MoveAnswer, Refused>
+        ensures heap { self.new.heap ≡ self.old.heap }
+        ensures judged { IsJudgedBy (move_causes to) result }
+        ensures refused { OnErr result (self.new.finalizers.state ≡ self.old.finalizers.state) }
+        ensures answer { IfOk result (λ answer. answer ≡ move_answer (links_of self.old.finalizers.state kind) word to) }
+        ensures follows { OnOk result (Follows self.old.finalizers.state (Move kind word to) self.new.finalizers.state) }
+    {
+        self.finalizers.move_link(kind, word, to)
     }
 
     /// Adds a cleanup to an existing record.
@@ -206,6 +236,13 @@ impl Runtime {
         ensures told { IfOk result (λ reason. IsToldOf place_of_link (objects_of self.now.heap.records.slots.items) (addresses_of self.now.heap.roots.items) self.now.finalizers.state reason (address_of id.place)) }
     {
         why(alloc, &self.finalizers, &self.heap, id.address())
+    }
+
+    /// Which records wait for a ring, as `fz_why::stuck` says, by their addresses.
+    pub fn stuck(&self, alloc: Global) -> Result<Vec<Addr>, NoMemory>
+        ensures listed { IfOk result (λ objects. WithFound (objects_of self.now.heap.records.slots.items) (addresses_of self.now.heap.roots.items) self.now.finalizers.state (λ found. AreStuck place_of_link (objects_of self.now.heap.records.slots.items) self.now.finalizers.state found (registrations_in_order self.now.finalizers) objects.items)) }
+    {
+        stuck(alloc, &self.finalizers, &self.heap)
     }
 
     /// A collection: marks what the roots, the unfinished entries and the client data reach, runs the finalizers' pass, and frees all other records, those

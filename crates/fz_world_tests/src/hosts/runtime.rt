@@ -1,7 +1,7 @@
 //! Tests of a heap with finalizers.
 
 use crate::equal::must_be;
-use fz_finalizers::{Finalizer, Kind, LinkKind};
+use fz_finalizers::{Finalizer, Kind, LinkKind, MoveAnswer, Old, Refused};
 use own_heap::Field::{Nothing, Number, Reference};
 use own_heap::{FIELDS, Field, OUTSIDE, RecordId, Runtime};
 use std::process::Abort;
@@ -100,4 +100,70 @@ fn a_link_outside_of_the_heap_lives_as_long_as_its_record(rt: HostRuntime) {
     for kind in [LinkKind::Short, LinkKind::Long].iter() {
         must_be(&rt, runtime.target(*kind, OUTSIDE), None, "it goes, too");
     }
+}
+
+#[test]
+fn a_registration_is_removed_once(rt: HostRuntime) {
+    let mut runtime = Runtime::new(rt.alloc(), 8).expect(&rt, "a runtime");
+    let leaf = made(&rt, &mut runtime, [Nothing; FIELDS]);
+    must_be(&rt, runtime.unregister(leaf), None, "it has none");
+    register(&rt, &mut runtime, leaf, normal(5));
+    let old = Some(Old { proc: 5, cd: 0 });
+    must_be(&rt, runtime.unregister(leaf), old, "its own");
+    must_be(&rt, runtime.unregister(leaf), None, "once");
+    must_be(&rt, runtime.collect().picked, 0, "no finalizer");
+    must_be(&rt, runtime.heap().stands(leaf), false, "it is gone");
+}
+
+#[test]
+fn a_link_moves_and_goes(rt: HostRuntime) {
+    let mut runtime = Runtime::new(rt.alloc(), 8).expect(&rt, "a runtime");
+    let leaf = made(&rt, &mut runtime, [Nothing; FIELDS]);
+    let stem = made(&rt, &mut runtime, [Nothing; FIELDS]);
+    link(&rt, &mut runtime, stem, leaf);
+    link(&rt, &mut runtime, leaf, stem);
+    let from = stem.word(1);
+    must_be(
+        &rt,
+        runtime.move_link(LinkKind::Short, from, 0),
+        Err(Refused::Zero),
+        "0",
+    );
+    let none = Ok(MoveAnswer::NotFound);
+    must_be(
+        &rt,
+        runtime.move_link(LinkKind::Long, from, OUTSIDE),
+        none,
+        "no long one",
+    );
+    let duplicate = Ok(MoveAnswer::Duplicate);
+    must_be(
+        &rt,
+        runtime.move_link(LinkKind::Short, from, leaf.word(1)),
+        duplicate,
+        "the other's",
+    );
+    let moved = Ok(MoveAnswer::Success);
+    must_be(
+        &rt,
+        runtime.move_link(LinkKind::Short, from, OUTSIDE),
+        moved,
+        "out of the heap",
+    );
+    must_be(&rt, runtime.target(LinkKind::Short, from), None, "it left");
+    let at = runtime.target(LinkKind::Short, OUTSIDE);
+    must_be(&rt, at, Some(leaf.address()), "the same target");
+    must_be(
+        &rt,
+        runtime.unlink(LinkKind::Long, OUTSIDE),
+        false,
+        "no long one",
+    );
+    must_be(
+        &rt,
+        runtime.unlink(LinkKind::Short, OUTSIDE),
+        true,
+        "it goes",
+    );
+    must_be(&rt, runtime.unlink(LinkKind::Short, OUTSIDE), false, "once");
 }

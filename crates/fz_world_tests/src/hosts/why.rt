@@ -29,6 +29,8 @@ enum Step {
     Collect(u64),
     /// Takes and finishes an entry of a record.
     Finish(usize),
+    /// Which records wait for a ring.
+    Stuck(&'static [usize]),
     /// What is told of a record, and the records on its path.
     Tells(usize, Told, &'static [usize]),
 }
@@ -150,6 +152,7 @@ fn carry_out(rt: &impl Abort, records: &mut Records, step: Step) {
             must_be(rt, records.runtime.collect().picked, picked, "picked");
         }
         Step::Finish(record) => finish(rt, records, record),
+        Step::Stuck(want) => must_be_stuck(rt, records, want),
         Step::Tells(record, want, path) => must_tell(rt, records, record, want, path),
     }
 }
@@ -173,6 +176,22 @@ fn answer_of(rt: &impl Abort, records: &Records, record: usize) -> (Told, Vec<us
         numbers.push(number).expect(rt, "memory");
     }
     (told, numbers)
+}
+
+/// Checks which records wait for a ring.
+fn must_be_stuck(rt: &impl Abort, records: &Records, want: &[usize]) {
+    let stuck = records.runtime.stuck(records.alloc).expect(rt, "memory");
+    let mut numbers = Vec::new(records.alloc);
+    for address in stuck.iter() {
+        let number = number_of(records, *address).expect(rt, "a record");
+        numbers.push(number).expect(rt, "memory");
+    }
+    must_be(
+        rt,
+        numbers.as_slice() == want,
+        true,
+        "what waits for a ring",
+    );
 }
 
 /// Checks what is told of a record.
@@ -201,10 +220,14 @@ const A_CHILD_WAITS_FOR_ITS_PARENT: [Step; 14] = [
     Step::Tells(1, Told::Ready, &[]),
 ];
 
-const A_RING_OF_ONE_MAY_BE_IGNORED: [Step; 8] = [
+const A_RING_OF_ONE_MAY_BE_IGNORED: [Step; 12] = [
     Step::Refer(0, 0, 0),
+    Step::Refer(0, 1, 1),
+    Step::Register(1, Kind::NoOrder, None),
+    Step::Stuck(&[]),
     Step::Register(0, NORMAL, None),
     Step::Tells(0, Told::Ring, &[0, 0]),
+    Step::Stuck(&[1, 0]),
     Step::Collect(0),
     Step::Tells(0, Told::Ring, &[0, 0]),
     Step::Register(0, Kind::IgnoreSelf, None),
@@ -219,16 +242,19 @@ const OWN_CLIENT_DATA_RETAINS: [Step; 4] = [
     Step::Collect(0),
 ];
 
-const THE_FIRST_STEPS_OF_A_NORMAL_ONE_COUNT: [Step; 6] = [
+const THE_FIRST_STEPS_OF_A_NORMAL_ONE_COUNT: [Step; 9] = [
     Step::Refer(0, 0, 1),
     Step::Refer(1, 0, 0),
     Step::Register(0, NORMAL, None),
     Step::Register(1, Kind::NoOrder, None),
     Step::Tells(0, Told::Ring, &[0, 1, 0]),
     Step::Tells(1, Told::Waits, &[0, 1]),
+    Step::Stuck(&[0, 1]),
+    Step::Root(1),
+    Step::Stuck(&[]),
 ];
 
-const AN_UNREACHABLE_ONE_WAITS_FOR_ALL: [Step; 8] = [
+const AN_UNREACHABLE_ONE_WAITS_FOR_ALL: [Step; 9] = [
     Step::Refer(0, 0, 1),
     Step::Register(0, Kind::NoOrder, None),
     Step::Register(1, NORMAL, None),
@@ -236,6 +262,7 @@ const AN_UNREACHABLE_ONE_WAITS_FOR_ALL: [Step; 8] = [
     Step::Tells(1, Told::Ready, &[]),
     Step::Register(1, Kind::Unreachable, None),
     Step::Tells(1, Told::Waits, &[0, 1]),
+    Step::Stuck(&[]),
     Step::Collect(1),
 ];
 
@@ -445,16 +472,62 @@ fn read(plain: &Plain, found: &[bool; COUNT], record: usize, kind: Kind) -> Told
         return Told::Ring;
     }
     for (other, their, _) in plain.registered.iter() {
-        let counted = if kind == Kind::Unreachable {
-            Kind::Normal
-        } else {
-            *their
-        };
-        if *other != record && !has(found, *other) && holds(plain, found, *other, counted, record) {
+        let by = counted(kind, *their);
+        if *other != record && !has(found, *other) && holds(plain, found, *other, by, record) {
             return Told::Waits;
         }
     }
     Told::Ready
+}
+
+/// The kind by which the first steps of a registered record to another one count.
+fn counted(kind: Kind, their: Kind) -> Kind {
+    if kind == Kind::Unreachable {
+        Kind::Normal
+    } else {
+        their
+    }
+}
+
+/// Whether one of the records in a set reaches a record by a first step that counts.
+fn is_held(
+    plain: &Plain,
+    found: &[bool; COUNT],
+    left: &[bool; COUNT],
+    record: usize,
+    kind: Kind,
+) -> bool {
+    for (other, their, _) in plain.registered.iter() {
+        let by = if *other == record {
+            kind
+        } else {
+            counted(kind, *their)
+        };
+        if has(left, *other) && holds(plain, found, *other, by, record) {
+            return true;
+        }
+    }
+    false
+}
+
+/// Which records never become ready, however often those that are ready go.
+fn read_stuck(plain: &Plain, found: &[bool; COUNT]) -> [bool; COUNT] {
+    let mut left = [false; COUNT];
+    for (record, _, _) in plain.registered.iter() {
+        if !has(found, *record) {
+            set(&mut left, *record);
+        }
+    }
+    for _ in 0..COUNT {
+        let mut still = [false; COUNT];
+        for (record, kind, _) in plain.registered.iter() {
+            if has(&left, *record) && is_held(plain, found, &left, *record, *kind) {
+                set(&mut still, *record);
+            }
+        }
+        left = still;
+    }
+    left
 }
 
 /// Whether each record of a path refers to the next.
@@ -524,6 +597,14 @@ fn compare(rt: &impl Abort, alloc: Global, plain: &Plain) {
         must_be(rt, sort, want, "the plain reading");
         ready = ready.saturating_add(u64::from(want == Told::Ready));
     }
+    let stuck = read_stuck(plain, &found);
+    let mut want = Vec::new(alloc);
+    for (record, _, _) in plain.registered.iter() {
+        if has(&stuck, *record) {
+            push(rt, &mut want, *record);
+        }
+    }
+    must_be_stuck(rt, &all, want.as_slice());
     must_be(
         rt,
         all.runtime.collect().picked,

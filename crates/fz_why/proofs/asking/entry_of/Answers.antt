@@ -1,4 +1,4 @@
-use Rattle.std.proofs.Common.{◌≡◌, ◌++◌, ◌∷◌, [], ◌∙◌, arith, List, ⊎_elim, Contains, ap, sym, subst}
+use Rattle.std.proofs.Common.{◌≡◌, ◌∙◌, arith, List, ⊎_elim, Contains, ap, sym, subst}
 use Rattle.std.proofs.lemmas.List.Elements.{Contains-push_cases}
 use Rattle.fz_model.specs.declared.answers.Entry.{Entry}
 use Rattle.fz_finalizers.specs.Walks.{somes}

@@ -1,5 +1,4 @@
 use Rattle.std.proofs.Common.{Bool, subst}
-use Rattle.std.specs.FinSet.{contains}
 use Rattle.fz_why.specs.Why.{IsBackPath, HoldsBack}
 use Rattle.fz_why.specs.Trail.{has}
 use Rattle.std.proofs.Common.{ℕ, ◌≢◌}

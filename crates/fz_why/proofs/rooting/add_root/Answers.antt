@@ -1,4 +1,4 @@
-use Rattle.std.proofs.Common.{◌≡◌, ◌∙◌, Some, ap, sym}
+use Rattle.std.proofs.Common.{◌∙◌, Some, ap, sym}
 use Rattle.std.proofs.lemmas.Option.{none-some, same_Some}
 use Rattle.fz_why.specs.declared.origin.Origin.TheVariants.{Root}
 use Rattle.fz_why.proofs.Adding.{adds_nothing, adds_one, adds_as}

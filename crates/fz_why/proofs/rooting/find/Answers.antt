@@ -1,5 +1,4 @@
 use Rattle.std.proofs.Common.{◌⊎◌, subst}
-use Rattle.fz_finalizers.specs.States.{unfinished}
 use Rattle.fz_why.specs.Trail.{Adds, IsByHost, IsByRegistration, IsByCleanup, IsByRoot, IsStepBy}
 use Rattle.fz_why.specs.declared.origin.Origin.{Origin}
 use Rattle.std.proofs.Common.{ℕ, false}

@@ -1,6 +1,6 @@
-use Rattle.std.proofs.Common.{◌≡◌, ◌≢◌, ◌∙◌, ℕ, Option, Some, None, ap, sym}
+use Rattle.std.proofs.Common.{◌≡◌, ◌∙◌, Some, None, ap, sym}
 use Rattle.std.proofs.lemmas.Option.{none-some, same_Some}
-use Rattle.fz_why.proofs.Adding.{adds_nothing, adds_one, adds_as}
+use Rattle.fz_why.proofs.Adding.{adds_one, adds_as}
 use Rattle.fz_why.proofs.searching.add_but.Goals as goal
 
 pub returns-in_ok-add_unless-in-Some : goal.returns-in_ok-add_unless-in-Some

@@ -1,8 +1,7 @@
 use Rattle.std.specs.Option.{option_copied}
-use Rattle.std.proofs.Common.{◌≡◌, ◌∙◌, Option, Some, None, ap, sym, subst}
+use Rattle.std.proofs.Common.{◌≡◌, Some, ap, sym, subst}
 use Rattle.std.proofs.lemmas.Option.{none-some, same_Some}
 use Rattle.fz_model.specs.declared.kinds.RegKind.{RegKind}
-use Rattle.fz_model.specs.declared.kinds.RegKind.TheVariants.{Normal, IgnoreSelf, NoOrder}
 use Rattle.fz_why.specs.declared.origin.Origin.{Origin}
 use Rattle.fz_why.specs.declared.origin.Origin.TheVariants.{First}
 use Rattle.fz_why.specs.Trail.{is_cut, Adds, IsFirstBy}

@@ -1,8 +1,7 @@
 use Rattle.std.specs.Option.{option_copied}
-use Rattle.std.proofs.Common.{◌≡◌, ◌∙◌, Option, Some, None, ap, sym}
+use Rattle.std.proofs.Common.{◌∙◌, Some, ap, sym}
 use Rattle.std.proofs.lemmas.Bool.{both_ways}
 use Rattle.std.proofs.lemmas.Option.{none-some, same_Some}
-use Rattle.fz_model.specs.Memory.{points}
 use Rattle.fz_why.specs.Trail.{is_cut}
 use Rattle.fz_why.proofs.Adding.{adds_nothing, adds_as}
 use Rattle.fz_why.proofs.searching.add_step.Goals as goal

@@ -1,4 +1,4 @@
-use Rattle.std.proofs.Common.{◌≡◌, ◌≢◌, ◌∙◌, arith, sym}
+use Rattle.std.proofs.Common.{◌≢◌, ◌∙◌, arith, sym}
 use Rattle.fz_why.proofs.Adding.{adds_nothing, adds_one, adds_as}
 use Rattle.fz_why.proofs.searching.add_unless.Goals as goal
 

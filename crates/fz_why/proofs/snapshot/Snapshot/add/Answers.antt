@@ -1,4 +1,4 @@
-use Rattle.std.proofs.Common.{◌≡◌, ◌∙◌, ℕ, ap, sym, subst}
+use Rattle.std.proofs.Common.{◌≡◌, ℕ, sym, subst}
 use Rattle.fz_why.specs.Snapshot.{Copy, IsNext, Links, Lists, links_to, word_of}
 use Rattle.fz_why.proofs.Cells.{cells_more, lists_more}
 use Rattle.fz_why.proofs.snapshot.Snapshot.add.Goals as goal

@@ -1,4 +1,4 @@
-use Rattle.std.proofs.Common.{true≢false, ◌≡◌, ◌++◌, ◌∷◌, [], ◌∙◌, ℕ, List, Contains, IsTrue, refl, sym, ap, subst}
+use Rattle.std.proofs.Common.{true≢false, ◌≡◌, ◌∙◌, ℕ, List, Contains, IsTrue, refl, sym, subst}
 use Rattle.std.specs.FinMap.{contains_key}
 use Rattle.fz_model.specs.declared.answers.Registration.{Registration}
 use Rattle.fz_pass.proofs.Walking.{one_on, all_of}

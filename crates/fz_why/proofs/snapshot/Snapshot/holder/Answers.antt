@@ -1,4 +1,4 @@
-use Rattle.std.proofs.Common.{◌≡◌, ◌∙◌, nat_eq, Option, Some, None, option_map, ap, subst}
+use Rattle.std.proofs.Common.{◌≡◌, ◌∙◌, nat_eq, Some, None, option_map, ap, subst}
 use Rattle.std.specs.Map.{lookup}
 use Rattle.fz_why.specs.declared.snapshot.listing.Cell.{Cell}
 use Rattle.fz_why.specs.Snapshot.{AreCells, Copy, objects_of}

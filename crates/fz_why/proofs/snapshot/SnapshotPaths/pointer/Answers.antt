@@ -1,10 +1,9 @@
 use Rattle.std.proofs.Common.{◌≡◌, ◌+◌, ◌∙◌, nat_eq, Some, None, ap, sym, subst, arith}
-use Rattle.std.proofs.lemmas.Bool.{both_ways, eqb-true, eq-eqb}
 use Rattle.std.proofs.lemmas.Option.{none-some, same_Some}
 use Rattle.std.specs.Map.{lookup}
 use Rattle.fz_why.specs.declared.paths.Pointer.{Pointer}
 use Rattle.fz_why.specs.declared.snapshot.listing.Cell.{Cell}
-use Rattle.fz_why.specs.Snapshot.{AreCells, Cells, Copy, objects_of}
+use Rattle.fz_why.specs.Snapshot.{AreCells, Copy, objects_of}
 use Rattle.fz_why.proofs.Cells.{pointer_here, pointer_none}
 use Rattle.fz_why.proofs.snapshot.SnapshotPaths.pointer.Goals as goal
 
