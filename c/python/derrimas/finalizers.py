@@ -262,9 +262,8 @@ class Finalizers:
         return OpenPass(self)
 
     def run_pass(self, host: Any) -> Passed:
-        """A whole pass, which the methods of the host answer. Where one raises, or a hook does before the end, the pass is abandoned: reclaim nothing before the
-        next one has ended. Finalizers
-        that ask about regions refuse a host without `marks`, as BadOptions."""
+        """A whole pass, which the methods of the host answer. Where one raises, or a hook does before the end, the pass is abandoned: reclaim nothing before
+        the next one has ended. Finalizers that ask about regions refuse a host without `marks`, as BadOptions."""
         if self.handle.asks_marks and not hasattr(host, "marks"):
             raise Refused(BAD_OPTIONS)
         with self.open_pass() as questions:
