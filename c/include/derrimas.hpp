@@ -1,7 +1,8 @@
 /* derrimas.hpp: derrimas.h for C++17 and later, in headers alone.
  *
- * Worlds, lines, seats and scopes are destroyed at the end of their C++ scope, and can be moved but not copied. A refusal is an exception, `derrimas::refused`;
- * a result that may be missing is a std::optional. Each member is the call of its name: derrimas.h says what it does, and what a caller owes.
+ * Worlds, lines, seats and scopes are destroyed at the end of their C++ scope, and can be moved but not copied; an assignment destroys what was there. A refusal
+ * is an exception, `derrimas::refused`; a result that may be missing is a std::optional. Each member is the call of its name: derrimas.h says what it does, and
+ * what a caller owes.
  *
  *     derrimas::world world(64);
  *     derrimas::scope scope(world, 0);
@@ -81,7 +82,8 @@ public:
     world(world &&other) noexcept { std::swap(handle_, other.handle_); }
     world &operator=(world &&other) noexcept
     {
-        std::swap(handle_, other.handle_);
+        world moved(std::move(other));
+        std::swap(handle_, moved.handle_);
         return *this;
     }
 
@@ -323,7 +325,8 @@ public:
     seat(seat &&other) noexcept { std::swap(handle_, other.handle_); }
     seat &operator=(seat &&other) noexcept
     {
-        std::swap(handle_, other.handle_);
+        seat moved(std::move(other));
+        std::swap(handle_, moved.handle_);
         return *this;
     }
     derrimas_seat *get() noexcept { return &handle_; }
@@ -352,7 +355,8 @@ public:
     line(line &&other) noexcept { std::swap(handle_, other.handle_); }
     line &operator=(line &&other) noexcept
     {
-        std::swap(handle_, other.handle_);
+        line moved(std::move(other));
+        std::swap(handle_, moved.handle_);
         return *this;
     }
 

@@ -472,7 +472,7 @@ typedef struct derrimas_why {
  * `data` first; n counts from 0 on until they return false. They make no call that changes the handle, and return.
  * - child: the n-th word of an object that may point to another. *child is the object to which it points, or 0. *word is
  *   the word's number, by which .._link makes a link of it, or 0 if it is never one's. An object with n words takes the n
- *   numbers from its own on, and at least one, and no two objects share one. No object is 2^64 - 1.
+ *   numbers from its own on, and at least one, and no two objects share one. No object takes 2^64 - 1.
  * - root: *root is the object to which the n-th root of the host's points, or 0. The finalizers' own are known.
  * - is_object: whether client data is the number of an object. It may be NULL: then none is. An object that is client data
  *   is reachable by it, as for a host that marks what all three sorts of derrimas_finalizers_roots yield. */

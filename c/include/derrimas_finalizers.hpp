@@ -1,8 +1,8 @@
 /* derrimas_finalizers.hpp: derrimas_finalizers.h for C++17 and later, in headers alone.
  *
- * The handle is destroyed at the end of its scope, and can be moved but not copied. A refusal is an exception, `derrimas::finalizers::refused`; a result that
- * may be missing is a std::optional; a walk calls a function for each item. Each member is the call of its name: derrimas_finalizers.h says what it does, what
- * it costs, and what a host owes.
+ * The handle is destroyed at the end of its scope, and can be moved but not copied; an assignment destroys what was there. A refusal is an exception,
+ * `derrimas::finalizers::refused`; a result that may be missing is a std::optional; a walk calls a function for each item. Each member is the call of its name:
+ * derrimas_finalizers.h says what it does, what it costs, and what a host owes.
  *
  *     derrimas::finalizers finalizers;
  *     finalizers.register_object(object, derrimas::finalizers::kind::normal, CLOSE, number);
@@ -95,7 +95,8 @@ public:
     finalizers(finalizers &&other) noexcept { std::swap(handle_, other.handle_); }
     finalizers &operator=(finalizers &&other) noexcept
     {
-        std::swap(handle_, other.handle_);
+        finalizers moved(std::move(other));
+        std::swap(handle_, moved.handle_);
         return *this;
     }
 

@@ -1,7 +1,8 @@
 /* derrimas_workers.hpp: derrimas_workers.h for C++17 and later, in headers alone.
  *
- * The destructor stops the workers once they have run what was published, and waits for them, however long a procedure takes. They can be moved but not copied.
- * A refusal is an exception, `derrimas::finalizers::refused`. Each member is the call of its name: derrimas_workers.h says what it does, and what a host owes.
+ * The destructor stops the workers once they have run what was published, and waits for them, however long a procedure takes. In one of their own procedures it
+ * calls std::terminate, since what that runs by would be freed. They can be moved but not copied; an assignment stops those that were there. A refusal is an
+ * exception, `derrimas::finalizers::refused`. Each member is the call of its name: derrimas_workers.h says what it does, and what a host owes.
  *
  *     std::mutex lock;
  *     derrimas::workers workers(finalizers, lock, [](const derrimas::finalizers::entry &entry) { close_file(entry.cd); }, 4);
@@ -27,7 +28,8 @@ class workers {
 public:
     using counts = derrimas_workers_counts;
 
-    /* Starts them over finalizers and their lock, which has the members `lock` and `unlock`. Both outlive the workers. The procedure doesn't throw. */
+    /* Starts them over finalizers and their lock, which has the members `lock` and `unlock`. Both outlive the workers, and aren't moved. The procedure doesn't
+     * throw. */
     template <typename Lock, typename Run> workers(finalizers &over, Lock &lock, Run run, std::uint64_t count)
         : own_(std::make_unique<own>(own{[&lock] { lock.lock(); }, [&lock] { lock.unlock(); }, std::move(run)}))
     {
@@ -36,15 +38,16 @@ public:
     }
     ~workers()
     {
-        if (handle_.inside)
-            (void)!derrimas_workers_stop(&handle_, UINT64_MAX, nullptr);
+        if (handle_.inside && derrimas_workers_stop(&handle_, UINT64_MAX, nullptr) != DERRIMAS_FINALIZERS_OK)
+            std::terminate();
     }
     workers(const workers &) = delete;
     workers &operator=(const workers &) = delete;
     workers(workers &&other) noexcept { swap(other); }
     workers &operator=(workers &&other) noexcept
     {
-        swap(other);
+        workers moved(std::move(other));
+        swap(moved);
         return *this;
     }
 

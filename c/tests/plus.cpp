@@ -185,6 +185,9 @@ static void moves_and_scopes()
     v.pause();
     w = std::move(v);
     IS(w.next_object(0)->size == 64);
+    world other(1);
+    w = std::move(other); /* its object is gone */
+    IS(!w.next_object(0) && refusal([&] { other.count(); }) == "NoWorld");
 }
 
 static void seats()
@@ -219,7 +222,9 @@ static void seats()
     IS(moved.take()->seq == 3);
     first = std::move(moved);
     first.done();
-    IS(refusal([&] { first.done(); }) == "Empty");
+    IS(refusal([&] { first.done(); }) == "Empty" && refusal([&] { moved.done(); }) == "NoWorld");
+    one = std::move(kept);
+    IS(refusal([&] { kept.seat(); }) == "NoWorld" && refusal([&] { one.seat(); }) == "Empty");
 }
 
 /* ---- finalizers over a heap of this test's */
@@ -449,6 +454,11 @@ static void memory_of_finalizers()
         fin moved(std::move(f));
         IS(refusal([&] { f.count(); }) == "NotOpen" && moved.count().registrations == 1);
         f = std::move(moved);
+        fin other;
+        moved = std::move(other);
+        moved = std::move(f);
+        IS(refusal([&] { f.count(); }) == "NotOpen" && moved.count().registrations == 1);
+        f = std::move(moved);
         own.refuses = true;
         IS(refusal([&] { f.reserve(1'000'000, 0, 0); }) == "NoMemory" && f.count().registrations == 1);
         try {
@@ -502,6 +512,9 @@ static void threads_of_finalizers()
         moved.publish();
     }
     IS(moved.wait() && sum == 5050 && moved.count().finished == 100);
+    first = workers(f, lock, [&](const fin::entry &entry) { sum += entry.cd; }, 1);
+    moved = std::move(first); /* those that were there are stopped */
+    IS(moved.started() == 1 && moved.count().published == 0 && refusal([&] { first.publish(); }) == "NotOpen");
     IS(moved.stop()->abandoned == 0 && refusal([&] { moved.wait(); }) == "NotOpen");
     IS(refusal([&] { workers none(f, lock, [](const fin::entry &) {}, 0); }) == "BadCount");
     workers last(f, lock, [&](const fin::entry &) { sum++; }, 1); /* its end stops it */
@@ -511,28 +524,53 @@ static void threads_of_finalizers()
     last.publish();
 }
 
-/* In a child of this process a worker's procedure throws, which ends the child. */
-static void thrown_in_a_worker()
+/* A program that is run in a child of this process, and ends it by SIGABRT. */
+static bool is_aborted(void program())
 {
     int status = 0;
     const pid_t child = fork();
 
     if (child == 0) {
         const rlimit no_core = {0, 0};
-        derrimas_finalizers f = {};
-        derrimas_workers workers = {};
-        const derrimas_workers_options options = {sizeof options, &f, [](void *) {}, [](void *) {}, [](void *, const derrimas_finalizers_entry *) { throw 1; },
-                                                  nullptr, 1};
 
         setrlimit(RLIMIT_CORE, &no_core);
-        bool right = std::freopen("/dev/null", "w", stderr) && !derrimas_finalizers_open(&f, nullptr);
-        right = right && !derrimas_finalizers_register(&f, 1, DERRIMAS_FINALIZERS_NORMAL, 0, 0, 0, nullptr, nullptr);
-        right = right && !derrimas_finalizers_queue_all(&f, nullptr) && !derrimas_workers_start(&workers, &options, nullptr);
-        right = right && !derrimas_workers_wait(&workers, UINT64_MAX);
-        _exit(right);
+        if (std::freopen("/dev/null", "w", stderr))
+            program();
+        _exit(0);
     }
-    IS(child > 0 && waitpid(child, &status, 0) == child);
-    IS(WIFSIGNALED(status) && WTERMSIG(status) == SIGABRT);
+    return child > 0 && waitpid(child, &status, 0) == child && WIFSIGNALED(status) && WTERMSIG(status) == SIGABRT;
+}
+
+static void thrown_by_a_procedure()
+{
+    derrimas_finalizers f = {};
+    derrimas_workers workers = {};
+    const derrimas_workers_options options = {sizeof options, &f, [](void *) {}, [](void *) {}, [](void *, const derrimas_finalizers_entry *) { throw 1; },
+                                              nullptr, 1};
+
+    bool right = !derrimas_finalizers_open(&f, nullptr);
+    right = right && !derrimas_finalizers_register(&f, 1, DERRIMAS_FINALIZERS_NORMAL, 0, 0, 0, nullptr, nullptr);
+    right = right && !derrimas_finalizers_queue_all(&f, nullptr) && !derrimas_workers_start(&workers, &options, nullptr);
+    right = right && !derrimas_workers_wait(&workers, UINT64_MAX);
+    _exit(right);
+}
+
+static void destroyed_by_a_procedure()
+{
+    fin f;
+    std::mutex lock;
+    std::optional<workers> crew;
+
+    f.register_object(1, fin::kind::normal, 0, 0);
+    f.queue_all();
+    crew.emplace(f, lock, [&](const fin::entry &) { crew.reset(); }, 1);
+    crew->wait();
+}
+
+static void ends_of_workers()
+{
+    IS(is_aborted(thrown_by_a_procedure));
+    IS(is_aborted(destroyed_by_a_procedure));
 }
 
 int main()
@@ -552,7 +590,7 @@ int main()
     memory_of_finalizers();
     told_of_finalizers();
     threads_of_finalizers();
-    thrown_in_a_worker();
+    ends_of_workers();
     std::printf("%u checks, %u failed\n", checks, failures);
     return failures != 0;
 }

@@ -129,12 +129,36 @@ with lock:
 """
 
 
-def a_program_that_ends():
-    ended = subprocess.run([sys.executable, '-B', '-c', FORGOTTEN], env={**os.environ, 'PYTHONPATH': os.path.join(HERE, '..', 'python')}, capture_output=True, text=True, timeout=60)
-    check((ended.returncode, ended.stdout, ended.stderr), (0, 'ran 7\n', ''), 'a program that stops no workers')
+FREED = """import gc, threading
+from derrimas.finalizers import Finalizers
+from derrimas.workers import Workers
+finalizers, lock, goes = Finalizers(), threading.Lock(), threading.Event()
+
+def run(entry):
+    goes.wait()
+    gc.collect()
+    print('ran', entry.obj, flush=True)
+ring = [Workers(finalizers, lock, run, 1)]
+ring.append(ring)
+with lock:
+    finalizers.register(7, proc=0)
+    finalizers.register(8, proc=0)
+    finalizers.queue_all()
+    ring[0].publish()
+gc.disable()
+del ring
+goes.set()
+"""
 
 
-for test in (runs_each_once, raises, limits, refusals, an_open_pass, a_program_that_ends):
+def programs():
+    for program, printed, where in ((FORGOTTEN, 'ran 7\n', 'a program that stops no workers'), (FREED, 'ran 7\nran 8\n', 'a procedure that frees the workers')):
+        ended = subprocess.run([sys.executable, '-B', '-c', program], env={**os.environ, 'PYTHONPATH': os.path.join(HERE, '..', 'python')}, capture_output=True,
+                               text=True, timeout=60)
+        check((ended.returncode, ended.stdout, ended.stderr), (0, printed, ''), where)
+
+
+for test in (runs_each_once, raises, limits, refusals, an_open_pass, programs):
     test()
 print(f'{checks} checks, {failures} failed')
 sys.exit(failures > 0)

@@ -136,7 +136,7 @@ def finalized(world, how, slot):
 
 
 class Host:
-    """A host that says yes of odd numbers, or raises at its first question; and an allocator over the C library."""
+    """A host that says yes of odd numbers, or raises at its first question, or gives a `text` as a region's word; and an allocator over the C library."""
     memory = ctypes.CDLL(None)
     memory.malloc.argtypes, memory.malloc.restype = [ctypes.c_size_t], ctypes.c_void_p
     memory.realloc.argtypes, memory.realloc.restype = [ctypes.c_void_p, ctypes.c_size_t], ctypes.c_void_p
@@ -171,13 +171,14 @@ class Host:
         return self._answer(b'holder_is_marked', word)
 
     def marks(self, first):
-        return self._answer(b'marks', first) + 10 * first
+        answer = self._answer(b'marks', first) + 10 * first
+        return str(answer) if self.how == 'text' else answer
 
     def allocate(self, size):
         LIBRARY.noted_memory(b'allocate', size)
         if self.how in ('throws', 'interrupts'):
             raise (OSError if self.how == 'throws' else KeyboardInterrupt)(1)
-        return None if self.how == 'refuses' else self.memory.malloc(size)
+        return {'refuses': lambda: None, 'text': lambda: 'memory'}.get(self.how, lambda: self.memory.malloc(size))()
 
     def reallocate(self, memory, size):
         LIBRARY.noted_memory(b'reallocate', size)
@@ -421,6 +422,8 @@ def outcome(handle, call, arguments):
     except (OSError, KeyboardInterrupt) as why:
         check(why.args, (1,), f'{call}: the turn of what is raised')
         return 'thrown' if isinstance(why, OSError) else 'interrupted'
+    except TypeError:
+        return 'wrong_type'
 
 
 def argument(word):

@@ -170,7 +170,7 @@ static bool child_of(void *data, uint64_t what, uint64_t n, uint64_t *word, uint
     (void)data;
     if (!it->is_scanned || n >= it->count)
         return false;
-    *word = own_heap_word(it->words, n);
+    *word = n < OWN_HEAP_LINK_WORDS ? own_heap_word(it->words, n) : 0;
     *child = is_address(it->words[n]) ? it->words[n] : 0;
     return true;
 }

@@ -40,8 +40,11 @@ size_t own_heap_run(own_heap *heap, void (*run)(const derrimas_finalizers_entry 
 /* Why an object isn't finalized, with up to `room` objects of the path, as derrimas_finalizers_why tells and refuses. */
 derrimas_finalizers_code own_heap_why(own_heap *heap, const uint64_t *object, derrimas_why *why, uint64_t *path, size_t room);
 
-/* The numbers by which the library knows an object, and a word of it, one of the first 65,536: its object's address and its place, so
- * that the heap needs no search for the object. An address has 48 bits. */
+/* How many words of an object, its first ones, may be links. */
+#define OWN_HEAP_LINK_WORDS 65536
+
+/* The numbers by which the library knows an object, and a word of it that may be a link: its object's address and its place, so that
+ * the heap needs no search for the object. An address has 48 bits. */
 static inline uint64_t own_heap_number(const uint64_t *object) { return (uint64_t)(uintptr_t)object; }
 static inline uint64_t own_heap_word(const uint64_t *object, uint64_t place) { return own_heap_number(object) | place << 48; }
 

@@ -12,9 +12,10 @@
         heap.sweep()
         finalizers.invoke_finalizers()
 
-Objects, words, procedures and client data are numbers below 2^64. The heap answers a pass by six methods: is_marked(object), mark_children(object,
-but_itself), mark(object), mark_alone(object), clear(word), holder_is_marked(word). Over Finalizers(marks=True) it has marks(first) too, the word of a region
-of objects. A refused call raises Refused, whose text is the library's sentence. Use Finalizers from one thread at a time. The library is libderrimas.so.1: that of the package, or the file that the variable DERRIMAS names."""
+Objects, words, procedures and client data are numbers below 2^64, and ranks are below 256; of other numbers the lowest 64 or 8 bits count. The heap answers a
+pass by six methods: is_marked(object), mark_children(object, but_itself), mark(object), mark_alone(object), clear(word), holder_is_marked(word). Over
+Finalizers(marks=True) it has marks(first) too, the word of a region of objects. A refused call raises Refused, whose text is the library's sentence. Use
+Finalizers from one thread at a time. The library is libderrimas.so.1: that of the package, or the file that the variable DERRIMAS names."""
 from __future__ import annotations
 import contextlib, ctypes, enum
 from ctypes import CFUNCTYPE, POINTER, Structure, byref, c_bool, c_char_p, c_size_t, c_uint8, c_uint32, c_uint64, c_void_p
@@ -149,7 +150,8 @@ class Finalizers:
     """The finalizers of a heap. They are destroyed at the end of their `with`, or when Python frees them.
 
     An allocator has the methods allocate(size), reallocate(memory, size) and release(memory), whose memory are addresses; None is no memory. What one raises
-    is raised by the call in which it came, once that has ended, and counts as no memory. With `marks` a pass asks about regions of objects."""
+    is raised by the call in which it came, once that has ended, and counts as no memory; so does what is no address, as TypeError. With `marks` a pass asks
+    about regions of objects."""
 
     def __init__(self, allocator: Any = None, marks: bool = False) -> None:
         self.handle = Handle()
@@ -177,7 +179,8 @@ class Finalizers:
 
             def call(_: Any, *arguments: Any) -> Any:
                 try:
-                    return method(*(Entry.from_buffer_copy(it.contents) if isinstance(it, POINTER(Entry)) else it for it in arguments))
+                    returned = method(*(Entry.from_buffer_copy(it.contents) if isinstance(it, POINTER(Entry)) else it for it in arguments))
+                    return c_void_p(returned).value if function._restype_ else None  # raises if it is no address: ctypes would return any
                 except BaseException as why:  # nothing may be raised through C
                     self.raised.append(why)
                     return None
@@ -191,6 +194,7 @@ class Finalizers:
             raise first
 
     def _call(self, name: str, *arguments: Any) -> None:
+        self._raise()  # what came in a call of a worker's
         code = getattr(LIBRARY, f"derrimas_finalizers_{name}")(byref(self.handle), *arguments)
         self._raise()
         if code:
@@ -258,8 +262,8 @@ class Finalizers:
         return OpenPass(self)
 
     def run_pass(self, host: Any) -> Passed:
-        """A whole pass, which the methods of the host answer. Where one raises, the pass is abandoned: reclaim nothing before the next one has ended. Finalizers
-        that ask about regions refuse a host without `marks`, as BadOptions."""
+        """A whole pass, which the methods of the host answer. Where one raises, or a hook does before the end, the pass is abandoned: reclaim nothing before
+        the next one has ended. Finalizers that ask about regions refuse a host without `marks`, as BadOptions."""
         if self.handle.asks_marks and not hasattr(host, "marks"):
             raise Refused(BAD_OPTIONS)
         with self.open_pass() as questions:
@@ -447,17 +451,16 @@ class OpenPass:
     def next(self, answers: Answers = 0) -> Optional[Question]:
         """Takes the answers to the question before, at first any, and returns the next; None where the pass has ended: `did` is what it did then. The answers are
         a number, and a list of words of regions after Ask.MARKS."""
-        asked, self.is_open = CQuestion(), False
+        asked, word = CQuestion(), c_uint64(answers if isinstance(answers, int) else 0)
         if not isinstance(answers, int):
             asked.marks[:len(answers)] = answers
-        try:
-            self.finalizers._call("next", answers if isinstance(answers, int) else 0, byref(asked), byref(self.did))
-        except Refused as refused:
-            if refused.code != EMPTY:
-                raise
-            return None
-        self.is_open = True
-        return Question(asked)
+        self.finalizers._raise()
+        code = LIBRARY.derrimas_finalizers_next(byref(self.finalizers.handle), word, byref(asked), byref(self.did))
+        self.is_open = code == 0  # also where a hook raised
+        self.finalizers._raise()
+        if code not in (0, EMPTY):
+            raise Refused(code)
+        return Question(asked) if self.is_open else None
 
     def abandon(self) -> None:
         """Ends the pass here."""

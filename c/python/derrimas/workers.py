@@ -13,13 +13,13 @@ While there are workers, each call of their Finalizers is made with the lock, wh
 runs in a thread that Python doesn't know by a name, without the lock. What it raises counts as its end, and is raised by the next wait or stop. Only one thread at
 a time runs Python's own code: several workers serve procedures that wait for something else. A procedure that doesn't return keeps the program from ending."""
 from __future__ import annotations
-import ctypes, weakref
+import ctypes, threading, weakref
 from ctypes import CFUNCTYPE, POINTER, byref, c_size_t, c_uint32, c_uint64, c_void_p
 from typing import Any, Callable, List, Optional
 from ._library import declare, struct
 from .finalizers import LIBRARY, Entry, Finalizers, Handle, Refused
 
-PENDING = 17
+IN_PROCEDURE, PENDING = 16, 17
 NO_LIMIT = 2 ** 64 - 1  # of milliseconds
 
 LOCK = CFUNCTYPE(None, c_void_p)
@@ -36,9 +36,9 @@ for name, types in {"start": [POINTER(Options), POINTER(c_uint64)], "publish": [
 
 
 def ended(crew: Any, options: Any, finalizers: Finalizers) -> None:
-    """Stops workers that still run; what they call stays until then."""
-    if crew.inside:
-        LIBRARY.derrimas_workers_stop(byref(crew), NO_LIMIT, None)
+    """Stops workers that still run; what they call stays until then. If one of them frees the last reference, another thread waits for them."""
+    if crew.inside and LIBRARY.derrimas_workers_stop(byref(crew), NO_LIMIT, None) == IN_PROCEDURE:
+        threading.Thread(target=ended, args=(crew, options, finalizers)).start()
 
 
 class Workers:
