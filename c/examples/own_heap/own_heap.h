@@ -22,7 +22,7 @@ typedef struct own_heap {
     struct own_heap_object *to_scan; /* those that are marked, and whose words aren't yet followed */
 } own_heap;
 
-/* Opens a heap of so many words, whose roots stand in an array of the caller's. False: there is no memory. */
+/* Opens a heap of at most `most` words, whose roots are in an array of the caller's. False: out of memory. */
 bool own_heap_open(own_heap *heap, size_t most, const uint64_t *roots, size_t root_count);
 
 /* Frees all. No finalizer runs. */

@@ -25,7 +25,7 @@ kind_of (suc (suc (suc n))) = Unreachable
 abbrev pub finalizer_of : ℕ → ℕ → ℕ → ℕ → Finalizer
 finalizer_of kind proc cd rank = record { kind = kind_of kind; procedure = proc; client_data = cd; rank = rank }
 
--- a cleanup, whose moment is named as a kind of links is; and what is told of one that is cancelled
+-- a cleanup, whose time is encoded as a kind of links; and what is returned of a cancelled one
 abbrev pub cleanup_of : Bool → ℕ → ℕ → ℕ → Cleanup
 cleanup_of is_long proc cd rank = record { when = link_kind_of is_long; procedure = proc; client_data = cd; rank = rank }
 

@@ -25,7 +25,7 @@ pub enum Ask {
     Clear,
     /// Is the object that contains the word marked, or does no object contain it?
     IsHolderMarked,
-    /// Which objects of a region are marked? The region is told by its first address, and has 64 places, 16 bytes apart from there on. The answer is a word:
+    /// Which objects of a region are marked? The region is named by its first address, and has 64 places, 16 bytes apart from there on. The answer is a word:
     /// its bit `i`, counted from the lowest, says whether the object that begins at place `i` is marked. If none begins there, the bit may have any value.
     Marks,
 }

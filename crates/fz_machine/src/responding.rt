@@ -8,7 +8,7 @@ use crate::regions::{PLACES, bit, object_at};
 use fz_model::Addr;
 use fz_pass::Host;
 
-/// Asks a host that can be called about one object or link, or has it carry out a command, for which the answer is false. The answer is an honest one: what
+/// Asks a host that can be called about one object or link, or has it carry out a command, for which the answer is false. The answer is true of the host: what
 /// `runs_make_the_pass` states of answers, the methods of `Host` promise.
 pub fn respond<H: Host>(host: &mut H, ask: Ask, subject: Addr) -> bool
     requires { MayAsk ask subject (graph_of (H.objects host.old) (H.marked host.old)) }
@@ -42,7 +42,7 @@ pub fn respond<H: Host>(host: &mut H, ask: Ask, subject: Addr) -> bool
     }
 }
 
-/// Asks a host that can be called for the marks of a region, which is told by its first address.
+/// Asks a host that can be called for the marks of a region, which is named by its first address.
 /// The last of its places has to have an address.
 pub fn respond_marks<H: Host>(host: &H, region: Addr) -> u64
     requires { region + 1_008 < 2 ^ 64 }

@@ -7,7 +7,7 @@ ghost use Rattle.fz_finalizers.specs.States.{State};
 ghost use Rattle.fz_why.specs.Why.{IsReached};
 ghost use Rattle.fz_why.specs.Laws.{IsApart, IsJudgedByPasses, KeepsRings};
 
-/// Does nothing. Its contract says that no two of found, ring or waits, and ready hold of a registered object. A pass of the state that is told of queues an
+/// Does nothing. Its contract says that no two of found, ring or waits, and ready hold of a registered object. A pass of the same state queues an
 /// object that is ready, if its host's marks are exact, and no other.
 pub fn answers()
     ensures apart { (place : ℕ → Option ℕ) (objects : Map Object) (roots : List ℕ) (s : State) (o : ℕ) → IsApart place objects roots s o }

@@ -33,7 +33,7 @@ pub struct Listed {
     pub link: Option<Addr>,
 }
 
-/// A copy of a host's heap, by which [`why_of`] answers for a host that can't be called meanwhile. An object with n words has the n addresses from its own on,
+/// A copy of a host's heap, which [`why_of`] searches, for a host that can't be called meanwhile. An object with n words has the n addresses from its own on,
 /// and at least one. No two objects share an address.
 #[derive(Drop)]
 pub struct Snapshot {

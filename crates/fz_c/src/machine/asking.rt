@@ -23,7 +23,7 @@ pub struct Told {
     pub root: u8,
 }
 
-/// The entry of an answer that has none.
+/// The entry in a result that has none: all fields are 0.
 const NO_ENTRY: HostEntry = HostEntry {
     seq: 0,
     pass: 0,

@@ -2,7 +2,7 @@
 
 use fz_why::Snapshot;
 
-/// A copy of a host's heap, and the path of the last answer by it.
+/// A copy of a host's heap, and the path of the last result.
 pub struct SnapshotSession {
     pub(crate) snapshot: Snapshot,
     pub(crate) path: Vec<u64>,
