@@ -1,5 +1,5 @@
 -- How many regions a pass has still to process.
-use Rattle.std.proofs.Common.{◌≡◌, ◌∙◌, ◌≤◌, ◌<◌, ◌+◌, ◌*◌, ◌-◌, ◌⊎◌, ℕ, zero, suc, min, List, [], ◌∷◌, length, take, drop, Option, Some, None, IsTrue, inl, inr, refl, ap, sym, subst, ⊎_elim, arith}
+use Rattle.std.proofs.Common.{◌≡◌, ◌∙◌, ◌≤◌, ◌<◌, ◌+◌, ◌*◌, ◌⊎◌, ℕ, zero, suc, min, List, [], ◌∷◌, length, take, drop, Option, Some, None, IsTrue, inl, inr, refl, ap, sym, subst, ⊎_elim, arith}
 use Rattle.std.proofs.lemmas.List.{drop_all, length-drop, length-take}
 use Rattle.fz_finalizers.specs.States.{State}
 use Rattle.fz_machine.specs.declared.phase.Phase.{Phase}

@@ -133,10 +133,6 @@ module _ (s : State) (walk : Walk) (regions : Regions) (phase : Option Phase) (a
   pub calm : (t : State) (other : Walk) → HasRoom t other.room → IsFewer s.registrations t.registrations → IsInOrder t other regions phase asked
   calm t other room fewer = record { room = room; keeps = inl none_remain; noted = λ complete. noted_fewer s t regions.order fewer (order.noted complete); during = inl none_remain; by_regions = λ at all. absurd (none-some Objects (sym idle ∙ at)) }
 
-  -- the regions are those of the registrations
-  pub renewed : (t : State) (other : Walk) (new : Regions) → HasRoom t other.room → new.left ≡ [] → (IsTrue new.complete → AreNoted t new.order) → IsInOrder t other new phase asked
-  renewed t other new room none noted = record { room = room; keeps = inl none; noted = noted; during = inl none; by_regions = λ at all. absurd (none-some Objects (sym idle ∙ at)) }
-
 unlinks : (s : State) (kind : LinkKind) (links : Map ℕ) → (with_links s kind links).registrations ≡ s.registrations
 unlinks s Short links = refl
 unlinks s Long links = refl

@@ -1,5 +1,5 @@
 -- Registered objects that are noted again.
-use Rattle.std.proofs.Common.{◌≡◌, ◌≢◌, ◌∙◌, ℕ, true, true≢false, cond, is_some, List, [], ◌∷◌, ◌++◌, map, Option, Some, IsTrue, nat_eq, sym, ap, subst, ⊎_elim, append_assoc, append-nil}
+use Rattle.std.proofs.Common.{◌≡◌, ◌≢◌, ◌∙◌, ℕ, true, true≢false, cond, is_some, List, [], ◌∷◌, ◌++◌, map, Some, nat_eq, sym, ap, subst, ⊎_elim, append_assoc, append-nil}
 use Rattle.std.proofs.lemmas.Bool.{cases_eq, ne_eqb}
 use Rattle.std.specs.FinMap.{get, from_entries}
 use Rattle.std.specs.List.{AllByRecursion}

@@ -1,5 +1,5 @@
 -- Answers that are heard before a machine goes on.
-use Rattle.std.proofs.Common.{◌≡◌, ◌∙◌, ◌≤◌, ◌+◌, ◌++◌, ℕ, min, Bool, List, [], drop, length, take, Option, Some, IsTrue, inl, inr, refl, ap, sym, subst, ⊎_elim, arith}
+use Rattle.std.proofs.Common.{◌≡◌, ◌∙◌, ◌≤◌, ◌+◌, ◌++◌, ℕ, min, Bool, List, [], drop, length, take, Option, Some, inl, inr, ap, sym, subst, ⊎_elim, arith}
 use Rattle.std.proofs.lemmas.Option.{same_Some}
 use Rattle.fz_finalizers.specs.States.{State, View}
 use Rattle.fz_machine.specs.declared.pass.Next.{Next}

@@ -21,7 +21,7 @@ pub fn passes_end()
 {}
 
 /// Whatever the host answers, and whatever is taken and finished meanwhile, a pass of a machine with regions processes words for at most one question for each
-/// 64 regions that are there when it begins, and one for those left over: each region is in one of them. A call of `next` repeats the question, as above.
+/// 64 regions that are there when it begins, and one for those left over. A call without their words repeats the question, as above.
 pub fn region_questions_end()
     ensures { RegionQuestionsEnd }
 {}

@@ -80,7 +80,8 @@ impl Machine {
 
     /// The same, but a pass asks for the marks of regions (`Ask::Marks`), not about each registered object. So instead of the time for each registration it
     /// takes time for each region with registrations, and for each of them whose object isn't marked. A new registration may take memory for a region, too. If
-    /// that can't be allocated, the registration succeeds, and from then on passes ask about each object, until `shrink` finds memory for it. Fails with `NoMemory` if an allocation fails.
+    /// that can't be allocated, the registration succeeds, and from then on passes ask about each object, until `shrink` finds memory for the regions. Fails
+    /// with `NoMemory` if an allocation fails.
     pub fn with_regions(alloc: Global) -> Result<Machine, Refused>
         ensures refused { IfErr result (λ r. r ≡ Refused.NoMemory) }
         ensures finalizers { IfOk result (λ m. m.finalizers.state ≡ opening) }

@@ -1,4 +1,4 @@
-use Rattle.std.proofs.Common.{◌≡◌, ◌∙◌, ◌≤◌, Some, None, ap, length, sym, subst, arith}
+use Rattle.std.proofs.Common.{◌∙◌, ◌≤◌, Some, None, ap, length, sym, subst, arith}
 use Rattle.fz_machine.specs.Going.{going_by, to_process, to_process_by}
 use Rattle.fz_machine.proofs.Ending.{asks_on, turns_on, ends_on}
 use Rattle.fz_machine.proofs.Remained.{IsTurned, fewer_to_process, through, turned}
