@@ -33,7 +33,7 @@
  *   cleanups: a pass asks whether the object is marked, and a new object of the same number would inherit them. A pass that
  *   ends has queued the cleanups of all objects that it left unmarked.
  *
- * Memory is taken by derrimas_finalizers_open, .._reserve, .._shrink, .._register, .._link, .._add_cleanup and .._why alone,
+ * Memory is taken by derrimas_finalizers_open, .._reserve, .._shrink, .._register, .._link, .._add_cleanup, .._why and .._stuck alone,
  * by the handle's allocator; and it is freed by those and by .._destroy alone. All other calls may be made while other threads are
  * stopped at any place. By .._reserve memory comes beforehand, but none for cleanups. A registration in place of another
  * takes no room, also where its kind is another. Each new registration and each cleanup takes room for its entry, so that a
@@ -485,6 +485,16 @@ typedef struct derrimas_paths {
 DERRIMAS_CHECKED derrimas_finalizers_code derrimas_finalizers_why(derrimas_finalizers *finalizers, uint64_t object,
                                                                   const derrimas_paths *paths, void *data, derrimas_why *why,
                                                                   uint64_t *path, size_t room) DERRIMAS_NONNULL(1, 3, 5);
+
+/* Lists the registered objects that wait for a ring: those of which .._why says RING, and those to which the path of a ring
+ * leads on. No pass queues them as long as their words and registrations stay. Each is listed once, in the order of
+ * .._registrations. The buffer `objects`, which has `room` places and may be NULL where `room` is 0, gets the first of
+ * them, as many as fit; *count is how many there are. It changes nothing, and takes the memory of .._why; it takes the time
+ * of .._why for each unreachable registered object.
+ * Refused: NOT_OPEN, PASS_OPEN; OVERLAP, NO_MEMORY, whichever comes first. */
+DERRIMAS_CHECKED derrimas_finalizers_code derrimas_finalizers_stuck(derrimas_finalizers *finalizers, const derrimas_paths *paths,
+                                                                    void *data, uint64_t *objects, size_t room, size_t *count)
+    DERRIMAS_NONNULL(1, 2, 6);
 
 /* ---- what happens, for tools */
 
