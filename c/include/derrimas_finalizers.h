@@ -33,8 +33,8 @@
  *   registration, the links to it and its cleanups: a pass asks whether the object is marked, and a new object of the same
  *   number would inherit them. A pass that ends leaves none of these of an object that it left unmarked.
  *
- * Only derrimas_finalizers_open, .._reserve, .._shrink, .._register, .._link, .._add_cleanup and .._why allocate, by the
- * handle's allocator; only these and .._destroy free. All other calls may be made while other threads are stopped at any
+ * Only derrimas_finalizers_open, .._reserve, .._shrink, .._register, .._link, .._add_cleanup, .._why and .._stuck allocate,
+ * by the handle's allocator; only these and .._destroy free. All other calls may be made while other threads are stopped at any
  * place. .._reserve allocates beforehand, except for cleanups. A registration that replaces another takes no room, even if
  * its kind differs. Each new registration and each cleanup takes room for its entry, so that a pass, a take and a move of
  * a link never need memory; so a cleanup uses up the room that was reserved for one registration. If the list that a pass
@@ -491,6 +491,16 @@ typedef struct derrimas_paths {
 DERRIMAS_CHECKED derrimas_finalizers_code derrimas_finalizers_why(derrimas_finalizers *finalizers, uint64_t object,
                                                                   const derrimas_paths *paths, void *data, derrimas_why *why,
                                                                   uint64_t *path, size_t room) DERRIMAS_NONNULL(1, 3, 5);
+
+/* Lists the registered objects that wait for a ring: those of which .._why says RING, and those to which the path of a ring
+ * leads on. No pass queues them as long as their words and registrations stay. Each is listed once, in the order of
+ * .._registrations. The buffer `objects`, which has `room` places and may be NULL where `room` is 0, gets the first of
+ * them, as many as fit; *count is how many there are. It changes nothing, and takes the memory of .._why; it takes the time
+ * of .._why for each unreachable registered object.
+ * Refused: NOT_OPEN, PASS_OPEN; OVERLAP, NO_MEMORY, whichever comes first. */
+DERRIMAS_CHECKED derrimas_finalizers_code derrimas_finalizers_stuck(derrimas_finalizers *finalizers, const derrimas_paths *paths,
+                                                                    void *data, uint64_t *objects, size_t room, size_t *count)
+    DERRIMAS_NONNULL(1, 2, 6);
 
 /* ---- what happens, for tools */
 

@@ -244,19 +244,21 @@ public:
      * of them throws. */
     template <typename Host> told why(std::uint64_t object, Host &&host)
     {
-        using lists = listing<std::remove_reference_t<Host>>;
-        static constexpr derrimas_paths paths = {lists::child, lists::root, lists::is_object};
-        lists listed{host, nullptr};
         derrimas_why why{};
-        std::vector<std::uint64_t> path(PART);
-        for (bool is_whole = false; !is_whole; path.resize(why.length)) {
-            const derrimas_finalizers_code code = derrimas_finalizers_why(&handle_, object, &paths, &listed, &why, path.data(), path.size());
-            if (listed.thrown)
-                std::rethrow_exception(listed.thrown);
-            check(code);
-            is_whole = why.length <= path.size();
-        }
+        const auto path = by_listing(host, [&](const derrimas_paths &paths, void *listed, std::vector<std::uint64_t> &buffer, std::size_t &count) {
+            const derrimas_finalizers_code code = derrimas_finalizers_why(&handle_, object, &paths, listed, &why, buffer.data(), buffer.size());
+            count = why.length;
+            return code;
+        });
         return {static_cast<reason>(why.reason), static_cast<why_root>(why.root), why.number, why.entry, path};
+    }
+
+    /* The registered objects that wait for a ring, by the members that `why` uses. */
+    template <typename Host> std::vector<std::uint64_t> stuck(Host &&host)
+    {
+        return by_listing(host, [&](const derrimas_paths &paths, void *listed, std::vector<std::uint64_t> &buffer, std::size_t &count) {
+            return derrimas_finalizers_stuck(&handle_, &paths, listed, buffer.data(), buffer.size(), &count);
+        });
     }
 
     std::uint64_t queue_all()
@@ -413,6 +415,24 @@ private:
             return listed(data, [&](Host &host) { return host.is_object(cd); });
         }
     };
+
+    /* The objects that a call by a host's lists puts into a buffer, which is as large as they need. */
+    template <typename Host, typename Call> static std::vector<std::uint64_t> by_listing(Host &host, Call call)
+    {
+        using lists = listing<Host>;
+        static constexpr derrimas_paths paths = {lists::child, lists::root, lists::is_object};
+        lists listed{host, nullptr};
+        std::vector<std::uint64_t> objects(PART);
+        std::size_t count = 0;
+        for (bool is_whole = false; !is_whole; objects.resize(count)) {
+            const derrimas_finalizers_code code = call(paths, &listed, objects, count);
+            if (listed.thrown)
+                std::rethrow_exception(listed.thrown);
+            check(code);
+            is_whole = count <= objects.size();
+        }
+        return objects;
+    }
 
     static derrimas_finalizers_link_kind of(link_kind kind) noexcept { return static_cast<derrimas_finalizers_link_kind>(kind); }
 

@@ -85,6 +85,7 @@ uint8_t fz_machine_cleanup(derrimas_finalizers *finalizers, uint64_t number, fz_
 uint8_t fz_machine_registration(derrimas_finalizers *finalizers, uint64_t object, fz_machine_registration_at *registration);
 uint8_t fz_machine_target(derrimas_finalizers *finalizers, bool is_long, uint64_t word, uint64_t *target);
 uint8_t fz_machine_why(derrimas_finalizers *finalizers, fz_snapshot *snapshot, uint64_t object, fz_machine_told *told);
+uint8_t fz_machine_stuck(derrimas_finalizers *finalizers, fz_snapshot *snapshot, uint64_t *count);
 uint8_t fz_snapshot_open(fz_snapshot *snapshot);
 void fz_snapshot_destroy(fz_snapshot *snapshot);
 uint8_t fz_snapshot_object(fz_snapshot *snapshot, uint64_t object, uint64_t value, uint64_t link);

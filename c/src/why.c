@@ -1,5 +1,5 @@
-/* derrimas_finalizers_why: it lists the host's objects, words and roots for a copy, by which the proved part answers. Nothing here is proved; c/tests runs each
- * line of it.
+/* derrimas_finalizers_why and derrimas_finalizers_stuck: they list the host's objects, words and roots for a copy, by which the proved part answers. Nothing here
+ * is proved; c/tests runs each line of it.
  */
 #include "finalizers_exports.h"
 
@@ -183,41 +183,81 @@ static code list_heap(walk *it)
     return listed;
 }
 
-/* ---- the answer */
+/* ---- the answers */
 
-static code ask(walk *it, uint64_t object, derrimas_why *why, uint64_t *path, size_t room)
+/* What is asked by a copy, and where the answer goes: why an object isn't finalized, or, if `why` is NULL, which objects wait for a ring. */
+typedef struct question {
+    uint64_t object;
+    derrimas_why *why;
+    size_t *count;
+    uint64_t *objects; /* of the path, or those that wait */
+    size_t room;
+} question;
+
+static void give_objects(walk *it, const question *asked, size_t count)
+{
+    for (size_t n = 0; n < count && n < asked->room; n++)
+        (void)fz_snapshot_step(&it->copy, n, &asked->objects[n]);
+}
+
+static code ask_why(walk *it, const question *asked)
 {
     fz_machine_told told;
-    const code asked = BY_ALLOCATOR(it, fz_machine_why(it->finalizers, &it->copy, object, &told));
+    const code answered = BY_ALLOCATOR(it, fz_machine_why(it->finalizers, &it->copy, asked->object, &told));
 
-    if (asked != DERRIMAS_FINALIZERS_OK)
-        return asked;
-    *why = (derrimas_why){(derrimas_why_reason)told.reason, (derrimas_why_root)told.root, told.number, told.entry, (size_t)told.length};
-    for (size_t n = 0; n < why->length && n < room; n++)
-        (void)fz_snapshot_step(&it->copy, n, &path[n]);
-    return asked;
+    if (answered != DERRIMAS_FINALIZERS_OK)
+        return answered;
+    *asked->why = (derrimas_why){(derrimas_why_reason)told.reason, (derrimas_why_root)told.root, told.number, told.entry, (size_t)told.length};
+    give_objects(it, asked, (size_t)told.length);
+    return answered;
+}
+
+static code ask_stuck(walk *it, const question *asked)
+{
+    uint64_t count;
+    const code answered = BY_ALLOCATOR(it, fz_machine_stuck(it->finalizers, &it->copy, &count));
+
+    if (answered != DERRIMAS_FINALIZERS_OK)
+        return answered;
+    *asked->count = (size_t)count;
+    give_objects(it, asked, (size_t)count);
+    return answered;
+}
+
+static code by_copy(walk *it, const question *asked)
+{
+    derrimas_finalizers *finalizers = it->finalizers;
+    derrimas_finalizers_old unwanted;
+    code answered = (code)fz_machine_unregister(finalizers, 0, &unwanted); /* no object is 0: it is only refused, where the handle or a pass is open */
+
+    if (answered == DERRIMAS_FINALIZERS_OK)
+        answered = BY_ALLOCATOR(it, fz_snapshot_open(&it->copy));
+    if (answered != DERRIMAS_FINALIZERS_OK)
+        return answered;
+    answered = list_heap(it);
+    if (answered == DERRIMAS_FINALIZERS_OK)
+        answered = asked->why ? ask_why(it, asked) : ask_stuck(it, asked);
+    rattle_memory_by(&finalizers->allocator);
+    fz_snapshot_destroy(&it->copy);
+    rattle_memory_by(NULL);
+    if (it->to_list)
+        finalizers->allocator.release(finalizers->allocator.data, it->to_list);
+    return answered;
 }
 
 code derrimas_finalizers_why(derrimas_finalizers *finalizers, uint64_t object, const derrimas_paths *paths, void *data, derrimas_why *why, uint64_t *path,
                              size_t room)
 {
     walk it = {.finalizers = finalizers, .paths = paths, .data = data};
-    derrimas_finalizers_old unwanted;
-    code asked = (code)fz_machine_unregister(finalizers, 0, &unwanted); /* no object is 0: it is only refused, where the handle or a pass is open */
 
-    if (asked == DERRIMAS_FINALIZERS_OK)
-        asked = BY_ALLOCATOR(&it, fz_snapshot_open(&it.copy));
-    if (asked != DERRIMAS_FINALIZERS_OK)
-        return asked;
-    asked = list_heap(&it);
-    if (asked == DERRIMAS_FINALIZERS_OK)
-        asked = ask(&it, object, why, path, room);
-    rattle_memory_by(&finalizers->allocator);
-    fz_snapshot_destroy(&it.copy);
-    rattle_memory_by(NULL);
-    if (it.to_list)
-        finalizers->allocator.release(finalizers->allocator.data, it.to_list);
-    return asked;
+    return by_copy(&it, &(question){object, why, NULL, path, room});
+}
+
+code derrimas_finalizers_stuck(derrimas_finalizers *finalizers, const derrimas_paths *paths, void *data, uint64_t *objects, size_t room, size_t *count)
+{
+    walk it = {.finalizers = finalizers, .paths = paths, .data = data};
+
+    return by_copy(&it, &(question){0, NULL, count, objects, room});
 }
 
 const char *derrimas_finalizers_reason_name(derrimas_why_reason reason)

@@ -1,5 +1,5 @@
-/* derrimas_finalizers_why: worked rows, its refusals, and small graphs of chance beside a plain reading of the header that shares no code with the library: the
- * reason, the path step by step, and what a pass then queues. Memory is refused at each allocation in turn. The argument is how many graphs; else 20,000.
+/* derrimas_finalizers_why and .._stuck: worked rows, their refusals, and small graphs of chance beside a plain reading of the header that shares no code with the
+ * library: the reason, the path step by step, what waits for a ring, and what a pass then queues. Memory is refused at each allocation in turn. The argument is how many graphs; else 20,000.
  */
 #include "check.h"
 #include "derrimas_finalizers.h"
@@ -61,6 +61,15 @@ static derrimas_finalizers_code ask(heap *it, unsigned object)
 {
     memset(path, 1, sizeof path);
     return derrimas_finalizers_why(&it->finalizers, number(object), &paths, it, &answer, path, 64);
+}
+
+static uint64_t waiting[64];
+static size_t waiting_count;
+
+static derrimas_finalizers_code ask_stuck(heap *it)
+{
+    memset(waiting, 1, sizeof waiting);
+    return derrimas_finalizers_stuck(&it->finalizers, &paths, it, waiting, 64, &waiting_count);
 }
 
 /* ---- a pass over the heap */
@@ -159,6 +168,16 @@ static void registers(heap *it, unsigned object, derrimas_finalizers_kind kind, 
             IS(path[n], number(steps[n]));                                                                             \
     } while (0)
 
+/* What waits for a ring, by indices: registered in this order, they are so listed. */
+#define STUCK(it, ...)                                                                                                 \
+    do {                                                                                                               \
+        const unsigned objects[] = {__VA_ARGS__ 99};                                                                   \
+        OK(ask_stuck(it));                                                                                             \
+        IS(waiting_count, sizeof objects / sizeof *objects - 1);                                                       \
+        for (size_t n = 0; n + 1 < sizeof objects / sizeof *objects; n++)                                              \
+            IS(waiting[n], number(objects[n]));                                                                        \
+    } while (0)
+
 #define FOUND_BY(wanted, which) (IS(answer.root, wanted), IS(answer.number, which))
 
 static void chain(void)
@@ -209,6 +228,40 @@ static void rings(void)
     registers(&it, 1, DERRIMAS_FINALIZERS_NO_ORDER, 0);
     WHY(&it, 0, DERRIMAS_WHY_RING, 0, 1, 0, );
     WHY(&it, 1, DERRIMAS_WHY_WAITS, 0, 1, );
+    STUCK(&it, 0, 1, );
+    it.roots[1] = 1;
+    STUCK(&it, );
+    derrimas_finalizers_destroy(&it.finalizers);
+}
+
+/* 0 to 1, 1 to itself and to 2, 2 to 3, 4 to 3: 0 and 4 are ready, and what the ring leads to waits for it. */
+static void behind_a_ring(void)
+{
+    uint64_t few[2] = {1, 1};
+    size_t count;
+    heap it;
+
+    begin(&it, 5, 2);
+    it.child[0][0] = 2;
+    it.child[1][0] = 2;
+    it.child[1][1] = 3;
+    it.child[2][0] = 4;
+    it.child[4][0] = 4;
+    registers(&it, 0, DERRIMAS_FINALIZERS_NORMAL, 0);
+    registers(&it, 1, DERRIMAS_FINALIZERS_NORMAL, 0);
+    registers(&it, 3, DERRIMAS_FINALIZERS_NO_ORDER, 0);
+    registers(&it, 4, DERRIMAS_FINALIZERS_NORMAL, 0);
+    WHY(&it, 0, DERRIMAS_WHY_READY, );
+    STUCK(&it, 1, 3, );
+    OK(derrimas_finalizers_stuck(&it.finalizers, &paths, &it, few, 1, &count));
+    IS(count, 2);
+    IS(few[0], number(1));
+    IS(few[1], 1);
+    OK(derrimas_finalizers_stuck(&it.finalizers, &paths, &it, NULL, 0, &count));
+    IS(count, 2);
+    registers(&it, 1, DERRIMAS_FINALIZERS_IGNORE_SELF, 0); /* no ring any more: 3 waits for what comes before it */
+    WHY(&it, 1, DERRIMAS_WHY_WAITS, 0, 1, );
+    STUCK(&it, );
     derrimas_finalizers_destroy(&it.finalizers);
 }
 
@@ -323,15 +376,18 @@ static void refusals(void)
     registers(&it, 1, DERRIMAS_FINALIZERS_NORMAL, 0);
     REFUSED(DERRIMAS_FINALIZERS_OVERLAP, answer, derrimas_finalizers_why(&it.finalizers, number(1), &longer, &it, &answer, NULL, 0));
     REFUSED(DERRIMAS_FINALIZERS_OVERLAP, answer, derrimas_finalizers_why(&it.finalizers, number(1), &within, &it, &answer, NULL, 0));
+    REFUSED(DERRIMAS_FINALIZERS_OVERLAP, waiting_count, derrimas_finalizers_stuck(&it.finalizers, &longer, &it, NULL, 0, &waiting_count));
     it.words[0] = 0;
     OK(derrimas_finalizers_unregister(&it.finalizers, number(1), NULL));
     WHY(&it, 2, DERRIMAS_WHY_READY, );
     OK(derrimas_finalizers_begin(&it.finalizers));
     REFUSED(DERRIMAS_FINALIZERS_PASS_OPEN, answer, ask(&it, 2));
+    REFUSED(DERRIMAS_FINALIZERS_PASS_OPEN, waiting_count, ask_stuck(&it));
     OK(derrimas_finalizers_abandon(&it.finalizers));
     IS(derrimas_finalizers_next(&it.finalizers, 0, &question, NULL), DERRIMAS_FINALIZERS_NO_PASS);
     derrimas_finalizers_destroy(&it.finalizers);
     REFUSED(DERRIMAS_FINALIZERS_NOT_OPEN, answer, ask(&it, 2));
+    REFUSED(DERRIMAS_FINALIZERS_NOT_OPEN, waiting_count, ask_stuck(&it));
     IS(strcmp(derrimas_finalizers_reason_name(DERRIMAS_WHY_UNREGISTERED), "Unregistered"), 0);
     IS(strcmp(derrimas_finalizers_reason_name(DERRIMAS_WHY_READY), "Ready"), 0);
     IS(strcmp(derrimas_finalizers_reason_name((derrimas_why_reason)6), "?"), 0);
@@ -382,6 +438,25 @@ static void ask_with_little(heap *it, unsigned object)
         if (code != DERRIMAS_FINALIZERS_NO_MEMORY)
             break;
         IS(is_filled(&answer, sizeof answer) && is_filled(path, sizeof path), true);
+    }
+    granted = UINT64_MAX;
+    OK(code);
+}
+
+/* The same of what waits for a ring. */
+static void ask_stuck_with_little(heap *it)
+{
+    const uint64_t before = blocks;
+    derrimas_finalizers_code code;
+
+    for (granted = 0;; granted++) {
+        calls = 0;
+        memset(&waiting_count, 1, sizeof waiting_count);
+        code = ask_stuck(it);
+        IS(blocks, before);
+        if (code != DERRIMAS_FINALIZERS_NO_MEMORY)
+            break;
+        IS(is_filled(&waiting_count, sizeof waiting_count) && is_filled(waiting, sizeof waiting), true);
     }
     granted = UINT64_MAX;
     OK(code);
@@ -524,6 +599,26 @@ static derrimas_why_reason reason_of(const reading *r, const heap *it, unsigned 
     return DERRIMAS_WHY_READY;
 }
 
+/* What never becomes ready, however often what is ready goes. */
+static void read_stuck(const reading *r, const heap *it, bool left[MOST])
+{
+    bool is_smaller = true;
+
+    for (unsigned a = 0; a < MOST; a++)
+        left[a] = r->is_registered[a] && !r->found[a];
+    while (is_smaller) {
+        is_smaller = false;
+        for (unsigned a = 0; a < it->count; a++) {
+            bool is_held = false;
+
+            for (unsigned from = 0; from < it->count; from++)
+                is_held |= left[from] && holds(r, from, a);
+            is_smaller |= left[a] && !is_held;
+            left[a] &= is_held;
+        }
+    }
+}
+
 /* The word of the root that the answer names. */
 static uint64_t root_word(const heap *it)
 {
@@ -627,7 +722,28 @@ static void make_graph(heap *it)
         it->roots[n] = below(3) == 0 ? 1 + below(it->count) : 0;
 }
 
-static unsigned reasons[ALL];
+static unsigned reasons[ALL], stuck;
+
+/* Just those that never become ready are listed, in the order of the registrations. */
+static void look_for_stuck(heap *it, const reading *r)
+{
+    derrimas_finalizers_registration_at some[64];
+    bool left[MOST];
+    uint64_t from = 0;
+    size_t count = 0, listed = 0;
+
+    read_stuck(r, it, left);
+    if (below(500) == 0)
+        ask_stuck_with_little(it);
+    else
+        OK(ask_stuck(it));
+    (void)derrimas_finalizers_registrations(&it->finalizers, &from, some, 64, &count);
+    for (size_t n = 0; n < count; n++)
+        if (left[index_of(some[n].object)])
+            IS(waiting[listed++], some[n].object);
+    IS(waiting_count, listed);
+    stuck += listed > 0;
+}
 
 /* Asks for each object, and runs a pass, which queues just those that are ready. */
 static void look(heap *it)
@@ -651,6 +767,7 @@ static void look(heap *it)
             IS(answer.length, 0);
         IS(answer.entry.obj, reason == DERRIMAS_WHY_QUEUED ? number(object) : 0);
     }
+    look_for_stuck(it, &r);
     collect(it);
     for (unsigned object = 0; object < it->count; object++)
         if (r.is_registered[object])
@@ -664,6 +781,7 @@ int main(int count, char **arguments)
 
     chain();
     rings();
+    behind_a_ring();
     data_of();
     held_data();
     for (unsigned way = 0; way < 3; way++)
@@ -686,7 +804,8 @@ int main(int count, char **arguments)
         derrimas_finalizers_destroy(&it.finalizers);
         IS(blocks, 0);
     }
-    printf("%u graphs: ", graphs);
+    IS(stuck > graphs / 20, true);
+    printf("%u graphs, %u with rings: ", graphs, stuck);
     for (int reason = 0; reason < ALL; reason++) {
         IS(reasons[reason] > graphs / 20, true);
         printf("%u %s%s", reasons[reason], derrimas_finalizers_reason_name((derrimas_why_reason)reason), reason + 1 < ALL ? ", " : "\n");

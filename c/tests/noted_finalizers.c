@@ -232,6 +232,9 @@ uint8_t fz_machine_why(derrimas_finalizers *f, fz_snapshot *s, uint64_t object, 
     return noted_filled(noted("why" N, object), told, &it, sizeof it);
 }
 
+/* As many objects as the value says. */
+uint8_t fz_machine_stuck(derrimas_finalizers *f, fz_snapshot *s, uint64_t *count) { return (void)f, (void)s, FILLED(noted("stuck"), count, uint64_t, V(0)); }
+
 /* ---- workers: no thread is started; to publish is to run an entry, as a worker does */
 
 static derrimas_workers_options started_with;

@@ -293,6 +293,15 @@ static string reasoned(finalizers &f, const arguments &a)
     return text;
 }
 
+/* The objects that wait for a ring, or `none`. */
+static string stuck(finalizers &f, const arguments &a)
+{
+    string text;
+    for (std::uint64_t object : f.stuck(listing_host{a.words.size() > 0}))
+        text += (text.empty() ? "" : "+") + std::to_string(object);
+    return text.empty() ? "none" : text;
+}
+
 /* Tells from now on of all that happens, by no function, or nothing. */
 static void tell(finalizers &f, const string &how)
 {
@@ -420,6 +429,7 @@ static const std::map<string, member> members = {
     {"finalizers_next", [](fixture &f, const arguments &a) { return asked(f.finalizers, a.number(0)); }},
     {"finalizers_pass", [](fixture &f, const arguments &a) { return pass_over(f.finalizers, a); }},
     {"finalizers_why", [](fixture &f, const arguments &a) { return reasoned(f.finalizers, a); }},
+    {"finalizers_stuck", [](fixture &f, const arguments &a) { return stuck(f.finalizers, a); }},
     {"finalizers_queue_all", SHOWN(f.finalizers.queue_all())},
     {"finalizers_queue_cleanups", SHOWN(f.finalizers.queue_cleanups())},
     {"finalizers_take", SHOWN_IN_PASS(shown(f.finalizers.take()))},

@@ -246,6 +246,11 @@ def reasoned(finalizers, object, throws=None):
     return '+'.join([f'{why.reason:d},{why.root or 0:d},{why.number},{why.entry.seq if why.entry else 0}', *map(str, why.path)])
 
 
+def stuck(finalizers, throws=None):
+    """The objects that wait for a ring, or `none`."""
+    return '+'.join(map(str, finalizers.stuck(ListingHost(throws)))) or 'none'
+
+
 def traced(finalizers, how, call, *rest):
     """What a call returns, behind one that tells of what happens: by no method where it is `lacking`, and nothing where it is `none`."""
     finalizers.trace(object() if how == 'lacking' else Hooks(how))
@@ -364,6 +369,7 @@ MEMBERS_OF_FINALIZERS = {
     'next': asked,
     'pass': passed,
     'why': reasoned,
+    'stuck': stuck,
     'queue_all': lambda it: shown(it.queue_all()),
     'queue_cleanups': lambda it: shown(it.queue_cleanups()),
     'take': in_pass(lambda it: shown(it.take())),

@@ -132,6 +132,7 @@ def library() -> ctypes.CDLL:
         "take_finished": [POINTER(Entry)], "finish": [POINTER(Entry)], "roots": [kind, *walk], "registrations": walk, "links": [kind, *walk],
         "registration": [n, POINTER(Registration)], "target": [kind, n, POINTER(n)], "unfinished": [n, POINTER(Entry)], "count": [POINTER(Counts)],
         "why": [n, POINTER(Paths), c_void_p, POINTER(CWhy), POINTER(n), c_size_t],
+        "stuck": [POINTER(Paths), c_void_p, POINTER(n), c_size_t, POINTER(c_size_t)],
     }.items():
         declare(lib, f"derrimas_finalizers_{name}", c_uint32, [POINTER(Handle), *types])
     for name in ("name", "strerror"):
@@ -276,22 +277,40 @@ class Finalizers:
         """Why an object isn't finalized, by the methods of the host: children(object) yields for each of its words the word's number, or 0, and the object to
         which it points, or 0; roots() yields the objects to which roots point; is_object(client_data) says whether that is an object. What one raises is raised
         here."""
+        told = CWhy()
+
+        def call(paths: Any, path: Any, room: int) -> int:
+            self._call("why", object, byref(paths), None, byref(told), path, room)
+            return told.length
+        path = self._by_listing(host, call)
+        reason = Reason(told.reason)
+        return Why(reason, WhyRoot(told.root) if reason == Reason.FOUND else None, told.number,
+                   Entry.from_buffer_copy(told.entry) if reason == Reason.QUEUED else None, path)
+
+    def stuck(self, host: Any) -> List[int]:
+        """The registered objects that wait for a ring, by the methods of the host that `why` uses."""
+        count = c_size_t()
+
+        def call(paths: Any, objects: Any, room: int) -> int:
+            self._call("stuck", byref(paths), None, objects, room, byref(count))
+            return count.value
+        return self._by_listing(host, call)
+
+    def _by_listing(self, host: Any, call: Callable[[Any, Any, int], int]) -> List[int]:
+        """The objects that a call by a host's lists puts into a buffer, which is as large as they need."""
         listing, raised = Listing(host), []
         paths = Paths(CHILD(guarded(raised, listing.child)), ROOT(guarded(raised, listing.root)), IS_OBJECT(guarded(raised, listing.is_object)))
-        told, room = CWhy(), PART
+        count = PART
         while True:
-            path = (c_uint64 * room)()
+            room = count
+            objects = (c_uint64 * room)()
             try:
-                self._call("why", object, byref(paths), None, byref(told), path, room)
+                count = call(paths, objects, room)
             finally:
                 if raised:
                     raise raised[0]
-            if told.length <= room:
-                break
-            room = told.length
-        reason = Reason(told.reason)
-        return Why(reason, WhyRoot(told.root) if reason == Reason.FOUND else None, told.number,
-                   Entry.from_buffer_copy(told.entry) if reason == Reason.QUEUED else None, list(path[:told.length]))
+            if count <= room:
+                return list(objects[:count])
 
     def queue_all(self) -> int:
         """Queues all registrations, and returns how many."""

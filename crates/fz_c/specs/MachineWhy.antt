@@ -1,5 +1,5 @@
--- Why an object isn't finalized, as C gets it.
--- code: fz_c/src/machine/asking.rt
+-- Why an object isn't finalized, and which objects wait for a ring, as C gets it.
+-- code: fz_c/src/machine/asking.rt, stuck.rt
 use Rattle.std.specs.Prelude.{◌≡◌, ◌⊎◌, ℕ, List, [], length, Option, Some, None, Result, Ok, Err}
 use Rattle.fz_pass.specs.Marks.{AreRegistered, AreTargets}
 use Rattle.fz_finalizers.specs.declared.refused.Refused.TheVariants.{NoMemory}
@@ -12,7 +12,8 @@ use Rattle.fz_why.specs.declared.reason.Reason.TheVariants.{Unregistered, Queued
 use Rattle.fz_why.specs.declared.reason.RootOf.{RootOf}
 use Rattle.fz_why.specs.declared.reason.RootOf.TheVariants.{Host, RegisteredData, CleanupData, HeldObject, HeldData}
 use Rattle.fz_why.specs.Snapshot.{Copy, objects_of, place_of}
-use Rattle.fz_why.specs.Why.{IsToldOf}
+use Rattle.fz_finalizers.specs.Walks.{registrations_in_order}
+use Rattle.fz_why.specs.Why.{AreStuck, IsToldOf, WithFound}
 use Rattle.fz_c.specs.declared.machine.asking.Told.{Told}
 use Rattle.fz_c.specs.declared.machine.codes.TheConstants.{OK, NOT_OPEN, NO_MEMORY, EMPTY}
 use Rattle.fz_c.specs.declared.machine.entries.HostEntry.{HostEntry}
@@ -59,11 +60,15 @@ IsTrueOf object m copy reason = IsToldOf (place_of copy.cells copy.links) (objec
 abbrev pub Lacks : Machine → Copy → Type 0
 Lacks m copy = AreRegistered (objects_of copy.cells) m.finalizers.state.registrations → AreTargets (objects_of copy.cells) m.finalizers.state.short → ⊥
 
--- a reason, or none by a copy that lacks objects; refused while a pass is open, and out of memory
+-- refused while a pass is open, and out of memory
+abbrev pub IsRefused : Machine → Refused → Type 0
+IsRefused m r = ((r ≡ PassOpen) × ((phase : Phase) × (m.phase ≡ Some phase))) ⊎ ((r ≡ Finalizers NoMemory) × (m.phase ≡ None))
+
+-- a reason, or none by a copy that lacks objects
 abbrev pub IsReasoned : ℕ → Machine → Copy → Result (Option Reason) Refused → Type 0
 IsReasoned object m copy (Ok (Some reason)) = (m.phase ≡ None) × IsTrueOf object m copy reason
 IsReasoned object m copy (Ok None) = (m.phase ≡ None) × Lacks m copy
-IsReasoned object m copy (Err r) = ((r ≡ PassOpen) × ((phase : Phase) × (m.phase ≡ Some phase))) ⊎ ((r ≡ Finalizers NoMemory) × (m.phase ≡ None))
+IsReasoned object m copy (Err r) = IsRefused m r
 
 -- C gets the answer, and the copy has its path; or both are unchanged
 abbrev pub Asks : ℕ → Machine → SnapshotSession → SnapshotSession → ℕ → Told → Told → Type 0
@@ -73,13 +78,26 @@ Asks object m s t code old told =
     ⊎ ((code ≡ code_of PassOpen) × ((phase : Phase) × (m.phase ≡ Some phase)) × (told ≡ old) × (t ≡ s))
     ⊎ ((code ≡ NO_MEMORY) × (m.phase ≡ None) × (told ≡ old) × (t ≡ s))
 
--- the same through the handle of the finalizers, which are unchanged
-abbrev pub AsksWhy : ℕ → Option Machine → Option Machine → SnapshotSession → SnapshotSession → ℕ → Told → Told → Type 0
-AsksWhy object (Some m) n s t code old told = (n ≡ Some m) × Asks object m s t code old told
-AsksWhy object None n s t code old told = (n ≡ None) × (code ≡ NOT_OPEN) × (told ≡ old) × (t ≡ s)
+-- by the copy, these are the objects that wait for a ring
+abbrev pub AreStuckBy : Machine → Copy → List ℕ → Type 0
+AreStuckBy m copy objects =
+    WithFound (objects_of copy.cells) copy.roots m.finalizers.state (λ found. AreStuck (place_of copy.cells copy.links) (objects_of copy.cells) m.finalizers.state found (registrations_in_order m.finalizers) objects)
+
+-- C gets how many wait for a ring, and the copy has them in place of a path; or both are unchanged
+abbrev pub ListsStuck : Machine → SnapshotSession → SnapshotSession → ℕ → ℕ → ℕ → Type 0
+ListsStuck m s t code old count =
+    ((code ≡ OK) × (m.phase ≡ None) × AreStuckBy m s.snapshot t.path.items × (count ≡ length t.path.items) × (t.snapshot ≡ s.snapshot))
+    ⊎ ((code ≡ EMPTY) × (m.phase ≡ None) × Lacks m s.snapshot × (count ≡ old) × (t ≡ s))
+    ⊎ ((code ≡ code_of PassOpen) × ((phase : Phase) × (m.phase ≡ Some phase)) × (count ≡ old) × (t ≡ s))
+    ⊎ ((code ≡ NO_MEMORY) × (m.phase ≡ None) × (count ≡ old) × (t ≡ s))
+
+-- a question by a copy, which gives C an answer, through the handle of the finalizers, which are unchanged
+abbrev pub AsksThrough : {X : Type 0} → (Machine → SnapshotSession → SnapshotSession → ℕ → X → X → Type 0) → Option Machine → Option Machine → SnapshotSession → SnapshotSession → ℕ → X → X → Type 0
+AsksThrough Does (Some m) n s t code old new = (n ≡ Some m) × Does m s t code old new
+AsksThrough Does None n s t code old new = (n ≡ None) × (code ≡ NOT_OPEN) × (new ≡ old) × (t ≡ s)
 
 -- and through the handle of the copy
-abbrev pub AsksBehind : ℕ → Option Machine → Option Machine → Option SnapshotSession → Option SnapshotSession → ℕ → Told → Told → Type 0
-AsksBehind object m n (Some s) (Some t) code old told = AsksWhy object m n s t code old told
-AsksBehind object m n (Some s) None code old told = ⊥
-AsksBehind object m n None t code old told = (n ≡ m) × (t ≡ None) × (code ≡ NOT_OPEN) × (told ≡ old)
+abbrev pub AsksBehind : {X : Type 0} → (Machine → SnapshotSession → SnapshotSession → ℕ → X → X → Type 0) → Option Machine → Option Machine → Option SnapshotSession → Option SnapshotSession → ℕ → X → X → Type 0
+AsksBehind Does m n (Some s) (Some t) code old new = AsksThrough Does m n s t code old new
+AsksBehind Does m n (Some s) None code old new = ⊥
+AsksBehind Does m n None t code old new = (n ≡ m) × (t ≡ None) × (code ≡ NOT_OPEN) × (new ≡ old)

@@ -13,6 +13,7 @@ mod registering;
 mod session;
 mod shown;
 mod snapshot;
+mod stuck;
 mod walks;
 
 pub use crate::old::Old;
@@ -39,6 +40,7 @@ pub use snapshot::{
     SnapshotHandle, SnapshotSession, fz_snapshot_destroy, fz_snapshot_holder, fz_snapshot_object,
     fz_snapshot_open, fz_snapshot_root, fz_snapshot_step, fz_snapshot_word,
 };
+pub use stuck::fz_machine_stuck;
 pub use walks::{
     Cleanups, Linked, Links, Registrations, fz_machine_cleanups, fz_machine_links,
     fz_machine_registrations,

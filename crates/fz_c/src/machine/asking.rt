@@ -1,7 +1,7 @@
 //! Why an object isn't finalized.
 
 ghost use Rattle.std.specs.Prelude.{◌≡◌};
-ghost use Rattle.fz_c.specs.MachineWhy.{AsksBehind, AsksWhy, IsReasoned, Tells, root_index, root_number};
+ghost use Rattle.fz_c.specs.MachineWhy.{Asks, AsksBehind, AsksThrough, IsReasoned, Tells, root_index, root_number};
 
 use crate::handle::behind;
 use crate::machine::codes::{Code, EMPTY, NOT_OPEN, OK, code_of};
@@ -131,7 +131,7 @@ fn ask(
     object: u64,
     told: &mut Told,
 ) -> Code
-    ensures { AsksWhy object finalizers.old.value finalizers.new.value session.old session.new result told.old told.new }
+    ensures { AsksThrough (Asks object) finalizers.old.value finalizers.new.value session.old session.new result told.old told.new }
 {
     let reply = behind!(
         alloc,
@@ -160,7 +160,7 @@ pub extern "C" fn fz_machine_why(
     object: u64,
     told: &mut Told,
 ) -> Code
-    ensures { AsksBehind object finalizers.old.value finalizers.new.value snapshot.old.value snapshot.new.value result told.old told.new }
+    ensures { AsksBehind (Asks object) finalizers.old.value finalizers.new.value snapshot.old.value snapshot.new.value result told.old told.new }
 {
     let code = behind!(
         alloc,
