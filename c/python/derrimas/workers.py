@@ -42,7 +42,8 @@ def ended(crew: Any, options: Any, finalizers: Finalizers) -> None:
 
 
 class Workers:
-    """Workers, `started` of which could be started. They are stopped at the end of their `with`, when Python frees them, or at the program's end."""
+    """Workers, `started` of which could be started. They are stopped at the end of their `with`, when Python frees them, or at the program's end. A stop takes
+    the lock, so it never returns in a thread that has it: leave their `with`, and don't count on when Python frees them."""
 
     def __init__(self, finalizers: Finalizers, lock: Any, run: Callable[[Entry], Any], count: int) -> None:
         raised = self.raised = []  # type: List[BaseException]
