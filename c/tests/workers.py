@@ -171,8 +171,8 @@ def programs():
     for program, printed, where in (
             (FORGOTTEN, 'ran 7\n', 'a program that stops no workers'), (FREED, 'ran 7\nran 8\n', 'a procedure that frees the workers'),
             (FORKED, 'NotOpen\n3 2\n', 'a forked child')):
-        ended = subprocess.run([sys.executable, '-B', '-c', program], env={**os.environ, 'PYTHONPATH': os.path.join(HERE, '..', 'python')}, capture_output=True,
-                               text=True, timeout=60)
+        ended = subprocess.run([sys.executable, '-B', '-W', 'ignore', '-c', program], env={**os.environ, 'PYTHONPATH': os.path.join(HERE, '..', 'python')},
+                               capture_output=True, text=True, timeout=60)
         check((ended.returncode, ended.stdout, ended.stderr), (0, printed, ''), where)
 
 
