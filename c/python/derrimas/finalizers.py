@@ -384,7 +384,7 @@ class Finalizers:
 
     def trace(self, hooks: Any) -> None:
         """Tells `hooks` from now on what happens, by those that it has of the methods queued(pass, count), cleared(word) and finished(entry). None ends this. What
-        a method raises is raised by the call in which it came, once that has ended."""
+        a method raises is raised by the call in which it came, once that has ended; what that returned is lost then, as the entry of take_finished."""
         self.hooks = self._functions(Trace, hooks) if hooks is not None else None
         LIBRARY.derrimas_finalizers_trace(byref(self.handle), byref(self.hooks) if self.hooks else None)
 
