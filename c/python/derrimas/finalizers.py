@@ -438,6 +438,7 @@ class OpenPass:
 
     def __init__(self, finalizers: Finalizers) -> None:
         self.finalizers, self.did = finalizers, Passed()
+        self.regions = 0  # of the last question
         finalizers._call("begin")
         self.is_open = True
 
@@ -450,7 +451,9 @@ class OpenPass:
 
     def next(self, answers: Answers = 0) -> Optional[Question]:
         """Takes the answers to the question before, at first any, and returns the next; None where the pass has ended: `did` is what it did then. The answers are
-        a number, and a list of words of regions after Ask.MARKS."""
+        a number, and after Ask.MARKS a list with a word for each region: ValueError if it isn't, since an object whose mark is missing would be finalized."""
+        if self.regions and (isinstance(answers, int) or len(answers) != self.regions):
+            raise ValueError(f"the answers are to be {self.regions} words of regions")
         asked, word = CQuestion(), c_uint64(answers if isinstance(answers, int) else 0)
         if not isinstance(answers, int):
             asked.marks[:len(answers)] = answers
@@ -460,6 +463,7 @@ class OpenPass:
         self.finalizers._raise()
         if code not in (0, EMPTY):
             raise Refused(code)
+        self.regions = asked.count if self.is_open and asked.ask == Ask.MARKS else 0
         return Question(asked) if self.is_open else None
 
     def abandon(self) -> None:
