@@ -42,6 +42,8 @@
  * refused. With the option `marks` .._register may also allocate for the object's region, even if room is reserved; if
  * that fails the call is accepted nevertheless, and later passes ask about each object.
  *
+ * A call uses at most 16 KB of the stack, besides what the host's functions use.
+ *
  * Unless a comment says otherwise a call takes constant time: .._register, .._link and .._add_cleanup amortized over the
  * growth of tables, .._move_link over as many moves as there are links of its kind. */
 #ifndef DERRIMAS_FINALIZERS_H
