@@ -10,7 +10,7 @@ using derrimas::finalizers;
 
 static constexpr std::uint64_t WEAK = std::uint64_t{1} << 32; /* words from here on lie outside of the heap, in `weak` */
 
-/* Word n of an object has the number 16 * object + n. */
+/* An object has at most 16 words, whose numbers are those from its own on. */
 struct heap {
     std::map<std::uint64_t, std::vector<std::uint64_t>> objects;
     std::map<std::uint64_t, std::uint64_t> weak;
@@ -18,7 +18,7 @@ struct heap {
 
     std::uint64_t alloc(std::vector<std::uint64_t> words)
     {
-        std::uint64_t number = objects.empty() ? 1 : objects.rbegin()->first + 1;
+        std::uint64_t number = objects.empty() ? 16 : objects.rbegin()->first + 16;
         objects[number] = std::move(words);
         return number;
     }
@@ -27,8 +27,8 @@ struct heap {
 
     bool is_marked(std::uint64_t object) const { return marked.count(object) == 1; }
     void mark_alone(std::uint64_t object) { marked.insert(object); }
-    bool holder_is_marked(std::uint64_t word) const { return word >= WEAK || is_marked(word / 16); }
-    void clear(std::uint64_t word) { (word >= WEAK ? weak[word] : objects[word / 16][word % 16]) = 0; }
+    bool holder_is_marked(std::uint64_t word) const { return word >= WEAK || is_marked(word - word % 16); }
+    void clear(std::uint64_t word) { (word >= WEAK ? weak[word] : objects[word - word % 16][word % 16]) = 0; }
 
     void mark(std::uint64_t object)
     {

@@ -43,6 +43,8 @@
  * that fails the call is accepted nevertheless, and later passes ask about each object, until .._shrink finds memory for
  * the regions.
  *
+ * A call uses at most 16 KB of the stack, besides what the host's functions use.
+ *
  * Unless a comment says otherwise a call takes constant time: .._register, .._link and .._add_cleanup amortized over the
  * growth of tables, .._move_link over as many moves as there are links of its kind. */
 #ifndef DERRIMAS_FINALIZERS_H

@@ -30,7 +30,7 @@
  *   when its time is over. A procedure may end its thread by pthread_exit: then its entry is abandoned, which means that
  *   it stays held, and its worker has ended. An exception that leaves it ends the program, by std::terminate. It doesn't
  *   leave by longjmp. It may make calls of derrimas_finalizers.h, under the lock, and derrimas_workers_publish and
- *   .._count.
+ *   .._count. It may finish its entry itself, which counts as one that the worker finished.
  * - The workers are stopped before the derrimas_finalizers is destroyed, or its lock. If it is destroyed earlier, under the
  *   lock, what a worker has is run, and abandoned.
  * - A forked child has no workers. It makes no call with its copy. */

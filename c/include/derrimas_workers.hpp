@@ -1,8 +1,9 @@
 /* derrimas_workers.hpp: derrimas_workers.h for C++17 and later, in headers alone.
  *
  * The destructor stops the workers once they have run what was published, and waits for them, however long a procedure takes. In one of their own procedures it
- * calls std::terminate, since what that runs by would be freed. They can be moved but not copied; an assignment stops those that were there. A refusal is an
- * exception, `derrimas::finalizers::refused`. Each member is the call of its name: derrimas_workers.h says what it does, and what a host owes.
+ * calls std::terminate, since what that runs by would be freed; in a forked child it does nothing. They can be moved but not copied; an assignment stops those
+ * that were there. A refusal is an exception, `derrimas::finalizers::refused`. Each member is the call of its name: derrimas_workers.h says what it does, and
+ * what a host owes.
  *
  *     std::mutex lock;
  *     derrimas::workers workers(finalizers, lock, [](const derrimas::finalizers::entry &entry) { close_file(entry.cd); }, 4);
@@ -20,6 +21,7 @@
 #include "derrimas_workers.h"
 #include <functional>
 #include <memory>
+#include <unistd.h>
 
 namespace derrimas {
 
@@ -38,7 +40,7 @@ public:
     }
     ~workers()
     {
-        if (handle_.inside && derrimas_workers_stop(&handle_, UINT64_MAX, nullptr) != DERRIMAS_FINALIZERS_OK)
+        if (handle_.inside && process_ == getpid() && derrimas_workers_stop(&handle_, UINT64_MAX, nullptr) != DERRIMAS_FINALIZERS_OK)
             std::terminate();
     }
     workers(const workers &) = delete;
@@ -99,11 +101,13 @@ private:
         std::swap(handle_, other.handle_);
         std::swap(own_, other.own_);
         std::swap(started_, other.started_);
+        std::swap(process_, other.process_);
     }
 
     derrimas_workers handle_ = {};
     std::unique_ptr<own> own_;
     std::uint64_t started_ = 0;
+    pid_t process_ = getpid(); /* a forked child has no threads to wait for */
 };
 
 } // namespace derrimas

@@ -7,14 +7,14 @@ WEAK = 1 << 32  # words from here on lie outside of the heap, in `weak`
 
 
 class Heap:
-    """Objects by their numbers, roots, weak words, and what is marked. A word of an object has the number 16 times the object's, and its place."""
+    """Objects by their numbers, roots, weak words, and what is marked. An object has at most 16 words, whose numbers are those from its own on."""
 
     def __init__(self):
         self.objects, self.roots, self.weak, self.marked = {}, set(), {}, set()
         self.finalizers = Finalizers()
 
     def alloc(self, *words):
-        number = max(self.objects, default=0) + 1
+        number = max(self.objects, default=0) + 16
         self.objects[number] = list(words)
         return number
 
@@ -41,10 +41,10 @@ class Heap:
         if word >= WEAK:
             self.weak[word] = 0
         else:
-            self.objects[word // 16][word % 16] = 0
+            self.objects[word - word % 16][word % 16] = 0
 
     def holder_is_marked(self, word):
-        return word >= WEAK or self.is_marked(word // 16)
+        return word >= WEAK or self.is_marked(word - word % 16)
 
     def collect(self):
         """Marks, makes a pass, and reclaims what isn't marked. Returns what the pass did, and how many objects went."""

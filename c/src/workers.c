@@ -188,7 +188,7 @@ static void run(worker *self, const derrimas_entry *taken)
     found = finish(it, &entry);
     self->has_entry = false;
     (void)derrimas_seat_done(&self->seat);
-    count_one(it, found == DERRIMAS_FINALIZERS_OK ? &it->finished : &it->abandoned);
+    count_one(it, found == DERRIMAS_FINALIZERS_NOT_OPEN ? &it->abandoned : &it->finished); /* the procedure may have finished it */
 }
 
 /* Sleeps until the bell has been rung since it was rung so often. */

@@ -567,10 +567,30 @@ static void destroyed_by_a_procedure()
     crew->wait();
 }
 
+static void in_a_forked_child()
+{
+    fin f;
+    std::mutex lock;
+    int status = 0;
+    workers crew(f, lock, [](const fin::entry &) {}, 2);
+    const pid_t child = fork();
+
+    if (child == 0) {
+        alarm(60);
+        {
+            workers moved(std::move(crew));
+        }
+        _exit(7);
+    }
+    IS(child > 0 && waitpid(child, &status, 0) == child && WIFEXITED(status) && WEXITSTATUS(status) == 7);
+    IS(crew.count().workers == 2);
+}
+
 static void ends_of_workers()
 {
     IS(is_aborted(thrown_by_a_procedure));
     IS(is_aborted(destroyed_by_a_procedure));
+    in_a_forked_child();
 }
 
 int main()

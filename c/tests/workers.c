@@ -13,7 +13,7 @@
 #include <time.h>
 
 enum { ALL = 2000, WORKERS = 4, FEW = 200 };
-enum { PLAIN, HOLDS, EXITS, CALLS }; /* what a procedure does */
+enum { PLAIN, HOLDS, EXITS, CALLS, FINISHES }; /* what a procedure does */
 
 static pthread_mutex_t lock = PTHREAD_MUTEX_INITIALIZER;
 static derrimas_finalizers finalizers;
@@ -91,6 +91,11 @@ static void run(void *with, const derrimas_finalizers_entry *entry)
         refused += derrimas_workers_count(&workers, &counts) == DERRIMAS_FINALIZERS_OK;
         enter(NULL);
         refused += derrimas_workers_publish(&workers) == DERRIMAS_FINALIZERS_OK;
+        leave(NULL);
+        break;
+    case FINISHES:
+        enter(NULL);
+        refused += derrimas_finalizers_finish(&finalizers, entry) == DERRIMAS_FINALIZERS_OK;
         leave(NULL);
     }
 }
@@ -307,6 +312,21 @@ static void ended_threads(void)
     OK(derrimas_finalizers_count(&finalizers, &left));
     IS(left.held, FEW + 1);
     IS(stopped().abandoned, FEW + 1);
+}
+
+/* A procedure that finishes its entry itself: nothing is abandoned. */
+static void finished_by_procedures(void)
+{
+    derrimas_workers_counts counts;
+
+    start(2);
+    refused = 0;
+    OK(queue(FEW, FINISHES));
+    OK(derrimas_workers_wait(&workers, UINT64_MAX));
+    counts = stopped();
+    IS(refused, FEW);
+    IS(counts.finished, FEW);
+    IS(counts.abandoned, 0);
 }
 
 /* A procedure that doesn't return for a while: the others go on, and a stop comes to its end later. */
@@ -547,6 +567,7 @@ int main(int count, char **words)
     few_threads();
     no_memory();
     ended_threads();
+    finished_by_procedures();
     held_up();
     open_pass();
     published_behind_a_take();

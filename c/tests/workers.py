@@ -151,10 +151,28 @@ goes.set()
 """
 
 
+FORKED = """import os, sys, threading
+from derrimas.finalizers import Finalizers, Refused
+from derrimas.workers import Workers
+finalizers, lock = Finalizers(), threading.Lock()
+with Workers(finalizers, lock, print, 2) as workers:
+    child = os.fork()
+    if child == 0:
+        try:
+            workers.count()
+        except Refused as why:
+            print(why.name, flush=True)
+        sys.exit(3)
+    print(os.WEXITSTATUS(os.waitpid(child, 0)[1]), workers.count().workers)
+"""
+
+
 def programs():
-    for program, printed, where in ((FORGOTTEN, 'ran 7\n', 'a program that stops no workers'), (FREED, 'ran 7\nran 8\n', 'a procedure that frees the workers')):
-        ended = subprocess.run([sys.executable, '-B', '-c', program], env={**os.environ, 'PYTHONPATH': os.path.join(HERE, '..', 'python')}, capture_output=True,
-                               text=True, timeout=60)
+    for program, printed, where in (
+            (FORGOTTEN, 'ran 7\n', 'a program that stops no workers'), (FREED, 'ran 7\nran 8\n', 'a procedure that frees the workers'),
+            (FORKED, 'NotOpen\n3 2\n', 'a forked child')):
+        ended = subprocess.run([sys.executable, '-B', '-W', 'ignore', '-c', program], env={**os.environ, 'PYTHONPATH': os.path.join(HERE, '..', 'python')},
+                               capture_output=True, text=True, timeout=60)
         check((ended.returncode, ended.stdout, ended.stderr), (0, printed, ''), where)
 
 

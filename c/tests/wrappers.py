@@ -285,9 +285,12 @@ def passed(finalizers, how, opened=None):
         return shown(own.run_pass(WithoutMarks('returns') if how == 'lacking' else Host(how)))
 
 
-def asked(finalizers, answers):
+def asked(finalizers, answers, then=None):
+    """A question; or what comes of the answers `then` to it, of which there are too few."""
     with finalizers.open_pass() as questions:
         question = questions.next(answers)
+        if then is not None:
+            return shown(questions.next(then if then else []))
         return shown(question) if question else f'ended:{shown(questions.did)}'
 
 
@@ -430,6 +433,8 @@ def outcome(handle, call, arguments):
         return 'thrown' if isinstance(why, OSError) else 'interrupted'
     except TypeError:
         return 'wrong_type'
+    except ValueError:
+        return 'wrong_value'
 
 
 def argument(word):

@@ -1,8 +1,9 @@
 /* own_heap.h: a small mark-and-sweep heap over malloc, whose finalizers and links are those of derrimas_finalizers.h.
  *
- * An object is known by the address of its first word. A root, and a word of a scanned object, is such an address, or a
- * number that no object has: one below 65,536, or with its highest bit set. So the heap follows each address that it
- * meets, and asks nobody whether it is one. Nothing is collected but by own_heap_collect.
+ * An object is known by the address of its first word. A root, a word of a scanned object, and the client data of a
+ * registration or a cleanup, is such an address, or a number that no object has: one below 65,536, or with its highest bit
+ * set. So the heap follows each address that it meets, and asks nobody whether it is one. Nothing is collected but by
+ * own_heap_collect.
  *
  * Registrations, links and cleanups are made by the library's calls on `finalizers`, with numbers by own_heap_number and
  * own_heap_word. Entries are taken by its calls too, or by own_heap_run. An object with cleanups and no finalizer is freed

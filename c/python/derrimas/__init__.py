@@ -11,9 +11,10 @@
         world.collect()
         world.invoke_finalizers()
 
-A slot is a pair of a frame and a slot of it. Sizes and offsets are in words; addresses, words and client data are numbers. A refused call raises Refused,
-whose text is the library's sentence. Use a world from one thread at a time. The library is libderrimas.so.1: that of the package, or the file that the
-variable DERRIMAS names. The module derrimas.finalizers is derrimas_finalizers.h, for a heap of your own."""
+A slot is a pair of a frame and a slot of it. Sizes and offsets are in words; addresses, words, procedures and client data are numbers below 2^64, and ranks are
+below 256: of other numbers the lowest 64 or 8 bits count. A refused call raises Refused, whose text is the library's sentence. Use a world from one thread at a
+time. The library is libderrimas.so.1: that of the package, or the file that the variable DERRIMAS names. The module derrimas.finalizers is
+derrimas_finalizers.h, for a heap of your own."""
 from __future__ import annotations
 import contextlib, ctypes, enum
 from ctypes import POINTER, byref, c_bool, c_char_p, c_uint8, c_uint32, c_uint64, c_void_p
@@ -251,7 +252,7 @@ class World:
     def finalize_all(self, slot: At) -> int:
         """For the end: runs the entries that wait, and then the finalizer of each registered object, by rank, then address, as no pass would. The slot keeps
         an object meanwhile. Entries are copies, which a procedure may keep. The first exception of a procedure, also one that exits, is raised here, once
-        all have run. Returns how many ran."""
+        all have run. Returns how many ran. It takes memory for each number up to the largest that has a procedure."""
         raised = []
 
         def run(_: Any, entry: Any, __: Any) -> None:

@@ -403,7 +403,7 @@ class Finalizers:
 
     def trace(self, hooks: Any) -> None:
         """Tells `hooks` from now on what happens, by those that it has of the methods queued(pass, count), cleared(word) and finished(entry). None ends this. What
-        a method raises is raised by the call in which it came, once that has ended."""
+        a method raises is raised by the call in which it came, once that has ended; what that returned is lost then, as the entry of take_finished."""
         self.hooks = self._functions(Trace, hooks) if hooks is not None else None
         LIBRARY.derrimas_finalizers_trace(byref(self.handle), byref(self.hooks) if self.hooks else None)
 
@@ -457,6 +457,7 @@ class OpenPass:
 
     def __init__(self, finalizers: Finalizers) -> None:
         self.finalizers, self.did = finalizers, Passed()
+        self.regions = 0  # of the last question
         finalizers._call("begin")
         self.is_open = True
 
@@ -469,7 +470,9 @@ class OpenPass:
 
     def next(self, answers: Answers = 0) -> Optional[Question]:
         """Takes the answers to the question before, at first any, and returns the next; None where the pass has ended: `did` is what it did then. The answers are
-        a number, and a list of words of regions after Ask.MARKS."""
+        a number, and after Ask.MARKS a list with a word for each region: ValueError if it isn't, since an object whose mark is missing would be finalized."""
+        if self.regions and (isinstance(answers, int) or len(answers) != self.regions):
+            raise ValueError(f"the answers are to be {self.regions} words of regions")
         asked, word = CQuestion(), c_uint64(answers if isinstance(answers, int) else 0)
         if not isinstance(answers, int):
             asked.marks[:len(answers)] = answers
@@ -479,6 +482,7 @@ class OpenPass:
         self.finalizers._raise()
         if code not in (0, EMPTY):
             raise Refused(code)
+        self.regions = asked.count if self.is_open and asked.ask == Ask.MARKS else 0
         return Question(asked) if self.is_open else None
 
     def abandon(self) -> None:

@@ -13,7 +13,7 @@ While there are workers, each call of their Finalizers is made with the lock, wh
 runs in a thread that Python doesn't know by a name, without the lock. What it raises counts as its end, and is raised by the next wait or stop. Only one thread at
 a time runs Python's own code: several workers serve procedures that wait for something else. A procedure that doesn't return keeps the program from ending."""
 from __future__ import annotations
-import ctypes, threading, weakref
+import ctypes, os, threading, weakref
 from ctypes import CFUNCTYPE, POINTER, byref, c_size_t, c_uint32, c_uint64, c_void_p
 from typing import Any, Callable, List, Optional
 from ._library import declare, struct
@@ -42,7 +42,9 @@ def ended(crew: Any, options: Any, finalizers: Finalizers) -> None:
 
 
 class Workers:
-    """Workers, `started` of which could be started. They are stopped at the end of their `with`, when Python frees them, or at the program's end."""
+    """Workers, `started` of which could be started. They are stopped at the end of their `with`, when Python frees them, or at the program's end. A stop takes
+    the lock, so it never returns in a thread that has it: leave their `with`, and don't count on when Python frees them. A forked child has none of them: there
+    each call is refused as NotOpen."""
 
     def __init__(self, finalizers: Finalizers, lock: Any, run: Callable[[Entry], Any], count: int) -> None:
         raised = self.raised = []  # type: List[BaseException]
@@ -59,6 +61,7 @@ class Workers:
             except BaseException as why:  # nothing may be raised through C
                 raised.append(why)
         self.handle, started = Crew(), c_uint64()
+        EVERY.add(self)
         options = Options(ctypes.sizeof(Options), ctypes.pointer(finalizers.handle), LOCK(entered), LOCK(left), RUN(ran), None, count)
         self._call("start", byref(options), byref(started))
         self.started = started.value
@@ -105,3 +108,15 @@ class Workers:
         counts = Counts()
         self._call("count", byref(counts))
         return counts
+
+
+EVERY: weakref.WeakSet[Workers] = weakref.WeakSet()
+
+
+def forget() -> None:
+    """In a forked child, which has none of the threads: a stop would wait for them."""
+    for workers in EVERY:
+        workers.handle.inside = None
+
+
+os.register_at_fork(after_in_child=forget)
