@@ -1,5 +1,5 @@
 -- How a service ends.
-use Rattle.std.proofs.Common.{◌≡◌, ℕ, ◌+◌, ◌-◌, ◌<◌, ◌≤◌, List, [], ◌∷◌, ◌++◌, length, take, drop, get_or, min, All, sum_by, refl, sym, ap, ◌∙◌, subst, arith, append_assoc, length-append, length-take, length-take-le, length-drop, take-append-drop}
+use Rattle.std.proofs.Common.{◌≡◌, ℕ, Bool, true, false, IsTrue, ◌+◌, ◌-◌, ◌<◌, ◌≤◌, List, [], ◌∷◌, ◌++◌, length, take, drop, get_or, min, All, sum_by, refl, sym, ap, ◌∙◌, subst, arith, append_assoc, length-append, length-take, length-take-le, length-drop, take-append-drop}
 use Rattle.std.proofs.lemmas.List.{take-take, drop-append-le}
 use Rattle.std.proofs.lemmas.List.Sums.{sum_by-cons, sum_by_push}
 use Rattle.std.proofs.lemmas.List.Concat.{length-flat_map}
@@ -12,7 +12,7 @@ use Rattle.fz_model.specs.declared.answers.Entry.{Entry}
 use Rattle.fz_line.specs.States.{SeatState, taken_by, IsIdle}
 use Rattle.fz_service.specs.declared.ending.Final.{Final}
 use Rattle.fz_service.specs.States.{Origin, LockedState, IsInOrder}
-use Rattle.fz_service.specs.Ends.{IsEnd}
+use Rattle.fz_service.specs.Ends.{IsEnd, IsEachOnce}
 
 -- one seat goes over
 pub moved_on : (plain plain' seats seats' all : List SeatState) (r s : SeatState) → plain ++ seats ≡ all → plain' ≡ plain ++ r ∷ [] → r ≡ s → s ≡ get_or seats 0 s → seats' ≡ remove seats 0 → 0 < length seats → plain' ++ seats' ≡ all
@@ -131,3 +131,10 @@ drained_by origin s got seats popped here order first rest idle finished =
     let Q : List SeatState → Type 0 = λ xs. IsPermutation (taken_by xs) (take (length (taken_by xs)) s.sent) × (popped ≡ drop (length (taken_by xs)) s.sent) × All IsIdle xs in
     let q : Q seats = subst Q here (first, rest, idle) in
     record { order = order; first = q.0; rest = q.1; idle = q.2; finished = finished }
+
+module _ (workers owned : ℕ) (seats now : List SeatState) (is : Bool) (owner : owned ≡ workers) (same : now ≡ seats) where
+  pub each_once : (is ≡ true) → (IsTrue is → IsEachOnce owned now) → IsEachOnce workers seats
+  each_once succeeded holds = grind arith
+
+  pub not_once : (is ≡ false) → (IsEachOnce owned now → IsTrue is) → IsEachOnce workers seats → ⊥
+  not_once failed holds each = grind arith
