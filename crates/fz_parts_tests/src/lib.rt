@@ -7,6 +7,8 @@ mod blocks;
 #[cfg(test)]
 mod dirty;
 #[cfg(test)]
+mod ephemerons;
+#[cfg(test)]
 mod equal;
 #[cfg(test)]
 mod finalizers;

@@ -1,7 +1,10 @@
 //! Worked examples of a pass. Objects of one word have the heap's first addresses, in the order of their allocation.
 
-ghost use Rattle.std.specs.Prelude.{◌≡◌, OnOk};
+ghost use Rattle.std.specs.Prelude.{◌≡◌, ℕ, OnOk};
+ghost use Rattle.std.specs.FinMap.{from_entries};
 ghost use Rattle.fz_marker.specs.Marking.{IsClosed};
+ghost use Rattle.fz_model.specs.State.{Map};
+ghost use Rattle.fz_model.specs.declared.answers.Registration.{Registration};
 ghost use Rattle.fz_pass.specs.Marks.{AreRegistered, AreTargets};
 
 use crate::equal::must_be;
@@ -13,7 +16,7 @@ use fz_marker::Marker;
 use fz_model::RegKind::{IgnoreSelf, NoOrder, Normal};
 use fz_model::{Addr, Entry, Finalizer, HEAP_START, MAX_BLOCKS, ObjKind, Refusal, RegKind, Word};
 use fz_pass::ReadyList;
-use fz_table::Table;
+use fz_table::{Pairs, Registrations, Table};
 use std::alloc::Global;
 use std::process::Abort;
 use std::test::Fail;
@@ -72,7 +75,7 @@ fn register(parts: &mut Parts, registered: &[(Addr, RegKind, u8)]) -> Result<(),
 }
 
 /// Marks what one root reaches.
-fn find(alloc: Global, marked: &mut Marked, root: Word) -> Result<(), Fail>
+pub(crate) fn find(alloc: Global, marked: &mut Marked, root: Word) -> Result<(), Fail>
     ensures heap { marked.new.heap ≡ marked.old.heap }
     ensures closed { OnOk result (IsClosed marked.new.heap.objects marked.new.marker.marked) }
 {
@@ -83,11 +86,11 @@ fn find(alloc: Global, marked: &mut Marked, root: Word) -> Result<(), Fail>
     Ok(())
 }
 
-/// Fails if the table has a registration whose address isn't an object.
-fn check_registered(heap: &Heap, table: &Table) -> Result<(), Refusal>
-    ensures { OnOk result (AreRegistered heap.now.objects table.now.registrations) }
+/// Fails if one of the registrations of a table has an address that isn't an object.
+pub(crate) fn check_registered(heap: &Heap, registrations: Registrations<'_>) -> Result<(), Refusal>
+    ensures { OnOk result ((all : Map Registration) → from_entries registrations.entry ≡ all → AreRegistered heap.now.objects all) }
 {
-    for (object, _registration) in table.iter() {
+    for (object, _registration) in registrations {
         if heap.facts(object).is_none() {
             return Err(Refusal::NotStart);
         }
@@ -95,11 +98,11 @@ fn check_registered(heap: &Heap, table: &Table) -> Result<(), Refusal>
     Ok(())
 }
 
-/// Fails if a link has a target that isn't an object.
-fn check_targets(heap: &Heap, links: &Links) -> Result<(), Refusal>
-    ensures { OnOk result (AreTargets heap.now.objects links.now.links) }
+/// Fails if one of these links has a target that isn't an object.
+pub(crate) fn check_targets(heap: &Heap, links: Pairs<'_, Addr, Addr>) -> Result<(), Refusal>
+    ensures { OnOk result ((all : Map ℕ) → from_entries links.entry ≡ all → AreTargets heap.now.objects all) }
 {
-    for (_link, target) in links.iter() {
+    for (_link, target) in links {
         if heap.facts(target).is_none() {
             return Err(Refusal::NotStart);
         }
@@ -130,9 +133,9 @@ fn pass_onto(
     find(alloc, &mut parts.marked, root)?;
     let first = queue.len() as u64;
     let marked = &parts.marked;
-    check_registered(&marked.heap, &parts.table)?;
-    check_targets(&marked.heap, &parts.short)?;
-    check_targets(&marked.heap, &parts.long)?;
+    check_registered(&marked.heap, parts.table.iter())?;
+    check_targets(&marked.heap, parts.short.iter())?;
+    check_targets(&marked.heap, parts.long.iter())?;
     Ok(decide(
         &mut parts.marked,
         &mut parts.table,

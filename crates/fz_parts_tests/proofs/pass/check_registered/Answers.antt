@@ -20,7 +20,7 @@ pub returns : goal.returns
 returns c =
     let objects = c.args.heap.now.objects in
     let P = λ (e : ℕ × Registration). IsTrue (contains_key objects e.0) in
-    let es = c.iter-object-items.result in
+    let es = c.args.registrations in
     let all : c.loop-object.yielded ≡ es = all_of c.loop-object.yielded _ es (c.loop-object.invariant.rest ∙ c.into_iter-object-iterator.ensures.into_iter_gives) c.in-None.ensures.steps.0 in
     let here : All P es = subst (λ (ys : List (ℕ × Registration)). All P ys) all c.loop-object.invariant.here in
-    subst (λ (m : Map Registration). AreRegistered objects m) c.iter-object-items.ensures.all (λ a r is. All-got P es here a r is)
+    λ m is. subst (λ (n : Map Registration). AreRegistered objects n) is (λ a r at. All-got P es here a r at)

@@ -19,7 +19,7 @@ pub returns : goal.returns
 returns c =
     let objects = c.args.heap.now.objects in
     let P = λ (e : ℕ × ℕ). IsTrue (contains_key objects e.1) in
-    let es = c.iter-link-items.result in
+    let es = c.args.links in
     let all : c.loop-link.yielded ≡ es = all_of c.loop-link.yielded _ es (c.loop-link.invariant.rest ∙ c.into_iter-link-iterator.ensures.into_iter_gives) c.in-None.ensures.steps.0 in
     let here : All P es = subst (λ (ys : List (ℕ × ℕ)). All P ys) all c.loop-link.invariant.here in
-    subst (λ (m : Map ℕ). AreTargets objects m) c.iter-link-items.ensures.all (λ a r is. All-got P es here a r is)
+    λ m is. subst (λ (n : Map ℕ). AreTargets objects n) is (λ a r at. All-got P es here a r at)
