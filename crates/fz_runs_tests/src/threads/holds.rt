@@ -32,18 +32,35 @@ fn holds_of<O: Opening + Send + Sync, I: Ledger, R: AllocGlobal + Abort + Thread
     service.enter(rt).holds().saturating_sub(1)
 }
 
-/// The run of a file over a world of this size has to take the lock as often as is wanted.
+/// How often a run of a file over a world of this size takes the lock.
+fn holds_over<R: AllocGlobal + Abort + Threads + Wait + Sync>(
+    rt: &R,
+    frames: u64,
+    file: &[u8],
+) -> u64 {
+    let prepared = Service::prepare(rt.alloc(), Config { blocks: 1, frames }, 1);
+    let prepared = prepared.expect(rt, "memory");
+    holds_of::<Brand, Brand, R>(rt, prepared, file, Blank::new(1))
+}
+
+/// One of several runs of a file has to take the lock as often as is wanted, and none less often: on a busy machine a worker may take it once more.
 fn takes<R: AllocGlobal + Abort + Threads + Wait + Sync>(
     rt: &R,
     frames: u64,
     file: &[u8],
     wanted: u64,
 ) {
-    let prepared = Service::prepare(rt.alloc(), Config { blocks: 1, frames }, 1);
-    let prepared = prepared.expect(rt, "memory");
-    let holds = holds_of::<Brand, Brand, R>(rt, prepared, file, Blank::new(1));
+    let mut holds = u64::MAX;
+    for _ in 0..RUNS {
+        if holds > wanted {
+            holds = holds_over(rt, frames, file);
+        }
+    }
     must_be(rt, holds, wanted, "holds");
 }
+
+/// How many runs of a file there are at most.
+const RUNS: u32 = 5;
 
 /// Files over one block and frames, with how often their runs take the lock: once for each call, for the pause at the end and for each collection after it;
 /// and for the worker once for up to 32 entries that a collection queued, since their procedures need no lock. The first nine files queue none.
