@@ -519,14 +519,15 @@ static bool is_ring_data(void *from, uint64_t cd)
     return SHOW(cd) != NULL && (ptr_t)GC_base(SHOW(cd)) == SHOW(cd);
 }
 
-/* The first word of an object that points to another. */
+/* The first word of an object that points to another; the object's own address if none does. */
 static ptr_t word_to(ptr_t object, ptr_t other)
 {
-    word *at = (word *)(void *)object;
+    const word count = scanned_words(HDR(object));
+    word n = 0;
 
-    while (pointed(*at) != other)
-        at++;
-    return (ptr_t)at;
+    while (n < count && pointed(((word *)(void *)object)[n]) != other)
+        n++;
+    return n < count ? object + n * sizeof(word) : object;
 }
 
 /* Warns of each object of the ring, and of its word by which the ring goes on. Any of these words may be cut. */
